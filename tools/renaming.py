@@ -177,7 +177,7 @@ class Terms:
                 self.renaming.replace(path, found.start(), found.end(), new)
 
     def rename_terms(self, path, terms, own, names, modules):
-        """Renames the uses in these terms. `own` has the definitions of the file, `names` what it imports."""
+        """Renames the uses in these terms. `own` has the definitions of the file, `name_table` what it imports."""
         for name in terms:
             word = name.token.text
             if name.role in DECLARED:

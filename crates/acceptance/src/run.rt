@@ -10,15 +10,6 @@ use std::alloc::{AllocError, Global};
 /// The day that each row is run on, YYMMDD.
 const DAY: [u8; 6] = *b"000000";
 
-/// What is seen of a run.
-#[derive(Drop)]
-struct Seen {
-    shown: Vec<u8>,
-    end: String,
-    notes: Vec<u8>,
-    files: Vec<u8>,
-}
-
 /// How a row differs from what its files say, if it does.
 pub fn check_row(alloc: Global, row: &Row) -> Result<Option<String>, AllocError> {
     let by_source = see_source(alloc, row)?;
@@ -30,6 +21,15 @@ pub fn check_row(alloc: Global, row: &Row) -> Result<Option<String>, AllocError>
         return Ok(Some(format!(in alloc; "by compile and run_image: {difference}")?));
     }
     Ok(None)
+}
+
+/// What is seen of a run.
+#[derive(Drop)]
+struct Seen {
+    shown: Vec<u8>,
+    end: String,
+    notes: Vec<u8>,
+    files: Vec<u8>,
 }
 
 fn difference(alloc: Global, row: &Row, seen: &Seen) -> Result<Option<String>, AllocError> {

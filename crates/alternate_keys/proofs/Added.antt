@@ -9,17 +9,17 @@ use Rattle.std.proofs.lemmas.Grind.{flat_map-append}
 use Rattle.std.proofs.lemmas.List.Elements.{All-append, All-cons, All-weaker}
 use Rattle.station.specs.Disk.{Sector}
 use Rattle.pages.specs.Image.{Map}
-use Rattle.tree_pages.specs.Keys.{key_cmp}
-use Rattle.btree.specs.Entries.{Entry, with_entry}
+use Rattle.btree_pages.specs.Keys.{key_cmp}
+use Rattle.btree.specs.Entries.{Entry, with_new_entry}
 use Rattle.records.specs.Spec.{Spec, is_name}
 use Rattle.records.specs.Rows.{bytes_cmp}
-use Rattle.records.specs.Files.{File, Files, Named, IsNamed, AreFiles, empty_file, file_at, with_file}
-use Rattle.file_trees.specs.Catalog.{padded, spelled}
-use Rattle.file_trees.specs.Forest.{Planted, IsForest}
-use Rattle.file_trees.specs.Grows.{StandsAmong}
-use Rattle.file_trees.specs.Volume.{Kept, IsKept, MapHolds, trees_of, catalog_entry, planted}
-use Rattle.file_trees.proofs.Forests.{all_left, all_right}
-use Rattle.file_trees.proofs.Names.{names_in_order}
+use Rattle.records.specs.Files.{File, Files, NamedFile, IsNamed, AreFiles, empty_file, file_at, with_file}
+use Rattle.volume_format.specs.Catalog.{padded_name, listing_bytes}
+use Rattle.volume_format.specs.Forest.{TreeLevels, IsForest}
+use Rattle.volume_format.specs.Grows.{IsTreeAmong}
+use Rattle.volume_format.specs.Volume.{FileTrees, IsKept, MapHolds, trees_of, catalog_entry, tree_levels}
+use Rattle.volume_format.proofs.Forests.{all_left, all_right}
+use Rattle.volume_format.proofs.Names.{names_in_order}
 use Rattle.alternate_keys.specs.Created.{empty_kept}
 use Rattle.alternate_keys.specs.Listed.{catalog_at}
 use Rattle.alternate_keys.proofs.Empties.{forest_with, empty_grow, empty_pages, empty_is, empty_says}
@@ -27,40 +27,40 @@ use Rattle.alternate_keys.proofs.Preparing.{map_with}
 use Rattle.alternate_keys.proofs.Splits.{named_of}
 
 -- the first of these has a greater name
-abbrev pub Above : List ℕ → List Kept → Type 0
+abbrev pub Above : List ℕ → List FileTrees → Type 0
 Above name [] = Unit {0}
 Above name (k ∷ more) = bytes_cmp k.named.name name ≡ Greater
 
-pub record Gap (name : List ℕ) (kept : List Kept) : Type 0 where
-  pub before : List Kept
-  pub after : List Kept
+pub record Gap (name : List ℕ) (kept : List FileTrees) : Type 0 where
+  pub before : List FileTrees
+  pub after : List FileTrees
   pub is : kept ≡ before ++ after
-  pub lower : AllByRecursion (λ (k : Kept). bytes_cmp k.named.name name ≡ Less) before
+  pub lower : AllByRecursion (λ (k : FileTrees). bytes_cmp k.named.name name ≡ Less) before
   pub above : Above name after
 
-gap_by : (o : Ordering) (k : Kept) (more : List Kept) (name : List ℕ) → bytes_cmp k.named.name name ≡ o → (if is_eq o then Some k.named.file else file_at name (named_of more)) ≡ None → (file_at name (named_of more) ≡ None → Gap name more) → Gap name (k ∷ more)
+gap_by : (o : Ordering) (k : FileTrees) (more : List FileTrees) (name : List ℕ) → bytes_cmp k.named.name name ≡ o → (if is_eq o then Some k.named.file else file_at name (named_of more)) ≡ None → (file_at name (named_of more) ≡ None → Gap name more) → Gap name (k ∷ more)
 gap_by Less k more name at none rest =
     let gap = rest none in
-    record { before = k ∷ gap.before; after = gap.after; is = ap (λ (l : List Kept). k ∷ l) gap.is; lower = (at, gap.lower); above = gap.above }
+    record { before = k ∷ gap.before; after = gap.after; is = ap (λ (l : List FileTrees). k ∷ l) gap.is; lower = (at, gap.lower); above = gap.above }
 gap_by Equal k more name at none rest = cc
 gap_by Greater k more name at none rest = record { before = []; after = k ∷ more; is = refl; lower = tt; above = at }
 
-pub gap_of : (name : List ℕ) (kept : List Kept) → file_at name (named_of kept) ≡ None → Gap name kept
+pub gap_of : (name : List ℕ) (kept : List FileTrees) → file_at name (named_of kept) ≡ None → Gap name kept
 gap_of name [] none = record { before = []; after = []; is = refl; lower = tt; above = tt }
 gap_of name (k ∷ more) none = gap_by (bytes_cmp k.named.name name) k more name refl none (gap_of name more)
 
 -- another name comes there
-named_as : List ℕ → File → Named
+named_as : List ℕ → File → NamedFile
 named_as name file = record { name = name; file = file }
 
-added_first : (name : List ℕ) (new : Kept) (after : List Kept) → new.named.name ≡ name → Above name after → with_file name new.named.file (named_of after) ≡ new.named ∷ named_of after
+added_first : (name : List ℕ) (new : FileTrees) (after : List FileTrees) → new.named.name ≡ name → Above name after → with_file name new.named.file (named_of after) ≡ new.named ∷ named_of after
 unfolding named_as
 added_first name new [] is above = ap (λ (n : List ℕ). named_as n new.named.file ∷ []) (sym is)
 added_first name new (k ∷ more) is above =
     ap (λ (o : Ordering). if is_eq o then named_as name new.named.file ∷ named_of more else if is_lt o then k.named ∷ with_file name new.named.file (named_of more) else named_as name new.named.file ∷ k.named ∷ named_of more) above
     ∙ ap (λ (n : List ℕ). named_as n new.named.file ∷ k.named ∷ named_of more) (sym is)
 
-added_in : (name : List ℕ) (before : List Kept) (new : Kept) (after : List Kept) → new.named.name ≡ name → AllByRecursion (λ (k : Kept). bytes_cmp k.named.name name ≡ Less) before → Above name after →
+added_in : (name : List ℕ) (before : List FileTrees) (new : FileTrees) (after : List FileTrees) → new.named.name ≡ name → AllByRecursion (λ (k : FileTrees). bytes_cmp k.named.name name ≡ Less) before → Above name after →
     with_file name new.named.file (named_of (before ++ after)) ≡ named_of (before ++ new ∷ after)
 unfolding named_as
 added_in name [] new after is lower above = added_first name new after is above
@@ -70,24 +70,24 @@ added_in name (k ∷ before) new after is lower above =
     ∙ ap (λ (l : Files). k.named ∷ l) (added_in name before new after is lower.1 above)
 
 -- and in the catalog
-order_at : (k new : Kept) (name : List ℕ) (o : Ordering) → is_name name ≡ true → new.named.name ≡ name → is_name k.named.name ≡ true → bytes_cmp k.named.name name ≡ o → key_cmp (padded k.named.name) (padded new.named.name) ≡ o
-order_at k new name o named is own at = ap (λ (n : List ℕ). key_cmp (padded k.named.name) (padded n)) is ∙ names_in_order k.named.name name own named ∙ at
+order_at : (k new : FileTrees) (name : List ℕ) (o : Ordering) → is_name name ≡ true → new.named.name ≡ name → is_name k.named.name ≡ true → bytes_cmp k.named.name name ≡ o → key_cmp (padded_name k.named.name) (padded_name new.named.name) ≡ o
+order_at k new name o named is own at = ap (λ (n : List ℕ). key_cmp (padded_name k.named.name) (padded_name n)) is ∙ names_in_order k.named.name name own named ∙ at
 
-entry_first : (name : List ℕ) (new : Kept) (after : List Kept) → is_name name ≡ true → new.named.name ≡ name → AllByRecursion (λ (k : Kept). is_name k.named.name ≡ true) after → Above name after →
-    with_entry (map catalog_entry after) (catalog_entry new) ≡ catalog_entry new ∷ map catalog_entry after
+entry_first : (name : List ℕ) (new : FileTrees) (after : List FileTrees) → is_name name ≡ true → new.named.name ≡ name → AllByRecursion (λ (k : FileTrees). is_name k.named.name ≡ true) after → Above name after →
+    with_new_entry (map catalog_entry after) (catalog_entry new) ≡ catalog_entry new ∷ map catalog_entry after
 entry_first name new [] named is all above = refl
 entry_first name new (k ∷ more) named is all above =
-    ap (λ (o : Ordering). if is_lt o then catalog_entry k ∷ with_entry (map catalog_entry more) (catalog_entry new) else catalog_entry new ∷ catalog_entry k ∷ map catalog_entry more) (order_at k new name Greater named is all.0 above)
+    ap (λ (o : Ordering). if is_lt o then catalog_entry k ∷ with_new_entry (map catalog_entry more) (catalog_entry new) else catalog_entry new ∷ catalog_entry k ∷ map catalog_entry more) (order_at k new name Greater named is all.0 above)
 
-entry_in : (name : List ℕ) (before : List Kept) (new : Kept) (after : List Kept) → is_name name ≡ true → new.named.name ≡ name → AllByRecursion (λ (k : Kept). is_name k.named.name ≡ true) (before ++ after) → AllByRecursion (λ (k : Kept). bytes_cmp k.named.name name ≡ Less) before → Above name after →
-    with_entry (map catalog_entry (before ++ after)) (catalog_entry new) ≡ map catalog_entry (before ++ new ∷ after)
+entry_in : (name : List ℕ) (before : List FileTrees) (new : FileTrees) (after : List FileTrees) → is_name name ≡ true → new.named.name ≡ name → AllByRecursion (λ (k : FileTrees). is_name k.named.name ≡ true) (before ++ after) → AllByRecursion (λ (k : FileTrees). bytes_cmp k.named.name name ≡ Less) before → Above name after →
+    with_new_entry (map catalog_entry (before ++ after)) (catalog_entry new) ≡ map catalog_entry (before ++ new ∷ after)
 entry_in name [] new after named is all lower above = entry_first name new after named is all above
 entry_in name (k ∷ before) new after named is all lower above =
     let more : List Entry = map catalog_entry (before ++ after) in
-    ap (λ (o : Ordering). if is_lt o then catalog_entry k ∷ with_entry more (catalog_entry new) else catalog_entry new ∷ catalog_entry k ∷ more) (order_at k new name Less named is all.0 lower.0)
+    ap (λ (o : Ordering). if is_lt o then catalog_entry k ∷ with_new_entry more (catalog_entry new) else catalog_entry new ∷ catalog_entry k ∷ more) (order_at k new name Less named is all.0 lower.0)
     ∙ ap (λ (es : List Entry). catalog_entry k ∷ es) (entry_in name before new after named is all.1 lower.1 above)
 
-all_names : (kept : List Kept) → AllByRecursion IsNamed (named_of kept) → AllByRecursion (λ (k : Kept). is_name k.named.name ≡ true) kept
+all_names : (kept : List FileTrees) → AllByRecursion IsNamed (named_of kept) → AllByRecursion (λ (k : FileTrees). is_name k.named.name ≡ true) kept
 all_names [] all = tt
 all_names (k ∷ kept) all = (all.0.name, all_names kept all.1)
 
@@ -110,36 +110,36 @@ module _ (m : Map) (files : Files) (holds : MapHolds m files) (name : List ℕ) 
   gap : Gap name holds.kept
   gap = gap_of name holds.kept (subst (λ (l : Files). file_at name l ≡ None) (sym holds.named) none)
 
-  abbrev new : Kept
+  abbrev new : FileTrees
   new = empty_kept name spec
 
-  pub holds_added : (pages : List (Option Sector)) (catalog : ℕ) (listing : List ℕ) → StandsAmong pages [] (flat_map trees_of holds.kept) (catalog_at catalog) (with_entry (map catalog_entry holds.kept) (entry_as (padded name) listing)) →
-      listing ≡ spelled (record { spec = spec; prime = 0; alternates = replicate (length spec.alternates) 0; next_arrival = 1 }) → AreFiles (with_file name (empty_file spec) files) → MapHolds (map_with (m.generation + 1) catalog pages) (with_file name (empty_file spec) files)
+  pub holds_added : (pages : List (Option Sector)) (catalog : ℕ) (listing : List ℕ) → IsTreeAmong pages [] (flat_map trees_of holds.kept) (catalog_at catalog) (with_new_entry (map catalog_entry holds.kept) (entry_as (padded_name name) listing)) →
+      listing ≡ listing_bytes (record { spec = spec; prime = 0; alternates = replicate (length spec.alternates) 0; next_arrival = 1 }) → AreFiles (with_file name (empty_file spec) files) → MapHolds (map_with (m.generation + 1) catalog pages) (with_file name (empty_file spec) files)
   holds_added pages catalog listing stands says are =
       let here = gap in
-      let root : Planted = planted (catalog_at catalog) stands.levels in
-      let P : Kept → Type 0 = IsKept m.generation in
-      let Q : Kept → Type 0 = IsKept (m.generation + 1) in
-      let older : All Q (here.before ++ here.after) = All-weaker P Q next_kept (here.before ++ here.after) (subst (λ (l : List Kept). All P l) here.is holds.keeps.each) in
+      let root : TreeLevels = tree_levels (catalog_at catalog) stands.levels in
+      let P : FileTrees → Type 0 = IsKept m.generation in
+      let Q : FileTrees → Type 0 = IsKept (m.generation + 1) in
+      let older : All Q (here.before ++ here.after) = All-weaker P Q next_kept (here.before ++ here.after) (subst (λ (l : List FileTrees). All P l) here.is holds.keeps.each) in
       let parted : flat_map trees_of holds.kept ≡ flat_map trees_of here.before ++ flat_map trees_of here.after = ap (flat_map trees_of) here.is ∙ flat_map-append trees_of here.before here.after in
-      let standing : IsForest pages ((root ∷ flat_map trees_of here.before) ++ flat_map trees_of here.after) = subst (λ (ts : List Planted). IsForest pages (root ∷ ts)) parted stands.forest in
+      let standing : IsForest pages ((root ∷ flat_map trees_of here.before) ++ flat_map trees_of here.after) = subst (λ (ts : List TreeLevels). IsForest pages (root ∷ ts)) parted stands.forest in
       let grown = forest_with pages (root ∷ flat_map trees_of here.before) (trees_of new) (flat_map trees_of here.after) standing (empty_grow spec pages name) (empty_pages spec name) in
       let joined : root ∷ (flat_map trees_of here.before ++ (trees_of new ++ flat_map trees_of here.after)) ≡ root ∷ flat_map trees_of (here.before ++ new ∷ here.after) =
-      ap (λ (ts : List Planted). root ∷ ts) (sym (flat_map-append trees_of here.before (new ∷ here.after))) in
-      let names = all_names (here.before ++ here.after) (subst (λ (l : List Kept). AllByRecursion IsNamed (named_of l)) here.is (subst (λ (l : Files). AllByRecursion IsNamed l) (sym holds.named) holds.are.each)) in
-      let entry : entry_as (padded name) listing ≡ catalog_entry new = ap (entry_as (padded name)) (empty_says spec name listing says) in
+      ap (λ (ts : List TreeLevels). root ∷ ts) (sym (flat_map-append trees_of here.before (new ∷ here.after))) in
+      let names = all_names (here.before ++ here.after) (subst (λ (l : List FileTrees). AllByRecursion IsNamed (named_of l)) here.is (subst (λ (l : Files). AllByRecursion IsNamed l) (sym holds.named) holds.are.each)) in
+      let entry : entry_as (padded_name name) listing ≡ catalog_entry new = ap (entry_as (padded_name name)) (empty_says spec name listing says) in
       record {
         kept = here.before ++ new ∷ here.after;
         keeps = record {
           catalog = stands.levels;
-          forest = subst (λ (ts : List Planted). IsForest pages ts) joined grown;
-          listed = stands.listed ∙ ap (λ (e : Entry). with_entry (map catalog_entry holds.kept) e) entry ∙ ap (λ (l : List Kept). with_entry (map catalog_entry l) (catalog_entry new)) here.is
+          forest = subst (λ (ts : List TreeLevels). IsForest pages ts) joined grown;
+          listed = stands.listed ∙ ap (λ (e : Entry). with_new_entry (map catalog_entry holds.kept) e) entry ∙ ap (λ (l : List FileTrees). with_new_entry (map catalog_entry l) (catalog_entry new)) here.is
               ∙ entry_in name here.before new here.after named refl names here.lower here.above;
           each = All-append Q here.before (new ∷ here.after) (all_left Q here.before here.after older) (All-cons Q new here.after (empty_is spec m.generation name) (all_right Q here.before here.after older));
         };
-        named = sym (ap (λ (l : Files). with_file name (empty_file spec) l) (sym holds.named) ∙ ap (λ (l : List Kept). with_file name (empty_file spec) (named_of l)) here.is ∙ added_in name here.before new here.after refl here.lower here.above);
+        named = sym (ap (λ (l : Files). with_file name (empty_file spec) l) (sym holds.named) ∙ ap (λ (l : List FileTrees). with_file name (empty_file spec) (named_of l)) here.is ∙ added_in name here.before new here.after refl here.lower here.above);
         are = are;
       }
     where
-      next_kept : (k : Kept) → IsKept m.generation k → IsKept (m.generation + 1) k
+      next_kept : (k : FileTrees) → IsKept m.generation k → IsKept (m.generation + 1) k
       next_kept k is = record { layout = is.layout; rows = is.rows; count = is.count; indexes = is.indexes; arrivals = let low = is.arrivals in omega (arith, low) }

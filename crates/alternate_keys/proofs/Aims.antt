@@ -12,25 +12,25 @@ use Rattle.std.specs.Ordering.{nat_cmp, ordering_then, is_lt, is_gt}
 use Rattle.std.specs.declared.cmp.Ordering.{Ordering}
 use Rattle.std.specs.declared.cmp.Ordering.TheVariants.{Less, Equal, Greater}
 use Rattle.byteorder.specs.Endian.{big_bytes}
-use Rattle.tree_pages.specs.Keys.{key_cmp}
+use Rattle.btree_pages.specs.Keys.{key_cmp}
 use Rattle.records.specs.declared.file_spec.Organization.{Organization}
 use Rattle.records.specs.declared.file_spec.Organization.TheVariants.{Sequential, Relative, Indexed}
 use Rattle.records.specs.declared.key.KeyOfReference.{KeyOfReference}
 use Rattle.records.specs.declared.key.KeyOfReference.TheVariants.{Prime, Alternate}
 use Rattle.records.specs.Spec.{Spec}
 use Rattle.records.specs.Rows.{Pair, bytes_cmp, pair_cmp}
-use Rattle.file_trees.specs.Trees.{key_under, prime_key, pair_key}
-use Rattle.alternate_keys.specs.declared.aim.Aim.TheVariants as aim
-use Rattle.file_trees.specs.Pairs.{IsPair, IsPrimePair}
-use Rattle.alternate_keys.specs.Aims.{IsBound, fill, extended, aim_at, aim_short, aim_number, aim_value, pair_aim_key, prime_aim, prime_aim_key, aim_of, aim_key, wants}
+use Rattle.volume_format.specs.Trees.{key_under, prime_key, pair_key}
+use Rattle.alternate_keys.specs.declared.search_start.SearchStart.TheVariants as aim
+use Rattle.volume_format.specs.Pairs.{IsPair, IsPrimePair}
+use Rattle.alternate_keys.specs.Aims.{IsBound, fill, extended_bytes, aim_at, aim_short, aim_number, aim_value, pair_aim_key, prime_aim, prime_aim_key, aim_of, aim_key, wants}
 use Rattle.records.specs.declared.key.Side.{Side}
 use Rattle.records.specs.declared.key.Side.TheVariants as side
-use Rattle.records.specs.Order.{Bound, is_behind, is_beyond}
+use Rattle.records.specs.Order.{RowBound, is_behind, is_beyond}
 use Rattle.records.specs.Rows.{prime_place}
 use Rattle.records.specs.Stores.{key_length}
 use Rattle.std.specs.Cmp.{nat_cmp_is}
-use Rattle.file_trees.proofs.Order.{numbers_alone}
-use Rattle.tree_pages.proofs.Numbers.{numbers_in_order, cmp_append, then_equal, byte_at_power}
+use Rattle.volume_format.proofs.Order.{numbers_alone}
+use Rattle.btree_pages.proofs.Numbers.{numbers_in_order, cmp_append, then_equal, byte_at_power}
 
 -- a key from zeros on, and a key behind the greatest bytes
 zeros_by : (o : Ordering) (x : ℕ) (r : Ordering) → o ≡ nat_cmp x 0 → is_lt r ≡ false → is_lt (ordering_then o r) ≡ false
@@ -109,7 +109,7 @@ gt_alone Equal r never = absurd (never refl)
 gt_alone Greater r never = refl
 
 beyond_right : (count : ℕ) (place pair : Pair) (tail : List ℕ) → length place.value ≤ length pair.value → length (pair.value ++ tail) ≡ count → All (λ byte. byte < 256) (pair.value ++ tail) →
-    is_beyond place.value pair.value ≡ is_gt (key_cmp (pair.value ++ tail) (extended count 255 place.value))
+    is_beyond place.value pair.value ≡ is_gt (key_cmp (pair.value ++ tail) (extended_bytes count 255 place.value))
 beyond_right count place pair tail low is bytes =
     let whole : length (pair.value ++ tail) ≡ length place.value + (count - length place.value) = omega (arith, length-append pair.value tail) in
     sym (high_fill place.value (pair.value ++ tail) (count - length place.value) whole bytes
@@ -117,7 +117,7 @@ beyond_right count place pair tail low is bytes =
 
 -- a place of a part of a value
 short_right : (count : ℕ) (s : Side) (place pair : Pair) (tail : List ℕ) → length place.value < length pair.value → length (pair.value ++ tail) ≡ count → All (λ byte. byte < 256) (pair.value ++ tail) →
-    is_behind s place pair ≡ wants (aim_short s) (extended count (fill s) place.value) (pair.value ++ tail)
+    is_behind s place pair ≡ wants (aim_short s) (extended_bytes count (fill s) place.value) (pair.value ++ tail)
 short_right count side.From place pair tail low is bytes =
     let whole : length (pair.value ++ tail) ≡ length place.value + (count - length place.value) = omega (arith, length-append pair.value tail) in
     ap not (lt_alone (bytes_cmp pair.value place.value) (nat_cmp pair.number place.number) (other pair.value place.value low)
@@ -132,7 +132,7 @@ all_bytes : (n x : ℕ) → All (λ byte. byte < 256) (big_bytes n x)
 all_bytes zero x = All-nil (λ byte. byte < 256)
 all_bytes (suc n) x = All-cons (λ byte. byte < 256) (byte_at n x) (big_bytes n x) (rw (byte_at_power n x) (mod-lt (x / 256 ^ n) (lit< tt))) (all_bytes n x)
 
-extended_full : (count byte : ℕ) (bytes : List ℕ) → length bytes ≡ count → extended count byte bytes ≡ bytes
+extended_full : (count byte : ℕ) (bytes : List ℕ) → length bytes ≡ count → extended_bytes count byte bytes ≡ bytes
 extended_full count byte bytes is =
     let none : count - length bytes ≡ 0 = omega arith in
     ap (λ n. bytes ++ replicate n byte) none ∙ append-nil bytes
@@ -193,7 +193,7 @@ value_by false place pair is zero_number =
     ∙ not_lt_then (bytes_cmp pair.value place.value)
 
 value_right : (count : ℕ) (s : Side) (place pair : Pair) → length place.value ≡ count → length pair.value ≡ count → pair.number ≡ 0 → All (λ byte. byte < 256) pair.value →
-    is_behind s place pair ≡ wants (aim_value s place.number) (extended count (fill s) place.value) pair.value
+    is_behind s place pair ≡ wants (aim_value s place.number) (extended_bytes count (fill s) place.value) pair.value
 value_right count side.From place pair full is none bytes =
     value_by (place.number == 0) place pair refl none ∙ ap (λ at. wants (aim_value side.From place.number) at pair.value) (sym (extended_full count 0 place.value full))
 value_right count side.After place pair full is none bytes =
@@ -201,20 +201,20 @@ value_right count side.After place pair full is none bytes =
     ∙ gt_then (bytes_cmp pair.value place.value) (nat_cmp 0 place.number) (zero_not_above (nat_cmp 0 place.number) place.number refl)
     ∙ ap (λ at. is_gt (key_cmp pair.value at)) (sym (extended_full count 0 place.value full))
 value_right count side.Beyond place pair full is none bytes =
-    subst (λ v. is_beyond place.value pair.value ≡ is_gt (key_cmp v (extended count 255 place.value))) (append-nil pair.value)
+    subst (λ v. is_beyond place.value pair.value ≡ is_gt (key_cmp v (extended_bytes count 255 place.value))) (append-nil pair.value)
     (beyond_right count place pair [] (omega arith) (ap length (append-nil pair.value) ∙ is) (subst (All (λ byte. byte < 256)) (sym (append-nil pair.value)) bytes))
 
 indexed_by : (c : Bool) (count : ℕ) (s : Side) (place pair : Pair) → nat_lt (length place.value) count ≡ c → length place.value ≤ count → length pair.value ≡ count → pair.number ≡ 0 → All (λ byte. byte < 256) pair.value →
-    is_behind s place pair ≡ wants (if c then aim_short s else aim_value s place.number) (extended count (fill s) place.value) pair.value
+    is_behind s place pair ≡ wants (if c then aim_short s else aim_value s place.number) (extended_bytes count (fill s) place.value) pair.value
 indexed_by true count s place pair is fits long none bytes =
     let low : length place.value < count = ltb-true (length place.value) count is in
-    subst (λ v. is_behind s place pair ≡ wants (aim_short s) (extended count (fill s) place.value) v) (append-nil pair.value)
+    subst (λ v. is_behind s place pair ≡ wants (aim_short s) (extended_bytes count (fill s) place.value) v) (append-nil pair.value)
     (short_right count s place pair [] (omega arith) (ap length (append-nil pair.value) ∙ long) (subst (All (λ byte. byte < 256)) (sym (append-nil pair.value)) bytes))
 indexed_by false count s place pair is fits long none bytes =
     let high : count ≤ length place.value = ltb-false (length place.value) count is in
     value_right count s place pair (omega arith) long none bytes
 
-prime_right : (organization : Organization) (bound : Bound) (pair : Pair) → length bound.pair.value ≤ (prime_place organization).length → bound.pair.number < 256 ^ 8 → IsPrimePair organization pair → All (λ byte. byte < 256) pair.value →
+prime_right : (organization : Organization) (bound : RowBound) (pair : Pair) → length bound.pair.value ≤ (prime_place organization).length → bound.pair.number < 256 ^ 8 → IsPrimePair organization pair → All (λ byte. byte < 256) pair.value →
     is_behind bound.side bound.pair pair ≡ wants (prime_aim organization bound) (prime_aim_key organization bound) (prime_key organization pair)
 prime_right Sequential bound pair fits number is bytes = number_right 8 bound.side bound.pair pair is.0 (nil_from_length bound.pair.value (omega arith)) is.1 number
 prime_right Relative bound pair fits number is bytes =
@@ -233,7 +233,7 @@ pair_right count side.Beyond place pair same is low high bytes =
     (All-append (λ byte. byte < 256) pair.value (big_bytes 8 pair.number) bytes (all_bytes 8 pair.number))
 
 alternate_by : (c : Bool) (count : ℕ) (s : Side) (place pair : Pair) → nat_lt (length place.value) count ≡ c → length place.value ≤ count → length pair.value ≡ count → pair.number < 256 ^ 8 → place.number < 256 ^ 8 → All (λ byte. byte < 256) pair.value →
-    is_behind s place pair ≡ wants (if c then aim_short s else aim_at s) (if c then extended (count + 8) (fill s) place.value else pair_aim_key (count + 8) s place) (pair_key pair)
+    is_behind s place pair ≡ wants (if c then aim_short s else aim_at s) (if c then extended_bytes (count + 8) (fill s) place.value else pair_aim_key (count + 8) s place) (pair_key pair)
 alternate_by true count s place pair is fits long low high bytes =
     let less : length place.value < count = ltb-true (length place.value) count is in
     short_right (count + 8) s place pair (big_bytes 8 pair.number) (omega arith) (length-append pair.value (big_bytes 8 pair.number) ∙ ap (λ n. n + 8) long)
@@ -242,7 +242,7 @@ alternate_by false count s place pair is fits long low high bytes =
     let more : count ≤ length place.value = ltb-false (length place.value) count is in
     pair_right (count + 8) s place pair (omega arith) (ap (λ n. n + 8) long) low high bytes
 
-pub aims_right : (spec : Spec) (key : KeyOfReference) (bound : Bound) (pair : Pair) → IsBound spec key bound → IsPair spec key pair → All (λ byte. byte < 256) pair.value →
+pub aims_right : (spec : Spec) (key : KeyOfReference) (bound : RowBound) (pair : Pair) → IsBound spec key bound → IsPair spec key pair → All (λ byte. byte < 256) pair.value →
     is_behind bound.side bound.pair pair ≡ wants (aim_of spec key bound) (aim_key spec key bound) (key_under spec key pair)
 aims_right spec Prime bound pair fits is bytes = prime_right spec.organization bound pair fits.value fits.number is bytes
 aims_right spec (Alternate i) bound pair fits is bytes =

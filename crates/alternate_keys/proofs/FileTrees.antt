@@ -7,36 +7,36 @@ use Rattle.std.proofs.lemmas.List.Elements.{All-from_recursion, All-contains}
 use Rattle.station.specs.Disk.{Sector}
 use Rattle.byteorder.specs.Endian.{big_number}
 use Rattle.pages.specs.Image.{Map}
-use Rattle.btree.specs.Rooted.{Rooted}
+use Rattle.btree.specs.Rooted.{RootedTree}
 use Rattle.btree.specs.Entries.{Entry, entries_of}
 use Rattle.records.specs.declared.key.KeyOfReference.{KeyOfReference}
 use Rattle.records.specs.declared.key.KeyOfReference.TheVariants.{Prime, Alternate}
 use Rattle.records.specs.Spec.{Spec, is_spec}
 use Rattle.records.specs.Stores.{IsKey}
 use Rattle.records.specs.Rows.{Row}
-use Rattle.records.specs.Files.{File, Named, IsNamed, IsRow, IsArrival}
+use Rattle.records.specs.Files.{File, NamedFile, IsNamed, IsRow, IsArrival}
 use Rattle.records.specs.Laws.{RowsAscend}
-use Rattle.file_trees.specs.Trees.{entry_under, layout_under}
-use Rattle.file_trees.specs.Pairs.{IsUnder}
-use Rattle.file_trees.specs.Forest.{Planted, Grows, IsForest}
-use Rattle.file_trees.specs.Grows.{StandsAmong}
-use Rattle.file_trees.specs.Volume.{Kept, IsIndex, trees_of, listing_of, no_tree, planted}
-use Rattle.file_trees.proofs.Forests.{all_left, all_right}
-use Rattle.file_trees.proofs.Keeping.{rows_fit}
-use Rattle.file_trees.proofs.Listings.{next_read}
+use Rattle.volume_format.specs.Trees.{entry_under, layout_under}
+use Rattle.volume_format.specs.Pairs.{IsUnder}
+use Rattle.volume_format.specs.Forest.{TreeLevels, IsTreeIn, IsForest}
+use Rattle.volume_format.specs.Grows.{IsTreeAmong}
+use Rattle.volume_format.specs.Volume.{FileTrees, IsIndex, trees_of, listing_of, no_tree, tree_levels}
+use Rattle.volume_format.proofs.Forests.{all_left, all_right}
+use Rattle.volume_format.proofs.Keeping.{rows_fit}
+use Rattle.volume_format.proofs.Listings.{next_read}
 use Rattle.alternate_keys.specs.Created.{HasStored}
-use Rattle.alternate_keys.specs.Listed.{IsFound, root_in}
+use Rattle.alternate_keys.specs.Listed.{IsFoundFile, root_in}
 use Rattle.alternate_keys.specs.Moved.{IsRowOf}
 use Rattle.alternate_keys.specs.Placed.{HasTrees, HasIndexes, HasAllPairs, listed_tree}
 use Rattle.alternate_keys.specs.Seen.{HasRows, HasPairs}
 use Rattle.alternate_keys.proofs.Keeping.{tree_is, root_is, rows_seen, pairs_seen, tree_under}
 
-module _ (spec : Spec) (named : Named) (generation : ℕ) (pages : List (Option Sector)) (left right : List Planted) (listing : List ℕ) (has : HasTrees spec named generation pages left right listing) where
-  abbrev pub kept_in : Kept
+module _ (spec : Spec) (named : NamedFile) (generation : ℕ) (pages : List (Option Sector)) (left right : List TreeLevels) (listing : List ℕ) (has : HasTrees spec named generation pages left right listing) where
+  abbrev pub kept_in : FileTrees
   kept_in = has.placed.kept
 
   abbrev file_is : kept_in.named.file ≡ named.file
-  file_is = ap (λ (n : Named). n.file) has.placed.named_is
+  file_is = ap (λ (n : NamedFile). n.file) has.placed.named_is
 
   abbrev spec_here : kept_in.named.file.spec ≡ spec
   spec_here = ap (λ (f : File). f.spec) file_is ∙ has.spec_is
@@ -44,11 +44,11 @@ module _ (spec : Spec) (named : Named) (generation : ℕ) (pages : List (Option 
   abbrev the_map : Map
   the_map = record { generation = generation; catalog = 0; pages = pages }
 
-  grown : All (Grows pages) (trees_of kept_in)
-  grown = all_left (Grows pages) (trees_of kept_in) right (all_right (Grows pages) left (trees_of kept_in ++ right) has.placed.forest.grow)
+  grown : All (IsTreeIn pages) (trees_of kept_in)
+  grown = all_left (IsTreeIn pages) (trees_of kept_in) right (all_right (IsTreeIn pages) left (trees_of kept_in ++ right) has.placed.forest.grow)
 
-  found : IsFound the_map (Some kept_in.named.file) kept_in
-  found = record { there = refl; is = has.placed.is; named = subst (λ (n : Named). IsNamed n) (sym has.placed.named_is) has.is_named; grow = grown }
+  found : IsFoundFile the_map (Some kept_in.named.file) kept_in
+  found = record { there = refl; is = has.placed.is; named = subst (λ (n : NamedFile). IsNamed n) (sym has.placed.named_is) has.is_named; grow = grown }
 
   pub arrival_low : named.file.next_arrival ≤ generation
   arrival_low =
@@ -64,27 +64,27 @@ module _ (spec : Spec) (named : Named) (generation : ℕ) (pages : List (Option 
       let few = arrival_few in
       let same = ap (λ (f : File). f.next_arrival) file_is in
       ap (λ (l : List ℕ). big_number 8 (drop 75 l)) has.placed.says
-      ∙ next_read (listing_of kept_in) found.named.file.spec (length-map kept_in.alternates (λ (tree : Planted). tree.tree.root) ∙ has.placed.is.count) (omega (arith, few, same))
+      ∙ next_read (listing_of kept_in) found.named.file.spec (length-map kept_in.alternates (λ (tree : TreeLevels). tree.tree.root) ∙ has.placed.is.count) (omega (arith, few, same))
       ∙ same
 
-  prime_same : (prime : Rooted) → prime.layout ≡ layout_under spec Prime → prime.root ≡ root_in Prime listing → prime ≡ kept_in.prime.tree
+  prime_same : (prime : RootedTree) → prime.layout ≡ layout_under spec Prime → prime.root ≡ root_in Prime listing → prime ≡ kept_in.prime.tree
   prime_same prime layout root = tree_is the_map (Some kept_in.named.file) kept_in spec Prime (record { key = []; value = listing }) prime found has.small spec_here (omega arith) has.placed.says layout root
 
-  pub prime_stands : (prime : Rooted) → prime.layout ≡ layout_under spec Prime → prime.root ≡ root_in Prime listing → StandsAmong pages left (kept_in.alternates ++ right) prime (map (entry_under spec Prime) named.file.rows)
+  pub prime_stands : (prime : RootedTree) → prime.layout ≡ layout_under spec Prime → prime.root ≡ root_in Prime listing → IsTreeAmong pages left (kept_in.alternates ++ right) prime (map (entry_under spec Prime) named.file.rows)
   prime_stands prime layout root =
       let same = prime_same prime layout root in
       record {
         levels = kept_in.prime.levels;
-        forest = subst (λ (t : Rooted). IsForest pages (left ++ (planted t kept_in.prime.levels ∷ (kept_in.alternates ++ right)))) (sym same) has.placed.forest;
-        listed = ap (λ (t : Rooted). entries_of t.layout kept_in.prime.levels) same ∙ has.placed.is.rows
+        forest = subst (λ (t : RootedTree). IsForest pages (left ++ (tree_levels t kept_in.prime.levels ∷ (kept_in.alternates ++ right)))) (sym same) has.placed.forest;
+        listed = ap (λ (t : RootedTree). entries_of t.layout kept_in.prime.levels) same ∙ has.placed.is.rows
             ∙ ap (λ (s : Spec). map (entry_under s Prime) kept_in.named.file.rows) spec_here ∙ ap (λ (f : File). map (entry_under spec Prime) f.rows) file_is;
       }
 
-  pub prime_rows : (prime : Rooted) → prime.layout ≡ layout_under spec Prime → prime.root ≡ root_in Prime listing → HasRows spec pages named.file.rows prime
+  pub prime_rows : (prime : RootedTree) → prime.layout ≡ layout_under spec Prime → prime.root ≡ root_in Prime listing → HasRows spec pages named.file.rows prime
   prime_rows prime layout root =
       let own = rows_seen the_map (Some kept_in.named.file) kept_in found has.few in
       let here : HasRows spec pages kept_in.named.file.rows kept_in.prime.tree = subst (λ (s : Spec). HasRows s pages kept_in.named.file.rows kept_in.prime.tree) spec_here own in
-      subst (λ (t : Rooted). HasRows spec pages named.file.rows t) (sym (prime_same prime layout root)) (subst (λ (f : File). HasRows spec pages f.rows kept_in.prime.tree) file_is here)
+      subst (λ (t : RootedTree). HasRows spec pages named.file.rows t) (sym (prime_same prime layout root)) (subst (λ (f : File). HasRows spec pages f.rows kept_in.prime.tree) file_is here)
 
   pub all_pairs : HasAllPairs spec pages named.file.rows listing
   all_pairs i low =
@@ -93,7 +93,7 @@ module _ (spec : Spec) (named : Named) (generation : ℕ) (pages : List (Option 
       let here : HasPairs spec (Alternate i) pages kept_in.named.file.rows (tree_under (Alternate i) kept_in).tree =
       subst (λ (s : Spec). HasPairs s (Alternate i) pages kept_in.named.file.rows (tree_under (Alternate i) kept_in).tree) spec_here own in
       let same = tree_is the_map (Some kept_in.named.file) kept_in spec (Alternate i) (record { key = []; value = listing }) (listed_tree spec i listing) found has.small spec_here (omega (arith, low)) has.placed.says refl refl in
-      subst (λ (t : Rooted). HasPairs spec (Alternate i) pages named.file.rows t) (sym same) (subst (λ (f : File). HasPairs spec (Alternate i) pages f.rows (tree_under (Alternate i) kept_in).tree) file_is here)
+      subst (λ (t : RootedTree). HasPairs spec (Alternate i) pages named.file.rows t) (sym same) (subst (λ (f : File). HasPairs spec (Alternate i) pages f.rows (tree_under (Alternate i) kept_in).tree) file_is here)
 
   pub rows_under : All (IsUnder spec Prime) named.file.rows
   rows_under = subst (λ (s : Spec). All (IsUnder s Prime) named.file.rows) has.spec_is (rows_fit named.file has.is_named.file arrival_few).0
@@ -112,13 +112,13 @@ module _ (spec : Spec) (named : Named) (generation : ℕ) (pages : List (Option 
         low = λ k d within. let given = (All-from_recursion (IsArrival file.next_arrival) row.arrivals is.given k d within).1 in omega (arith, given, few);
       }
 
-  pub indexes_then : (after : List (Option Sector)) (prime : Rooted) (entries : List Entry) → (stands : StandsAmong after left (kept_in.alternates ++ right) prime entries) →
-      HasIndexes named.file after (left ++ planted prime stands.levels ∷ []) right kept_in.alternates listing
+  pub indexes_then : (after : List (Option Sector)) (prime : RootedTree) (entries : List Entry) → (stands : IsTreeAmong after left (kept_in.alternates ++ right) prime entries) →
+      HasIndexes named.file after (left ++ tree_levels prime stands.levels ∷ []) right kept_in.alternates listing
   indexes_then after prime entries stands =
-      let x : Planted = planted prime stands.levels in
+      let x : TreeLevels = tree_levels prime stands.levels in
       let fits : (i : ℕ) → i < length named.file.spec.alternates → i < length kept_in.named.file.spec.alternates = λ i low. subst (λ (f : File). i < length f.spec.alternates) (sym file_is) low in
       record {
-        forest = subst (λ (ts : List Planted). IsForest after ts) (sym (append_assoc left (x ∷ []) (kept_in.alternates ++ right))) stands.forest;
+        forest = subst (λ (ts : List TreeLevels). IsForest after ts) (sym (append_assoc left (x ∷ []) (kept_in.alternates ++ right))) stands.forest;
         count = has.placed.is.count ∙ ap (λ (f : File). length f.spec.alternates) file_is;
         indexes = λ i low. subst (λ (f : File). IsIndex f i (slice_index_or kept_in.alternates i no_tree)) file_is (has.placed.is.indexes i (fits i low));
         roots = λ i low. let inside = fits i low in sym (root_is the_map (Some kept_in.named.file) kept_in (Alternate i) found has.small (omega (arith, inside))) ∙ ap (root_in (Alternate i)) (sym has.placed.says);
@@ -127,7 +127,7 @@ module _ (spec : Spec) (named : Named) (generation : ℕ) (pages : List (Option 
   -- its trees, as the catalog says them
   told_tree : (key : KeyOfReference) → IsKey kept_in.named.file.spec key → (tree_under key kept_in).tree ≡ record { layout = layout_under kept_in.named.file.spec key; root = root_in key listing }
   told_tree key within =
-      let own : Rooted = record { layout = layout_under kept_in.named.file.spec key; root = root_in key listing } in
+      let own : RootedTree = record { layout = layout_under kept_in.named.file.spec key; root = root_in key listing } in
       sym (tree_is the_map (Some kept_in.named.file) kept_in kept_in.named.file.spec key (record { key = []; value = listing }) own found has.small refl within has.placed.says refl refl)
 
   pub prime_told : kept_in.prime.tree ≡ record { layout = layout_under kept_in.named.file.spec Prime; root = root_in Prime listing }

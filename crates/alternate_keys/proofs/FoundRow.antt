@@ -9,11 +9,11 @@ use Rattle.records.specs.declared.key.KeyOfReference.TheVariants.{Prime}
 use Rattle.records.specs.Spec.{Spec}
 use Rattle.records.specs.Rows.{Row, Pair, prime_pair}
 use Rattle.records.specs.Changes.{row_at}
-use Rattle.records.specs.Files.{Named}
+use Rattle.records.specs.Files.{NamedFile}
 use Rattle.records.proofs.Changed.{pair_same}
-use Rattle.file_trees.specs.Trees.{entry_under, key_under}
-use Rattle.file_trees.specs.Pairs.{IsPair, IsUnder}
-use Rattle.file_trees.specs.Forest.{Planted}
+use Rattle.volume_format.specs.Trees.{entry_under, key_under}
+use Rattle.volume_format.specs.Pairs.{IsPair, IsUnder}
+use Rattle.volume_format.specs.Forest.{TreeLevels}
 use Rattle.alternate_keys.specs.Moved.{IsRowOf}
 use Rattle.alternate_keys.specs.Placed.{HasTrees}
 use Rattle.alternate_keys.proofs.FileTrees.{rows_under, is_row_of}
@@ -28,7 +28,7 @@ some_of spec None e is = cc
 some_of spec (Some row) e is = (row, refl, cc)
 
 -- its entry, and what is known of it
-pub record FoundRow (spec : Spec) (named : Named) (pair : Pair) (entry : Entry) : Type 0 where
+pub record FoundRow (spec : Spec) (named : NamedFile) (pair : Pair) (entry : Entry) : Type 0 where
   pub old : Row
   pub there : row_at named.file.spec.organization pair named.file.rows ≡ Some old
   pub is : entry ≡ entry_under spec Prime old
@@ -37,7 +37,7 @@ pub record FoundRow (spec : Spec) (named : Named) (pair : Pair) (entry : Entry) 
   pub found : entry_with (map (entry_under spec Prime) named.file.rows) (key_under spec Prime pair) ≡ Some entry
   pub row_is : IsRowOf spec old
 
-module _ (spec : Spec) (named : Named) (generation : ℕ) (pages : List (Option Sector)) (left right : List Planted) (listing : List ℕ) (has : HasTrees spec named generation pages left right listing)
+module _ (spec : Spec) (named : NamedFile) (generation : ℕ) (pages : List (Option Sector)) (left right : List TreeLevels) (listing : List ℕ) (has : HasTrees spec named generation pages left right listing)
     (pair : Pair) (answer : Option Entry) (told : answer ≡ option_map (entry_under spec Prime) (row_at spec.organization pair named.file.rows)) where
   at_here : row_at named.file.spec.organization pair named.file.rows ≡ row_at spec.organization pair named.file.rows
   at_here = ap (λ (s : Spec). row_at s.organization pair named.file.rows) has.spec_is

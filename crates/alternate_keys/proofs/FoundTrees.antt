@@ -4,7 +4,7 @@ use Rattle.std.specs.Prelude.{Option, Some}
 use Rattle.std.proofs.lemmas.Bool.{eqb-true}
 use Rattle.station.specs.Disk.{Sector}
 use Rattle.pages.specs.Image.{Map}
-use Rattle.btree.specs.Rooted.{Rooted}
+use Rattle.btree.specs.Rooted.{RootedTree}
 use Rattle.btree.specs.Entries.{Entry}
 use Rattle.records.specs.declared.file_spec.AlternateKey.{AlternateKey}
 use Rattle.records.specs.declared.file_spec.KeyPlace.{KeyPlace}
@@ -14,15 +14,15 @@ use Rattle.records.specs.declared.key.KeyOfReference.{KeyOfReference}
 use Rattle.records.specs.declared.key.KeyOfReference.TheVariants.{Prime, Alternate}
 use Rattle.records.specs.Spec.{Spec, is_spec, are_keys}
 use Rattle.records.specs.Rows.{prime_place}
-use Rattle.records.specs.Order.{Bound}
+use Rattle.records.specs.Order.{RowBound}
 use Rattle.records.specs.Stores.{IsKey}
 use Rattle.records.specs.Files.{File}
-use Rattle.file_trees.specs.Trees.{layout_under, prime_key_length}
-use Rattle.file_trees.specs.Volume.{Kept}
-use Rattle.file_trees.proofs.Small.{place_short, spec_keys}
-use Rattle.alternate_keys.specs.declared.aim.Aim.{Aim}
+use Rattle.volume_format.specs.Trees.{layout_under, prime_key_length}
+use Rattle.volume_format.specs.Volume.{FileTrees}
+use Rattle.volume_format.proofs.Small.{place_short, spec_keys}
+use Rattle.alternate_keys.specs.declared.search_start.SearchStart.{SearchStart}
 use Rattle.alternate_keys.specs.Aims.{IsBound, aim_of, aim_key}
-use Rattle.alternate_keys.specs.Listed.{IsFound, IsListed, root_in}
+use Rattle.alternate_keys.specs.Listed.{IsFoundFile, IsListed, root_in}
 use Rattle.alternate_keys.specs.Seen.{HasRows, HasPairs, IsSought}
 use Rattle.alternate_keys.proofs.Keeping.{rows_seen, pairs_seen, tree_is, tree_under}
 
@@ -50,18 +50,18 @@ layout_short spec Prime is within = key_by spec spec.organization refl is
 layout_short spec (Alternate i) is within = let short = place_short spec (Alternate i) is within in omega (arith, short)
 
 -- the file that was found, under another name for it and its spec
-rows_as : (pages : List (Option Sector)) (one : File) (held : File) (spec : Spec) (own : Rooted) (tree : Rooted) → one ≡ held → held.spec ≡ spec → tree ≡ own → HasRows one.spec pages one.rows own → HasRows spec pages held.rows tree
+rows_as : (pages : List (Option Sector)) (one : File) (held : File) (spec : Spec) (own : RootedTree) (tree : RootedTree) → one ≡ held → held.spec ≡ spec → tree ≡ own → HasRows one.spec pages one.rows own → HasRows spec pages held.rows tree
 rows_as pages one held spec own tree same is there rows =
-    subst (λ (t : Rooted). HasRows spec pages held.rows t) (sym there)
+    subst (λ (t : RootedTree). HasRows spec pages held.rows t) (sym there)
     (subst (λ (s : Spec). HasRows s pages held.rows own) is (subst (λ (f : File). HasRows f.spec pages f.rows own) same rows))
 
-pairs_as : (pages : List (Option Sector)) (one : File) (held : File) (spec : Spec) (key : KeyOfReference) (own : Rooted) (tree : Rooted) → one ≡ held → held.spec ≡ spec → tree ≡ own → HasPairs one.spec key pages one.rows own → HasPairs spec key pages held.rows tree
+pairs_as : (pages : List (Option Sector)) (one : File) (held : File) (spec : Spec) (key : KeyOfReference) (own : RootedTree) (tree : RootedTree) → one ≡ held → held.spec ≡ spec → tree ≡ own → HasPairs one.spec key pages one.rows own → HasPairs spec key pages held.rows tree
 pairs_as pages one held spec key own tree same is there pairs =
-    subst (λ (t : Rooted). HasPairs spec key pages held.rows t) (sym there)
+    subst (λ (t : RootedTree). HasPairs spec key pages held.rows t) (sym there)
     (subst (λ (s : Spec). HasPairs s key pages held.rows own) is (subst (λ (f : File). HasPairs f.spec key pages f.rows own) same pairs))
 
 -- what is known where the trees of a file are looked into
-pub record Knows (m : Map) (found : Option File) (held : File) (spec : Spec) (key : KeyOfReference) (listed : Option Entry) (entry : Entry) (prime under : Rooted) : Type 0 where
+pub record Knows (m : Map) (found : Option File) (held : File) (spec : Spec) (key : KeyOfReference) (listed : Option Entry) (entry : Entry) (prime under : RootedTree) : Type 0 where
   pub few : m.generation < 2 ^ 63
   pub small : length m.pages ≤ 921600
   pub listing : IsListed m found listed
@@ -75,12 +75,12 @@ pub record Knows (m : Map) (found : Option File) (held : File) (spec : Spec) (ke
   pub under_layout : under.layout ≡ layout_under spec key
   pub under_root : under.root ≡ root_in key entry.value
 
-pub sought_in : (m : Map) (found : Option File) (held : File) (spec : Spec) (key : KeyOfReference) (bound : Bound) (listed : Option Entry) (entry : Entry) (prime under : Rooted) (way : Aim) (at : List ℕ) →
+pub sought_in : (m : Map) (found : Option File) (held : File) (spec : Spec) (key : KeyOfReference) (bound : RowBound) (listed : Option Entry) (entry : Entry) (prime under : RootedTree) (way : SearchStart) (at : List ℕ) →
     Knows m found held spec key listed entry prime under → IsBound spec key bound → way ≡ aim_of spec key bound → at ≡ aim_key spec key bound → IsSought spec key bound m.pages held.rows prime under way at
 sought_in m found held spec key bound listed entry prime under way at knows bounded way_is at_is =
     let there = subst (IsListed m found) knows.some knows.listing in
-    let kept : Kept = there.0 in
-    let is : IsFound m found kept = there.1 in
+    let kept : FileTrees = there.0 in
+    let is : IsFoundFile m found kept = there.1 in
     let some : Some kept.named.file ≡ Some held = sym is.there ∙ knows.there in
     let same : kept.named.file ≡ held = cc in
     let spec_is : kept.named.file.spec ≡ spec = ap (λ (f : File). f.spec) same ∙ knows.spec_is in

@@ -8,8 +8,8 @@ use Rattle.std.specs.declared.cmp.Ordering.TheVariants.{Less, Equal, Greater}
 use Rattle.std.proofs.lemmas.List.{length-append}
 use Rattle.std.proofs.lemmas.List.Elements.{All-head, All-tail, All-from_recursion, All-contains}
 use Rattle.byteorder.specs.Endian.{big_bytes}
-use Rattle.tree_pages.specs.Keys.{key_cmp}
-use Rattle.tree_pages.proofs.Order.{same_key}
+use Rattle.btree_pages.specs.Keys.{key_cmp}
+use Rattle.btree_pages.proofs.Order.{same_key}
 use Rattle.btree.specs.Entries.{Entry, entry_with}
 use Rattle.btree.proofs.Runs.{same_cut, in_head, in_tail}
 use Rattle.records.specs.declared.file_spec.Organization.{Organization}
@@ -18,26 +18,26 @@ use Rattle.records.specs.declared.key.KeyOfReference.TheVariants.{Prime, Alterna
 use Rattle.records.specs.Spec.{Spec, is_spec}
 use Rattle.records.specs.Rows.{Row, pair_under, prime_pair, prime_place, named_pair}
 use Rattle.records.specs.Changes.{is_at, new_number}
-use Rattle.records.specs.Stores.{IsNumber}
+use Rattle.records.specs.Stores.{IsNewNumber}
 use Rattle.records.specs.Files.{File, IsByte, IsRow, IsFile, IsArrival}
-use Rattle.file_trees.specs.Trees.{entry_under, AreOf}
-use Rattle.file_trees.specs.Pairs.{IsPrimePair, IsUnder}
-use Rattle.file_trees.proofs.Keeping.{prime_bytes}
-use Rattle.file_trees.proofs.Once.{same_number}
-use Rattle.file_trees.proofs.Order.{keys_in_order}
-use Rattle.file_trees.proofs.Places.{place_within}
+use Rattle.volume_format.specs.Trees.{entry_under, AreOf}
+use Rattle.volume_format.specs.Pairs.{IsPrimePair, IsUnder}
+use Rattle.volume_format.proofs.Keeping.{prime_bytes}
+use Rattle.volume_format.proofs.Once.{same_number}
+use Rattle.volume_format.proofs.Order.{keys_in_order}
+use Rattle.volume_format.proofs.Places.{place_within}
 use Rattle.alternate_keys.specs.NewRow.{row_with}
 use Rattle.alternate_keys.proofs.Arrivals.{arrival_at}
 use Rattle.alternate_keys.proofs.NewRows.{part_long, bytes_long}
 
 -- its pair can be a key of the tree of rows
-pair_is : (o : Organization) (n number arrival : ℕ) (bytes : List ℕ) → (prime_place o).offset + (prime_place o).length ≤ n → length bytes ≡ n → arrival < 2 ^ 64 → IsNumber o number →
+pair_is : (o : Organization) (n number arrival : ℕ) (bytes : List ℕ) → (prime_place o).offset + (prime_place o).length ≤ n → length bytes ≡ n → arrival < 2 ^ 64 → IsNewNumber o number →
     IsPrimePair o (named_pair o (new_number o number arrival) bytes)
 pair_is Sequential n number arrival bytes fits long low is = (refl, omega (arith, low))
 pair_is Relative n number arrival bytes fits long low is = (refl, let high = is.1 in omega (arith, high))
 pair_is (Indexed place) n number arrival bytes fits long low is = (part_long place n bytes fits long, refl)
 
-pub new_under : (spec : Spec) (number arrival : ℕ) (bytes : List ℕ) → is_spec spec ≡ true → length bytes ≡ spec.record_length → All IsByte bytes → arrival < 2 ^ 64 → IsNumber spec.organization number →
+pub new_under : (spec : Spec) (number arrival : ℕ) (bytes : List ℕ) → is_spec spec ≡ true → length bytes ≡ spec.record_length → All IsByte bytes → arrival < 2 ^ 64 → IsNewNumber spec.organization number →
     IsUnder spec Prime (row_with spec (new_number spec.organization number arrival) arrival bytes)
 new_under spec number arrival bytes is long low few numbered = record {
   pair = pair_is spec.organization spec.record_length number arrival bytes (place_within spec Prime is (omega arith)) long few numbered;

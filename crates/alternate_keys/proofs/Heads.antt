@@ -6,16 +6,16 @@ use Rattle.std.proofs.lemmas.List.{drop-drop, append_assoc}
 use Rattle.byteorder.specs.Endian.{big_bytes, big_number}
 use Rattle.byteorder.specs.Numbers.{big_number-reads_back}
 use Rattle.records.specs.declared.file_spec.AlternateKey.{AlternateKey}
-use Rattle.tree_pages.specs.declared.row_layout.RowLayout.{RowLayout}
+use Rattle.btree_pages.specs.declared.row_layout.RowLayout.{RowLayout}
 use Rattle.records.specs.declared.file_spec.Organization.{Organization}
 use Rattle.records.specs.declared.file_spec.Organization.TheVariants.{Sequential, Relative, Indexed}
 use Rattle.records.specs.declared.key.KeyOfReference.TheVariants.{Prime, Alternate}
 use Rattle.records.specs.Spec.{is_spec}
 use Rattle.records.specs.Rows.{prime_place, no_key}
-use Rattle.file_trees.specs.Catalog.{Listing, spelled, spec_bytes, key_bytes, filled_to, organization_byte}
-use Rattle.file_trees.specs.Trees.{prime_key_length}
-use Rattle.file_trees.proofs.Places.{place_within}
-use Rattle.file_trees.proofs.Small.{short_record}
+use Rattle.volume_format.specs.Catalog.{Listing, listing_bytes, spec_bytes, key_bytes, filled_to, organization_byte}
+use Rattle.volume_format.specs.Trees.{prime_key_length}
+use Rattle.volume_format.proofs.Places.{place_within}
+use Rattle.volume_format.proofs.Small.{short_record}
 
 -- the length of a key at its place of the list
 length_at : (keys : List AlternateKey) (i : ℕ) (more : List ℕ) → i < length keys → ((k : ℕ) → k < length keys → (slice_index_or keys k no_key).place.length < 256 ^ 2) →
@@ -32,34 +32,34 @@ module _ (l : Listing) (is : is_spec l.spec ≡ true) where
   abbrev rest : List ℕ
   rest = big_bytes 4 l.prime ++ (filled_to 28 (flat_map (big_bytes 4) l.alternates) ++ big_bytes 8 l.next_arrival)
 
-  pub organization_at : slice_index (spelled l) 0 ≡ organization_byte l.spec.organization
-  unfolding spelled spec_bytes
+  pub organization_at : slice_index (listing_bytes l) 0 ≡ organization_byte l.spec.organization
+  unfolding listing_bytes spec_bytes
   organization_at = refl
 
-  pub count_at : slice_index (spelled l) 7 ≡ length l.spec.alternates
-  unfolding spelled spec_bytes
+  pub count_at : slice_index (listing_bytes l) 7 ≡ length l.spec.alternates
+  unfolding listing_bytes spec_bytes
   count_at = refl
 
-  pub record_at : big_number 2 (drop 1 (spelled l)) ≡ l.spec.record_length
-  unfolding spelled spec_bytes
-  record_at = let short = short_record l.spec is in big_number-reads_back 2 l.spec.record_length (drop 3 (spelled l)) (omega (arith, short))
+  pub record_at : big_number 2 (drop 1 (listing_bytes l)) ≡ l.spec.record_length
+  unfolding listing_bytes spec_bytes
+  record_at = let short = short_record l.spec is in big_number-reads_back 2 l.spec.record_length (drop 3 (listing_bytes l)) (omega (arith, short))
 
-  pub prime_at : big_number 2 (drop 5 (spelled l)) ≡ (prime_place l.spec.organization).length
-  unfolding spelled spec_bytes
+  pub prime_at : big_number 2 (drop 5 (listing_bytes l)) ≡ (prime_place l.spec.organization).length
+  unfolding listing_bytes spec_bytes
   prime_at =
       let short = short_record l.spec is in
       let fits = place_within l.spec Prime is (omega arith) in
-      big_number-reads_back 2 (prime_place l.spec.organization).length (drop 7 (spelled l)) (omega (arith, short, fits))
+      big_number-reads_back 2 (prime_place l.spec.organization).length (drop 7 (listing_bytes l)) (omega (arith, short, fits))
 
-  keys_at : drop 8 (spelled l) ≡ filled_to 35 (flat_map key_bytes l.spec.alternates) ++ rest
-  unfolding spelled spec_bytes
+  keys_at : drop 8 (listing_bytes l) ≡ filled_to 35 (flat_map key_bytes l.spec.alternates) ++ rest
+  unfolding listing_bytes spec_bytes
   keys_at = refl
 
-  pub alternate_at : (i : ℕ) → i < length l.spec.alternates → big_number 2 (drop (10 + 5 * i) (spelled l)) ≡ (slice_index_or l.spec.alternates i no_key).place.length
+  pub alternate_at : (i : ℕ) → i < length l.spec.alternates → big_number 2 (drop (10 + 5 * i) (listing_bytes l)) ≡ (slice_index_or l.spec.alternates i no_key).place.length
   alternate_at i within =
       let keys : List ℕ = flat_map key_bytes l.spec.alternates in
       let eight : 10 + 5 * i ≡ 8 + (2 + 5 * i) = omega arith in
-      ap (λ (n : ℕ). big_number 2 (drop n (spelled l))) eight ∙ ap (big_number 2) (sym (drop-drop (2 + 5 * i) 8 (spelled l)))
+      ap (λ (n : ℕ). big_number 2 (drop n (listing_bytes l))) eight ∙ ap (big_number 2) (sym (drop-drop (2 + 5 * i) 8 (listing_bytes l)))
       ∙ ap (λ (s : List ℕ). big_number 2 (drop (2 + 5 * i) s)) (keys_at ∙ append_assoc keys (replicate (35 - length keys) 0) rest)
       ∙ length_at l.spec.alternates i (replicate (35 - length keys) 0 ++ rest) within
       (λ k inside. let short = short_record l.spec is in let fits = place_within l.spec (Alternate k) is (omega (arith, inside)) in omega (arith, short, fits))

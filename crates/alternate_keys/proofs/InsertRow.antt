@@ -4,25 +4,25 @@ use Rattle.std.specs.Prelude.{map, filter, Option, Some, None, IsSome, is_some, 
 use Rattle.std.specs.List.{All, list_any}
 use Rattle.station.specs.Disk.{Sector}
 use Rattle.byteorder.specs.Endian.{big_bytes}
-use Rattle.btree.specs.Rooted.{Rooted}
-use Rattle.btree.specs.Entries.{Entry, entry_with, with_entry}
+use Rattle.btree.specs.Rooted.{RootedTree}
+use Rattle.btree.specs.Entries.{Entry, entry_with, with_new_entry}
 use Rattle.records.specs.declared.answer.Outcome.{Outcome}
 use Rattle.records.specs.declared.answer.Outcome.TheVariants.{Taken}
 use Rattle.records.specs.declared.file_spec.AlternateKey.{AlternateKey}
 use Rattle.records.specs.declared.key.KeyOfReference.TheVariants.{Prime, Alternate}
 use Rattle.records.specs.Spec.{Spec, is_spec}
 use Rattle.records.specs.Rows.{Row, part, place_of, prime_pair, prime_place}
-use Rattle.records.specs.Changes.{Changed, is_at, has_prime, new_row, new_number, with_row, inserted, unchanged, is_taken, is_duplicate, done}
-use Rattle.records.specs.Files.{File, Named, IsByte}
-use Rattle.records.specs.Stores.{IsNumber, is_change}
-use Rattle.file_trees.specs.Trees.{entry_under, layout_under, AreOf}
-use Rattle.file_trees.specs.Pairs.{IsUnder}
-use Rattle.file_trees.specs.Forest.{Planted}
-use Rattle.file_trees.specs.Grows.{StandsAmong}
-use Rattle.file_trees.specs.Volume.{planted}
-use Rattle.file_trees.proofs.Comes.{row_comes, pair_comes}
+use Rattle.records.specs.Changes.{FileChange, is_at, has_prime, new_row, new_number, with_row, insertion, without_change, is_taken, is_duplicate, done_outcome}
+use Rattle.records.specs.Files.{File, NamedFile, IsByte}
+use Rattle.records.specs.Stores.{IsNewNumber, is_change}
+use Rattle.volume_format.specs.Trees.{entry_under, layout_under, AreOf}
+use Rattle.volume_format.specs.Pairs.{IsUnder}
+use Rattle.volume_format.specs.Forest.{TreeLevels}
+use Rattle.volume_format.specs.Grows.{IsTreeAmong}
+use Rattle.volume_format.specs.Volume.{tree_levels}
+use Rattle.volume_format.proofs.Comes.{row_comes, pair_comes}
 use Rattle.alternate_keys.specs.declared.row_verb.RowVerb.TheVariants.{Insert}
-use Rattle.alternate_keys.specs.Moved.{Moving, PairsMove, PairsMayMove, pair_entry, is_new}
+use Rattle.alternate_keys.specs.Moved.{HasChangedRows, PairsMove, PairsMayMove, pair_entry, is_new}
 use Rattle.alternate_keys.specs.NewRow.{row_with, file_with, named_with}
 use Rattle.alternate_keys.specs.Placed.{HasTrees}
 use Rattle.alternate_keys.proofs.Arrivals.{arrival_at}
@@ -30,16 +30,16 @@ use Rattle.alternate_keys.proofs.FileTrees.{kept_in, arrival_low, arrival_few, r
 use Rattle.alternate_keys.proofs.Fresh.{new_under, key_there, not_there, arrivals_before}
 
 -- what is told of the values of a record, and whether it is a change
-pub told_by : (taken duplicate : Bool) (outcome : Outcome) (b : Bool) → outcome ≡ (if taken then Taken else done duplicate) → is_change outcome ≡ b → taken ≡ not b
+pub told_by : (taken duplicate : Bool) (outcome : Outcome) (b : Bool) → outcome ≡ (if taken then Taken else done_outcome duplicate) → is_change outcome ≡ b → taken ≡ not b
 told_by true duplicate outcome b is change = ap not (let one : false ≡ b = sym (ap is_change is) ∙ change in one)
 told_by false true outcome b is change = ap not (let one : true ≡ b = sym (ap is_change is) ∙ change in one)
 told_by false false outcome b is change = ap not (let one : true ≡ b = sym (ap is_change is) ∙ change in one)
 
-pub told_free : (taken duplicate : Bool) (outcome : Outcome) → outcome ≡ (if taken then Taken else done duplicate) → taken ≡ false → outcome ≡ done duplicate
-told_free taken duplicate outcome is free = is ∙ ap (λ (b : Bool). if b then Taken else done duplicate) free
+pub told_free : (taken duplicate : Bool) (outcome : Outcome) → outcome ≡ (if taken then Taken else done_outcome duplicate) → taken ≡ false → outcome ≡ done_outcome duplicate
+told_free taken duplicate outcome is free = is ∙ ap (λ (b : Bool). if b then Taken else done_outcome duplicate) free
 
-pub told_taken : (taken duplicate : Bool) (outcome : Outcome) → outcome ≡ (if taken then Taken else done duplicate) → taken ≡ true → outcome ≡ Taken
-told_taken taken duplicate outcome is full = is ∙ ap (λ (b : Bool). if b then Taken else done duplicate) full
+pub told_taken : (taken duplicate : Bool) (outcome : Outcome) → outcome ≡ (if taken then Taken else done_outcome duplicate) → taken ≡ true → outcome ≡ Taken
+told_taken taken duplicate outcome is full = is ∙ ap (λ (b : Bool). if b then Taken else done_outcome duplicate) full
 
 pub none_by : (entry : Option Entry) → (IsSome entry → ⊥) → entry ≡ None
 none_by None never = refl
@@ -52,25 +52,25 @@ all_new old bytes (key ∷ keys) = ap (λ (l : List AlternateKey). key ∷ l) (a
 
 -- what became of the file
 module _ (number : ℕ) (bytes : List ℕ) (file : File) where
-  abbrev answer : Bool → Bool → Changed
-  answer there taken = if there || taken then unchanged Taken file else record { outcome = done (is_duplicate file.spec.alternates file.rows bytes); file = file_with (new_row file number bytes) file }
+  abbrev answer : Bool → Bool → FileChange
+  answer there taken = if there || taken then without_change Taken file else record { outcome = done_outcome (is_duplicate file.spec.alternates file.rows bytes); file = file_with (new_row file number bytes) file }
 
   taken_either : (there taken : Bool) → taken ≡ true → (there || taken) ≡ true
   taken_either true taken is = refl
   taken_either false taken is = is
 
-  pub inserted_there : has_prime file (new_row file number bytes) ≡ true → inserted number bytes file ≡ unchanged Taken file
+  pub inserted_there : has_prime file (new_row file number bytes) ≡ true → insertion number bytes file ≡ without_change Taken file
   inserted_there there = ap (λ (b : Bool). answer b (is_taken file.spec.alternates file.rows bytes)) there
 
-  pub inserted_taken : is_taken file.spec.alternates file.rows bytes ≡ true → inserted number bytes file ≡ unchanged Taken file
-  inserted_taken taken = ap (λ (b : Bool). if b then unchanged Taken file else answer false false) (taken_either (has_prime file (new_row file number bytes)) (is_taken file.spec.alternates file.rows bytes) taken)
+  pub inserted_taken : is_taken file.spec.alternates file.rows bytes ≡ true → insertion number bytes file ≡ without_change Taken file
+  inserted_taken taken = ap (λ (b : Bool). if b then without_change Taken file else answer false false) (taken_either (has_prime file (new_row file number bytes)) (is_taken file.spec.alternates file.rows bytes) taken)
 
   pub inserted_done : has_prime file (new_row file number bytes) ≡ false → is_taken file.spec.alternates file.rows bytes ≡ false →
-      inserted number bytes file ≡ record { outcome = done (is_duplicate file.spec.alternates file.rows bytes); file = file_with (new_row file number bytes) file }
+      insertion number bytes file ≡ record { outcome = done_outcome (is_duplicate file.spec.alternates file.rows bytes); file = file_with (new_row file number bytes) file }
   inserted_done there taken = ap (λ (b : Bool). answer b (is_taken file.spec.alternates file.rows bytes)) there ∙ ap (answer false) taken
 
-module _ (spec : Spec) (named : Named) (generation : ℕ) (pages : List (Option Sector)) (left right : List Planted) (listing : List ℕ) (has : HasTrees spec named generation pages left right listing)
-    (number arrival : ℕ) (bytes : List ℕ) (same : arrival ≡ named.file.next_arrival) (is : is_spec spec ≡ true) (long : length bytes ≡ spec.record_length) (low : All IsByte bytes) (numbered : IsNumber spec.organization number) where
+module _ (spec : Spec) (named : NamedFile) (generation : ℕ) (pages : List (Option Sector)) (left right : List TreeLevels) (listing : List ℕ) (has : HasTrees spec named generation pages left right listing)
+    (number arrival : ℕ) (bytes : List ℕ) (same : arrival ≡ named.file.next_arrival) (is : is_spec spec ≡ true) (long : length bytes ≡ spec.record_length) (low : All IsByte bytes) (numbered : IsNewNumber spec.organization number) where
   abbrev row : Row
   row = row_with spec (new_number spec.organization number arrival) arrival bytes
 
@@ -98,7 +98,7 @@ module _ (spec : Spec) (named : Named) (generation : ℕ) (pages : List (Option 
 
   pairs_move : PairsMove Insert named.file (named_with row named).file [] bytes arrival
   pairs_move i entries within are up =
-      subst (λ (e : Entry). AreOf named.file.spec (Alternate i) (with_row named.file.spec.organization row named.file.rows) (with_entry entries e)) (entry_is i within)
+      subst (λ (e : Entry). AreOf named.file.spec (Alternate i) (with_row named.file.spec.organization row named.file.rows) (with_new_entry entries e)) (entry_is i within)
       (pair_comes named.file.spec (Alternate i) named.file.rows entries row are)
 
   pub pairs_may : PairsMayMove Insert named.file [] bytes arrival
@@ -111,13 +111,13 @@ module _ (spec : Spec) (named : Named) (generation : ℕ) (pages : List (Option 
       (λ r there. let before = arrivals_before named.file r i has.is_named.file there within in omega (arith, before, same))
       (subst (λ (k : List ℕ). IsSome (entry_with entries k)) (sym key) some))
 
-  pub insert_moving : (later : List (Option Sector)) (prime : Rooted) → prime.layout ≡ layout_under spec Prime →
-      StandsAmong later left ((kept_in spec named generation pages left right listing has).alternates ++ right) prime (with_entry (map (entry_under spec Prime) named.file.rows) (entry_under spec Prime row)) →
-      Moving Insert spec named (named_with row named) generation later left right listing prime.root [] bytes arrival (arrival + 1)
+  pub insert_moving : (later : List (Option Sector)) (prime : RootedTree) → prime.layout ≡ layout_under spec Prime →
+      IsTreeAmong later left ((kept_in spec named generation pages left right listing has).alternates ++ right) prime (with_new_entry (map (entry_under spec Prime) named.file.rows) (entry_under spec Prime row)) →
+      HasChangedRows Insert spec named (named_with row named) generation later left right listing prime.root [] bytes arrival (arrival + 1)
   insert_moving later prime layout stands = record {
-    prime = planted prime stands.levels;
+    prime = tree_levels prime stands.levels;
     trees = (kept_in spec named generation pages left right listing has).alternates;
-    indexes = indexes_then spec named generation pages left right listing has later prime (with_entry (map (entry_under spec Prime) named.file.rows) (entry_under spec Prime row)) stands;
+    indexes = indexes_then spec named generation pages left right listing has later prime (with_new_entry (map (entry_under spec Prime) named.file.rows) (entry_under spec Prime row)) stands;
     layout = layout;
     root_is = refl;
     rows = stands.listed ∙ row_comes spec named.file.rows row (rows_under spec named generation pages left right listing has) own_under
@@ -131,17 +131,17 @@ module _ (spec : Spec) (named : Named) (generation : ℕ) (pages : List (Option 
 
 -- what the values of a new row tell
 module _ (spec : Spec) (file : File) (spec_is : file.spec ≡ spec) (old bytes : List ℕ) (outcome : Outcome)
-    (told : outcome ≡ (if is_taken (filter (is_new Insert old bytes) spec.alternates) file.rows bytes then Taken else done (is_duplicate (filter (is_new Insert old bytes) spec.alternates) file.rows bytes))) where
+    (told : outcome ≡ (if is_taken (filter (is_new Insert old bytes) spec.alternates) file.rows bytes then Taken else done_outcome (is_duplicate (filter (is_new Insert old bytes) spec.alternates) file.rows bytes))) where
   keys_are : filter (is_new Insert old bytes) spec.alternates ≡ file.spec.alternates
   keys_are = all_new old bytes spec.alternates ∙ ap (λ (s : Spec). s.alternates) (sym spec_is)
 
-  told_here : outcome ≡ (if is_taken file.spec.alternates file.rows bytes then Taken else done (is_duplicate file.spec.alternates file.rows bytes))
-  told_here = told ∙ ap (λ (ks : List AlternateKey). if is_taken ks file.rows bytes then Taken else done (is_duplicate ks file.rows bytes)) keys_are
+  told_here : outcome ≡ (if is_taken file.spec.alternates file.rows bytes then Taken else done_outcome (is_duplicate file.spec.alternates file.rows bytes))
+  told_here = told ∙ ap (λ (ks : List AlternateKey). if is_taken ks file.rows bytes then Taken else done_outcome (is_duplicate ks file.rows bytes)) keys_are
 
   pub look_free : is_change outcome ≡ true → is_taken file.spec.alternates file.rows bytes ≡ false
   look_free change = told_by (is_taken file.spec.alternates file.rows bytes) (is_duplicate file.spec.alternates file.rows bytes) outcome true told_here change
 
-  pub look_done : is_change outcome ≡ true → outcome ≡ done (is_duplicate file.spec.alternates file.rows bytes)
+  pub look_done : is_change outcome ≡ true → outcome ≡ done_outcome (is_duplicate file.spec.alternates file.rows bytes)
   look_done change = told_free (is_taken file.spec.alternates file.rows bytes) (is_duplicate file.spec.alternates file.rows bytes) outcome told_here (look_free change)
 
   pub look_full : is_change outcome ≡ false → is_taken file.spec.alternates file.rows bytes ≡ true

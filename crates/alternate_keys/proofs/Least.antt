@@ -8,14 +8,14 @@ use Rattle.std.specs.declared.cmp.Ordering.{Ordering}
 use Rattle.std.specs.declared.cmp.Ordering.TheVariants.{Less, Equal, Greater}
 use Rattle.std.specs.Cmp.{IsTotalOrder}
 use Rattle.std.proofs.lemmas.Cmp.{nat_list_cmp_total, nat_cmp_total, then_total, on_total, upto, tied_itself}
-use Rattle.tree_pages.specs.Keys.{key_cmp, Precedes, Ascend}
-use Rattle.btree.specs.Entries.{Entry, first_from, first_after}
+use Rattle.btree_pages.specs.Keys.{key_cmp, Precedes, Ascend}
+use Rattle.btree.specs.Entries.{Entry, first_from, first_entry_after}
 use Rattle.records.specs.declared.key.KeyOfReference.{KeyOfReference}
 use Rattle.records.specs.Spec.{Spec}
 use Rattle.records.specs.Rows.{Row, Pair, pair_cmp, pair_under}
-use Rattle.records.specs.Order.{lesser, least}
+use Rattle.records.specs.Order.{lesser, least_row}
 use Rattle.btree.proofs.Runs.{in_head, in_tail, in_none}
-use Rattle.file_trees.proofs.Comes.{in_cons}
+use Rattle.volume_format.proofs.Comes.{in_cons}
 
 pub pair_order : IsTotalOrder pair_cmp
 pair_order = then_total (on_total (λ (p : Pair). p.value) nat_list_cmp_total) (on_total (λ (p : Pair). p.number) nat_cmp_total)
@@ -77,11 +77,11 @@ module _ (spec : Spec) (key : KeyOfReference) (test : Row → Bool) where
     first = λ x has right. ⊎_elim (λ same. let clash : false ≡ true = sym left ∙ ap test (sym same) ∙ right in cc) (λ later. rest.first x later right) (in_cons a more x has);
   }
 
-  by_test : (c : Bool) (a : Row) (more : List Row) → test a ≡ c → IsLeast spec key test more (least spec key (filter test more)) → IsLeast spec key test (a ∷ more) (least spec key (cond c (a ∷ filter test more) (filter test more)))
-  by_test true a more is rest = with_rest a more (least spec key (filter test more)) is rest
-  by_test false a more is rest = without_it a more (least spec key (filter test more)) is rest
+  by_test : (c : Bool) (a : Row) (more : List Row) → test a ≡ c → IsLeast spec key test more (least_row spec key (filter test more)) → IsLeast spec key test (a ∷ more) (least_row spec key (cond c (a ∷ filter test more) (filter test more)))
+  by_test true a more is rest = with_rest a more (least_row spec key (filter test more)) is rest
+  by_test false a more is rest = without_it a more (least_row spec key (filter test more)) is rest
 
-  pub is_least : (rows : List Row) → IsLeast spec key test rows (least spec key (filter test rows))
+  pub is_least : (rows : List Row) → IsLeast spec key test rows (least_row spec key (filter test rows))
   is_least [] = λ x has right. in_none x has
   is_least (a ∷ more) = by_test (test a) a more refl (is_least more)
 
@@ -135,7 +135,7 @@ pub from_where : (entries : List Entry) (at : List ℕ) → first_from entries a
 from_where [] at = refl
 from_where (e ∷ more) at = from_by (is_lt (key_cmp e.key at)) e (first_from more at) (first_where (λ key. not (is_lt (key_cmp key at))) more) (from_where more at)
 
-pub after_where : (entries : List Entry) (at : List ℕ) → first_after entries at ≡ first_where (λ key. is_gt (key_cmp key at)) entries
+pub after_where : (entries : List Entry) (at : List ℕ) → first_entry_after entries at ≡ first_where (λ key. is_gt (key_cmp key at)) entries
 after_where [] at = refl
 after_where (e ∷ more) at = ap (λ (o : Option Entry). if is_gt (key_cmp e.key at) then Some e else o) (after_where more at)
 

@@ -11,8 +11,8 @@ use Rattle.records.specs.declared.file_spec.Organization.TheVariants.{Sequential
 use Rattle.records.specs.declared.key.KeyOfReference.TheVariants.{Prime}
 use Rattle.records.specs.Spec.{Spec, is_spec}
 use Rattle.records.specs.Rows.{part, prime_place, named_pair}
-use Rattle.file_trees.specs.Trees.{prime_key, prime_key_length}
-use Rattle.file_trees.proofs.Places.{place_within}
+use Rattle.volume_format.specs.Trees.{prime_key, prime_key_length}
+use Rattle.volume_format.proofs.Places.{place_within}
 
 pub bytes_long : (n x : ℕ) → length (big_bytes n x) ≡ n
 bytes_long zero x = refl

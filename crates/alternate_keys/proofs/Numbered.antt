@@ -13,7 +13,7 @@ use Rattle.records.specs.Rows.{Row, Pair, prime_place, prime_pair, named_pair, p
 use Rattle.records.specs.Changes.{is_at, row_at}
 use Rattle.records.specs.Stores.{pair_of, key_length}
 use Rattle.records.proofs.Changed.{pair_same}
-use Rattle.file_trees.specs.Pairs.{IsPair, IsPrimePair, IsUnder}
+use Rattle.volume_format.specs.Pairs.{IsPair, IsPrimePair, IsUnder}
 use Rattle.alternate_keys.specs.Moved.{is_out_of_range}
 
 -- no row has a number that is out of range

@@ -2,8 +2,8 @@
 use Rattle.std.proofs.Common.{◌≡◌, ◌⊎◌, inl, inr, List, refl, sym, ap, subst, ◌∙◌}
 use Rattle.std.specs.Prelude.{[]}
 use Rattle.station.specs.Disk.{Disk, Sector}
-use Rattle.pages.specs.Image.{Map, Holds as HoldsMap, map_of}
-use Rattle.pages.specs.Errors.{Refuses}
+use Rattle.pages.specs.Image.{Map, IsImageOf as HoldsMap, map_of}
+use Rattle.pages.specs.Errors.{RefusesImage}
 use Rattle.pages.specs.Pages.{map_now, committed_of, changed_pages_of, Agrees}
 use Rattle.pages.specs.declared.page_map.PageMap.{PageMap}
 use Rattle.pages.specs.declared.error.PagesError.{PagesError}
@@ -11,13 +11,13 @@ use Rattle.pages.specs.declared.error.PagesError.TheVariants as pages
 use Rattle.pages.proofs.One.{one_map}
 use Rattle.records.specs.declared.fault.StoreFault.TheVariants.{Layout}
 use Rattle.records.specs.Files.{Files}
-use Rattle.file_trees.specs.Volume.{MapHolds, Holds}
+use Rattle.volume_format.specs.Volume.{MapHolds, Holds}
 use Rattle.alternate_keys.specs.Faults.{fault_of}
-use Rattle.alternate_keys.specs.Opened.{HasMap, Refused, IsReadCause}
-use Rattle.alternate_keys.specs.Stands.{Stands}
+use Rattle.alternate_keys.specs.Opened.{HasMap, IsOpenRefusal, IsReadCause}
+use Rattle.alternate_keys.specs.Stands.{Represents}
 
 -- what the pages read stands for what the disk holds
-pub stands_for : (p : PageMap) (disk : Disk) (files : Files) → Agrees p disk → ((image : List Sector) → map_now p image ≡ map_of image (committed_of p)) → changed_pages_of p ≡ [] → Holds disk.present files → Stands p disk files
+pub stands_for : (p : PageMap) (disk : Disk) (files : Files) → Agrees p disk → ((image : List Sector) → map_now p image ≡ map_of image (committed_of p)) → changed_pages_of p ≡ [] → Holds disk.present files → Represents p disk files
 stands_for p disk files agrees map rested holds =
     let m : Map = map_of disk.present (committed_of p) in
     let own : HoldsMap disk.present m = (committed_of p, agrees.committed.reads, refl) in
@@ -33,7 +33,7 @@ stands_for p disk files agrees map rested holds =
 pub map_there : (p : PageMap) (disk : Disk) → Agrees p disk → HasMap disk.present
 map_there p disk agrees = (map_of disk.present (committed_of p), (committed_of p, agrees.committed.reads, refl))
 
-pub refused_of : (image : List Sector) (error : PagesError) → Refuses image error → Refused image (fault_of error)
+pub refused_of : (image : List Sector) (error : PagesError) → RefusesImage image error → IsOpenRefusal image (fault_of error)
 refused_of image pages.Device is = tt
 refused_of image pages.Full is = is
 refused_of image pages.Damaged is = λ files holds. is.none holds.0 holds.1

@@ -7,9 +7,9 @@ use Rattle.std.specs.declared.cmp.Ordering.{Ordering}
 use Rattle.std.specs.declared.cmp.Ordering.TheVariants.{Less, Equal, Greater}
 use Rattle.std.proofs.lemmas.Cmp.{nat_list_cmp_total, tied_itself}
 use Rattle.std.proofs.lemmas.Map.Keys.{sorted_head, sorted_tail}
-use Rattle.tree_pages.specs.Keys.{key_cmp, Ascend}
-use Rattle.tree_pages.proofs.Order.{same_key}
-use Rattle.btree.specs.Entries.{Entry, entry_with, with_entry, without}
+use Rattle.btree_pages.specs.Keys.{key_cmp, Ascend}
+use Rattle.btree_pages.proofs.Order.{same_key}
+use Rattle.btree.specs.Entries.{Entry, entry_with, with_new_entry, without_entry}
 use Rattle.btree.specs.Laws.{keys_listed}
 use Rattle.btree.proofs.Frames.{false_unless}
 use Rattle.btree.proofs.Runs.{in_head, in_tail, in_none}
@@ -19,12 +19,12 @@ use Rattle.records.specs.declared.file_spec.Organization.{Organization}
 use Rattle.records.specs.declared.file_spec.Organization.TheVariants.{Indexed}
 use Rattle.records.specs.declared.key.KeyOfReference.TheVariants.{Alternate}
 use Rattle.records.specs.Spec.{Spec}
-use Rattle.records.specs.Rows.{Row, Pair, pair_cmp, prime_pair, part, keyed, prime_place}
+use Rattle.records.specs.Rows.{Row, Pair, pair_cmp, prime_pair, part, key_pair, prime_place}
 use Rattle.records.specs.Changes as rows
 use Rattle.records.specs.Changes.{is_at, row_at, in_place}
 use Rattle.records.specs.Laws.{RowsAscend}
-use Rattle.file_trees.specs.Trees.{entry_under, AreOf}
-use Rattle.file_trees.proofs.Comes.{in_cons, entry_gains}
+use Rattle.volume_format.specs.Trees.{entry_under, AreOf}
+use Rattle.volume_format.proofs.Comes.{in_cons, entry_gains}
 use Rattle.alternate_keys.proofs.RowEdits.{row_there, one_at, left_of, stays, in_its_place, kept_in_place, came_in_place}
 
 equal_of : (o : Ordering) → is_eq o ≡ true → o ≡ Equal
@@ -38,7 +38,7 @@ apart k [] e all has = absurd (in_none e has)
 apart k (a ∷ more) e all has =
     ⊎_elim (λ same. ap (λ (x : Entry). is_eq (key_cmp x.key k)) same ∙ ap is_eq (nat_list_cmp_total.antisymm a.key k ∙ ap ordering_reverse all.0)) (λ later. apart k more e all.1 later) (in_cons a more e has)
 
-left_by : (b : Bool) (a e : Entry) (more : List Entry) (k : List ℕ) → is_eq (key_cmp a.key k) ≡ b → Ascend (keys_listed (a ∷ more)) → Contains (if b then more else a ∷ without more k) e → (Contains (without more k) e → Contains more e × (is_eq (key_cmp e.key k) ≡ false)) →
+left_by : (b : Bool) (a e : Entry) (more : List Entry) (k : List ℕ) → is_eq (key_cmp a.key k) ≡ b → Ascend (keys_listed (a ∷ more)) → Contains (if b then more else a ∷ without_entry more k) e → (Contains (without_entry more k) e → Contains more e × (is_eq (key_cmp e.key k) ≡ false)) →
     Contains (a ∷ more) e × (is_eq (key_cmp e.key k) ≡ false)
 left_by true a e more k at up has rest =
     let same : a.key ≡ k = same_key a.key k (equal_of (key_cmp a.key k) at) in
@@ -46,19 +46,19 @@ left_by true a e more k at up has rest =
     (in_tail a more e has, apart k more e (subst (λ (x : List ℕ). AllByRecursion (λ (y : List ℕ). key_cmp x y ≡ Less) (keys_listed more)) same above) has)
 left_by false a e more k at up has rest =
     ⊎_elim (λ same. (subst (λ (x : Entry). Contains (a ∷ more) x) (sym same) (in_head a more), ap (λ (x : Entry). is_eq (key_cmp x.key k)) same ∙ at)) (λ later. let found = rest later in (in_tail a more e found.0, found.1))
-    (in_cons a (without more k) e has)
+    (in_cons a (without_entry more k) e has)
 
-pub left_entry : (entries : List Entry) (k : List ℕ) (e : Entry) → Ascend (keys_listed entries) → Contains (without entries k) e → Contains entries e × (is_eq (key_cmp e.key k) ≡ false)
+pub left_entry : (entries : List Entry) (k : List ℕ) (e : Entry) → Ascend (keys_listed entries) → Contains (without_entry entries k) e → Contains entries e × (is_eq (key_cmp e.key k) ≡ false)
 left_entry [] k e up has = absurd (in_none e has)
 left_entry (a ∷ more) k e up has = left_by (is_eq (key_cmp a.key k)) a e more k refl up has (left_entry more k e (sorted_tail key_cmp a.key (keys_listed more) up))
 
-stay_by : (b : Bool) (a e : Entry) (more : List Entry) (k : List ℕ) → is_eq (key_cmp a.key k) ≡ b → (e ≡ a) ⊎ Contains more e → is_eq (key_cmp e.key k) ≡ false → (Contains more e → Contains (without more k) e) → Contains (if b then more else a ∷ without more k) e
+stay_by : (b : Bool) (a e : Entry) (more : List Entry) (k : List ℕ) → is_eq (key_cmp a.key k) ≡ b → (e ≡ a) ⊎ Contains more e → is_eq (key_cmp e.key k) ≡ false → (Contains more e → Contains (without_entry more k) e) → Contains (if b then more else a ∷ without_entry more k) e
 stay_by true a e more k at (inl same) other rest = absurd (let clash : true ≡ false = sym at ∙ ap (λ (x : Entry). is_eq (key_cmp x.key k)) (sym same) ∙ other in cc)
 stay_by true a e more k at (inr has) other rest = has
-stay_by false a e more k at (inl same) other rest = subst (λ (x : Entry). Contains (a ∷ without more k) x) (sym same) (in_head a (without more k))
-stay_by false a e more k at (inr has) other rest = in_tail a (without more k) e (rest has)
+stay_by false a e more k at (inl same) other rest = subst (λ (x : Entry). Contains (a ∷ without_entry more k) x) (sym same) (in_head a (without_entry more k))
+stay_by false a e more k at (inr has) other rest = in_tail a (without_entry more k) e (rest has)
 
-pub entry_stays : (entries : List Entry) (k : List ℕ) (e : Entry) → Contains entries e → is_eq (key_cmp e.key k) ≡ false → Contains (without entries k) e
+pub entry_stays : (entries : List Entry) (k : List ℕ) (e : Entry) → Contains entries e → is_eq (key_cmp e.key k) ≡ false → Contains (without_entry entries k) e
 entry_stays [] k e has other = absurd (in_none e has)
 entry_stays (a ∷ more) k e has other = stay_by (is_eq (key_cmp a.key k)) a e more k refl (in_cons a more e has) other (λ later. entry_stays more k e later other)
 
@@ -73,7 +73,7 @@ one_entry entries one two up first second same =
 same_prime : (o : Organization) (place : KeyPlace) → o ≡ Indexed place → (one two : Row) → part (prime_place o) one.bytes ≡ part (prime_place o) two.bytes → prime_pair o one ≡ prime_pair o two
 same_prime o place is one two same =
     let P : Organization → Type 0 = λ x. part (prime_place x) one.bytes ≡ part (prime_place x) two.bytes → prime_pair x one ≡ prime_pair x two in
-    subst P (sym is) (λ parts. ap (λ (v : List ℕ). keyed v) parts) same
+    subst P (sym is) (λ parts. ap (λ (v : List ℕ). key_pair v) parts) same
 
 module _ (spec : Spec) (i : ℕ) (place : KeyPlace) (indexed : spec.organization ≡ Indexed place) (pair : Pair) (all : List Row) (old : Row) (up : RowsAscend spec.organization all) (there : row_at spec.organization pair all ≡ Some old) where
   abbrev own : Row → Entry
@@ -88,7 +88,7 @@ module _ (spec : Spec) (i : ℕ) (place : KeyPlace) (indexed : spec.organization
   pub pair_there : (entries : List Entry) → Ascend (keys_listed entries) → AreOf spec (Alternate i) all entries → entry_with entries (own old).key ≡ Some (own old)
   pair_there entries ascend are = entry_there entries (own old) ascend (are.each old (row_there spec.organization pair old all there).0)
 
-  pub pair_leaves : (entries : List Entry) → Ascend (keys_listed entries) → AreOf spec (Alternate i) all entries → AreOf spec (Alternate i) (rows.without spec.organization pair all) (without entries (own old).key)
+  pub pair_leaves : (entries : List Entry) → Ascend (keys_listed entries) → AreOf spec (Alternate i) all entries → AreOf spec (Alternate i) (rows.without_pair spec.organization pair all) (without_entry entries (own old).key)
   pair_leaves entries ascend are = record {
     each = λ row has.
         let was = left_of spec.organization pair row all has in
@@ -117,12 +117,12 @@ module _ (spec : Spec) (i : ℕ) (place : KeyPlace) (indexed : spec.organization
   }
 
   -- another row's pair comes in its place
-  pub pair_comes_in_place : (new : Row) (entries : List Entry) → AreOf spec (Alternate i) (rows.without spec.organization pair all) entries → AreOf spec (Alternate i) (in_place spec.organization pair new all) (with_entry entries (own new))
+  pub pair_comes_in_place : (new : Row) (entries : List Entry) → AreOf spec (Alternate i) (rows.without_pair spec.organization pair all) entries → AreOf spec (Alternate i) (in_place spec.organization pair new all) (with_new_entry entries (own new))
   pair_comes_in_place new entries are =
       let gains = entry_gains entries (own new) in
       record {
         each = λ row has.
-            ⊎_elim (λ same. subst (λ (r : Row). Contains (with_entry entries (own new)) (own r)) (sym same) gains.own) (λ left. gains.others (own row) (are.each row left)) (in_its_place spec.organization pair new row all has);
+            ⊎_elim (λ same. subst (λ (r : Row). Contains (with_new_entry entries (own new)) (own r)) (sym same) gains.own) (λ left. gains.others (own row) (are.each row left)) (in_its_place spec.organization pair new row all has);
         only = λ entry has.
             ⊎_elim (λ same. (new, came_in_place spec.organization pair new old all there, sym same)) (λ was. let of = are.only entry was in (of.0, kept_in_place spec.organization pair new of.0 all of.1, of.2)) (gains.only entry has);
       }

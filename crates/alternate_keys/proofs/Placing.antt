@@ -10,42 +10,42 @@ use Rattle.std.proofs.lemmas.List.Elements.{All-append, All-cons, All-tail, All-
 use Rattle.std.proofs.lemmas.Grind.{flat_map-append}
 use Rattle.station.specs.Disk.{Sector}
 use Rattle.pages.specs.Image.{Map}
-use Rattle.tree_pages.specs.Keys.{key_cmp}
+use Rattle.btree_pages.specs.Keys.{key_cmp}
 use Rattle.btree.specs.Entries.{Entry, entry_with, with_value}
 use Rattle.records.specs.Spec.{Spec, is_name}
 use Rattle.records.specs.Rows.{bytes_cmp}
-use Rattle.records.specs.Files.{File, Files, Named, IsNamed, AreFiles, names, file_at, with_file}
+use Rattle.records.specs.Files.{File, Files, NamedFile, IsNamed, AreFiles, names, file_at, with_file}
 use Rattle.records.proofs.Maps.{same_itself}
-use Rattle.file_trees.specs.Catalog.{padded, spelled}
-use Rattle.file_trees.specs.Forest.{Planted, IsForest}
-use Rattle.file_trees.specs.Grows.{StandsAmong}
-use Rattle.file_trees.specs.Volume.{Kept, IsKept, MapHolds, trees_of, catalog_entry, catalog_tree, listing_of}
-use Rattle.file_trees.proofs.Forests.{all_left, all_right}
-use Rattle.file_trees.proofs.Names.{names_in_order}
+use Rattle.volume_format.specs.Catalog.{padded_name, listing_bytes}
+use Rattle.volume_format.specs.Forest.{TreeLevels, IsForest}
+use Rattle.volume_format.specs.Grows.{IsTreeAmong}
+use Rattle.volume_format.specs.Volume.{FileTrees, IsKept, MapHolds, trees_of, catalog_entry, catalog_tree, listing_of}
+use Rattle.volume_format.proofs.Forests.{all_left, all_right}
+use Rattle.volume_format.proofs.Names.{names_in_order}
 use Rattle.alternate_keys.specs.Listed.{catalog_at}
-use Rattle.alternate_keys.specs.Placed.{Placed, HasTrees}
+use Rattle.alternate_keys.specs.Placed.{HasFileTrees, HasTrees}
 use Rattle.alternate_keys.proofs.Splits.{Found, named_of, found_of, put_at, value_at}
 
 -- its entry of the catalog
-entry_in : (name : List ℕ) (before : List Kept) (one : Kept) (after : List Kept) → is_name name ≡ true → one.named.name ≡ name → AllByRecursion (λ (k : Kept). bytes_cmp k.named.name name ≡ Less) before →
-    AllByRecursion (λ (k : Kept). is_name k.named.name ≡ true) before → entry_with (map catalog_entry (before ++ one ∷ after)) (padded name) ≡ Some (catalog_entry one)
+entry_in : (name : List ℕ) (before : List FileTrees) (one : FileTrees) (after : List FileTrees) → is_name name ≡ true → one.named.name ≡ name → AllByRecursion (λ (k : FileTrees). bytes_cmp k.named.name name ≡ Less) before →
+    AllByRecursion (λ (k : FileTrees). is_name k.named.name ≡ true) before → entry_with (map catalog_entry (before ++ one ∷ after)) (padded_name name) ≡ Some (catalog_entry one)
 entry_in name [] one after named same lower all =
-    let equal : is_eq (key_cmp (padded one.named.name) (padded name)) ≡ true = ap (λ (n : List ℕ). is_eq (key_cmp (padded n) (padded name))) same ∙ same_itself (padded name) in
-    ap (λ (b : Bool). if b then Some (catalog_entry one) else entry_with (map catalog_entry after) (padded name)) equal
+    let equal : is_eq (key_cmp (padded_name one.named.name) (padded_name name)) ≡ true = ap (λ (n : List ℕ). is_eq (key_cmp (padded_name n) (padded_name name))) same ∙ same_itself (padded_name name) in
+    ap (λ (b : Bool). if b then Some (catalog_entry one) else entry_with (map catalog_entry after) (padded_name name)) equal
 entry_in name (k ∷ before) one after named same lower all =
-    let rest : Option Entry = entry_with (map catalog_entry (before ++ one ∷ after)) (padded name) in
-    let less : key_cmp (padded k.named.name) (padded name) ≡ Less = names_in_order k.named.name name all.0 named ∙ lower.0 in
+    let rest : Option Entry = entry_with (map catalog_entry (before ++ one ∷ after)) (padded_name name) in
+    let less : key_cmp (padded_name k.named.name) (padded_name name) ≡ Less = names_in_order k.named.name name all.0 named ∙ lower.0 in
     ap (λ (o : Ordering). if is_eq o then Some (catalog_entry k) else rest) less ∙ entry_in name before one after named same lower.1 all.1
 
-names_of : (kept : List Kept) → AllByRecursion IsNamed (named_of kept) → AllByRecursion (λ (k : Kept). is_name k.named.name ≡ true) kept
+names_of : (kept : List FileTrees) → AllByRecursion IsNamed (named_of kept) → AllByRecursion (λ (k : FileTrees). is_name k.named.name ≡ true) kept
 names_of [] all = tt
 names_of (k ∷ kept) all = (all.0.name, names_of kept all.1)
 
-first_names : (before after : List Kept) → AllByRecursion IsNamed (named_of (before ++ after)) → AllByRecursion IsNamed (named_of before)
+first_names : (before after : List FileTrees) → AllByRecursion IsNamed (named_of (before ++ after)) → AllByRecursion IsNamed (named_of before)
 first_names [] after all = tt
 first_names (k ∷ before) after all = (all.0, first_names before after all.1)
 
-own_named : (before : List Kept) (one : Kept) (after : List Kept) → AllByRecursion IsNamed (named_of (before ++ one ∷ after)) → IsNamed one.named
+own_named : (before : List FileTrees) (one : FileTrees) (after : List FileTrees) → AllByRecursion IsNamed (named_of (before ++ one ∷ after)) → IsNamed one.named
 own_named [] one after all = all.0
 own_named (k ∷ before) one after all = own_named before one after all.1
 
@@ -54,41 +54,41 @@ pub found_in : (m : Map) (files : Files) (holds : MapHolds m files) (name : List
 found_in m files holds name held there =
     found_of name holds.kept held (subst (λ (l : Files). IsStrictlySortedBy bytes_cmp (names l)) (sym holds.named) holds.are.ascend) (subst (λ (l : Files). file_at name l ≡ Some held) (sym holds.named) there)
 
-abbrev pub left_of : (m : Map) (files : Files) (holds : MapHolds m files) (name : List ℕ) (held : File) → Found name holds.kept held → List Planted
+abbrev pub left_of : (m : Map) (files : Files) (holds : MapHolds m files) (name : List ℕ) (held : File) → Found name holds.kept held → List TreeLevels
 left_of m files holds name held found = catalog_tree m holds.keeps.catalog ∷ flat_map trees_of found.split.before
 
-abbrev pub right_of : (m : Map) (files : Files) (holds : MapHolds m files) (name : List ℕ) (held : File) → Found name holds.kept held → List Planted
+abbrev pub right_of : (m : Map) (files : Files) (holds : MapHolds m files) (name : List ℕ) (held : File) → Found name holds.kept held → List TreeLevels
 right_of m files holds name held found = flat_map trees_of found.split.after
 
 all_named : (m : Map) (files : Files) (holds : MapHolds m files) (name : List ℕ) (held : File) → (found : Found name holds.kept held) → AllByRecursion IsNamed (named_of (found.split.before ++ found.one ∷ found.split.after))
 all_named m files holds name held found =
-    subst (λ (l : List Kept). AllByRecursion IsNamed (named_of l)) found.split.is (subst (λ (l : Files). AllByRecursion IsNamed l) (sym holds.named) holds.are.each)
+    subst (λ (l : List FileTrees). AllByRecursion IsNamed (named_of l)) found.split.is (subst (λ (l : Files). AllByRecursion IsNamed l) (sym holds.named) holds.are.each)
 
-pub entry_of_name : (m : Map) (files : Files) (holds : MapHolds m files) (name : List ℕ) (held : File) → (found : Found name holds.kept held) → is_name name ≡ true → entry_with (map catalog_entry holds.kept) (padded name) ≡ Some (catalog_entry found.one)
+pub entry_of_name : (m : Map) (files : Files) (holds : MapHolds m files) (name : List ℕ) (held : File) → (found : Found name holds.kept held) → is_name name ≡ true → entry_with (map catalog_entry holds.kept) (padded_name name) ≡ Some (catalog_entry found.one)
 entry_of_name m files holds name held found named =
     let split = found.split in
-    ap (λ (l : List Kept). entry_with (map catalog_entry l) (padded name)) split.is
+    ap (λ (l : List FileTrees). entry_with (map catalog_entry l) (padded_name name)) split.is
     ∙ entry_in name split.before found.one split.after named split.same split.lower (names_of split.before (first_names split.before (found.one ∷ split.after) (all_named m files holds name held found)))
 
-abbrev named_as : List ℕ → File → Named
+abbrev named_as : List ℕ → File → NamedFile
 named_as name file = record { name = name; file = file }
 
-named_is : (name : List ℕ) (held : File) (one : Named) → one.name ≡ name → one.file ≡ held → one ≡ named_as name held
+named_is : (name : List ℕ) (held : File) (one : NamedFile) → one.name ≡ name → one.file ≡ held → one ≡ named_as name held
 named_is name held one first second = ap (λ (n : List ℕ). named_as n one.file) first ∙ ap (named_as name) second
 
 pub trees_in : (m : Map) (files : Files) (holds : MapHolds m files) (name : List ℕ) (held : File) (spec : Spec) (listing : List ℕ) → (found : Found name holds.kept held) → held.spec ≡ spec → m.generation < 2 ^ 63 → length m.pages ≤ 2 ^ 20 →
-    listing ≡ spelled (listing_of found.one) → HasTrees spec (record { name = name; file = held }) m.generation m.pages (left_of m files holds name held found) (right_of m files holds name held found) listing
+    listing ≡ listing_bytes (listing_of found.one) → HasTrees spec (record { name = name; file = held }) m.generation m.pages (left_of m files holds name held found) (right_of m files holds name held found) listing
 trees_in m files holds name held spec listing found spec_is few small says =
     let split = found.split in
     let here : found.one.named ≡ named_as name held = named_is name held found.one.named split.same found.file_is in
     let parted : flat_map trees_of holds.kept ≡ flat_map trees_of split.before ++ (trees_of found.one ++ flat_map trees_of split.after) = ap (flat_map trees_of) split.is ∙ flat_map-append trees_of split.before (found.one ∷ split.after) in
-    let each : All (IsKept m.generation) (split.before ++ found.one ∷ split.after) = subst (λ (l : List Kept). All (IsKept m.generation) l) split.is holds.keeps.each in
+    let each : All (IsKept m.generation) (split.before ++ found.one ∷ split.after) = subst (λ (l : List FileTrees). All (IsKept m.generation) l) split.is holds.keeps.each in
     let own = all_right (IsKept m.generation) split.before (found.one ∷ split.after) each in
     record {
       placed = record {
         kept = found.one;
         named_is = here;
-        forest = subst (λ (ts : List Planted). IsForest m.pages (catalog_tree m holds.keeps.catalog ∷ ts)) parted holds.keeps.forest;
+        forest = subst (λ (ts : List TreeLevels). IsForest m.pages (catalog_tree m holds.keeps.catalog ∷ ts)) parted holds.keeps.forest;
         is = own 0 found.one (omega arith);
         says = says;
       };
@@ -99,35 +99,35 @@ trees_in m files holds name held spec listing found spec_is few small says =
     }
 
 -- the catalog beside all other trees
-pub catalog_among : (m : Map) (files : Files) (holds : MapHolds m files) (name : List ℕ) (held : File) → (found : Found name holds.kept held) → (named : Named) (generation : ℕ) (pages : List (Option Sector)) (listing : List ℕ) →
-    (placed : Placed named generation pages (left_of m files holds name held found) (right_of m files holds name held found) listing) →
-    StandsAmong pages [] (flat_map trees_of found.split.before ++ (trees_of placed.kept ++ flat_map trees_of found.split.after)) (catalog_at m.catalog) (map catalog_entry holds.kept)
+pub catalog_among : (m : Map) (files : Files) (holds : MapHolds m files) (name : List ℕ) (held : File) → (found : Found name holds.kept held) → (named : NamedFile) (generation : ℕ) (pages : List (Option Sector)) (listing : List ℕ) →
+    (placed : HasFileTrees named generation pages (left_of m files holds name held found) (right_of m files holds name held found) listing) →
+    IsTreeAmong pages [] (flat_map trees_of found.split.before ++ (trees_of placed.kept ++ flat_map trees_of found.split.after)) (catalog_at m.catalog) (map catalog_entry holds.kept)
 catalog_among m files holds name held found named generation pages listing placed = record { levels = holds.keeps.catalog; forest = placed.forest; listed = holds.keeps.listed }
 
 -- The map of the next generation, after the file became another and the catalog says so.
 pub holds_then : (m : Map) (files : Files) (holds : MapHolds m files) (name : List ℕ) (held : File) → (found : Found name holds.kept held) → (after : File) (between pages : List (Option Sector)) (catalog : ℕ) (listing : List ℕ) →
-    (placed : Placed (record { name = name; file = after }) (m.generation + 1) between (left_of m files holds name held found) (right_of m files holds name held found) listing) →
-    StandsAmong pages [] (flat_map trees_of found.split.before ++ (trees_of placed.kept ++ flat_map trees_of found.split.after)) (catalog_at catalog) (with_value (map catalog_entry holds.kept) (record { key = padded name; value = listing })) →
+    (placed : HasFileTrees (record { name = name; file = after }) (m.generation + 1) between (left_of m files holds name held found) (right_of m files holds name held found) listing) →
+    IsTreeAmong pages [] (flat_map trees_of found.split.before ++ (trees_of placed.kept ++ flat_map trees_of found.split.after)) (catalog_at catalog) (with_value (map catalog_entry holds.kept) (record { key = padded_name name; value = listing })) →
     is_name name ≡ true → AreFiles (with_file name after files) → MapHolds (record { generation = m.generation + 1; catalog = catalog; pages = pages }) (with_file name after files)
 holds_then m files holds name held found after between pages catalog listing placed stands named are =
     let split = found.split in
-    let new : Kept = placed.kept in
+    let new : FileTrees = placed.kept in
     let next : Map = record { generation = m.generation + 1; catalog = catalog; pages = pages } in
-    let own : new.named.name ≡ name = ap (λ (n : Named). n.name) placed.named_is in
-    let file_is : new.named.file ≡ after = ap (λ (n : Named). n.file) placed.named_is in
-    let all : AllByRecursion (λ (k : Kept). is_name k.named.name ≡ true) split.before = names_of split.before (first_names split.before (found.one ∷ split.after) (all_named m files holds name held found)) in
-    let P : Kept → Type 0 = IsKept m.generation in
-    let Q : Kept → Type 0 = IsKept (m.generation + 1) in
-    let each : All P (split.before ++ found.one ∷ split.after) = subst (λ (l : List Kept). All P l) split.is holds.keeps.each in
+    let own : new.named.name ≡ name = ap (λ (n : NamedFile). n.name) placed.named_is in
+    let file_is : new.named.file ≡ after = ap (λ (n : NamedFile). n.file) placed.named_is in
+    let all : AllByRecursion (λ (k : FileTrees). is_name k.named.name ≡ true) split.before = names_of split.before (first_names split.before (found.one ∷ split.after) (all_named m files holds name held found)) in
+    let P : FileTrees → Type 0 = IsKept m.generation in
+    let Q : FileTrees → Type 0 = IsKept (m.generation + 1) in
+    let each : All P (split.before ++ found.one ∷ split.after) = subst (λ (l : List FileTrees). All P l) split.is holds.keeps.each in
     let older : All Q (split.before ++ found.one ∷ split.after) = All-weaker P Q next_kept (split.before ++ found.one ∷ split.after) each in
     let lefts : All Q split.before = all_left Q split.before (found.one ∷ split.after) older in
     let rights : All Q split.after = All-tail Q found.one split.after (all_right Q split.before (found.one ∷ split.after) older) in
-    let entry : catalog_entry new ≡ entry_as (padded name) listing = ap (λ (n : List ℕ). entry_as (padded n) (spelled (listing_of new))) own ∙ ap (entry_as (padded name)) (sym placed.says) in
+    let entry : catalog_entry new ≡ entry_as (padded_name name) listing = ap (λ (n : List ℕ). entry_as (padded_name n) (listing_bytes (listing_of new))) own ∙ ap (entry_as (padded_name name)) (sym placed.says) in
     record {
       kept = split.before ++ new ∷ split.after;
       keeps = record {
         catalog = stands.levels;
-        forest = subst (λ (ts : List Planted). IsForest pages (catalog_tree next stands.levels ∷ ts)) (sym (flat_map-append trees_of split.before (new ∷ split.after))) stands.forest;
+        forest = subst (λ (ts : List TreeLevels). IsForest pages (catalog_tree next stands.levels ∷ ts)) (sym (flat_map-append trees_of split.before (new ∷ split.after))) stands.forest;
         listed = stands.listed ∙ ap (λ (e : Entry). with_value (map catalog_entry holds.kept) e) (sym entry) ∙ value_at name holds.kept found.one new split named own all;
         each = All-append Q split.before (new ∷ split.after) lefts (All-cons Q new split.after placed.is rights);
       };
@@ -138,5 +138,5 @@ holds_then m files holds name held found after between pages catalog listing pla
     entry_as : List ℕ → List ℕ → Entry
     entry_as key value = record { key = key; value = value }
 
-    next_kept : (k : Kept) → IsKept m.generation k → IsKept (m.generation + 1) k
+    next_kept : (k : FileTrees) → IsKept m.generation k → IsKept (m.generation + 1) k
     next_kept k is = record { layout = is.layout; rows = is.rows; count = is.count; indexes = is.indexes; arrivals = let low = is.arrivals in omega (arith, low) }

@@ -4,23 +4,23 @@ use Rattle.std.specs.Prelude.{map, Option, Some, None, IsSome, is_some, if◌the
 use Rattle.std.specs.List.{AllByRecursion, flat_map}
 use Rattle.station.specs.Disk.{Sector}
 use Rattle.pages.specs.Image.{Map}
-use Rattle.pages.specs.Pages.{map_now, catalog_of, advanced, SameCommitted}
+use Rattle.pages.specs.Pages.{map_now, catalog_of, next_generation, SameCommitted}
 use Rattle.pages.specs.declared.page_map.PageMap.{PageMap}
 use Rattle.btree.specs.Entries.{Entry, entry_with, with_value}
 use Rattle.records.specs.Spec.{Spec, is_name}
-use Rattle.records.specs.Changes.{Changed}
-use Rattle.records.specs.Files.{File, Files, Named, AreFiles, IsByte, file_at, with_file}
+use Rattle.records.specs.Changes.{FileChange}
+use Rattle.records.specs.Files.{File, Files, NamedFile, AreFiles, IsByte, file_at, with_file}
 use Rattle.records.specs.Stores.{is_change, files_after, pair_of}
 use Rattle.records.proofs.Changed.{inserted_are_files, replaced_are_files, removed_are_files}
-use Rattle.file_trees.specs.Catalog.{padded}
-use Rattle.file_trees.specs.Forest.{Planted}
-use Rattle.file_trees.specs.Grows.{StandsAmong}
-use Rattle.file_trees.specs.Volume.{MapHolds, trees_of, catalog_entry}
+use Rattle.volume_format.specs.Catalog.{padded_name}
+use Rattle.volume_format.specs.Forest.{TreeLevels}
+use Rattle.volume_format.specs.Grows.{IsTreeAmong}
+use Rattle.volume_format.specs.Volume.{MapHolds, trees_of, catalog_entry}
 use Rattle.alternate_keys.specs.declared.row_verb.RowVerb.{RowVerb}
 use Rattle.alternate_keys.specs.declared.row_verb.RowVerb.TheVariants.{Insert, Replace, Remove}
 use Rattle.alternate_keys.specs.Listed.{catalog_at}
 use Rattle.alternate_keys.specs.Moved.{IsAsked, changed_by, named_after}
-use Rattle.alternate_keys.specs.Placed.{Placed, HasTrees}
+use Rattle.alternate_keys.specs.Placed.{HasFileTrees, HasTrees}
 use Rattle.alternate_keys.proofs.Placing.{found_in, left_of, right_of, entry_of_name, trees_in, catalog_among, holds_then}
 use Rattle.alternate_keys.proofs.Splits.{Found}
 
@@ -38,7 +38,7 @@ some_clash x e some none = cc
 abbrev pub map_with : ℕ → ℕ → List (Option Sector) → Map
 map_with generation catalog pages = record { generation = generation; catalog = catalog; pages = pages }
 
-next_map : (p q : PageMap) (image : List Sector) → SameCommitted p q → catalog_of q ≡ catalog_of p → map_with ((map_now p image).generation + 1) (map_now p image).catalog (map_now q image).pages ≡ advanced (map_now q image)
+next_map : (p q : PageMap) (image : List Sector) → SameCommitted p q → catalog_of q ≡ catalog_of p → map_with ((map_now p image).generation + 1) (map_now p image).catalog (map_now q image).pages ≡ next_generation (map_now q image)
 next_map p q image same catalog =
     ap (λ v. map_with (v.generation + 1) (map_now p image).catalog (map_now q image).pages) (sym same.volume)
     ∙ ap (λ (n : ℕ). map_with ((map_now q image).generation + 1) n (map_now q image).pages) (sym catalog)
@@ -47,10 +47,10 @@ module _ (m : Map) (files : Files) (holds : MapHolds m files) (name : List ℕ) 
   abbrev pub own : Found name holds.kept held
   own = found_in m files holds name held there
 
-  abbrev pub named_here : Named
+  abbrev pub named_here : NamedFile
   named_here = record { name = name; file = held }
 
-  module _ (answer : Option Entry) (told : answer ≡ entry_with (map catalog_entry holds.kept) (padded name)) where
+  module _ (answer : Option Entry) (told : answer ≡ entry_with (map catalog_entry holds.kept) (padded_name name)) where
     entry_is : answer ≡ Some (catalog_entry own.one)
     entry_is = told ∙ entry_of_name m files holds name held own named
 
@@ -65,28 +65,28 @@ module _ (m : Map) (files : Files) (holds : MapHolds m files) (name : List ℕ) 
         let same : entry ≡ catalog_entry own.one = cc in
         trees_in m files holds name held spec listing own spec_is few (omega (arith, small)) (value ∙ ap (λ (e : Entry). e.value) same)
 
-  pub some_entry : IsSome (entry_with (map catalog_entry holds.kept) (padded name))
+  pub some_entry : IsSome (entry_with (map catalog_entry holds.kept) (padded_name name))
   some_entry = ap (λ (o : Option Entry). is_some o) (entry_of_name m files holds name held own named)
 
-  module _ (changed : Changed) (between : List (Option Sector)) (listing : List ℕ)
-      (placed : Placed (named_after named_here changed) (m.generation + 1) between (left_of m files holds name held own) (right_of m files holds name held own) listing) where
-    abbrev pub around : List Planted
+  module _ (changed : FileChange) (between : List (Option Sector)) (listing : List ℕ)
+      (placed : HasFileTrees (named_after named_here changed) (m.generation + 1) between (left_of m files holds name held own) (right_of m files holds name held own) listing) where
+    abbrev pub around : List TreeLevels
     around = flat_map trees_of own.split.before ++ (trees_of placed.kept ++ flat_map trees_of own.split.after)
 
-    pub catalog_stands : (catalog : ℕ) → catalog ≡ m.catalog → StandsAmong between [] around (catalog_at catalog) (map catalog_entry holds.kept)
+    pub catalog_stands : (catalog : ℕ) → catalog ≡ m.catalog → IsTreeAmong between [] around (catalog_at catalog) (map catalog_entry holds.kept)
     catalog_stands catalog same =
-        subst (λ (n : ℕ). StandsAmong between [] around (catalog_at n) (map catalog_entry holds.kept)) (sym same)
+        subst (λ (n : ℕ). IsTreeAmong between [] around (catalog_at n) (map catalog_entry holds.kept)) (sym same)
         (catalog_among m files holds name held own (named_after named_here changed) (m.generation + 1) between listing placed)
 
-    pub holds_after : (pages : List (Option Sector)) (catalog : ℕ) → StandsAmong pages [] around (catalog_at catalog) (with_value (map catalog_entry holds.kept) (record { key = padded name; value = listing })) →
+    pub holds_after : (pages : List (Option Sector)) (catalog : ℕ) → IsTreeAmong pages [] around (catalog_at catalog) (with_value (map catalog_entry holds.kept) (record { key = padded_name name; value = listing })) →
         is_change changed.outcome ≡ true → AreFiles (files_after name files changed) → MapHolds (map_with (m.generation + 1) catalog pages) (files_after name files changed)
     holds_after pages catalog stands change are =
         let after : files_after name files changed ≡ with_file name changed.file files = ap (λ (b : Bool). if b then with_file name changed.file files else files) change in
         subst (λ (l : Files). MapHolds (map_with (m.generation + 1) catalog pages) l) (sym after)
         (holds_then m files holds name held own changed.file between pages catalog listing placed stands named (subst AreFiles after are))
 
-  pub will_hold : (p q : PageMap) (image : List Sector) (changed : Changed) → map_now p image ≡ m → SameCommitted p q → catalog_of q ≡ catalog_of p → MapHolds (map_with (m.generation + 1) m.catalog (map_now q image).pages) (files_after name files changed) →
-      MapHolds (advanced (map_now q image)) (files_after name files changed)
+  pub will_hold : (p q : PageMap) (image : List Sector) (changed : FileChange) → map_now p image ≡ m → SameCommitted p q → catalog_of q ≡ catalog_of p → MapHolds (map_with (m.generation + 1) m.catalog (map_now q image).pages) (files_after name files changed) →
+      MapHolds (next_generation (map_now q image)) (files_after name files changed)
   will_hold p q image changed is same catalog holds_now =
       subst (λ (n : Map). MapHolds n (files_after name files changed)) (next_map p q image same catalog)
       (subst (λ (n : Map). MapHolds (map_with (n.generation + 1) n.catalog (map_now q image).pages) (files_after name files changed)) (sym is) holds_now)

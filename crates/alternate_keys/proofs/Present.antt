@@ -13,10 +13,10 @@ use Rattle.records.specs.Spec.{Spec, is_spec, same_place, same_organization, sam
 use Rattle.records.specs.Rows.{same_bytes}
 use Rattle.records.specs.Files.{File, presence}
 use Rattle.records.proofs.Maps.{bytes_same, same_itself, specs_same}
-use Rattle.file_trees.specs.Catalog.{spec_bytes}
-use Rattle.file_trees.specs.Volume.{Kept, listing_of}
-use Rattle.file_trees.proofs.Listings.{spec_read}
-use Rattle.file_trees.proofs.Specs.{one_spec}
+use Rattle.volume_format.specs.Catalog.{spec_bytes}
+use Rattle.volume_format.specs.Volume.{FileTrees, listing_of}
+use Rattle.volume_format.proofs.Listings.{spec_read}
+use Rattle.volume_format.proofs.Specs.{one_spec}
 use Rattle.alternate_keys.specs.Listed.{IsListed}
 
 number_by : (b : Bool) (n : ℕ) → (n == n) ≡ b → b ≡ true
@@ -72,7 +72,7 @@ pub present_by : (b : Bool) (m : Map) (found : Option File) (entry : Option Entr
     (if b then Present else Different) ≡ presence found spec
 present_by b m found entry e spec is listed some told =
     let there = subst (IsListed m found) some listed in
-    let kept : Kept = there.0 in
+    let kept : FileTrees = there.0 in
     let s : Spec = kept.named.file.spec in
     let good = there.1.named.file.spec in
     let bytes : take 43 e.value ≡ spec_bytes s = ap (λ (x : Entry). take 43 x.value) there.2 ∙ spec_read (listing_of kept) good in

@@ -4,23 +4,23 @@ use Rattle.station.specs.State.{State}
 use Rattle.station.specs.Calls.{OnlyReads}
 use Rattle.station.specs.declared.device.Device.{Ghosts as Devices}
 use Rattle.pages.specs.Image.{Volume}
-use Rattle.pages.specs.Pages.{is_spent, Agrees, Unchanged}
+use Rattle.pages.specs.Pages.{is_spent, Agrees, IsUnchanged}
 use Rattle.pages.specs.declared.page_map.PageMap.{PageMap}
 use Rattle.records.specs.declared.fault.StoreFault.{StoreFault}
 use Rattle.records.specs.declared.fault.StoreFault.TheVariants.{Device, Spent}
-use Rattle.records.specs.Calls.{Reads}
+use Rattle.records.specs.Calls.{OnlyReadsFiles}
 use Rattle.alternate_keys.specs.Faults.{IsReadFault}
-use Rattle.alternate_keys.specs.Opened.{Opened}
-use Rattle.alternate_keys.specs.Stands.{Stands}
-use Rattle.alternate_keys.specs.contracts.keeps.PagedStoreKeeps.TheImpl.{ghosts}
+use Rattle.alternate_keys.specs.Opened.{OpenedVolume}
+use Rattle.alternate_keys.specs.Stands.{Represents}
+use Rattle.alternate_keys.specs.contracts.store_calls.PagedStoreKeeps.TheImpl.{ghosts}
 use Rattle.alternate_keys.proofs.Still.{same_volume, stands_still}
 
-abbrev pub opened : PageMap → Bool → Opened
+abbrev pub opened : PageMap → Bool → OpenedVolume
 opened pages spent = record { pages = pages; spent = spent }
 
 pub reads_of : {D : Type 0} (d : Devices D) {T : Type 0} (result : Result T StoreFault) (old new : PageMap) (spent : Bool) (device device' : D) →
-    OnlyReads d (result ≡ Err Device) device device' → Unchanged old new → (d.is_honest device → Agrees old (d.state device).disk → Agrees new (d.state device').disk) →
-    is_spent old ≡ false → (result ≡ Err Spent → is_spent old ≡ true) → IfErr result IsReadFault → Reads ghosts d result (opened old spent) device (opened new spent) device'
+    OnlyReads d (result ≡ Err Device) device device' → IsUnchanged old new → (d.is_honest device → Agrees old (d.state device).disk → Agrees new (d.state device').disk) →
+    is_spent old ≡ false → (result ≡ Err Spent → is_spent old ≡ true) → IfErr result IsReadFault → OnlyReadsFiles ghosts d result (opened old spent) device (opened new spent) device'
 reads_of d result old new spent device device' only unchanged agrees unspent told cause =
     let same = same_volume old new unchanged.committed in
     record {
@@ -30,7 +30,7 @@ reads_of d result old new spent device device' only unchanged agrees unspent tol
       still_there = λ files stands.
           let still = only.state stands.honest in
           let here = subst (λ (s : State). Agrees new s.disk) still (agrees stands.honest stands.there.agrees) in
-          record { honest = only.honest.0 stands.honest; there = subst (λ (s : State). Stands new s.disk files) (sym still) (stands_still old new (d.state device).disk files unchanged here stands.there) };
+          record { honest = only.honest.0 stands.honest; there = subst (λ (s : State). Represents new s.disk files) (sym still) (stands_still old new (d.state device).disk files unchanged here stands.there) };
       spent = λ is. let clash : true ≡ false = sym (told is) ∙ unspent in cc;
       has_room = λ is. subst (λ r. IfErr r IsReadFault) is cause;
       own_layout = λ is. subst (λ r. IfErr r IsReadFault) is cause;

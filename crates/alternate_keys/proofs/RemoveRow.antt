@@ -2,8 +2,8 @@
 use Rattle.std.proofs.Common.{◌≡◌, ◌<◌, ◌++◌, ℕ, true, List, length, refl, sym, ap, subst, ◌∙◌, arith}
 use Rattle.std.specs.Prelude.{map, Option, Some, None, IsSome, is_some}
 use Rattle.station.specs.Disk.{Sector}
-use Rattle.btree.specs.Rooted.{Rooted}
-use Rattle.btree.specs.Entries.{Entry, entry_with, without}
+use Rattle.btree.specs.Rooted.{RootedTree}
+use Rattle.btree.specs.Entries.{Entry, entry_with, without_entry}
 use Rattle.records.specs.declared.answer.Outcome.TheVariants.{Missing, Done}
 use Rattle.records.specs.declared.file_spec.KeyPlace.{KeyPlace}
 use Rattle.records.specs.declared.file_spec.Organization.TheVariants.{Indexed}
@@ -11,16 +11,16 @@ use Rattle.records.specs.declared.key.KeyOfReference.TheVariants.{Prime, Alterna
 use Rattle.records.specs.Spec.{Spec, is_spec}
 use Rattle.records.specs.Rows.{Row, Pair}
 use Rattle.records.specs.Changes as rows
-use Rattle.records.specs.Changes.{Changed, row_at, removed, removed_row, unchanged}
-use Rattle.records.specs.Files.{File, Named}
+use Rattle.records.specs.Changes.{FileChange, row_at, removal, removed_row, without_change}
+use Rattle.records.specs.Files.{File, NamedFile}
 use Rattle.records.specs.Laws.{RowsAscend}
-use Rattle.file_trees.specs.Trees.{entry_under, key_under, layout_under, row_value, AreOf}
-use Rattle.file_trees.specs.Pairs.{IsPair}
-use Rattle.file_trees.specs.Forest.{Planted}
-use Rattle.file_trees.specs.Grows.{StandsAmong}
-use Rattle.file_trees.specs.Volume.{planted}
+use Rattle.volume_format.specs.Trees.{entry_under, key_under, layout_under, row_value, AreOf}
+use Rattle.volume_format.specs.Pairs.{IsPair}
+use Rattle.volume_format.specs.Forest.{TreeLevels}
+use Rattle.volume_format.specs.Grows.{IsTreeAmong}
+use Rattle.volume_format.specs.Volume.{tree_levels}
 use Rattle.alternate_keys.specs.declared.row_verb.RowVerb.TheVariants.{Remove}
-use Rattle.alternate_keys.specs.Moved.{Moving, PairsMove, PairsMayMove, IsRowOf, old_key}
+use Rattle.alternate_keys.specs.Moved.{HasChangedRows, PairsMove, PairsMayMove, IsRowOf, old_key}
 use Rattle.alternate_keys.specs.Placed.{HasTrees}
 use Rattle.alternate_keys.proofs.FileTrees.{kept_in, arrival_low, rows_under, rows_ascend, is_row_of, indexes_then}
 use Rattle.alternate_keys.proofs.FoundTrees.{indexed}
@@ -31,17 +31,17 @@ use Rattle.alternate_keys.proofs.RowValues.{old_key_is}
 pub some_by : (x : Option Entry) (e : Entry) → x ≡ Some e → IsSome x
 some_by x e is = ap (λ (o : Option Entry). is_some o) is
 
-pub removed_missing : (pair : Pair) (file : File) → row_at file.spec.organization pair file.rows ≡ None → removed pair file ≡ unchanged Missing file
+pub removed_missing : (pair : Pair) (file : File) → row_at file.spec.organization pair file.rows ≡ None → removal pair file ≡ without_change Missing file
 removed_missing pair file is = ap (removed_row pair file) is
 
-pub removed_done : (pair : Pair) (file : File) (old : Row) → row_at file.spec.organization pair file.rows ≡ Some old → removed pair file ≡ record { outcome = Done; file = record file { rows = rows.without file.spec.organization pair file.rows } }
+pub removed_done : (pair : Pair) (file : File) (old : Row) → row_at file.spec.organization pair file.rows ≡ Some old → removal pair file ≡ record { outcome = Done; file = record file { rows = rows.without_pair file.spec.organization pair file.rows } }
 removed_done pair file old is = ap (removed_row pair file) is
 
 -- a file without a row
-abbrev pub named_without : Pair → Named → Named
-named_without pair named = record { name = named.name; file = record { spec = named.file.spec; rows = rows.without named.file.spec.organization pair named.file.rows; next_arrival = named.file.next_arrival } }
+abbrev pub named_without : Pair → NamedFile → NamedFile
+named_without pair named = record { name = named.name; file = record { spec = named.file.spec; rows = rows.without_pair named.file.spec.organization pair named.file.rows; next_arrival = named.file.next_arrival } }
 
-module _ (spec : Spec) (named : Named) (generation : ℕ) (pages : List (Option Sector)) (left right : List Planted) (listing : List ℕ) (has : HasTrees spec named generation pages left right listing)
+module _ (spec : Spec) (named : NamedFile) (generation : ℕ) (pages : List (Option Sector)) (left right : List TreeLevels) (listing : List ℕ) (has : HasTrees spec named generation pages left right listing)
     (is : is_spec spec ≡ true) (pair : Pair) (old : Row) (there : row_at named.file.spec.organization pair named.file.rows ≡ Some old) where
   -- what is known of an alternate key
   pub record Known (i : ℕ) : Type 0 where
@@ -71,7 +71,7 @@ module _ (spec : Spec) (named : Named) (generation : ℕ) (pages : List (Option 
   pairs_move : (bytes : List ℕ) (arrival : ℕ) → PairsMove Remove named.file (named_without pair named).file (row_value old) bytes arrival
   pairs_move bytes arrival i entries within are up =
       let k = known i within in
-      subst (λ (key : List ℕ). AreOf named.file.spec (Alternate i) (rows.without named.file.spec.organization pair named.file.rows) (without entries key)) (sym (key_is i within))
+      subst (λ (key : List ℕ). AreOf named.file.spec (Alternate i) (rows.without_pair named.file.spec.organization pair named.file.rows) (without_entry entries key)) (sym (key_is i within))
       (pair_leaves named.file.spec i k.place k.indexed_is pair named.file.rows old k.up there entries up are)
 
   pub removed_may : (bytes : List ℕ) (arrival : ℕ) → PairsMayMove Remove named.file (row_value old) bytes arrival
@@ -80,17 +80,17 @@ module _ (spec : Spec) (named : Named) (generation : ℕ) (pages : List (Option 
       some_by (entry_with entries (old_key named.file.spec i (row_value old))) (entry_under named.file.spec (Alternate i) old)
       (ap (entry_with entries) (key_is i within) ∙ pair_there named.file.spec i k.place k.indexed_is pair named.file.rows old k.up there entries up are)
 
-  pub remove_moving : (bytes : List ℕ) (arrival : ℕ) → arrival ≡ named.file.next_arrival → IsPair spec Prime pair → (later : List (Option Sector)) (prime : Rooted) → prime.layout ≡ layout_under spec Prime →
-      StandsAmong later left ((kept_in spec named generation pages left right listing has).alternates ++ right) prime (without (map (entry_under spec Prime) named.file.rows) (key_under spec Prime pair)) →
-      Moving Remove spec named (named_without pair named) generation later left right listing prime.root (row_value old) bytes arrival arrival
+  pub remove_moving : (bytes : List ℕ) (arrival : ℕ) → arrival ≡ named.file.next_arrival → IsPair spec Prime pair → (later : List (Option Sector)) (prime : RootedTree) → prime.layout ≡ layout_under spec Prime →
+      IsTreeAmong later left ((kept_in spec named generation pages left right listing has).alternates ++ right) prime (without_entry (map (entry_under spec Prime) named.file.rows) (key_under spec Prime pair)) →
+      HasChangedRows Remove spec named (named_without pair named) generation later left right listing prime.root (row_value old) bytes arrival arrival
   remove_moving bytes arrival same pair_is later prime layout stands = record {
-    prime = planted prime stands.levels;
+    prime = tree_levels prime stands.levels;
     trees = (kept_in spec named generation pages left right listing has).alternates;
-    indexes = indexes_then spec named generation pages left right listing has later prime (without (map (entry_under spec Prime) named.file.rows) (key_under spec Prime pair)) stands;
+    indexes = indexes_then spec named generation pages left right listing has later prime (without_entry (map (entry_under spec Prime) named.file.rows) (key_under spec Prime pair)) stands;
     layout = layout;
     root_is = refl;
     rows = stands.listed ∙ row_leaves spec pair pair_is named.file.rows (rows_under spec named generation pages left right listing has) (rows_ascend spec named generation pages left right listing has)
-        ∙ ap (λ (s : Spec). map (entry_under spec Prime) (rows.without s.organization pair named.file.rows)) (sym has.spec_is);
+        ∙ ap (λ (s : Spec). map (entry_under spec Prime) (rows.without_pair s.organization pair named.file.rows)) (sym has.spec_is);
     spec_is = has.spec_is;
     spec_then = has.spec_is;
     pairs = pairs_move bytes arrival;

@@ -8,7 +8,7 @@ use Rattle.std.specs.declared.cmp.Ordering.{Ordering}
 use Rattle.std.specs.declared.cmp.Ordering.TheVariants.{Less, Equal, Greater}
 use Rattle.std.proofs.lemmas.Cmp.{nat_list_cmp_total, tied_itself, ranked}
 use Rattle.byteorder.specs.Endian.{big_bytes}
-use Rattle.tree_pages.specs.Keys.{Ascend}
+use Rattle.btree_pages.specs.Keys.{Ascend}
 use Rattle.btree.specs.Entries.{Entry}
 use Rattle.btree.specs.Laws.{keys_listed}
 use Rattle.btree.proofs.Runs.{in_head, in_tail}
@@ -17,15 +17,15 @@ use Rattle.records.specs.declared.key.KeyOfReference.TheVariants.{Alternate}
 use Rattle.records.specs.declared.key.Side.TheVariants as side
 use Rattle.records.specs.Spec.{Spec}
 use Rattle.records.specs.Rows.{Row, Pair, bytes_cmp, same_bytes, pair_cmp, pair_under}
-use Rattle.records.specs.Order.{Bound, is_behind, sought, least, has_value}
+use Rattle.records.specs.Order.{RowBound, is_behind, sought_row, least_row, has_value}
 use Rattle.records.specs.Stores.{key_length}
 use Rattle.records.proofs.Maps.{bytes_same}
-use Rattle.file_trees.specs.Trees.{entry_under, AreOf}
-use Rattle.file_trees.specs.Pairs.{IsUnder}
-use Rattle.file_trees.proofs.Comes.{in_cons}
-use Rattle.alternate_keys.specs.declared.aim.Aim.TheVariants as aim
-use Rattle.alternate_keys.specs.Aims.{aim_at, aim_short, fill, extended, pair_aim_key, looked}
-use Rattle.alternate_keys.specs.Seen.{begins}
+use Rattle.volume_format.specs.Trees.{entry_under, AreOf}
+use Rattle.volume_format.specs.Pairs.{IsUnder}
+use Rattle.volume_format.proofs.Comes.{in_cons}
+use Rattle.alternate_keys.specs.declared.search_start.SearchStart.TheVariants as aim
+use Rattle.alternate_keys.specs.Aims.{aim_at, aim_short, fill, extended_bytes, pair_aim_key, found_entry}
+use Rattle.alternate_keys.specs.Seen.{begins_with_value}
 use Rattle.alternate_keys.proofs.Least.{IsLeast, IsFirst, is_least}
 use Rattle.alternate_keys.proofs.Sought.{finds_sought}
 use Rattle.alternate_keys.proofs.Tells.{not_less, same_value, least_in}
@@ -98,16 +98,16 @@ module _ (spec : Spec) (key : KeyOfReference) (v : List ℕ) where
 
 -- as the tree of the key tells it
 pub value_there : (spec : Spec) (i : ℕ) (v : List ℕ) (rows : List Row) (entries : List Entry) → Ascend (keys_listed entries) → AreOf spec (Alternate i) rows entries → All (IsUnder spec (Alternate i)) rows → length v ≡ key_length spec (Alternate i) →
-    begins v (looked aim.From entries (v ++ big_bytes 8 0)) ≡ list_any (λ row. same_bytes (pair_under spec (Alternate i) row).value v) rows
+    begins_with_value v (found_entry aim.From entries (v ++ big_bytes 8 0)) ≡ list_any (λ row. same_bytes (pair_under spec (Alternate i) row).value v) rows
 value_there spec i v rows entries up are under long =
     let n = key_length spec (Alternate i) in
     let pair : Pair = record { value = v; number = 0 } in
-    let place : Bound = record { side = side.From; pair = pair } in
-    let next = sought spec (Alternate i) place rows in
+    let place : RowBound = record { side = side.From; pair = pair } in
+    let next = sought_row spec (Alternate i) place rows in
     let tests : Row → Bool = λ r. is_behind side.From pair (pair_under spec (Alternate i) r) in
     let full : nat_lt (length v) n ≡ false = not_less (length v) n (nat_lt (length v) n) refl long in
     let least_is = is_least spec (Alternate i) tests rows in
-    let found : looked aim.From entries (v ++ big_bytes 8 0) ≡ option_map (entry_under spec (Alternate i)) next =
-    sym (ap (λ b. looked (if b then aim_short side.From else aim_at side.From) entries (if b then extended (n + 8) (fill side.From) v else pair_aim_key (n + 8) side.From pair)) full)
+    let found : found_entry aim.From entries (v ++ big_bytes 8 0) ≡ option_map (entry_under spec (Alternate i)) next =
+    sym (ap (λ b. found_entry (if b then aim_short side.From else aim_at side.From) entries (if b then extended_bytes (n + 8) (fill side.From) v else pair_aim_key (n + 8) side.From pair)) full)
     ∙ finds_sought spec (Alternate i) place rows entries (record { value = omega (arith, long); number = omega arith }) up are under in
-    ap (begins v) found ∙ same_value spec i v rows next long under (least_in spec (Alternate i) tests rows next least_is) ∙ first_has spec (Alternate i) v rows next least_is
+    ap (begins_with_value v) found ∙ same_value spec i v rows next long under (least_in spec (Alternate i) tests rows next least_is) ∙ first_has spec (Alternate i) v rows next least_is

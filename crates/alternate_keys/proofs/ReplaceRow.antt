@@ -4,11 +4,11 @@ use Rattle.std.specs.Prelude.{map, filter, Contains, Option, Some, None, IsSome,
 use Rattle.std.specs.List.{flat_map, list_any}
 use Rattle.station.specs.Disk.{Sector}
 use Rattle.byteorder.specs.Endian.{big_bytes}
-use Rattle.tree_pages.specs.Keys.{Ascend}
-use Rattle.btree.specs.Rooted.{Rooted}
+use Rattle.btree_pages.specs.Keys.{Ascend}
+use Rattle.btree.specs.Rooted.{RootedTree}
 use Rattle.btree.specs.Laws.{keys_listed}
 use Rattle.btree.proofs.Runs.{in_head, in_tail}
-use Rattle.btree.specs.Entries.{Entry, entry_with, with_entry, with_value, without}
+use Rattle.btree.specs.Entries.{Entry, entry_with, with_new_entry, with_value, without_entry}
 use Rattle.records.specs.declared.answer.Outcome.{Outcome}
 use Rattle.records.specs.declared.answer.Outcome.TheVariants.{Missing, Taken}
 use Rattle.records.specs.declared.file_spec.AlternateKey.{AlternateKey}
@@ -18,18 +18,18 @@ use Rattle.records.specs.declared.key.KeyOfReference.TheVariants.{Prime, Alterna
 use Rattle.records.specs.Spec.{Spec, is_spec}
 use Rattle.records.specs.Rows.{Row, Pair, part, place_of, prime_place, prime_pair, named_pair, same_bytes, no_key}
 use Rattle.records.specs.Changes as rows
-use Rattle.records.specs.Changes.{Changed, is_at, row_at, in_place, changes, changed_row, arrivals_after, replaced, replaced_row, unchanged, is_taken, is_duplicate, repeats, done}
-use Rattle.records.specs.Files.{File, Named}
+use Rattle.records.specs.Changes.{FileChange, is_at, row_at, in_place, changes, changed_row, arrivals_after, replacement, replaced_row, without_change, is_taken, is_duplicate, repeats, done_outcome}
+use Rattle.records.specs.Files.{File, NamedFile}
 use Rattle.records.specs.Stores.{is_change}
 use Rattle.records.specs.Laws.{RowsAscend}
 use Rattle.records.proofs.Changed.{pair_same}
-use Rattle.file_trees.specs.Trees.{entry_under, key_under, layout_under, row_value, AreOf}
-use Rattle.file_trees.specs.Pairs.{IsPair}
-use Rattle.file_trees.specs.Forest.{Planted}
-use Rattle.file_trees.specs.Grows.{StandsAmong}
-use Rattle.file_trees.specs.Volume.{planted}
+use Rattle.volume_format.specs.Trees.{entry_under, key_under, layout_under, row_value, AreOf}
+use Rattle.volume_format.specs.Pairs.{IsPair}
+use Rattle.volume_format.specs.Forest.{TreeLevels}
+use Rattle.volume_format.specs.Grows.{IsTreeAmong}
+use Rattle.volume_format.specs.Volume.{tree_levels}
 use Rattle.alternate_keys.specs.declared.row_verb.RowVerb.TheVariants.{Replace}
-use Rattle.alternate_keys.specs.Moved.{Moving, PairsMove, PairsMayMove, IsRowOf, old_key, pair_entry, changes_at, is_new}
+use Rattle.alternate_keys.specs.Moved.{HasChangedRows, PairsMove, PairsMayMove, IsRowOf, old_key, pair_entry, changes_at, is_new}
 use Rattle.alternate_keys.specs.NewRow.{row_with}
 use Rattle.alternate_keys.specs.Placed.{HasTrees}
 use Rattle.alternate_keys.proofs.Arrivals.{arrival_at}
@@ -54,14 +54,14 @@ prime_part Relative number other bytes old is = refl
 prime_part (Indexed place) number other bytes old is = ap (λ (p : Pair). p.value) (sym is)
 
 -- rows but one, of which the test fails
-any_left : (o : Organization) (pair : Pair) (f : Row → Bool) (all : List Row) → ((row : Row) → Contains all row → is_at o pair row ≡ true → f row ≡ false) → list_any f (rows.without o pair all) ≡ list_any f all
+any_left : (o : Organization) (pair : Pair) (f : Row → Bool) (all : List Row) → ((row : Row) → Contains all row → is_at o pair row ≡ true → f row ≡ false) → list_any f (rows.without_pair o pair all) ≡ list_any f all
 any_left o pair f [] fails = refl
 any_left o pair f (row ∷ all) fails = by (is_at o pair row) refl (any_left o pair f all (λ r has at. fails r (later r has) at))
   where
     later : (r : Row) → Contains all r → Contains (row ∷ all) r
     later r has = in_tail row all r has
 
-    by : (b : Bool) → is_at o pair row ≡ b → list_any f (rows.without o pair all) ≡ list_any f all → list_any f (if not b then row ∷ rows.without o pair all else rows.without o pair all) ≡ (f row || list_any f all)
+    by : (b : Bool) → is_at o pair row ≡ b → list_any f (rows.without_pair o pair all) ≡ list_any f all → list_any f (if not b then row ∷ rows.without_pair o pair all else rows.without_pair o pair all) ≡ (f row || list_any f all)
     by true at rest = rest ∙ sym (ap (λ (b : Bool). b || list_any f all) (fails row (in_head row all) at))
     by false at rest = ap (λ (b : Bool). f row || b) rest
 
@@ -79,21 +79,21 @@ not_true true is = absurd cc
 not_true false is = refl
 
 module _ (o : Organization) (pair : Pair) (all : List Row) (old : Row) (up : RowsAscend o all) (there : row_at o pair all ≡ Some old) (bytes : List ℕ) where
-  repeats_same : (key : AlternateKey) → changes old.bytes bytes key ≡ true → repeats (rows.without o pair all) bytes key ≡ repeats all bytes key
+  repeats_same : (key : AlternateKey) → changes old.bytes bytes key ≡ true → repeats (rows.without_pair o pair all) bytes key ≡ repeats all bytes key
   repeats_same key is =
       any_left o pair (λ (row : Row). same_bytes (part key.place row.bytes) (part key.place bytes)) all
       (λ row has at.
       ap (λ (r : Row). same_bytes (part key.place r.bytes) (part key.place bytes)) (one_at o pair old row all up there has at)
       ∙ not_true (same_bytes (part key.place old.bytes) (part key.place bytes)) is)
 
-  pub taken_same : (keys : List AlternateKey) → is_taken (filter (changes old.bytes bytes) keys) (rows.without o pair all) bytes ≡ is_taken (filter (changes old.bytes bytes) keys) all bytes
+  pub taken_same : (keys : List AlternateKey) → is_taken (filter (changes old.bytes bytes) keys) (rows.without_pair o pair all) bytes ≡ is_taken (filter (changes old.bytes bytes) keys) all bytes
   taken_same keys =
-      any_same (changes old.bytes bytes) (λ (key : AlternateKey). not key.duplicates && repeats (rows.without o pair all) bytes key) (λ (key : AlternateKey). not key.duplicates && repeats all bytes key) keys
+      any_same (changes old.bytes bytes) (λ (key : AlternateKey). not key.duplicates && repeats (rows.without_pair o pair all) bytes key) (λ (key : AlternateKey). not key.duplicates && repeats all bytes key) keys
       (λ key is. ap (λ (b : Bool). not key.duplicates && b) (repeats_same key is))
 
-  pub duplicate_same : (keys : List AlternateKey) → is_duplicate (filter (changes old.bytes bytes) keys) (rows.without o pair all) bytes ≡ is_duplicate (filter (changes old.bytes bytes) keys) all bytes
+  pub duplicate_same : (keys : List AlternateKey) → is_duplicate (filter (changes old.bytes bytes) keys) (rows.without_pair o pair all) bytes ≡ is_duplicate (filter (changes old.bytes bytes) keys) all bytes
   duplicate_same keys =
-      any_same (changes old.bytes bytes) (λ (key : AlternateKey). key.duplicates && repeats (rows.without o pair all) bytes key) (λ (key : AlternateKey). key.duplicates && repeats all bytes key) keys
+      any_same (changes old.bytes bytes) (λ (key : AlternateKey). key.duplicates && repeats (rows.without_pair o pair all) bytes key) (λ (key : AlternateKey). key.duplicates && repeats all bytes key) keys
       (λ key is. ap (λ (b : Bool). key.duplicates && b) (repeats_same key is))
 
 -- the file after it
@@ -103,30 +103,30 @@ next_of old bytes file = if list_any (λ key. changes old bytes key) file.spec.a
 abbrev pub file_changed : Pair → List ℕ → Row → File → File
 file_changed pair bytes old file = record { spec = file.spec; rows = in_place file.spec.organization pair (changed_row file bytes old) file.rows; next_arrival = next_of old.bytes bytes file }
 
-abbrev pub named_changed : Pair → List ℕ → Row → Named → Named
+abbrev pub named_changed : Pair → List ℕ → Row → NamedFile → NamedFile
 named_changed pair bytes old named = record { name = named.name; file = file_changed pair bytes old named.file }
 
 module _ (number : ℕ) (bytes : List ℕ) (file : File) where
   abbrev pair_here : Pair
   pair_here = named_pair file.spec.organization number bytes
 
-  pub replaced_missing : row_at file.spec.organization pair_here file.rows ≡ None → replaced number bytes file ≡ unchanged Missing file
+  pub replaced_missing : row_at file.spec.organization pair_here file.rows ≡ None → replacement number bytes file ≡ without_change Missing file
   replaced_missing is = ap (replaced_row pair_here bytes file) is
 
   abbrev keys_of : Row → List AlternateKey
   keys_of old = filter (changes old.bytes bytes) file.spec.alternates
 
   abbrev others : List Row
-  others = rows.without file.spec.organization pair_here file.rows
+  others = rows.without_pair file.spec.organization pair_here file.rows
 
-  abbrev answer : Row → Bool → Changed
-  answer old taken = if taken then unchanged Taken file else record { outcome = done (is_duplicate (keys_of old) others bytes); file = file_changed pair_here bytes old file }
+  abbrev answer : Row → Bool → FileChange
+  answer old taken = if taken then without_change Taken file else record { outcome = done_outcome (is_duplicate (keys_of old) others bytes); file = file_changed pair_here bytes old file }
 
-  pub replaced_taken : (old : Row) → row_at file.spec.organization pair_here file.rows ≡ Some old → is_taken (keys_of old) others bytes ≡ true → replaced number bytes file ≡ unchanged Taken file
+  pub replaced_taken : (old : Row) → row_at file.spec.organization pair_here file.rows ≡ Some old → is_taken (keys_of old) others bytes ≡ true → replacement number bytes file ≡ without_change Taken file
   replaced_taken old is taken = ap (replaced_row pair_here bytes file) is ∙ ap (answer old) taken
 
   pub replaced_done : (old : Row) → row_at file.spec.organization pair_here file.rows ≡ Some old → is_taken (keys_of old) others bytes ≡ false →
-      replaced number bytes file ≡ record { outcome = done (is_duplicate (keys_of old) others bytes); file = file_changed pair_here bytes old file }
+      replacement number bytes file ≡ record { outcome = done_outcome (is_duplicate (keys_of old) others bytes); file = file_changed pair_here bytes old file }
   replaced_done old is taken = ap (replaced_row pair_here bytes file) is ∙ ap (answer old) taken
 
 abbrev pub entry_as : List ℕ → List ℕ → Entry
@@ -136,7 +136,7 @@ next_low : (b : Bool) (n m : ℕ) → n ≤ m → (if b then n + 1 else n) ≤ m
 next_low true n m low = omega (arith, low)
 next_low false n m low = omega (arith, low)
 
-module _ (spec : Spec) (named : Named) (generation : ℕ) (pages : List (Option Sector)) (left right : List Planted) (listing : List ℕ) (has : HasTrees spec named generation pages left right listing)
+module _ (spec : Spec) (named : NamedFile) (generation : ℕ) (pages : List (Option Sector)) (left right : List TreeLevels) (listing : List ℕ) (has : HasTrees spec named generation pages left right listing)
     (is : is_spec spec ≡ true) (number : ℕ) (bytes : List ℕ) (old : Row) (there : row_at named.file.spec.organization (named_pair named.file.spec.organization number bytes) named.file.rows ≡ Some old) where
   abbrev file : File
   file = named.file
@@ -189,24 +189,24 @@ module _ (spec : Spec) (named : Named) (generation : ℕ) (pages : List (Option 
   old_keyed i = old_key file.spec i (row_value old)
 
   abbrev then_by : Bool → ℕ → List Entry → ℕ → List Entry
-  then_by b i entries arrival = if b then with_entry (without entries (old_keyed i)) (pair_entry file.spec i bytes arrival) else entries
+  then_by b i entries arrival = if b then with_new_entry (without_entry entries (old_keyed i)) (pair_entry file.spec i bytes arrival) else entries
 
   key_of_old : (i : ℕ) → i < length file.spec.alternates → old_keyed i ≡ (entry_under file.spec (Alternate i) old).key
   key_of_old i within = key_is spec named generation pages left right listing has is pair old there i within
 
   left_are : (i : ℕ) (entries : List Entry) → i < length file.spec.alternates → Ascend (keys_listed entries) → AreOf file.spec (Alternate i) file.rows entries →
-      AreOf file.spec (Alternate i) (rows.without file.spec.organization pair file.rows) (without entries (old_keyed i))
+      AreOf file.spec (Alternate i) (rows.without_pair file.spec.organization pair file.rows) (without_entry entries (old_keyed i))
   left_are i entries within up are =
       let k = known_at i within in
-      subst (λ (key : List ℕ). AreOf file.spec (Alternate i) (rows.without file.spec.organization pair file.rows) (without entries key)) (sym (key_of_old i within))
+      subst (λ (key : List ℕ). AreOf file.spec (Alternate i) (rows.without_pair file.spec.organization pair file.rows) (without_entry entries key)) (sym (key_of_old i within))
       (pair_leaves file.spec i k.place k.indexed_is pair file.rows old k.up there entries up are)
 
   move_by : (b : Bool) (i : ℕ) (entries : List Entry) → i < length file.spec.alternates → Ascend (keys_listed entries) → AreOf file.spec (Alternate i) file.rows entries → changes old.bytes bytes (slice_index_or file.spec.alternates i no_key) ≡ b →
       AreOf file.spec (Alternate i) (in_place file.spec.organization pair new file.rows) (then_by b i entries file.next_arrival)
   move_by true i entries within up are change =
       let k = known_at i within in
-      subst (λ (e : Entry). AreOf file.spec (Alternate i) (in_place file.spec.organization pair new file.rows) (with_entry (without entries (old_keyed i)) e)) (entry_new i within change)
-      (pair_comes_in_place file.spec i k.place k.indexed_is pair file.rows old k.up there new (without entries (old_keyed i)) (left_are i entries within up are))
+      subst (λ (e : Entry). AreOf file.spec (Alternate i) (in_place file.spec.organization pair new file.rows) (with_new_entry (without_entry entries (old_keyed i)) e)) (entry_new i within change)
+      (pair_comes_in_place file.spec i k.place k.indexed_is pair file.rows old k.up there new (without_entry entries (old_keyed i)) (left_are i entries within up are))
   move_by false i entries within up are stay =
       let k = known_at i within in
       pair_stays file.spec i k.place k.indexed_is pair file.rows old k.up there new entries are (entry_old i within stay)
@@ -223,20 +223,20 @@ module _ (spec : Spec) (named : Named) (generation : ℕ) (pages : List (Option 
       let few = arrival_few spec named generation pages left right listing has in (
         some_by (entry_with entries (old_keyed i)) (entry_under file.spec (Alternate i) old)
             (ap (entry_with entries) (key_of_old i within) ∙ pair_there file.spec i k.place k.indexed_is pair file.rows old k.up there entries up are),
-        none_by (entry_with (without entries (old_keyed i)) (pair_entry file.spec i bytes arrival).key)
+        none_by (entry_with (without_entry entries (old_keyed i)) (pair_entry file.spec i bytes arrival).key)
             (λ some.
             let key : (entry_under file.spec (Alternate i) (row_with file.spec 0 arrival bytes)).key ≡ (pair_entry file.spec i bytes arrival).key =
             ap (λ (a : ℕ). part (place_of file.spec (Alternate i)) bytes ++ big_bytes 8 a) (arrival_at file.spec.alternates i arrival within) in
-            not_there file.spec i 0 arrival bytes (rows.without file.spec.organization pair file.rows) (without entries (old_keyed i)) (left_are i entries within up are) within (omega (arith, few, same))
+            not_there file.spec i 0 arrival bytes (rows.without_pair file.spec.organization pair file.rows) (without_entry entries (old_keyed i)) (left_are i entries within up are) within (omega (arith, few, same))
             (λ r left. let before = arrivals_before file r i has.is_named.file (left_of file.spec.organization pair r file.rows left).0 within in omega (arith, before, same))
-            (subst (λ (x : List ℕ). IsSome (entry_with (without entries (old_keyed i)) x)) (sym key) some)),
+            (subst (λ (x : List ℕ). IsSome (entry_with (without_entry entries (old_keyed i)) x)) (sym key) some)),
       )
 
-  pub replace_moving : (arrival next : ℕ) → arrival ≡ file.next_arrival → next ≡ next_of old.bytes bytes file → IsPair spec Prime pair → (later : List (Option Sector)) (prime : Rooted) → prime.layout ≡ layout_under spec Prime →
-      StandsAmong later left ((kept_in spec named generation pages left right listing has).alternates ++ right) prime (with_value (map (entry_under spec Prime) file.rows) (entry_under spec Prime new)) →
-      Moving Replace spec named (named_changed pair bytes old named) generation later left right listing prime.root (row_value old) bytes arrival next
+  pub replace_moving : (arrival next : ℕ) → arrival ≡ file.next_arrival → next ≡ next_of old.bytes bytes file → IsPair spec Prime pair → (later : List (Option Sector)) (prime : RootedTree) → prime.layout ≡ layout_under spec Prime →
+      IsTreeAmong later left ((kept_in spec named generation pages left right listing has).alternates ++ right) prime (with_value (map (entry_under spec Prime) file.rows) (entry_under spec Prime new)) →
+      HasChangedRows Replace spec named (named_changed pair bytes old named) generation later left right listing prime.root (row_value old) bytes arrival next
   replace_moving arrival next same next_same pair_good later prime layout stands = record {
-    prime = planted prime stands.levels;
+    prime = tree_levels prime stands.levels;
     trees = (kept_in spec named generation pages left right listing has).alternates;
     indexes = indexes_then spec named generation pages left right listing has later prime (with_value (map (entry_under spec Prime) file.rows) (entry_under spec Prime new)) stands;
     layout = layout;
@@ -252,11 +252,11 @@ module _ (spec : Spec) (named : Named) (generation : ℕ) (pages : List (Option 
   }
 
 -- what the values of the new record tell
-module _ (spec : Spec) (named : Named) (generation : ℕ) (pages : List (Option Sector)) (left right : List Planted) (listing : List ℕ) (has : HasTrees spec named generation pages left right listing)
+module _ (spec : Spec) (named : NamedFile) (generation : ℕ) (pages : List (Option Sector)) (left right : List TreeLevels) (listing : List ℕ) (has : HasTrees spec named generation pages left right listing)
     (number : ℕ) (bytes : List ℕ) (old : Row) (there : row_at named.file.spec.organization (named_pair named.file.spec.organization number bytes) named.file.rows ≡ Some old)
     (row_is : IsRowOf spec old) (value : List ℕ) (value_is : value ≡ row_value old) (outcome : Outcome)
     (told : outcome ≡ (if is_taken (filter (is_new Replace (take spec.record_length value) bytes) spec.alternates) named.file.rows bytes then Taken else
-    done (is_duplicate (filter (is_new Replace (take spec.record_length value) bytes) spec.alternates) named.file.rows bytes))) where
+    done_outcome (is_duplicate (filter (is_new Replace (take spec.record_length value) bytes) spec.alternates) named.file.rows bytes))) where
   abbrev of_file : File
   of_file = named.file
 
@@ -267,10 +267,10 @@ module _ (spec : Spec) (named : Named) (generation : ℕ) (pages : List (Option 
   keys_now = filter (changes old.bytes bytes) of_file.spec.alternates
 
   abbrev rows_left : List Row
-  rows_left = rows.without of_file.spec.organization pair_of_file of_file.rows
+  rows_left = rows.without_pair of_file.spec.organization pair_of_file of_file.rows
 
   abbrev answer_by : Bool → Bool → Outcome
-  answer_by taken duplicate = if taken then Taken else done duplicate
+  answer_by taken duplicate = if taken then Taken else done_outcome duplicate
 
   keys_are : filter (is_new Replace (take spec.record_length value) bytes) spec.alternates ≡ keys_now
   keys_are =
@@ -286,7 +286,7 @@ module _ (spec : Spec) (named : Named) (generation : ℕ) (pages : List (Option 
   pub look_free : is_change outcome ≡ true → is_taken keys_now rows_left bytes ≡ false
   look_free change = told_by (is_taken keys_now rows_left bytes) (is_duplicate keys_now rows_left bytes) outcome true told_now change
 
-  pub look_done : is_change outcome ≡ true → outcome ≡ done (is_duplicate keys_now rows_left bytes)
+  pub look_done : is_change outcome ≡ true → outcome ≡ done_outcome (is_duplicate keys_now rows_left bytes)
   look_done change = told_free (is_taken keys_now rows_left bytes) (is_duplicate keys_now rows_left bytes) outcome told_now (look_free change)
 
   pub look_full : is_change outcome ≡ false → is_taken keys_now rows_left bytes ≡ true

@@ -7,8 +7,8 @@ use Rattle.std.specs.Ordering.{is_eq, ordering_reverse}
 use Rattle.std.specs.declared.cmp.Ordering.TheVariants.{Less}
 use Rattle.std.proofs.lemmas.List.Elements.{All-head, All-tail}
 use Rattle.std.proofs.lemmas.Map.Keys.{sorted_head, sorted_tail}
-use Rattle.tree_pages.specs.Keys.{key_cmp}
-use Rattle.btree.specs.Entries.{Entry, entry_with, with_value, without}
+use Rattle.btree_pages.specs.Keys.{key_cmp}
+use Rattle.btree.specs.Entries.{Entry, entry_with, with_value, without_entry}
 use Rattle.btree.proofs.Runs.{in_head, in_tail, in_none}
 use Rattle.records.specs.declared.file_spec.Organization.{Organization}
 use Rattle.records.specs.declared.key.KeyOfReference.TheVariants.{Prime}
@@ -19,10 +19,10 @@ use Rattle.records.specs.Changes.{is_at, row_at, in_place}
 use Rattle.records.specs.Laws.{RowsAscend}
 use Rattle.records.proofs.Ascending.{pair_total}
 use Rattle.records.proofs.Changed.{pair_same}
-use Rattle.file_trees.specs.Trees.{entry_under, key_under}
-use Rattle.file_trees.specs.Pairs.{IsPair, IsUnder}
-use Rattle.file_trees.proofs.Comes.{in_cons}
-use Rattle.file_trees.proofs.Order.{keys_in_order}
+use Rattle.volume_format.specs.Trees.{entry_under, key_under}
+use Rattle.volume_format.specs.Pairs.{IsPair, IsUnder}
+use Rattle.volume_format.proofs.Comes.{in_cons}
+use Rattle.volume_format.proofs.Order.{keys_in_order}
 
 -- Of rows that ascend one alone is at a pair.
 module _ (o : Organization) (pair : Pair) where
@@ -48,10 +48,10 @@ module _ (o : Organization) (pair : Pair) where
   later row all up = sorted_tail pair_cmp (prime_pair o row) (map (prime_pair o) all) up
 
   -- where no row is at it, none leaves
-  all_stay : (all : List Row) → AllByRecursion (λ (r : Row). is_at o pair r ≡ false) all → rows.without o pair all ≡ all
+  all_stay : (all : List Row) → AllByRecursion (λ (r : Row). is_at o pair r ≡ false) all → rows.without_pair o pair all ≡ all
   all_stay [] none = refl
   all_stay (row ∷ all) none =
-      ap (λ (b : Bool). if not b then row ∷ rows.without o pair all else rows.without o pair all) none.0 ∙ ap (λ (l : List Row). row ∷ l) (all_stay all none.1)
+      ap (λ (b : Bool). if not b then row ∷ rows.without_pair o pair all else rows.without_pair o pair all) none.0 ∙ ap (λ (l : List Row). row ∷ l) (all_stay all none.1)
 
   none_changes : (new : Row) (all : List Row) → AllByRecursion (λ (r : Row). is_at o pair r ≡ false) all → in_place o pair new all ≡ all
   none_changes new [] none = refl
@@ -84,47 +84,47 @@ module _ (o : Organization) (pair : Pair) where
   one_at old row (r ∷ all) up is has own = at_one (is_at o pair r) r row old all refl up is (in_cons r all row has) own (λ more there. one_at old row all (later r all up) more there own)
 
   -- which rows are left
-  left_by : (b : Bool) (r row : Row) (all : List Row) → is_at o pair r ≡ b → Contains (if not b then r ∷ rows.without o pair all else rows.without o pair all) row → (Contains (rows.without o pair all) row → Contains all row × (is_at o pair row ≡ false)) →
+  left_by : (b : Bool) (r row : Row) (all : List Row) → is_at o pair r ≡ b → Contains (if not b then r ∷ rows.without_pair o pair all else rows.without_pair o pair all) row → (Contains (rows.without_pair o pair all) row → Contains all row × (is_at o pair row ≡ false)) →
       Contains (r ∷ all) row × (is_at o pair row ≡ false)
   left_by true r row all at has rest = let found = rest has in (in_tail r all row found.0, found.1)
   left_by false r row all at has rest =
-      ⊎_elim (λ same. (subst (λ (x : Row). Contains (r ∷ all) x) (sym same) (in_head r all), ap (is_at o pair) same ∙ at)) (λ more. let found = rest more in (in_tail r all row found.0, found.1)) (in_cons r (rows.without o pair all) row has)
+      ⊎_elim (λ same. (subst (λ (x : Row). Contains (r ∷ all) x) (sym same) (in_head r all), ap (is_at o pair) same ∙ at)) (λ more. let found = rest more in (in_tail r all row found.0, found.1)) (in_cons r (rows.without_pair o pair all) row has)
 
-  pub left_of : (row : Row) (all : List Row) → Contains (rows.without o pair all) row → Contains all row × (is_at o pair row ≡ false)
+  pub left_of : (row : Row) (all : List Row) → Contains (rows.without_pair o pair all) row → Contains all row × (is_at o pair row ≡ false)
   left_of row [] has = absurd (in_none row has)
   left_of row (r ∷ all) has = left_by (is_at o pair r) r row all refl has (left_of row all)
 
-  stay_by : (b : Bool) (r row : Row) (all : List Row) → is_at o pair r ≡ b → (row ≡ r) ⊎ Contains all row → is_at o pair row ≡ false → (Contains all row → Contains (rows.without o pair all) row) →
-      Contains (if not b then r ∷ rows.without o pair all else rows.without o pair all) row
+  stay_by : (b : Bool) (r row : Row) (all : List Row) → is_at o pair r ≡ b → (row ≡ r) ⊎ Contains all row → is_at o pair row ≡ false → (Contains all row → Contains (rows.without_pair o pair all) row) →
+      Contains (if not b then r ∷ rows.without_pair o pair all else rows.without_pair o pair all) row
   stay_by true r row all at (inl same) other rest = absurd (let clash : true ≡ false = sym at ∙ ap (is_at o pair) (sym same) ∙ other in cc)
   stay_by true r row all at (inr has) other rest = rest has
-  stay_by false r row all at (inl same) other rest = subst (λ (x : Row). Contains (r ∷ rows.without o pair all) x) (sym same) (in_head r (rows.without o pair all))
-  stay_by false r row all at (inr has) other rest = in_tail r (rows.without o pair all) row (rest has)
+  stay_by false r row all at (inl same) other rest = subst (λ (x : Row). Contains (r ∷ rows.without_pair o pair all) x) (sym same) (in_head r (rows.without_pair o pair all))
+  stay_by false r row all at (inr has) other rest = in_tail r (rows.without_pair o pair all) row (rest has)
 
-  pub stays : (row : Row) (all : List Row) → Contains all row → is_at o pair row ≡ false → Contains (rows.without o pair all) row
+  pub stays : (row : Row) (all : List Row) → Contains all row → is_at o pair row ≡ false → Contains (rows.without_pair o pair all) row
   stays row [] has other = absurd (in_none row has)
   stays row (r ∷ all) has other = stay_by (is_at o pair r) r row all refl (in_cons r all row has) other (λ more. stays row all more other)
 
   -- and with another in place of the one at it
-  put_by : (b : Bool) (new r row : Row) (all : List Row) → is_at o pair r ≡ b → (row ≡ (if b then new else r)) ⊎ Contains (in_place o pair new all) row → (Contains (in_place o pair new all) row → (row ≡ new) ⊎ Contains (rows.without o pair all) row) →
-      (row ≡ new) ⊎ Contains (if not b then r ∷ rows.without o pair all else rows.without o pair all) row
+  put_by : (b : Bool) (new r row : Row) (all : List Row) → is_at o pair r ≡ b → (row ≡ (if b then new else r)) ⊎ Contains (in_place o pair new all) row → (Contains (in_place o pair new all) row → (row ≡ new) ⊎ Contains (rows.without_pair o pair all) row) →
+      (row ≡ new) ⊎ Contains (if not b then r ∷ rows.without_pair o pair all else rows.without_pair o pair all) row
   put_by true new r row all at (inl same) rest = inl same
   put_by true new r row all at (inr has) rest = rest has
-  put_by false new r row all at (inl same) rest = inr (subst (λ (x : Row). Contains (r ∷ rows.without o pair all) x) (sym same) (in_head r (rows.without o pair all)))
-  put_by false new r row all at (inr has) rest = ⊎_elim (λ same. inl same) (λ more. inr (in_tail r (rows.without o pair all) row more)) (rest has)
+  put_by false new r row all at (inl same) rest = inr (subst (λ (x : Row). Contains (r ∷ rows.without_pair o pair all) x) (sym same) (in_head r (rows.without_pair o pair all)))
+  put_by false new r row all at (inr has) rest = ⊎_elim (λ same. inl same) (λ more. inr (in_tail r (rows.without_pair o pair all) row more)) (rest has)
 
-  pub in_its_place : (new row : Row) (all : List Row) → Contains (in_place o pair new all) row → (row ≡ new) ⊎ Contains (rows.without o pair all) row
+  pub in_its_place : (new row : Row) (all : List Row) → Contains (in_place o pair new all) row → (row ≡ new) ⊎ Contains (rows.without_pair o pair all) row
   in_its_place new row [] has = absurd (in_none row has)
   in_its_place new row (r ∷ all) has =
       put_by (is_at o pair r) new r row all refl (in_cons (if is_at o pair r then new else r) (in_place o pair new all) row has) (in_its_place new row all)
 
-  kept_by : (b : Bool) (new r row : Row) (all : List Row) → Contains (if not b then r ∷ rows.without o pair all else rows.without o pair all) row → (Contains (rows.without o pair all) row → Contains (in_place o pair new all) row) →
+  kept_by : (b : Bool) (new r row : Row) (all : List Row) → Contains (if not b then r ∷ rows.without_pair o pair all else rows.without_pair o pair all) row → (Contains (rows.without_pair o pair all) row → Contains (in_place o pair new all) row) →
       Contains ((if b then new else r) ∷ in_place o pair new all) row
   kept_by true new r row all has rest = in_tail new (in_place o pair new all) row (rest has)
   kept_by false new r row all has rest =
-      ⊎_elim (λ same. subst (λ (x : Row). Contains (r ∷ in_place o pair new all) x) (sym same) (in_head r (in_place o pair new all))) (λ more. in_tail r (in_place o pair new all) row (rest more)) (in_cons r (rows.without o pair all) row has)
+      ⊎_elim (λ same. subst (λ (x : Row). Contains (r ∷ in_place o pair new all) x) (sym same) (in_head r (in_place o pair new all))) (λ more. in_tail r (in_place o pair new all) row (rest more)) (in_cons r (rows.without_pair o pair all) row has)
 
-  pub kept_in_place : (new row : Row) (all : List Row) → Contains (rows.without o pair all) row → Contains (in_place o pair new all) row
+  pub kept_in_place : (new row : Row) (all : List Row) → Contains (rows.without_pair o pair all) row → Contains (in_place o pair new all) row
   kept_in_place new row [] has = has
   kept_in_place new row (r ∷ all) has = kept_by (is_at o pair r) new r row all has (kept_in_place new row all)
 
@@ -144,15 +144,15 @@ module _ (spec : Spec) (pair : Pair) (is : IsPair spec Prime pair) where
   test : (row : Row) → IsUnder spec Prime row → is_eq (key_cmp (own row).key (key_under spec Prime pair)) ≡ is_at spec.organization pair row
   test row under = ap is_eq (keys_in_order spec Prime (pair_under spec Prime row) pair under.pair is)
 
-  leaves_by : (b : Bool) (row : Row) (all : List Row) → (b ≡ true → rows.without spec.organization pair all ≡ all) → without (map own all) (key_under spec Prime pair) ≡ map own (rows.without spec.organization pair all) →
-      (if b then map own all else own row ∷ without (map own all) (key_under spec Prime pair)) ≡ map own (if not b then row ∷ rows.without spec.organization pair all else rows.without spec.organization pair all)
+  leaves_by : (b : Bool) (row : Row) (all : List Row) → (b ≡ true → rows.without_pair spec.organization pair all ≡ all) → without_entry (map own all) (key_under spec Prime pair) ≡ map own (rows.without_pair spec.organization pair all) →
+      (if b then map own all else own row ∷ without_entry (map own all) (key_under spec Prime pair)) ≡ map own (if not b then row ∷ rows.without_pair spec.organization pair all else rows.without_pair spec.organization pair all)
   leaves_by true row all whole rest = ap (map own) (sym (whole refl))
   leaves_by false row all whole rest = ap (λ (es : List Entry). own row ∷ es) rest
 
-  pub row_leaves : (all : List Row) → All (IsUnder spec Prime) all → RowsAscend spec.organization all → without (map own all) (key_under spec Prime pair) ≡ map own (rows.without spec.organization pair all)
+  pub row_leaves : (all : List Row) → All (IsUnder spec Prime) all → RowsAscend spec.organization all → without_entry (map own all) (key_under spec Prime pair) ≡ map own (rows.without_pair spec.organization pair all)
   row_leaves [] under up = refl
   row_leaves (row ∷ all) under up =
-      ap (λ (b : Bool). if b then map own all else own row ∷ without (map own all) (key_under spec Prime pair)) (test row (All-head (IsUnder spec Prime) row all under))
+      ap (λ (b : Bool). if b then map own all else own row ∷ without_entry (map own all) (key_under spec Prime pair)) (test row (All-head (IsUnder spec Prime) row all under))
       ∙ leaves_by (is_at spec.organization pair row) row all (λ at. all_stay spec.organization pair all (alone spec.organization pair row all up at))
       (row_leaves all (All-tail (IsUnder spec Prime) row all under) (later spec.organization pair row all up))
 

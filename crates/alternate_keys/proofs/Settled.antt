@@ -10,14 +10,14 @@ use Rattle.station.specs.Blocks.{CrashLeaves}
 use Rattle.station.proofs.Spans.{weakens}
 use Rattle.pages.specs.Image.{Map, map_of}
 use Rattle.pages.specs.Changes.{BeforeOrAfter}
-use Rattle.pages.specs.Pages.{map_now, catalog_of, committed_of, changed_pages_of, advanced, HasChanges, Agrees}
+use Rattle.pages.specs.Pages.{map_now, catalog_of, committed_of, changed_pages_of, next_generation, HasChanges, Agrees}
 use Rattle.pages.specs.declared.page_map.PageMap.{PageMap}
 use Rattle.records.specs.Files.{Files}
 use Rattle.records.specs.Stores.{Either}
-use Rattle.file_trees.specs.Volume.{MapHolds, Holds}
-use Rattle.file_trees.proofs.Empty.{next_holds}
-use Rattle.file_trees.proofs.OneFiles.{one_in_map_most}
-use Rattle.alternate_keys.specs.Stands.{Stands}
+use Rattle.volume_format.specs.Volume.{MapHolds, Holds}
+use Rattle.volume_format.proofs.Empty.{next_holds}
+use Rattle.volume_format.proofs.OneFiles.{one_in_map_most}
+use Rattle.alternate_keys.specs.Stands.{Represents}
 
 -- an image of either map
 either_by : (before after : Map) (old now : Files) (image : List Sector) → MapHolds before old → MapHolds after now → BeforeOrAfter before after image → Either Holds old now image
@@ -32,7 +32,7 @@ moments_hold past later new seen before after old now first second through =
     (λ state leaves. record { events = leaves.events; images = λ image crash. either_by before after old now image first second (leaves.images image crash) }) through
 
 -- after a commit the store stands for the files of the map that was put
-pub stands_then : (p : PageMap) (disk : Disk) (m : Map) (files : Files) → Agrees p disk → ((image : List Sector) → map_now p image ≡ map_of image (committed_of p)) → changed_pages_of p ≡ [] → map_now p disk.present ≡ m → MapHolds m files → Stands p disk files
+pub stands_then : (p : PageMap) (disk : Disk) (m : Map) (files : Files) → Agrees p disk → ((image : List Sector) → map_now p image ≡ map_of image (committed_of p)) → changed_pages_of p ≡ [] → map_now p disk.present ≡ m → MapHolds m files → Represents p disk files
 stands_then p disk m files agrees committed rested is holds = record {
   agrees = agrees;
   still = committed disk.present;
@@ -54,12 +54,12 @@ changed_or_not p = by_pages (changed_pages_of p) p refl
 
 -- Where nothing was changed, the files before are those after, and stay.
 pub rests_then : (p q : PageMap) (old new : Disk) (before after : Files) → Agrees q new → ((image : List Sector) → map_now q image ≡ map_of image (committed_of q)) → changed_pages_of q ≡ [] → q ≡ p → new ≡ old →
-    (map_now p old.present).generation < 2 ^ 63 → length (map_now p old.present).pages ≤ 921600 → MapHolds (map_of old.present (committed_of p)) before → MapHolds (advanced (map_now p old.present)) after → Stands q new after
+    (map_now p old.present).generation < 2 ^ 63 → length (map_now p old.present).pages ≤ 921600 → MapHolds (map_of old.present (committed_of p)) before → MapHolds (next_generation (map_now p old.present)) after → Represents q new after
 rests_then p q old new before after agrees committed rested same still few small was will =
     let m : Map = map_now p old.present in
     let is : m ≡ map_of old.present (committed_of p) = subst (λ (x : PageMap). map_now x old.present ≡ map_of old.present (committed_of x)) same (committed old.present) in
     let here : MapHolds m before = subst (λ (x : Map). MapHolds x before) (sym is) was in
-    let files : before ≡ after = one_in_map_most (advanced m) before after (omega (arith, few)) (omega (arith, small)) (next_holds m before here) will in
+    let files : before ≡ after = one_in_map_most (next_generation m) before after (omega (arith, few)) (omega (arith, small)) (next_holds m before here) will in
     let map_is : map_now q new.present ≡ m = ap (λ (d : Disk). map_now q d.present) still ∙ ap (λ (x : PageMap). map_now x old.present) same in
     record {
       agrees = agrees;

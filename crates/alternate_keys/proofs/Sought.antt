@@ -7,27 +7,27 @@ use Rattle.std.specs.Ordering.{is_gt, ordering_reverse}
 use Rattle.std.specs.declared.cmp.Ordering.TheVariants.{Greater}
 use Rattle.std.proofs.lemmas.List.Elements.{All-contains}
 use Rattle.std.proofs.lemmas.Cmp.{nat_list_cmp_total}
-use Rattle.tree_pages.specs.Keys.{key_cmp, Ascend}
+use Rattle.btree_pages.specs.Keys.{key_cmp, Ascend}
 use Rattle.btree.specs.Entries.{Entry}
 use Rattle.records.specs.declared.key.KeyOfReference.{KeyOfReference}
 use Rattle.records.specs.Spec.{Spec}
 use Rattle.records.specs.Rows.{Row, pair_under}
-use Rattle.records.specs.Order.{Bound, is_behind, sought, least}
-use Rattle.alternate_keys.specs.declared.aim.Aim.{Aim}
-use Rattle.alternate_keys.specs.declared.aim.Aim.TheVariants as aim
-use Rattle.file_trees.specs.Trees.{entry_under, AreOf}
-use Rattle.file_trees.specs.Pairs.{IsUnder}
-use Rattle.alternate_keys.specs.Aims.{IsBound, aim_of, aim_key, wants, looked}
+use Rattle.records.specs.Order.{RowBound, is_behind, sought_row, least_row}
+use Rattle.alternate_keys.specs.declared.search_start.SearchStart.{SearchStart}
+use Rattle.alternate_keys.specs.declared.search_start.SearchStart.TheVariants as aim
+use Rattle.volume_format.specs.Trees.{entry_under, AreOf}
+use Rattle.volume_format.specs.Pairs.{IsUnder}
+use Rattle.alternate_keys.specs.Aims.{IsBound, aim_of, aim_key, wants, found_entry}
 use Rattle.alternate_keys.proofs.Least.{IsLeast, is_least, IsHead, is_head, first_where, from_where, after_where, never_where}
-use Rattle.file_trees.proofs.Order.{keys_in_order}
+use Rattle.volume_format.proofs.Order.{keys_in_order}
 use Rattle.alternate_keys.proofs.Aims.{aims_right}
 
-looked_where : (a : Aim) (entries : List Entry) (at : List ℕ) → looked a entries at ≡ first_where (wants a at) entries
+looked_where : (a : SearchStart) (entries : List Entry) (at : List ℕ) → found_entry a entries at ≡ first_where (wants a at) entries
 looked_where aim.Nothing entries at = sym (never_where entries)
 looked_where aim.From entries at = from_where entries at
 looked_where aim.After entries at = after_where entries at
 
-module _ (spec : Spec) (key : KeyOfReference) (bound : Bound) (rows : List Row) (entries : List Entry) where
+module _ (spec : Spec) (key : KeyOfReference) (bound : RowBound) (rows : List Row) (entries : List Entry) where
   abbrev behind : Row → Bool
   behind row = is_behind bound.side bound.pair (pair_under spec key row)
 
@@ -68,10 +68,10 @@ module _ (spec : Spec) (key : KeyOfReference) (bound : Bound) (rows : List Row) 
       cc)
       (head.first (entry_under spec key m) (given.are.each m least.has) (sym (same_test given m least.has) ∙ least.right))
 
-pub finds_sought : (spec : Spec) (key : KeyOfReference) (bound : Bound) (rows : List Row) (entries : List Entry) → IsBound spec key bound →
+pub finds_sought : (spec : Spec) (key : KeyOfReference) (bound : RowBound) (rows : List Row) (entries : List Entry) → IsBound spec key bound →
     Ascend (map (λ (entry : Entry). entry.key) entries) → AreOf spec key rows entries → All (IsUnder spec key) rows →
-    looked (aim_of spec key bound) entries (aim_key spec key bound) ≡ option_map (entry_under spec key) (sought spec key bound rows)
+    found_entry (aim_of spec key bound) entries (aim_key spec key bound) ≡ option_map (entry_under spec key) (sought_row spec key bound rows)
 finds_sought spec key bound rows entries fits up are under =
     looked_where (aim_of spec key bound) entries (aim_key spec key bound)
-    ∙ both spec key bound rows entries (record { are = are; under = under; fits = fits }) (first_where (wanted spec key bound rows entries) entries) (sought spec key bound rows)
+    ∙ both spec key bound rows entries (record { are = are; under = under; fits = fits }) (first_where (wanted spec key bound rows entries) entries) (sought_row spec key bound rows)
     (is_head (wanted spec key bound rows entries) entries up) (is_least spec key (behind spec key bound rows entries) rows)

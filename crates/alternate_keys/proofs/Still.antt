@@ -3,16 +3,16 @@ use Rattle.std.proofs.Common.{◌≡◌, Bool, ℕ, List, sym, ap, subst, ◌∙
 use Rattle.station.specs.Disk.{Disk}
 use Rattle.pages.specs.Image.{Map, map_of}
 use Rattle.pages.specs.Volumes.{volume_of}
-use Rattle.pages.specs.Pages.{committed_of, Agrees, Unchanged, SameCommitted}
+use Rattle.pages.specs.Pages.{committed_of, Agrees, IsUnchanged, SameCommitted}
 use Rattle.pages.specs.declared.page_map.PageMap.{PageMap}
 use Rattle.records.specs.Files.{Files}
-use Rattle.file_trees.specs.Volume.{MapHolds}
-use Rattle.alternate_keys.specs.Stands.{Stands, IsShort, LacksRoom}
+use Rattle.volume_format.specs.Volume.{MapHolds}
+use Rattle.alternate_keys.specs.Stands.{Represents, LacksSpace, LacksRoom}
 
 pub same_volume : (old new : PageMap) → SameCommitted old new → committed_of new ≡ committed_of old
 same_volume old new same = ap volume_of same.volume
 
-pub stands_still : (old new : PageMap) (disk : Disk) (files : Files) → Unchanged old new → Agrees new disk → Stands old disk files → Stands new disk files
+pub stands_still : (old new : PageMap) (disk : Disk) (files : Files) → IsUnchanged old new → Agrees new disk → Represents old disk files → Represents new disk files
 stands_still old new disk files unchanged agrees stands = record {
   agrees = agrees;
   still = unchanged.map disk.present ∙ stands.still ∙ ap (map_of disk.present) (sym (same_volume old new unchanged.committed));
@@ -21,5 +21,5 @@ stands_still old new disk files unchanged agrees stands = record {
 }
 
 -- the volume of the last commit is that of the disk
-pub lacks_room : (pages : PageMap) (disk : Disk) (is_new : Bool) (name : List ℕ) (after : Files) → Agrees pages disk → IsShort (committed_of pages) is_new name after → LacksRoom disk.present is_new name after
+pub lacks_room : (pages : PageMap) (disk : Disk) (is_new : Bool) (name : List ℕ) (after : Files) → Agrees pages disk → LacksSpace (committed_of pages) is_new name after → LacksRoom disk.present is_new name after
 lacks_room pages disk is_new name after agrees short = record { volume = committed_of pages; reads = agrees.committed.reads; short = short }

@@ -9,7 +9,7 @@ use Rattle.std.proofs.lemmas.List.Elements.{All-contains}
 use Rattle.byteorder.specs.Endian.{big_bytes, big_number}
 use Rattle.byteorder.specs.Numbers.{big_number-reads_back}
 use Rattle.station.specs.Disk.{Sector}
-use Rattle.btree.specs.Rooted.{Rooted}
+use Rattle.btree.specs.Rooted.{RootedTree}
 use Rattle.btree.specs.Entries.{Entry, entries_of, entry_with}
 use Rattle.records.specs.declared.file_spec.KeyPlace.{KeyPlace}
 use Rattle.records.specs.declared.file_spec.Organization.{Organization}
@@ -19,17 +19,17 @@ use Rattle.records.specs.declared.key.KeyOfReference.TheVariants.{Prime, Alterna
 use Rattle.records.specs.declared.key.Side.TheVariants as side
 use Rattle.records.specs.Spec.{Spec}
 use Rattle.records.specs.Rows.{Row, pair_under, part, prime_place, named_pair, same_bytes}
-use Rattle.records.specs.Order.{Bound, sought, is_behind, is_repeated, has_value}
+use Rattle.records.specs.Order.{RowBound, sought_row, is_behind, is_repeated, has_value}
 use Rattle.records.specs.Stores.{key_length}
-use Rattle.alternate_keys.specs.declared.aim.Aim.{Aim}
-use Rattle.alternate_keys.specs.declared.aim.Aim.TheVariants as aim
-use Rattle.file_trees.specs.Trees.{prime_key, prime_key_length, entry_under}
-use Rattle.file_trees.specs.Pairs.{IsUnder, IsPrimePair}
-use Rattle.alternate_keys.specs.Aims.{aim_of, aim_short, fill, aim_at, extended, pair_aim_key, looked}
-use Rattle.alternate_keys.specs.Seen.{HasPairs, IsTold, IsSought, number_in, begins}
+use Rattle.alternate_keys.specs.declared.search_start.SearchStart.{SearchStart}
+use Rattle.alternate_keys.specs.declared.search_start.SearchStart.TheVariants as aim
+use Rattle.volume_format.specs.Trees.{prime_key, prime_key_length, entry_under}
+use Rattle.volume_format.specs.Pairs.{IsUnder, IsPrimePair}
+use Rattle.alternate_keys.specs.Aims.{aim_of, aim_short, fill, aim_at, extended_bytes, pair_aim_key, found_entry}
+use Rattle.alternate_keys.specs.Seen.{HasPairs, IsPairEntry, IsSought, number_in, begins_with_value}
 use Rattle.btree.proofs.Runs.{in_head, in_tail, in_none}
 use Rattle.btree.proofs.There.{tree_ascends, entry_there}
-use Rattle.file_trees.proofs.Comes.{in_cons}
+use Rattle.volume_format.proofs.Comes.{in_cons}
 use Rattle.alternate_keys.proofs.Least.{IsLeast, is_least}
 use Rattle.alternate_keys.proofs.Sought.{finds_sought}
 
@@ -77,7 +77,7 @@ by_place spec place row is =
     ∙ sym (ap (λ (o : Organization). prime_key o (named_pair o row.number row.bytes)) is)
 
 -- the row of a pair is found under the prime key
-pub row_there : (spec : Spec) (i n : ℕ) (pages : List (Option Sector)) (rows : List Row) (prime under : Rooted) (entry : Entry) (row : Row) → (told : IsTold spec i pages rows prime under n entry row) →
+pub row_there : (spec : Spec) (i n : ℕ) (pages : List (Option Sector)) (rows : List Row) (prime under : RootedTree) (entry : Entry) (row : Row) → (told : IsPairEntry spec i pages rows prime under n entry row) →
     entry_with (entries_of prime.layout told.there.levels) entry.value ≡ Some (entry_under spec Prime row)
 row_there spec i n pages rows prime under entry row told =
     let value : entry.value ≡ (entry_under spec Prime row).key = ap (λ (e : Entry). e.value) told.is ∙ by_place spec told.place row told.indexed in
@@ -96,7 +96,7 @@ least_in spec key test rows None least = tt
 least_in spec key test rows (Some row) least = least.has
 
 pub same_value : (spec : Spec) (i : ℕ) (v : List ℕ) (rows : List Row) (found : Option Row) → length v ≡ key_length spec (Alternate i) → All (IsUnder spec (Alternate i)) rows → IsIn rows found →
-    begins v (option_map (entry_under spec (Alternate i)) found) ≡ has_value spec (Alternate i) v found
+    begins_with_value v (option_map (entry_under spec (Alternate i)) found) ≡ has_value spec (Alternate i) v found
 same_value spec i v rows None long fits is = refl
 same_value spec i v rows (Some row) long fits is =
     let under = All-contains (IsUnder spec (Alternate i)) rows row fits is in
@@ -106,65 +106,65 @@ pub not_less : (n m : ℕ) (b : Bool) → nat_lt n m ≡ b → n ≡ m → b ≡
 not_less n m true is same = let low = ltb-true n m is in absurd (omega arith)
 not_less n m false is same = refl
 
-after_pair : (spec : Spec) (i : ℕ) (row : Row) → Bound
+after_pair : (spec : Spec) (i : ℕ) (row : Row) → RowBound
 after_pair spec i row = record { side = side.After; pair = pair_under spec (Alternate i) row }
 
-pub next_found : (spec : Spec) (i : ℕ) (pages : List (Option Sector)) (rows : List Row) (under : Rooted) (row : Row) → (pairs : HasPairs spec (Alternate i) pages rows under) → Contains rows row →
-    looked aim.After (entries_of under.layout pairs.levels) (entry_under spec (Alternate i) row).key ≡ option_map (entry_under spec (Alternate i)) (sought spec (Alternate i) (record { side = side.After; pair = pair_under spec (Alternate i) row }) rows)
+pub next_found : (spec : Spec) (i : ℕ) (pages : List (Option Sector)) (rows : List Row) (under : RootedTree) (row : Row) → (pairs : HasPairs spec (Alternate i) pages rows under) → Contains rows row →
+    found_entry aim.After (entries_of under.layout pairs.levels) (entry_under spec (Alternate i) row).key ≡ option_map (entry_under spec (Alternate i)) (sought_row spec (Alternate i) (record { side = side.After; pair = pair_under spec (Alternate i) row }) rows)
 next_found spec i pages rows under row pairs has =
     let is = All-contains (IsUnder spec (Alternate i)) rows row pairs.fits has in
     let pair = pair_under spec (Alternate i) row in
     let n = key_length spec (Alternate i) in
     let entries = entries_of under.layout pairs.levels in
     let full : nat_lt (length pair.value) n ≡ false = not_less (length pair.value) n (nat_lt (length pair.value) n) refl is.pair.0 in
-    sym (ap (λ b. looked (if b then aim_short side.After else aim_at side.After) entries (if b then extended (n + 8) (fill side.After) pair.value else pair_aim_key (n + 8) side.After pair)) full)
+    sym (ap (λ b. found_entry (if b then aim_short side.After else aim_at side.After) entries (if b then extended_bytes (n + 8) (fill side.After) pair.value else pair_aim_key (n + 8) side.After pair)) full)
     ∙ finds_sought spec (Alternate i) (record { side = side.After; pair = pair }) rows entries (record { value = let same = is.pair.0 in omega arith; number = is.pair.1 })
     (tree_ascends under.layout pages under.root pairs.levels pairs.holds) pairs.are pairs.fits
 
-pub repeated_is : (spec : Spec) (i n : ℕ) (pages : List (Option Sector)) (rows : List Row) (under : Rooted) (row : Row) → (pairs : HasPairs spec (Alternate i) pages rows under) → Contains rows row → n ≡ key_length spec (Alternate i) →
-    begins (take n (entry_under spec (Alternate i) row).key) (looked aim.After (entries_of under.layout pairs.levels) (entry_under spec (Alternate i) row).key) ≡ is_repeated spec (Alternate i) row rows
+pub repeated_is : (spec : Spec) (i n : ℕ) (pages : List (Option Sector)) (rows : List Row) (under : RootedTree) (row : Row) → (pairs : HasPairs spec (Alternate i) pages rows under) → Contains rows row → n ≡ key_length spec (Alternate i) →
+    begins_with_value (take n (entry_under spec (Alternate i) row).key) (found_entry aim.After (entries_of under.layout pairs.levels) (entry_under spec (Alternate i) row).key) ≡ is_repeated spec (Alternate i) row rows
 repeated_is spec i n pages rows under row pairs has long =
     let is = All-contains (IsUnder spec (Alternate i)) rows row pairs.fits has in
     let pair = pair_under spec (Alternate i) row in
     let entries = entries_of under.layout pairs.levels in
-    let place : Bound = record { side = side.After; pair = pair } in
-    let next = sought spec (Alternate i) place rows in
-    ap (λ v. begins v (looked aim.After entries (entry_under spec (Alternate i) row).key)) (take_at pair.value (big_bytes 8 pair.number) n (is.pair.0 ∙ sym long))
-    ∙ ap (begins pair.value) (next_found spec i pages rows under row pairs has)
+    let place : RowBound = record { side = side.After; pair = pair } in
+    let next = sought_row spec (Alternate i) place rows in
+    ap (λ v. begins_with_value v (found_entry aim.After entries (entry_under spec (Alternate i) row).key)) (take_at pair.value (big_bytes 8 pair.number) n (is.pair.0 ∙ sym long))
+    ∙ ap (begins_with_value pair.value) (next_found spec i pages rows under row pairs has)
     ∙ same_value spec i pair.value rows next is.pair.0 pairs.fits
     (least_in spec (Alternate i) (λ r. is_behind place.side place.pair (pair_under spec (Alternate i) r)) rows next (is_least spec (Alternate i) (λ r. is_behind place.side place.pair (pair_under spec (Alternate i) r)) rows))
 
 -- the row that an entry was found for
-pub record IsFor (spec : Spec) (key : KeyOfReference) (bound : Bound) (rows : List Row) (entry : Entry) : Type 0 where
+pub record IsFor (spec : Spec) (key : KeyOfReference) (bound : RowBound) (rows : List Row) (entry : Entry) : Type 0 where
   pub row : Row
-  pub is : sought spec key bound rows ≡ Some row
+  pub is : sought_row spec key bound rows ≡ Some row
   pub has : Contains rows row
   pub entry_is : entry ≡ entry_under spec key row
 
-for_by : (spec : Spec) (key : KeyOfReference) (bound : Bound) (rows : List Row) (entry : Entry) (row : Option Row) → sought spec key bound rows ≡ row → IsIn rows row → Some entry ≡ option_map (entry_under spec key) row → IsFor spec key bound rows entry
+for_by : (spec : Spec) (key : KeyOfReference) (bound : RowBound) (rows : List Row) (entry : Entry) (row : Option Row) → sought_row spec key bound rows ≡ row → IsIn rows row → Some entry ≡ option_map (entry_under spec key) row → IsFor spec key bound rows entry
 for_by spec key bound rows entry None is has same = let clash : Some entry ≡ None = same in cc
 for_by spec key bound rows entry (Some row) is has same = record { row = row; is = is; has = has; entry_is = cc }
 
-pub found_for : (spec : Spec) (key : KeyOfReference) (bound : Bound) (pages : List (Option Sector)) (rows : List Row) (prime under : Rooted) (way : Aim) (at : List ℕ) (entry : Option Entry) (e : Entry) →
-    (look : IsSought spec key bound pages rows prime under way at) → entry ≡ looked way (entries_of under.layout look.pairs.levels) at → entry ≡ Some e → IsFor spec key bound rows e
+pub found_for : (spec : Spec) (key : KeyOfReference) (bound : RowBound) (pages : List (Option Sector)) (rows : List Row) (prime under : RootedTree) (way : SearchStart) (at : List ℕ) (entry : Option Entry) (e : Entry) →
+    (look : IsSought spec key bound pages rows prime under way at) → entry ≡ found_entry way (entries_of under.layout look.pairs.levels) at → entry ≡ Some e → IsFor spec key bound rows e
 found_for spec key bound pages rows prime under way at entry e look is some =
     let test : Row → Bool = λ row. is_behind bound.side bound.pair (pair_under spec key row) in
-    for_by spec key bound rows e (sought spec key bound rows) refl (least_in spec key test rows (sought spec key bound rows) (is_least spec key test rows))
+    for_by spec key bound rows e (sought_row spec key bound rows) refl (least_in spec key test rows (sought_row spec key bound rows) (is_least spec key test rows))
     (sym some ∙ is ∙ looked_is spec key bound pages rows prime under way at look)
   where
-    looked_is : (spec : Spec) (key : KeyOfReference) (bound : Bound) (pages : List (Option Sector)) (rows : List Row) (prime under : Rooted) (way : Aim) (at : List ℕ) →
-        (look : IsSought spec key bound pages rows prime under way at) → looked way (entries_of under.layout look.pairs.levels) at ≡ option_map (entry_under spec key) (sought spec key bound rows)
+    looked_is : (spec : Spec) (key : KeyOfReference) (bound : RowBound) (pages : List (Option Sector)) (rows : List Row) (prime under : RootedTree) (way : SearchStart) (at : List ℕ) →
+        (look : IsSought spec key bound pages rows prime under way at) → found_entry way (entries_of under.layout look.pairs.levels) at ≡ option_map (entry_under spec key) (sought_row spec key bound rows)
     looked_is spec key bound pages rows prime under way at look =
-        ap (λ w. looked w (entries_of under.layout look.pairs.levels) at) look.way_is ∙ ap (looked (aim_of spec key bound) (entries_of under.layout look.pairs.levels)) look.at_is
+        ap (λ w. found_entry w (entries_of under.layout look.pairs.levels) at) look.way_is ∙ ap (found_entry (aim_of spec key bound) (entries_of under.layout look.pairs.levels)) look.at_is
         ∙ finds_sought spec key bound rows (entries_of under.layout look.pairs.levels) look.bounded (tree_ascends under.layout pages under.root look.pairs.levels look.pairs.holds) look.pairs.are look.pairs.fits
 
 none_by : (spec : Spec) (key : KeyOfReference) (row : Option Row) → None ≡ option_map (entry_under spec key) row → row ≡ None
 none_by spec key None same = refl
 none_by spec key (Some row) same = cc
 
-pub found_none : (spec : Spec) (key : KeyOfReference) (bound : Bound) (pages : List (Option Sector)) (rows : List Row) (prime under : Rooted) (way : Aim) (at : List ℕ) (entry : Option Entry) →
-    (look : IsSought spec key bound pages rows prime under way at) → entry ≡ looked way (entries_of under.layout look.pairs.levels) at → entry ≡ None → sought spec key bound rows ≡ None
+pub found_none : (spec : Spec) (key : KeyOfReference) (bound : RowBound) (pages : List (Option Sector)) (rows : List Row) (prime under : RootedTree) (way : SearchStart) (at : List ℕ) (entry : Option Entry) →
+    (look : IsSought spec key bound pages rows prime under way at) → entry ≡ found_entry way (entries_of under.layout look.pairs.levels) at → entry ≡ None → sought_row spec key bound rows ≡ None
 found_none spec key bound pages rows prime under way at entry look is none =
-    none_by spec key (sought spec key bound rows)
-    (sym none ∙ is ∙ ap (λ w. looked w (entries_of under.layout look.pairs.levels) at) look.way_is ∙ ap (looked (aim_of spec key bound) (entries_of under.layout look.pairs.levels)) look.at_is
+    none_by spec key (sought_row spec key bound rows)
+    (sym none ∙ is ∙ ap (λ w. found_entry w (entries_of under.layout look.pairs.levels) at) look.way_is ∙ ap (found_entry (aim_of spec key bound) (entries_of under.layout look.pairs.levels)) look.at_is
     ∙ finds_sought spec key bound rows (entries_of under.layout look.pairs.levels) look.bounded (tree_ascends under.layout pages under.root look.pairs.levels look.pairs.holds) look.pairs.are look.pairs.fits)

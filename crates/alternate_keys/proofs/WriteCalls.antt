@@ -4,13 +4,13 @@ use Rattle.station.specs.Calls.{OnlyWrites}
 use Rattle.station.specs.declared.device.Device.{Ghosts as Devices}
 use Rattle.pages.specs.Pages.{sectors_of}
 use Rattle.pages.specs.declared.page_map.PageMap.{PageMap}
-use Rattle.records.specs.Calls.{Changes, Turns}
+use Rattle.records.specs.Calls.{Changes, ChangesFiles}
 use Rattle.records.specs.declared.fault.StoreFault.{StoreFault}
 use Rattle.records.specs.declared.fault.StoreFault.TheVariants.{Device, Full, Spent}
 use Rattle.records.specs.Files.{Files}
 use Rattle.alternate_keys.specs.Faults.{IsWriteFault}
-use Rattle.alternate_keys.specs.Turned.{Turned}
-use Rattle.alternate_keys.specs.contracts.keeps.PagedStoreKeeps.TheImpl.{ghosts}
+use Rattle.alternate_keys.specs.Turned.{HasChangedFiles}
+use Rattle.alternate_keys.specs.contracts.store_calls.PagedStoreKeeps.TheImpl.{ghosts}
 use Rattle.alternate_keys.proofs.ReadCalls.{opened}
 
 pub changes_of : {D : Type 0} (d : Devices D) {T : Type 0} (result : Result T StoreFault) (old new : PageMap) (spent spent' : Bool) (device device' : D) →
@@ -31,7 +31,7 @@ ok_then A B (Ok x) from is = from is
 ok_then A B (Err e) from is = is
 
 pub turns_of : {D : Type 0} (d : Devices D) {T : Type 0} (result : Result T StoreFault) (is_new : Bool) (name : List ℕ) (before after : Files) (old new : PageMap) (spent spent' : Bool) (device device' : D) →
-    d.is_honest device' → Turned d result is_new name before after old device new device' → Turns ghosts d result is_new name before after (opened old spent) device (opened new spent') device'
+    d.is_honest device' → HasChangedFiles d result is_new name before after old device new device' → ChangesFiles ghosts d result is_new name before after (opened old spent) device (opened new spent') device'
 turns_of d result is_new name before after old new spent spent' device device' honest turned = record {
   there = ok_then _ _ result (λ stands. record { honest = honest; there = stands }) turned.stands;
   moments = turned.moments;

@@ -5,61 +5,61 @@ use Rattle.station.specs.declared.device.Device.{Ghosts as Devices}
 use Rattle.pages.specs.Pages.{map_now, Agrees, IsOpen, SameCommitted}
 use Rattle.pages.specs.declared.page_map.PageMap.{PageMap}
 use Rattle.btree.specs.Calls.{pages_on}
-use Rattle.btree.specs.Rooted.{Rooted}
+use Rattle.btree.specs.Rooted.{RootedTree}
 use Rattle.btree.specs.Tree.{TreeNode}
 use Rattle.records.specs.declared.key.KeyOfReference.{KeyOfReference}
 use Rattle.records.specs.declared.key.KeyOfReference.TheVariants.{Prime, Alternate}
 use Rattle.records.specs.Spec.{Spec, is_spec}
-use Rattle.records.specs.Files.{Files, Named, empty_file}
+use Rattle.records.specs.Files.{Files, NamedFile, empty_file}
 use Rattle.records.specs.Stores.{IsKey}
-use Rattle.file_trees.specs.Catalog.{Listing, spelled}
-use Rattle.file_trees.specs.Trees.{layout_under}
-use Rattle.file_trees.specs.Forest.{Planted, IsForest}
-use Rattle.file_trees.specs.Volume.{Kept, MapHolds, listing_of, no_tree, planted}
+use Rattle.volume_format.specs.Catalog.{Listing, listing_bytes}
+use Rattle.volume_format.specs.Trees.{layout_under}
+use Rattle.volume_format.specs.Forest.{TreeLevels, IsForest}
+use Rattle.volume_format.specs.Volume.{FileTrees, MapHolds, listing_of, no_tree, tree_levels}
 use Rattle.alternate_keys.specs.Listed.{root_in}
 use Rattle.alternate_keys.specs.Placed.{HasTrees}
 
 -- the tree of a key without entries
-abbrev pub empty_tree : Spec → KeyOfReference → Planted
-empty_tree spec key = planted (record { layout = layout_under spec key; root = 0 }) []
+abbrev pub empty_tree : Spec → KeyOfReference → TreeLevels
+empty_tree spec key = tree_levels (record { layout = layout_under spec key; root = 0 }) []
 
 -- those of so many alternate keys, from one on
-abbrev pub empty_trees : Spec → ℕ → ℕ → List Planted
+abbrev pub empty_trees : Spec → ℕ → ℕ → List TreeLevels
 empty_trees spec i zero = []
 empty_trees spec i (suc n) = empty_tree spec (Alternate i) ∷ empty_trees spec (suc i) n
 
 -- a file without rows
-abbrev pub empty_kept : List ℕ → Spec → Kept
+abbrev pub empty_kept : List ℕ → Spec → FileTrees
 empty_kept name spec = record { named = record { name = name; file = empty_file spec }; prime = empty_tree spec Prime; alternates = empty_trees spec 0 (length spec.alternates) }
 
 -- its trees of alternate keys, as a value of the catalog says them
-pub record HasStored (value : List ℕ) (kept : Kept) : Type 0 where
+pub record HasStored (value : List ℕ) (kept : FileTrees) : Type 0 where
   pub good : is_spec kept.named.file.spec ≡ true
-  pub says : value ≡ spelled (listing_of kept)
+  pub says : value ≡ listing_bytes (listing_of kept)
   pub count : length kept.alternates ≡ length kept.named.file.spec.alternates
   pub trees : (i : ℕ) → i < length kept.named.file.spec.alternates → (slice_index_or kept.alternates i no_tree).tree ≡ record { layout = layout_under kept.named.file.spec (Alternate i); root = root_in (Alternate i) value }
 
 module _ {D : Type 0} (d : Devices D) where
   -- where the device is honest and agrees with the map of pages, of each forest in which the tree stands
-  abbrev pub OnForest : Rooted → PageMap → D → (List Planted → List Planted → Type 0) → Type 0
+  abbrev pub OnForest : RootedTree → PageMap → D → (List TreeLevels → List TreeLevels → Type 0) → Type 0
   OnForest tree pages now claim =
-      d.is_honest now → Agrees pages (d.state now).disk → (left right : List Planted) (levels : List (List TreeNode)) → IsForest (pages_on d pages now) (left ++ planted tree levels ∷ right) → claim left right
+      d.is_honest now → Agrees pages (d.state now).disk → (left right : List TreeLevels) (levels : List (List TreeNode)) → IsForest (pages_on d pages now) (left ++ tree_levels tree levels ∷ right) → claim left right
 
   -- of each in which the tree of a key stands, as a value of the catalog says
-  abbrev pub OnStored : List ℕ → KeyOfReference → PageMap → D → (List Planted → List Planted → Type 0) → Type 0
+  abbrev pub OnStored : List ℕ → KeyOfReference → PageMap → D → (List TreeLevels → List TreeLevels → Type 0) → Type 0
   OnStored value key pages now claim =
-      d.is_honest now → Agrees pages (d.state now).disk → (l : Listing) (tree : Planted) (left right : List Planted) → is_spec l.spec ≡ true → value ≡ spelled l → IsKey l.spec key →
+      d.is_honest now → Agrees pages (d.state now).disk → (l : Listing) (tree : TreeLevels) (left right : List TreeLevels) → is_spec l.spec ≡ true → value ≡ listing_bytes l → IsKey l.spec key →
       tree.tree ≡ record { layout = layout_under l.spec key; root = root_in key value } → IsForest (pages_on d pages now) (left ++ tree ∷ right) → claim left right
 
   -- of each file of which the trees of alternate keys stand there
-  abbrev pub OnAlternates : PageMap → D → List ℕ → (List Planted → List Planted → Type 0) → Type 0
+  abbrev pub OnAlternates : PageMap → D → List ℕ → (List TreeLevels → List TreeLevels → Type 0) → Type 0
   OnAlternates pages now value claim =
-      d.is_honest now → Agrees pages (d.state now).disk → (kept : Kept) (left right : List Planted) → HasStored value kept → IsForest (pages_on d pages now) (left ++ (kept.alternates ++ right)) → claim left right
+      d.is_honest now → Agrees pages (d.state now).disk → (kept : FileTrees) (left right : List TreeLevels) → HasStored value kept → IsForest (pages_on d pages now) (left ++ (kept.alternates ++ right)) → claim left right
 
   -- of each file that has its trees there
-  abbrev pub OnListed : PageMap → D → List ℕ → (List Planted → List Planted → Type 0) → Type 0
+  abbrev pub OnListed : PageMap → D → List ℕ → (List TreeLevels → List TreeLevels → Type 0) → Type 0
   OnListed pages now listing claim =
-      d.is_honest now → Agrees pages (d.state now).disk → (spec : Spec) (named : Named) (generation : ℕ) (left right : List Planted) → HasTrees spec named generation (pages_on d pages now) left right listing → claim left right
+      d.is_honest now → Agrees pages (d.state now).disk → (spec : Spec) (named : NamedFile) (generation : ℕ) (left right : List TreeLevels) → HasTrees spec named generation (pages_on d pages now) left right listing → claim left right
 
   -- of the files there
   abbrev pub OnFiles : (pages : PageMap) (now : D) → ((files : Files) → MapHolds (map_now pages (d.state now).disk.present) files → Type 0) → Type 0

@@ -7,8 +7,8 @@ use Rattle.station.specs.declared.device.Device.{Ghosts as Devices}
 use Rattle.pages.specs.Pages.{Agrees}
 use Rattle.pages.specs.declared.page_map.PageMap.{PageMap}
 use Rattle.btree.specs.Calls.{pages_on}
-use Rattle.tree_pages.specs.Keys.{Ascend}
-use Rattle.btree.specs.Entries.{Entry, entries_of, entry_with, with_entry, without}
+use Rattle.btree_pages.specs.Keys.{Ascend}
+use Rattle.btree.specs.Entries.{Entry, entries_of, entry_with, with_new_entry, without_entry}
 use Rattle.btree.specs.Laws.{keys_listed}
 use Rattle.records.specs.declared.file_spec.AlternateKey.{AlternateKey}
 use Rattle.records.specs.declared.file_spec.Organization.{Organization}
@@ -16,23 +16,23 @@ use Rattle.records.specs.declared.file_spec.Organization.TheVariants.{Sequential
 use Rattle.records.specs.declared.key.KeyOfReference.TheVariants.{Prime, Alternate}
 use Rattle.records.specs.Spec.{Spec}
 use Rattle.records.specs.Rows.{Row, part, place_of, prime_place, no_key}
-use Rattle.records.specs.Changes.{Changed, inserted, replaced, removed, changes}
-use Rattle.records.specs.Files.{File, Named}
-use Rattle.records.specs.Stores.{IsNumber, key_length, pair_of}
-use Rattle.file_trees.specs.Trees.{entry_under, layout_under, AreOf}
-use Rattle.file_trees.specs.Forest.{Planted}
+use Rattle.records.specs.Changes.{FileChange, insertion, replacement, removal, changes}
+use Rattle.records.specs.Files.{File, NamedFile}
+use Rattle.records.specs.Stores.{IsNewNumber, key_length, pair_of}
+use Rattle.volume_format.specs.Trees.{entry_under, layout_under, AreOf}
+use Rattle.volume_format.specs.Forest.{TreeLevels}
 use Rattle.alternate_keys.specs.declared.row_verb.RowVerb.{RowVerb}
 use Rattle.alternate_keys.specs.declared.row_verb.RowVerb.TheVariants.{Insert, Replace, Remove}
 use Rattle.alternate_keys.specs.Placed.{HasIndexes}
 
 -- the file after it: the bytes are a record, and to remove a row its prime key
-abbrev pub changed_by : RowVerb → Organization → ℕ → List ℕ → File → Changed
-changed_by Insert organization number bytes file = inserted number bytes file
-changed_by Replace organization number bytes file = replaced number bytes file
-changed_by Remove organization number bytes file = removed (pair_of organization bytes number) file
+abbrev pub changed_by : RowVerb → Organization → ℕ → List ℕ → File → FileChange
+changed_by Insert organization number bytes file = insertion number bytes file
+changed_by Replace organization number bytes file = replacement number bytes file
+changed_by Remove organization number bytes file = removal (pair_of organization bytes number) file
 
 -- a file of that name after a change
-abbrev pub named_after : Named → Changed → Named
+abbrev pub named_after : NamedFile → FileChange → NamedFile
 named_after named changed = record { name = named.name; file = changed.file }
 
 -- relative numbers are below 2^32
@@ -43,7 +43,7 @@ is_out_of_range (Indexed place) number = false
 
 -- what a caller gives
 abbrev pub IsAsked : RowVerb → Spec → ℕ → List ℕ → Type 0
-IsAsked Insert spec number bytes = IsNumber spec.organization number × (length bytes ≡ spec.record_length)
+IsAsked Insert spec number bytes = IsNewNumber spec.organization number × (length bytes ≡ spec.record_length)
 IsAsked Replace spec number bytes = length bytes ≡ spec.record_length
 IsAsked Remove spec number bytes = length bytes ≡ key_length spec Prime
 
@@ -78,17 +78,17 @@ is_new Replace old bytes key = changes old bytes key
 is_new Remove old bytes key = true
 
 -- the entries of an alternate key's tree after it
-abbrev pub moved : RowVerb → Spec → ℕ → List ℕ → List ℕ → ℕ → List Entry → List Entry
-moved Insert spec i old bytes arrival entries = with_entry entries (pair_entry spec i bytes arrival)
-moved Replace spec i old bytes arrival entries =
-    if changes_at spec i old bytes then with_entry (without entries (old_key spec i old)) (pair_entry spec i bytes arrival) else entries
-moved Remove spec i old bytes arrival entries = without entries (old_key spec i old)
+abbrev pub entries_after : RowVerb → Spec → ℕ → List ℕ → List ℕ → ℕ → List Entry → List Entry
+entries_after Insert spec i old bytes arrival entries = with_new_entry entries (pair_entry spec i bytes arrival)
+entries_after Replace spec i old bytes arrival entries =
+    if changes_at spec i old bytes then with_new_entry (without_entry entries (old_key spec i old)) (pair_entry spec i bytes arrival) else entries
+entries_after Remove spec i old bytes arrival entries = without_entry entries (old_key spec i old)
 
 -- the old pair is there, and the new one isn't
 abbrev pub MayMove : RowVerb → Spec → ℕ → List ℕ → List ℕ → ℕ → List Entry → Type 0
 MayMove Insert spec i old bytes arrival entries = entry_with entries (pair_entry spec i bytes arrival).key ≡ None
 MayMove Replace spec i old bytes arrival entries =
-    changes_at spec i old bytes ≡ true → IsSome (entry_with entries (old_key spec i old)) × (entry_with (without entries (old_key spec i old)) (pair_entry spec i bytes arrival).key ≡ None)
+    changes_at spec i old bytes ≡ true → IsSome (entry_with entries (old_key spec i old)) × (entry_with (without_entry entries (old_key spec i old)) (pair_entry spec i bytes arrival).key ≡ None)
 MayMove Remove spec i old bytes arrival entries = IsSome (entry_with entries (old_key spec i old))
 
 -- of each alternate key, of the entries of its tree
@@ -97,15 +97,15 @@ EachPairs held claim = (i : ℕ) (entries : List Entry) → i < length held.spec
 
 -- the pairs of a file's rows become those of another's
 abbrev pub PairsMove : RowVerb → File → File → List ℕ → List ℕ → ℕ → Type 0
-PairsMove verb held after old bytes arrival = EachPairs held (λ i entries. AreOf after.spec (Alternate i) after.rows (moved verb after.spec i old bytes arrival entries))
+PairsMove verb held after old bytes arrival = EachPairs held (λ i entries. AreOf after.spec (Alternate i) after.rows (entries_after verb after.spec i old bytes arrival entries))
 
 abbrev pub PairsMayMove : RowVerb → File → List ℕ → List ℕ → ℕ → Type 0
 PairsMayMove verb held old bytes arrival = EachPairs held (λ i entries. MayMove verb held.spec i old bytes arrival entries)
 
 -- The tree of rows has become that of a file after a change, and the trees of the alternate keys are to follow.
-pub record Moving (verb : RowVerb) (spec : Spec) (held after : Named) (generation : ℕ) (pages : List (Option Sector)) (left right : List Planted) (listing : List ℕ) (root : ℕ) (old bytes : List ℕ) (arrival next : ℕ) : Type 0 where
-  pub prime : Planted
-  pub trees : List Planted
+pub record HasChangedRows (verb : RowVerb) (spec : Spec) (held after : NamedFile) (generation : ℕ) (pages : List (Option Sector)) (left right : List TreeLevels) (listing : List ℕ) (root : ℕ) (old bytes : List ℕ) (arrival next : ℕ) : Type 0 where
+  pub prime : TreeLevels
+  pub trees : List TreeLevels
   pub indexes : HasIndexes held.file pages (left ++ prime ∷ []) right trees listing
   pub layout : prime.tree.layout ≡ layout_under spec Prime
   pub root_is : prime.tree.root ≡ root
@@ -118,7 +118,7 @@ pub record Moving (verb : RowVerb) (spec : Spec) (held after : Named) (generatio
 
 module _ {D : Type 0} (d : Devices D) where
   -- where the device is honest and agrees with the map of pages, of each file of this spec of which this is so
-  abbrev pub OnMoving : RowVerb → Spec → PageMap → D → List ℕ → ℕ → List ℕ → List ℕ → ℕ → ℕ → (Named → Named → ℕ → List Planted → List Planted → Type 0) → Type 0
+  abbrev pub OnMoving : RowVerb → Spec → PageMap → D → List ℕ → ℕ → List ℕ → List ℕ → ℕ → ℕ → (NamedFile → NamedFile → ℕ → List TreeLevels → List TreeLevels → Type 0) → Type 0
   OnMoving verb spec pages now listing root old bytes arrival next claim =
-      d.is_honest now → Agrees pages (d.state now).disk → (held after : Named) (generation : ℕ) (left right : List Planted) →
-      Moving verb spec held after generation (pages_on d pages now) left right listing root old bytes arrival next → claim held after generation left right
+      d.is_honest now → Agrees pages (d.state now).disk → (held after : NamedFile) (generation : ℕ) (left right : List TreeLevels) →
+      HasChangedRows verb spec held after generation (pages_on d pages now) left right listing root old bytes arrival next → claim held after generation left right

@@ -3,8 +3,8 @@ use Rattle.std.specs.Prelude.{◌≡◌, ℕ, Bool, false, List, map, length, ta
 use Rattle.std.specs.List.{All}
 use Rattle.byteorder.specs.Endian.{big_number}
 use Rattle.station.specs.Disk.{Sector}
-use Rattle.btree.specs.Tree.{TreeNode, Holds}
-use Rattle.btree.specs.Rooted.{Rooted}
+use Rattle.btree.specs.Tree.{TreeNode, IsTreeOrEmpty}
+use Rattle.btree.specs.Rooted.{RootedTree}
 use Rattle.btree.specs.Entries.{Entry, entries_of}
 use Rattle.records.specs.declared.file_spec.KeyPlace.{KeyPlace}
 use Rattle.records.specs.declared.file_spec.Organization.{Organization}
@@ -14,24 +14,24 @@ use Rattle.records.specs.declared.key.KeyOfReference.TheVariants.{Prime, Alterna
 use Rattle.records.specs.Spec.{Spec}
 use Rattle.records.specs.Rows.{Row, same_bytes}
 use Rattle.records.specs.Stores.{key_length}
-use Rattle.file_trees.specs.Trees.{entry_under, AreOf}
-use Rattle.records.specs.Order.{Bound}
-use Rattle.alternate_keys.specs.declared.aim.Aim.{Aim}
-use Rattle.file_trees.specs.Pairs.{IsUnder}
+use Rattle.volume_format.specs.Trees.{entry_under, AreOf}
+use Rattle.records.specs.Order.{RowBound}
+use Rattle.alternate_keys.specs.declared.search_start.SearchStart.{SearchStart}
+use Rattle.volume_format.specs.Pairs.{IsUnder}
 use Rattle.alternate_keys.specs.Aims.{IsBound, aim_of, aim_key}
 
 -- the pages have these rows under the prime key
-pub record HasRows (spec : Spec) (pages : List (Option Sector)) (rows : List Row) (prime : Rooted) : Type 0 where
+pub record HasRows (spec : Spec) (pages : List (Option Sector)) (rows : List Row) (prime : RootedTree) : Type 0 where
   pub levels : List (List TreeNode)
-  pub holds : Holds prime.layout pages prime.root levels
+  pub holds : IsTreeOrEmpty prime.layout pages prime.root levels
   pub entries : entries_of prime.layout levels ≡ map (entry_under spec Prime) rows
   pub fits : All (IsUnder spec Prime) rows
   pub records : All (λ row. length row.bytes ≡ spec.record_length) rows
 
 -- and their pairs under a key
-pub record HasPairs (spec : Spec) (key : KeyOfReference) (pages : List (Option Sector)) (rows : List Row) (tree : Rooted) : Type 0 where
+pub record HasPairs (spec : Spec) (key : KeyOfReference) (pages : List (Option Sector)) (rows : List Row) (tree : RootedTree) : Type 0 where
   pub levels : List (List TreeNode)
-  pub holds : Holds tree.layout pages tree.root levels
+  pub holds : IsTreeOrEmpty tree.layout pages tree.root levels
   pub are : AreOf spec key rows (entries_of tree.layout levels)
   pub fits : All (IsUnder spec key) rows
 
@@ -42,12 +42,12 @@ number_in Relative key = big_number 4 key
 number_in (Indexed place) key = 0
 
 -- whether an entry's key begins with a value
-abbrev pub begins : List ℕ → Option Entry → Bool
-begins value None = false
-begins value (Some entry) = same_bytes (take (length value) entry.key) value
+abbrev pub begins_with_value : List ℕ → Option Entry → Bool
+begins_with_value value None = false
+begins_with_value value (Some entry) = same_bytes (take (length value) entry.key) value
 
 -- the entry of a row's pair, in an indexed file
-pub record IsTold (spec : Spec) (i : ℕ) (pages : List (Option Sector)) (rows : List Row) (prime under : Rooted) (value_length : ℕ) (entry : Entry) (row : Row) : Type 0 where
+pub record IsPairEntry (spec : Spec) (i : ℕ) (pages : List (Option Sector)) (rows : List Row) (prime under : RootedTree) (value_length : ℕ) (entry : Entry) (row : Row) : Type 0 where
   pub place : KeyPlace
   pub indexed : spec.organization ≡ Indexed place
   pub there : HasRows spec pages rows prime
@@ -57,7 +57,7 @@ pub record IsTold (spec : Spec) (i : ℕ) (pages : List (Option Sector)) (rows :
   pub is : entry ≡ entry_under spec (Alternate i) row
 
 -- The trees of a file with these rows, and how the tree of a key is looked into for the first row behind a place.
-pub record IsSought (spec : Spec) (key : KeyOfReference) (bound : Bound) (pages : List (Option Sector)) (rows : List Row) (prime under : Rooted) (way : Aim) (at : List ℕ) : Type 0 where
+pub record IsSought (spec : Spec) (key : KeyOfReference) (bound : RowBound) (pages : List (Option Sector)) (rows : List Row) (prime under : RootedTree) (way : SearchStart) (at : List ℕ) : Type 0 where
   pub there : HasRows spec pages rows prime
   pub pairs : HasPairs spec key pages rows under
   pub bounded : IsBound spec key bound

@@ -4,14 +4,14 @@ use Rattle.station.specs.History.{Through}
 use Rattle.station.specs.Blocks.{CrashLeaves}
 use Rattle.station.specs.declared.device.Device.{Ghosts as Devices}
 use Rattle.pages.specs.Image.{map_of}
-use Rattle.pages.specs.Pages.{map_now, committed_of, advanced, IsFull, Agrees}
+use Rattle.pages.specs.Pages.{map_now, committed_of, next_generation, IsFull, Agrees}
 use Rattle.pages.specs.declared.page_map.PageMap.{PageMap}
 use Rattle.records.specs.declared.fault.StoreFault.{StoreFault}
 use Rattle.records.specs.declared.fault.StoreFault.TheVariants.{Full, Damaged}
 use Rattle.records.specs.Files.{Files}
 use Rattle.records.specs.Stores.{Either}
-use Rattle.file_trees.specs.Volume.{MapHolds, Holds}
-use Rattle.alternate_keys.specs.Stands.{Stands}
+use Rattle.volume_format.specs.Volume.{MapHolds, Holds}
+use Rattle.alternate_keys.specs.Stands.{Represents}
 
 module _ {D : Type 0} (d : Devices D) where
   -- pages over a device: what is committed holds the files before, and the next generation of the pages holds those after
@@ -19,11 +19,11 @@ module _ {D : Type 0} (d : Devices D) where
     pub honest : d.is_honest device
     pub agrees : Agrees pages (d.state device).disk
     pub was : MapHolds (map_of (d.state device).disk.present (committed_of pages)) before
-    pub will : MapHolds (advanced (map_now pages (d.state device).disk.present)) after
+    pub will : MapHolds (next_generation (map_now pages (d.state device).disk.present)) after
 
   -- The files before became those after. At each moment a crash leaves the ones or the others.
-  pub record Settles {T : Type 0} (result : Result T StoreFault) (before after : Files) (pages : PageMap) (device : D) (pages' : PageMap) (device' : D) : Type 0 where
-    pub stands : OnOk result (Stands pages' (d.state device').disk after)
+  pub record CommitsFiles {T : Type 0} (result : Result T StoreFault) (before after : Files) (pages : PageMap) (device : D) (pages' : PageMap) (device' : D) : Type 0 where
+    pub stands : OnOk result (Represents pages' (d.state device').disk after)
     pub moments : Through (d.history device) (d.history device') (d.state device') (CrashLeaves (d.state device).events (Either Holds before after))
     pub sound : result ≢ Err Damaged
     pub full : result ≡ Err Full → IsFull pages

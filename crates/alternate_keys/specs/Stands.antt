@@ -7,10 +7,10 @@ use Rattle.pages.specs.Use.{free_count}
 use Rattle.pages.specs.Pages.{map_now, committed_of, changed_pages_of, Agrees}
 use Rattle.pages.specs.declared.page_map.PageMap.{PageMap}
 use Rattle.records.specs.Files.{File, Files, file_at}
-use Rattle.file_trees.specs.Volume.{MapHolds}
+use Rattle.volume_format.specs.Volume.{MapHolds}
 
 -- over this disk the pages hold these files, and nothing waits for a commit
-pub record Stands (pages : PageMap) (disk : Disk) (files : Files) : Type 0 where
+pub record Represents (pages : PageMap) (disk : Disk) (files : Files) : Type 0 where
   pub agrees : Agrees pages disk
   pub still : map_now pages disk.present ≡ map_of disk.present (committed_of pages)
   pub rested : changed_pages_of pages ≡ []
@@ -26,12 +26,12 @@ abbrev pub enough : Volume → Bool → ℕ → ℕ
 enough volume is_new keys = 200 * (keys + 2) + (if is_new then map_count volume.root.sectors else 0)
 
 -- too few sectors are free, the files are more than 255, or no generation is left
-abbrev pub IsShort : Volume → Bool → List ℕ → Files → Type 0
-IsShort volume is_new name after =
+abbrev pub LacksSpace : Volume → Bool → List ℕ → Files → Type 0
+LacksSpace volume is_new name after =
     (free_count volume < enough volume is_new (keys_of (file_at name after))) ⊎ (255 < length after) ⊎ (2 ^ 63 ≤ volume.root.generation + 1)
 
 -- The volume in an image lacks room for these files after a change of the file of this name.
 pub record LacksRoom (image : List Sector) (is_new : Bool) (name : List ℕ) (after : Files) : Type 0 where
   pub volume : Volume
   pub reads : Reads image volume
-  pub short : IsShort volume is_new name after
+  pub short : LacksSpace volume is_new name after

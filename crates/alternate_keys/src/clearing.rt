@@ -3,7 +3,7 @@ ghost use Rattle.std.specs.Prelude.{◌≡◌, ◌≤◌, ◌++◌, true, Err, l
 ghost use Rattle.pages.specs.Pages.{is_spent, sectors_of, filled_of, IsOpen};
 ghost use Rattle.btree.specs.Calls.{pages_on};
 ghost use Rattle.records.specs.Stores.{key_count};
-ghost use Rattle.file_trees.specs.Forest.{IsForest};
+ghost use Rattle.volume_format.specs.Forest.{IsForest};
 ghost use Rattle.alternate_keys.specs.Calls.{Edits};
 ghost use Rattle.alternate_keys.specs.Created.{OnForest, OnStored, OnAlternates, OnListed};
 ghost use Rattle.alternate_keys.specs.Faults.{IsReadFault};
@@ -15,6 +15,27 @@ use pages::PageMap;
 use records::{KeyOfReference, StoreFault};
 use station::Device;
 use std::alloc::Global;
+
+/// Gives up all pages of the trees of a file, as a value of the catalog says them.
+pub(crate) fn clear_trees<D: Device>(
+    alloc: Global,
+    pages: &mut PageMap,
+    device: &mut D,
+    value: &[u8],
+) -> Result<(), StoreFault>
+    requires open { IsOpen pages.old }
+    requires sectors { sectors_of pages.old ≤ D.sectors device.old }
+    requires value { length value.now ≡ 83 }
+    ensures edits { Edits D.Device (result ≡ Err StoreFault.Device) pages.old device.old pages.new device.new }
+    ensures cleared { OnListed D.Device pages.old device.old value.now (λ left right. OnOk result (IsForest (pages_on D.Device pages.new device.old) (left ++ right))) }
+    ensures damaged { OnListed D.Device pages.old device.old value.now (λ left right. result ≡ Err StoreFault.Damaged → ⊥) }
+    ensures filled { filled_of pages.new ≤ filled_of pages.old }
+    ensures spent { result ≡ Err StoreFault.Spent → is_spent pages.old ≡ true }
+    ensures cause { IfErr result IsReadFault }
+{
+    clear_tree(alloc, pages, device, value, KeyOfReference::Prime)?;
+    clear_alternates(alloc, pages, device, value)
+}
 
 /// Gives up all pages of a tree, beside which others stay.
 fn clear_among<D: Device>(
@@ -82,25 +103,4 @@ fn clear_alternates<D: Device>(
         clear_tree(alloc, pages, device, value, KeyOfReference::Alternate(key))?;
     }
     Ok(())
-}
-
-/// Gives up all pages of the trees of a file, as a value of the catalog says them.
-pub(crate) fn clear_trees<D: Device>(
-    alloc: Global,
-    pages: &mut PageMap,
-    device: &mut D,
-    value: &[u8],
-) -> Result<(), StoreFault>
-    requires open { IsOpen pages.old }
-    requires sectors { sectors_of pages.old ≤ D.sectors device.old }
-    requires value { length value.now ≡ 83 }
-    ensures edits { Edits D.Device (result ≡ Err StoreFault.Device) pages.old device.old pages.new device.new }
-    ensures cleared { OnListed D.Device pages.old device.old value.now (λ left right. OnOk result (IsForest (pages_on D.Device pages.new device.old) (left ++ right))) }
-    ensures damaged { OnListed D.Device pages.old device.old value.now (λ left right. result ≡ Err StoreFault.Damaged → ⊥) }
-    ensures filled { filled_of pages.new ≤ filled_of pages.old }
-    ensures spent { result ≡ Err StoreFault.Spent → is_spent pages.old ≡ true }
-    ensures cause { IfErr result IsReadFault }
-{
-    clear_tree(alloc, pages, device, value, KeyOfReference::Prime)?;
-    clear_alternates(alloc, pages, device, value)
 }

@@ -1,9 +1,9 @@
 //! Whether the catalog has room for one more file.
 ghost use Rattle.std.specs.Prelude.{◌≡◌, ◌≤◌, ◌<◌, true, false, length, Err, List, IfOk, IfErr};
 ghost use Rattle.pages.specs.Pages.{is_spent, sectors_of, IsOpen};
-ghost use Rattle.btree.specs.Calls.{Agreed, pages_on};
-ghost use Rattle.btree.specs.Entries.{entries_of, first_entry, first_after};
-ghost use Rattle.btree.specs.Tree.{TreeNode, Holds};
+ghost use Rattle.btree.specs.Calls.{IfAgrees, pages_on};
+ghost use Rattle.btree.specs.Entries.{entries_of, first_entry, first_entry_after};
+ghost use Rattle.btree.specs.Tree.{TreeNode, IsTreeOrEmpty};
 ghost use Rattle.alternate_keys.specs.Calls.{LooksAt};
 ghost use Rattle.alternate_keys.specs.Created.{OnFiles};
 ghost use Rattle.alternate_keys.specs.Faults.{IsReadFault};
@@ -18,51 +18,6 @@ use std::alloc::Global;
 
 /// How many files a volume may have.
 const MOST_FILES: u8 = 255;
-
-/// The first entry of a tree.
-fn first_in<D: Device>(
-    tree: &Tree,
-    pages: &mut PageMap,
-    device: &mut D,
-) -> Result<Option<Entry>, StoreFault>
-    requires open { IsOpen pages.old }
-    requires sectors { sectors_of pages.old ≤ D.sectors device.old }
-    requires short { tree.now.layout.key_length ≤ 128 }
-    ensures looks { LooksAt D.Device (result ≡ Err StoreFault.Device) pages.old device.old pages.new device.new }
-    ensures entry { Agreed D.Device pages.old device.old ((levels : List (List TreeNode)) → Holds tree.now.layout (pages_on D.Device pages.old device.old) tree.now.root levels →
-        IfOk result (λ entry. entry ≡ first_entry (entries_of tree.now.layout levels))) }
-    ensures damaged { Agreed D.Device pages.old device.old ((levels : List (List TreeNode)) → Holds tree.now.layout (pages_on D.Device pages.old device.old) tree.now.root levels → result ≡ Err StoreFault.Damaged → ⊥) }
-    ensures spent { result ≡ Err StoreFault.Spent → is_spent pages.old ≡ true }
-    ensures cause { IfErr result IsReadFault }
-{
-    match tree.first(pages, device) {
-        Ok(entry) => Ok(entry),
-        Err(error) => Err(to_fault(error)),
-    }
-}
-
-/// The entry behind one of a tree.
-fn next_in<D: Device>(
-    tree: &Tree,
-    pages: &mut PageMap,
-    device: &mut D,
-    entry: &Entry,
-) -> Result<Option<Entry>, StoreFault>
-    requires open { IsOpen pages.old }
-    requires sectors { sectors_of pages.old ≤ D.sectors device.old }
-    requires short { tree.now.layout.key_length ≤ 128 }
-    ensures looks { LooksAt D.Device (result ≡ Err StoreFault.Device) pages.old device.old pages.new device.new }
-    ensures entry { Agreed D.Device pages.old device.old ((levels : List (List TreeNode)) → Holds tree.now.layout (pages_on D.Device pages.old device.old) tree.now.root levels →
-        IfOk result (λ next. next ≡ first_after (entries_of tree.now.layout levels) entry.now.key)) }
-    ensures damaged { Agreed D.Device pages.old device.old ((levels : List (List TreeNode)) → Holds tree.now.layout (pages_on D.Device pages.old device.old) tree.now.root levels → result ≡ Err StoreFault.Damaged → ⊥) }
-    ensures spent { result ≡ Err StoreFault.Spent → is_spent pages.old ≡ true }
-    ensures cause { IfErr result IsReadFault }
-{
-    match tree.next(pages, device, entry.key()) {
-        Ok(next) => Ok(next),
-        Err(error) => Err(to_fault(error)),
-    }
-}
 
 /// Whether the catalog lists 255 files, as many as a volume may have.
 pub(crate) fn is_full<D: Device>(
@@ -88,4 +43,49 @@ pub(crate) fn is_full<D: Device>(
         }
     }
     Ok(true)
+}
+
+/// The first entry of a tree.
+fn first_in<D: Device>(
+    tree: &Tree,
+    pages: &mut PageMap,
+    device: &mut D,
+) -> Result<Option<Entry>, StoreFault>
+    requires open { IsOpen pages.old }
+    requires sectors { sectors_of pages.old ≤ D.sectors device.old }
+    requires short { tree.now.layout.key_length ≤ 128 }
+    ensures looks { LooksAt D.Device (result ≡ Err StoreFault.Device) pages.old device.old pages.new device.new }
+    ensures entry { IfAgrees D.Device pages.old device.old ((levels : List (List TreeNode)) → IsTreeOrEmpty tree.now.layout (pages_on D.Device pages.old device.old) tree.now.root levels →
+        IfOk result (λ entry. entry ≡ first_entry (entries_of tree.now.layout levels))) }
+    ensures damaged { IfAgrees D.Device pages.old device.old ((levels : List (List TreeNode)) → IsTreeOrEmpty tree.now.layout (pages_on D.Device pages.old device.old) tree.now.root levels → result ≡ Err StoreFault.Damaged → ⊥) }
+    ensures spent { result ≡ Err StoreFault.Spent → is_spent pages.old ≡ true }
+    ensures cause { IfErr result IsReadFault }
+{
+    match tree.first(pages, device) {
+        Ok(entry) => Ok(entry),
+        Err(error) => Err(to_fault(error)),
+    }
+}
+
+/// The entry behind one of a tree.
+fn next_in<D: Device>(
+    tree: &Tree,
+    pages: &mut PageMap,
+    device: &mut D,
+    entry: &Entry,
+) -> Result<Option<Entry>, StoreFault>
+    requires open { IsOpen pages.old }
+    requires sectors { sectors_of pages.old ≤ D.sectors device.old }
+    requires short { tree.now.layout.key_length ≤ 128 }
+    ensures looks { LooksAt D.Device (result ≡ Err StoreFault.Device) pages.old device.old pages.new device.new }
+    ensures entry { IfAgrees D.Device pages.old device.old ((levels : List (List TreeNode)) → IsTreeOrEmpty tree.now.layout (pages_on D.Device pages.old device.old) tree.now.root levels →
+        IfOk result (λ next. next ≡ first_entry_after (entries_of tree.now.layout levels) entry.now.key)) }
+    ensures damaged { IfAgrees D.Device pages.old device.old ((levels : List (List TreeNode)) → IsTreeOrEmpty tree.now.layout (pages_on D.Device pages.old device.old) tree.now.root levels → result ≡ Err StoreFault.Damaged → ⊥) }
+    ensures spent { result ≡ Err StoreFault.Spent → is_spent pages.old ≡ true }
+    ensures cause { IfErr result IsReadFault }
+{
+    match tree.next(pages, device, entry.key()) {
+        Ok(next) => Ok(next),
+        Err(error) => Err(to_fault(error)),
+    }
 }

@@ -2,37 +2,61 @@
 ghost use Rattle.std.specs.Prelude.{◌≡◌, ◌⊎◌, ◌≤◌, ◌<◌, ◌+◌, true, false, [], Err, None, length, map, replicate, OnOk, IfOk, IfErr, IsOkUnless};
 ghost use Rattle.std.specs.List.{flat_map};
 ghost use Rattle.station.specs.Calls.{OnlyWrites};
-ghost use Rattle.pages.specs.Pages.{map_now, is_spent, catalog_of, committed_of, sectors_of, changed_pages_of, filled_of, advanced, IsFull, IsOpen};
+ghost use Rattle.pages.specs.Pages.{map_now, is_spent, catalog_of, committed_of, sectors_of, changed_pages_of, filled_of, next_generation, IsFull, IsOpen};
 ghost use Rattle.pages.specs.Use.{free_count};
 ghost use Rattle.btree.specs.Calls.{pages_on};
-ghost use Rattle.btree.specs.Entries.{entry_with, with_entry};
+ghost use Rattle.btree.specs.Entries.{entry_with, with_new_entry};
 ghost use Rattle.btree.specs.Told.{FewChanged};
 ghost use Rattle.records.specs.Files.{Files, empty_file, with_file};
 ghost use Rattle.records.specs.Spec.{is_name};
 ghost use Rattle.records.specs.Stores.{spec_of};
-ghost use Rattle.file_trees.specs.Catalog.{padded, spelled};
-ghost use Rattle.file_trees.specs.Grows.{StandsAmong};
-ghost use Rattle.file_trees.specs.Volume.{MapHolds, trees_of, catalog_entry};
+ghost use Rattle.volume_format.specs.Catalog.{padded_name, listing_bytes};
+ghost use Rattle.volume_format.specs.Grows.{IsTreeAmong};
+ghost use Rattle.volume_format.specs.Volume.{MapHolds, trees_of, catalog_entry};
 ghost use Rattle.alternate_keys.specs.Created.{OnFiles, Prepares};
 ghost use Rattle.alternate_keys.specs.Faults.{IsWriteFault};
 ghost use Rattle.alternate_keys.specs.Listed.{catalog_at};
-ghost use Rattle.alternate_keys.specs.Stands.{Stands, IsShort};
-ghost use Rattle.alternate_keys.specs.Turned.{Turned};
+ghost use Rattle.alternate_keys.specs.Stands.{Represents, LacksSpace};
+ghost use Rattle.alternate_keys.specs.Turned.{HasChangedFiles};
 
 use crate::clearing::clear_trees;
+use crate::commit::commit_pages;
 use crate::counting::is_full;
 use crate::enter::insert_among;
 use crate::listing::{catalog_tree, find_listing, replace_listing};
-use crate::settling::settle;
-use file_trees::{pad_name, spell_listing};
 use pages::{PageMap, few_needed, map_bounds, needed_by};
 use records::{FileSpec, StoreFault};
 use station::Device;
 use std::alloc::Global;
+use volume_format::{pad_name, spell_listing};
+
+/// Makes a file without rows, in place of one of that name, and puts it on the disk.
+pub(crate) fn create_in<D: Device>(
+    alloc: Global,
+    pages: &mut PageMap,
+    device: &mut D,
+    file: &FileSpec,
+) -> Result<(), StoreFault>
+    requires open { IsOpen pages.old }
+    requires unspent { is_spent pages.old ≡ false }
+    requires sectors { sectors_of pages.old ≤ D.sectors device.old }
+    ensures only { OnlyWrites D.Device (result ≡ Err StoreFault.Device) device.old device.new }
+    ensures turned { D.is_honest device.old → (files : Files) → Represents pages.old (D.state device.old).disk files →
+        HasChangedFiles D.Device result true file.now.name.items files (with_file file.now.name.items (empty_file (spec_of file.now)) files) pages.old device.old pages.new device.new }
+    ensures unwritten { result ≡ Err StoreFault.Full → D.is_honest device.old → D.state device.new ≡ D.state device.old }
+    ensures unspent { OnOk result (is_spent pages.new ≡ false) }
+    ensures open { IsOpen pages.new }
+    ensures same_sectors { sectors_of pages.new ≡ sectors_of pages.old }
+    ensures spent { result ≡ Err StoreFault.Spent → is_spent pages.old ≡ true }
+    ensures cause { IfErr result IsWriteFault }
+{
+    prepare_file(alloc, pages, device, file)?;
+    commit_pages(pages, device)
+}
 
 /// What the catalog says of a file without rows.
 fn empty_listing(alloc: Global, file: &FileSpec) -> Result<Vec<u8>, StoreFault>
-    ensures bytes { IfOk result (λ bytes. bytes.items ≡ spelled (record { spec = spec_of file.now; prime = 0; alternates = replicate (length file.now.alternates.items) 0; next_arrival = 1 })) }
+    ensures bytes { IfOk result (λ bytes. bytes.items ≡ listing_bytes (record { spec = spec_of file.now; prime = 0; alternates = replicate (length file.now.alternates.items) 0; next_arrival = 1 })) }
     ensures long { IfOk result (λ bytes. length bytes.items ≡ 83) }
     ensures memory { IsOkUnless result StoreFault.Memory }
 {
@@ -56,12 +80,12 @@ fn add_listing<D: Device>(
     requires listing { length listing.now ≡ 83 }
     ensures prepares { Prepares D.Device (result ≡ Err StoreFault.Device) pages.old device.old pages.new device.new }
     ensures added { OnFiles D.Device pages.old device.old (λ files holds. OnOk result
-        (StandsAmong (pages_on D.Device pages.new device.old) [] (flat_map trees_of holds.kept) (catalog_at (catalog_of pages.new)) (with_entry (map catalog_entry holds.kept) (record { key = padded name.now; value = listing.now })))) }
+        (IsTreeAmong (pages_on D.Device pages.new device.old) [] (flat_map trees_of holds.kept) (catalog_at (catalog_of pages.new)) (with_new_entry (map catalog_entry holds.kept) (record { key = padded_name name.now; value = listing.now })))) }
     ensures few_files { OnFiles D.Device pages.old device.old (λ files holds. OnOk result (length files < 255)) }
     ensures few { OnFiles D.Device pages.old device.old (λ files holds. OnOk result (FewChanged 42 pages.old pages.new)) }
     ensures room { OnFiles D.Device pages.old device.old (λ files holds. result ≡ Err StoreFault.Full →
         (free_count (committed_of pages.old) < length (changed_pages_of pages.old) + 42) ⊎ (255 ≤ length files)) }
-    ensures damaged { OnFiles D.Device pages.old device.old (λ files holds. entry_with (map catalog_entry holds.kept) (padded name.now) ≡ None → result ≡ Err StoreFault.Damaged → ⊥) }
+    ensures damaged { OnFiles D.Device pages.old device.old (λ files holds. entry_with (map catalog_entry holds.kept) (padded_name name.now) ≡ None → result ≡ Err StoreFault.Damaged → ⊥) }
     ensures spent { result ≡ Err StoreFault.Spent → is_spent pages.old ≡ true }
     ensures cause { IfErr result IsWriteFault }
 {
@@ -88,11 +112,11 @@ fn prepare_file<D: Device>(
     requires sectors { sectors_of pages.old ≤ D.sectors device.old }
     ensures prepares { Prepares D.Device (result ≡ Err StoreFault.Device) pages.old device.old pages.new device.new }
     ensures will { OnFiles D.Device pages.old device.old (λ files holds. OnOk result
-        (MapHolds (advanced (map_now pages.new (D.state device.old).disk.present)) (with_file file.now.name.items (empty_file (spec_of file.now)) files))) }
+        (MapHolds (next_generation (map_now pages.new (D.state device.old).disk.present)) (with_file file.now.name.items (empty_file (spec_of file.now)) files))) }
     ensures full { OnFiles D.Device pages.old device.old (λ files holds. changed_pages_of pages.old ≡ [] → OnOk result (IsFull pages.new →
-        IsShort (committed_of pages.old) true file.now.name.items (with_file file.now.name.items (empty_file (spec_of file.now)) files))) }
+        LacksSpace (committed_of pages.old) true file.now.name.items (with_file file.now.name.items (empty_file (spec_of file.now)) files))) }
     ensures room { OnFiles D.Device pages.old device.old (λ files holds. changed_pages_of pages.old ≡ [] → result ≡ Err StoreFault.Full →
-        IsShort (committed_of pages.old) true file.now.name.items (with_file file.now.name.items (empty_file (spec_of file.now)) files)) }
+        LacksSpace (committed_of pages.old) true file.now.name.items (with_file file.now.name.items (empty_file (spec_of file.now)) files)) }
     ensures damaged { OnFiles D.Device pages.old device.old (λ files holds. result ≡ Err StoreFault.Damaged → ⊥) }
     ensures spent { result ≡ Err StoreFault.Spent → is_spent pages.old ≡ true }
     ensures cause { IfErr result IsWriteFault }
@@ -113,28 +137,4 @@ fn prepare_file<D: Device>(
             Ok(())
         }
     }
-}
-
-/// Makes a file without rows, in place of one of that name, and puts it on the disk.
-pub(crate) fn create_in<D: Device>(
-    alloc: Global,
-    pages: &mut PageMap,
-    device: &mut D,
-    file: &FileSpec,
-) -> Result<(), StoreFault>
-    requires open { IsOpen pages.old }
-    requires unspent { is_spent pages.old ≡ false }
-    requires sectors { sectors_of pages.old ≤ D.sectors device.old }
-    ensures only { OnlyWrites D.Device (result ≡ Err StoreFault.Device) device.old device.new }
-    ensures turned { D.is_honest device.old → (files : Files) → Stands pages.old (D.state device.old).disk files →
-        Turned D.Device result true file.now.name.items files (with_file file.now.name.items (empty_file (spec_of file.now)) files) pages.old device.old pages.new device.new }
-    ensures unwritten { result ≡ Err StoreFault.Full → D.is_honest device.old → D.state device.new ≡ D.state device.old }
-    ensures unspent { OnOk result (is_spent pages.new ≡ false) }
-    ensures open { IsOpen pages.new }
-    ensures same_sectors { sectors_of pages.new ≡ sectors_of pages.old }
-    ensures spent { result ≡ Err StoreFault.Spent → is_spent pages.old ≡ true }
-    ensures cause { IfErr result IsWriteFault }
-{
-    prepare_file(alloc, pages, device, file)?;
-    settle(pages, device)
 }

@@ -1,12 +1,12 @@
 //! An entry comes to a tree that stands among others.
 ghost use Rattle.std.specs.Prelude.{◌≡◌, ◌≤◌, ◌<◌, ◌+◌, true, false, Ok, Err, None, IsSome, length, IfErr};
 ghost use Rattle.station.specs.Calls.{OnlyReads};
-ghost use Rattle.pages.specs.Pages.{is_spent, catalog_of, committed_of, sectors_of, changed_pages_of, Agrees, IsOpen, SameCommitted, Unchanged};
+ghost use Rattle.pages.specs.Pages.{is_spent, catalog_of, committed_of, sectors_of, changed_pages_of, Agrees, IsOpen, SameCommitted, IsUnchanged};
 ghost use Rattle.pages.specs.Use.{free_count};
-ghost use Rattle.btree.specs.Calls.{Agreed, pages_on};
-ghost use Rattle.btree.specs.Entries.{entry_with, with_entry};
+ghost use Rattle.btree.specs.Calls.{IfAgrees, pages_on};
+ghost use Rattle.btree.specs.Entries.{entry_with, with_new_entry};
 ghost use Rattle.btree.specs.Told.{FewChanged};
-ghost use Rattle.file_trees.specs.Grows.{StandsAmong};
+ghost use Rattle.volume_format.specs.Grows.{IsTreeAmong};
 ghost use Rattle.alternate_keys.specs.Among.{OnAmong};
 ghost use Rattle.alternate_keys.specs.Faults.{IsWriteFault};
 
@@ -30,16 +30,16 @@ pub(crate) fn insert_among<D: Device>(
     requires value { length value.now ≡ tree.old.layout.value_length }
     ensures only { OnlyReads D.Device (result ≡ Err StoreFault.Device) device.old device.new }
     ensures inserted { OnAmong D.Device tree.old pages.old device.old (λ left right entries. result ≡ Ok true →
-        (entry_with entries key.now ≡ None) × StandsAmong (pages_on D.Device pages.new device.old) left right tree.new (with_entry entries (record { key = key.now; value = value.now }))) }
+        (entry_with entries key.now ≡ None) × IsTreeAmong (pages_on D.Device pages.new device.old) left right tree.new (with_new_entry entries (record { key = key.now; value = value.now }))) }
     ensures there { OnAmong D.Device tree.old pages.old device.old (λ left right entries. result ≡ Ok false → IsSome (entry_with entries key.now)) }
-    ensures same { result ≡ Ok false → Unchanged pages.old pages.new }
+    ensures same { result ≡ Ok false → IsUnchanged pages.old pages.new }
     ensures damaged { OnAmong D.Device tree.old pages.old device.old (λ left right entries. result ≡ Err StoreFault.Damaged → ⊥) }
     ensures changed_pages { OnAmong D.Device tree.old pages.old device.old (λ left right entries. FewChanged 42 pages.old pages.new) }
     ensures room { OnAmong D.Device tree.old pages.old device.old (λ left right entries. result ≡ Err StoreFault.Full → free_count (committed_of pages.old) < length (changed_pages_of pages.old) + 42) }
     ensures layout { tree.new.layout ≡ tree.old.layout }
     ensures committed { SameCommitted pages.old pages.new }
     ensures catalog { catalog_of pages.new ≡ catalog_of pages.old }
-    ensures agrees { Agreed D.Device pages.old device.old (Agrees pages.new (D.state device.new).disk) }
+    ensures agrees { IfAgrees D.Device pages.old device.old (Agrees pages.new (D.state device.new).disk) }
     ensures open { IsOpen pages.new }
     ensures spent { result ≡ Err StoreFault.Spent → is_spent pages.old ≡ true }
     ensures cause { IfErr result IsWriteFault }

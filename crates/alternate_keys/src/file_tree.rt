@@ -1,13 +1,13 @@
 //! The trees of a file, as the catalog names them.
 ghost use Rattle.std.specs.Prelude.{◌≡◌, length};
 ghost use Rattle.records.specs.Stores.{spec_of, IsKey};
-ghost use Rattle.file_trees.specs.Trees.{layout_under};
+ghost use Rattle.volume_format.specs.Trees.{layout_under};
 ghost use Rattle.alternate_keys.specs.Listed.{root_in};
 
 use btree::Tree;
-use file_trees::{alternate_root, prime_root, tree_layout};
 use records::{FileSpec, KeyOfReference};
 use std::alloc::Global;
+use volume_format::{alternate_root, prime_root, tree_layout};
 
 /// The tree of a key, by a value of the catalog.
 pub(crate) fn file_tree(alloc: Global, file: &FileSpec, key: KeyOfReference, value: &[u8]) -> Tree

@@ -1,28 +1,20 @@
 //! Whether a file is there.
 ghost use Rattle.std.specs.Prelude.{◌≡◌, ◌≤◌, Err, true, length, take, IfOk, IfErr};
 ghost use Rattle.station.specs.Calls.{OnlyReads};
-ghost use Rattle.pages.specs.Pages.{map_now, is_spent, sectors_of, Agrees, IsOpen, Unchanged};
-ghost use Rattle.btree.specs.Calls.{Agreed};
+ghost use Rattle.pages.specs.Pages.{map_now, is_spent, sectors_of, Agrees, IsOpen, IsUnchanged};
+ghost use Rattle.btree.specs.Calls.{IfAgrees};
 ghost use Rattle.records.specs.Rows.{same_bytes};
 ghost use Rattle.records.specs.Files.{Files, file_at, presence};
 ghost use Rattle.records.specs.Stores.{spec_of};
-ghost use Rattle.file_trees.specs.Volume.{MapHolds};
+ghost use Rattle.volume_format.specs.Volume.{MapHolds};
 ghost use Rattle.alternate_keys.specs.Faults.{IsReadFault};
 
 use crate::listing::find_listing;
-use file_trees::{SPEC_BYTES, spell_spec};
 use pages::PageMap;
 use records::{FileSpec, Presence, StoreFault};
 use station::Device;
 use std::alloc::Global;
-
-/// Whether a value of the catalog begins with these bytes, which say what a file is.
-fn says(value: &[u8], spec: &[u8]) -> bool
-    requires { length value.now ≡ 83 }
-    ensures { result ≡ same_bytes (take 43 value.now) spec.now }
-{
-    value[..SPEC_BYTES] == spec[..]
-}
+use volume_format::{SPEC_BYTES, spell_spec};
 
 /// Tells whether a file is there, and whether it is as the program says.
 pub(crate) fn find_in<D: Device>(
@@ -34,12 +26,12 @@ pub(crate) fn find_in<D: Device>(
     requires open { IsOpen pages.old }
     requires sectors { sectors_of pages.old ≤ D.sectors device.old }
     ensures only { OnlyReads D.Device (result ≡ Err StoreFault.Device) device.old device.new }
-    ensures unchanged { Unchanged pages.old pages.new }
-    ensures agrees { Agreed D.Device pages.old device.old (Agrees pages.new (D.state device.new).disk) }
+    ensures unchanged { IsUnchanged pages.old pages.new }
+    ensures agrees { IfAgrees D.Device pages.old device.old (Agrees pages.new (D.state device.new).disk) }
     ensures open { IsOpen pages.new }
-    ensures presence { Agreed D.Device pages.old device.old ((files : Files) → MapHolds (map_now pages.old (D.state device.old).disk.present) files →
+    ensures presence { IfAgrees D.Device pages.old device.old ((files : Files) → MapHolds (map_now pages.old (D.state device.old).disk.present) files →
         IfOk result (λ answer. answer ≡ presence (file_at file.now.name.items files) (spec_of file.now))) }
-    ensures damaged { Agreed D.Device pages.old device.old ((files : Files) → MapHolds (map_now pages.old (D.state device.old).disk.present) files → result ≡ Err StoreFault.Damaged → ⊥) }
+    ensures damaged { IfAgrees D.Device pages.old device.old ((files : Files) → MapHolds (map_now pages.old (D.state device.old).disk.present) files → result ≡ Err StoreFault.Damaged → ⊥) }
     ensures spent { result ≡ Err StoreFault.Spent → is_spent pages.old ≡ true }
     ensures cause { IfErr result IsReadFault }
 {
@@ -53,4 +45,12 @@ pub(crate) fn find_in<D: Device>(
     } else {
         Ok(Presence::Different)
     }
+}
+
+/// Whether a value of the catalog begins with these bytes, which say what a file is.
+fn says(value: &[u8], spec: &[u8]) -> bool
+    requires { length value.now ≡ 83 }
+    ensures { result ≡ same_bytes (take 43 value.now) spec.now }
+{
+    value[..SPEC_BYTES] == spec[..]
 }

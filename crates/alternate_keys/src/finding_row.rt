@@ -2,20 +2,20 @@
 ghost use Rattle.std.specs.Prelude.{◌≡◌, ◌≤◌, ◌<◌, ◌^◌, true, nat_le, List, Err, false, length, IfOk, IfSome, IfErr, IsOkUnless};
 ghost use Rattle.std.specs.Option.{option_map};
 ghost use Rattle.pages.specs.Pages.{is_spent, sectors_of, IsOpen};
-ghost use Rattle.btree.specs.Calls.{Agreed, pages_on};
+ghost use Rattle.btree.specs.Calls.{IfAgrees, pages_on};
 ghost use Rattle.btree.specs.Entries.{HasLengths};
 ghost use Rattle.records.specs.Changes.{row_at};
 ghost use Rattle.records.specs.Rows.{Row};
 ghost use Rattle.records.specs.Stores.{spec_of, key_length, pair_of};
-ghost use Rattle.file_trees.specs.Trees.{entry_under, layout_under, prime_key};
+ghost use Rattle.volume_format.specs.Trees.{entry_under, layout_under, prime_key};
 ghost use Rattle.alternate_keys.specs.Calls.{LooksAt};
 ghost use Rattle.alternate_keys.specs.Faults.{IsReadFault};
 ghost use Rattle.alternate_keys.specs.Moved.{is_out_of_range};
 ghost use Rattle.alternate_keys.specs.Seen.{HasRows};
 
-use crate::aiming::{number_bytes, pair_bytes};
 use crate::fault::to_fault;
 use crate::row_bytes::copy_of;
+use crate::search_keys::{number_bytes, pair_bytes};
 use btree::{Entry, Tree};
 use pages::PageMap;
 use records::{FileSpec, KeyOfReference, Organization, StoreFault};
@@ -24,6 +24,38 @@ use std::alloc::Global;
 
 /// Numbers of relative files are below this.
 const NUMBERS: u64 = 4294967296;
+
+/// The entry of the row of this prime key, or of this number where the file has none.
+pub(crate) fn find_row<D: Device>(
+    alloc: Global,
+    prime: &Tree,
+    pages: &mut PageMap,
+    device: &mut D,
+    file: &FileSpec,
+    number: u64,
+    value: &[u8],
+) -> Result<Option<Entry>, StoreFault>
+    requires open { IsOpen pages.old }
+    requires sectors { sectors_of pages.old ≤ D.sectors device.old }
+    requires layout { prime.now.layout ≡ layout_under (spec_of file.now) KeyOfReference.Prime }
+    requires value { length value.now ≡ key_length (spec_of file.now) KeyOfReference.Prime }
+    ensures looks { LooksAt D.Device (result ≡ Err StoreFault.Device) pages.old device.old pages.new device.new }
+    ensures found { IfAgrees D.Device pages.old device.old ((rows : List Row) → HasRows (spec_of file.now) (pages_on D.Device pages.old device.old) rows prime.now →
+        IfOk result (λ entry. entry ≡ option_map (entry_under (spec_of file.now) KeyOfReference.Prime) (row_at file.now.organization (pair_of file.now.organization value.now number) rows))) }
+    ensures damaged { IfAgrees D.Device pages.old device.old ((rows : List Row) → HasRows (spec_of file.now) (pages_on D.Device pages.old device.old) rows prime.now → result ≡ Err StoreFault.Damaged → ⊥) }
+    ensures lengths { IfOk result (λ entry. IfSome entry (HasLengths prime.now.layout)) }
+    ensures spent { result ≡ Err StoreFault.Spent → is_spent pages.old ≡ true }
+    ensures cause { IfErr result IsReadFault }
+{
+    if is_no_number(file.organization, number) {
+        return Ok(None);
+    }
+    let key = find_key(alloc, file.organization, number, value)?;
+    match prime.get(pages, device, &key) {
+        Ok(entry) => Ok(entry),
+        Err(error) => Err(to_fault(error)),
+    }
+}
 
 /// Whether no row has this number.
 fn is_no_number(organization: Organization, number: u64) -> bool
@@ -50,37 +82,5 @@ fn find_key(
         Organization::Sequential => pair_bytes(alloc, &[], number),
         Organization::Relative => number_bytes(alloc, number),
         Organization::Indexed(_) => copy_of(alloc, value),
-    }
-}
-
-/// The entry of the row of this prime key, or of this number where the file has none.
-pub(crate) fn find_row<D: Device>(
-    alloc: Global,
-    prime: &Tree,
-    pages: &mut PageMap,
-    device: &mut D,
-    file: &FileSpec,
-    number: u64,
-    value: &[u8],
-) -> Result<Option<Entry>, StoreFault>
-    requires open { IsOpen pages.old }
-    requires sectors { sectors_of pages.old ≤ D.sectors device.old }
-    requires layout { prime.now.layout ≡ layout_under (spec_of file.now) KeyOfReference.Prime }
-    requires value { length value.now ≡ key_length (spec_of file.now) KeyOfReference.Prime }
-    ensures looks { LooksAt D.Device (result ≡ Err StoreFault.Device) pages.old device.old pages.new device.new }
-    ensures found { Agreed D.Device pages.old device.old ((rows : List Row) → HasRows (spec_of file.now) (pages_on D.Device pages.old device.old) rows prime.now →
-        IfOk result (λ entry. entry ≡ option_map (entry_under (spec_of file.now) KeyOfReference.Prime) (row_at file.now.organization (pair_of file.now.organization value.now number) rows))) }
-    ensures damaged { Agreed D.Device pages.old device.old ((rows : List Row) → HasRows (spec_of file.now) (pages_on D.Device pages.old device.old) rows prime.now → result ≡ Err StoreFault.Damaged → ⊥) }
-    ensures lengths { IfOk result (λ entry. IfSome entry (HasLengths prime.now.layout)) }
-    ensures spent { result ≡ Err StoreFault.Spent → is_spent pages.old ≡ true }
-    ensures cause { IfErr result IsReadFault }
-{
-    if is_no_number(file.organization, number) {
-        return Ok(None);
-    }
-    let key = find_key(alloc, file.organization, number, value)?;
-    match prime.get(pages, device, &key) {
-        Ok(entry) => Ok(entry),
-        Err(error) => Err(to_fault(error)),
     }
 }

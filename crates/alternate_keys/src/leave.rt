@@ -2,9 +2,9 @@
 ghost use Rattle.std.specs.Prelude.{◌≡◌, ◌≤◌, true, Err, IsSome, length, OnOk, IfErr};
 ghost use Rattle.pages.specs.Pages.{is_spent, sectors_of, IsOpen};
 ghost use Rattle.btree.specs.Calls.{pages_on};
-ghost use Rattle.btree.specs.Entries.{entry_with, with_value, without};
+ghost use Rattle.btree.specs.Entries.{entry_with, with_value, without_entry};
 ghost use Rattle.btree.specs.Told.{FewChanged};
-ghost use Rattle.file_trees.specs.Grows.{StandsAmong};
+ghost use Rattle.volume_format.specs.Grows.{IsTreeAmong};
 ghost use Rattle.alternate_keys.specs.Among.{OnAmong};
 ghost use Rattle.alternate_keys.specs.Calls.{Edits};
 ghost use Rattle.alternate_keys.specs.Faults.{IsReadFault};
@@ -26,7 +26,7 @@ pub(crate) fn remove_among<D: Device>(
     requires sectors { sectors_of pages.old ≤ D.sectors device.old }
     ensures edits { Edits D.Device (result ≡ Err StoreFault.Device) pages.old device.old pages.new device.new }
     ensures removed { OnAmong D.Device tree.old pages.old device.old (λ left right entries.
-        OnOk result (StandsAmong (pages_on D.Device pages.new device.old) left right tree.new (without entries key.now))) }
+        OnOk result (IsTreeAmong (pages_on D.Device pages.new device.old) left right tree.new (without_entry entries key.now))) }
     ensures damaged { OnAmong D.Device tree.old pages.old device.old (λ left right entries. IsSome (entry_with entries key.now) → result ≡ Err StoreFault.Damaged → ⊥) }
     ensures few { OnAmong D.Device tree.old pages.old device.old (λ left right entries. OnOk result (FewChanged 42 pages.old pages.new)) }
     ensures layout { tree.new.layout ≡ tree.old.layout }
@@ -53,7 +53,7 @@ pub(crate) fn replace_among<D: Device>(
     requires value { length value.now ≡ tree.old.layout.value_length }
     ensures edits { Edits D.Device (result ≡ Err StoreFault.Device) pages.old device.old pages.new device.new }
     ensures replaced { OnAmong D.Device tree.old pages.old device.old (λ left right entries.
-        OnOk result (StandsAmong (pages_on D.Device pages.new device.old) left right tree.new (with_value entries (record { key = key.now; value = value.now })))) }
+        OnOk result (IsTreeAmong (pages_on D.Device pages.new device.old) left right tree.new (with_value entries (record { key = key.now; value = value.now })))) }
     ensures damaged { OnAmong D.Device tree.old pages.old device.old (λ left right entries. IsSome (entry_with entries key.now) → result ≡ Err StoreFault.Damaged → ⊥) }
     ensures few { FewChanged 42 pages.old pages.new }
     ensures tree { tree.new ≡ tree.old }

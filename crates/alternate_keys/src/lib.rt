@@ -3,10 +3,9 @@
 //! Promise: at each moment of a change a crash leaves the files before, or those after.
 #![tactic(auto)]
 
-mod aim;
-mod aiming;
 mod changing;
 mod clearing;
+mod commit;
 mod counting;
 mod creating;
 mod enter;
@@ -14,7 +13,7 @@ mod fault;
 mod file_tree;
 mod finding;
 mod finding_row;
-mod keeps;
+mod found_rows;
 mod leave;
 mod listing;
 mod look;
@@ -29,15 +28,16 @@ mod row_changes;
 mod row_trees;
 mod row_turn;
 mod row_verb;
+mod search_keys;
+mod search_start;
 mod seek;
 mod seeking;
-mod settling;
 mod store;
+mod store_calls;
 mod stored;
 mod taken_row;
-mod tell;
 mod values;
 
-pub use aim::Aim;
 pub use opening::format;
+pub use search_start::SearchStart;
 pub use store::PagedStore;

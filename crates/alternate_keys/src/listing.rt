@@ -1,15 +1,15 @@
 //! What the catalog says of a file.
 ghost use Rattle.std.specs.Prelude.{◌≡◌, ◌≤◌, Err, true, length, map, IsSome, IfOk, OnOk, IfErr, IfSome};
 ghost use Rattle.station.specs.Calls.{OnlyReads};
-ghost use Rattle.pages.specs.Pages.{map_now, is_spent, catalog_of, sectors_of, Agrees, IsOpen, Unchanged};
-ghost use Rattle.btree.specs.Calls.{Agreed, pages_on};
+ghost use Rattle.pages.specs.Pages.{map_now, is_spent, catalog_of, sectors_of, Agrees, IsOpen, IsUnchanged};
+ghost use Rattle.btree.specs.Calls.{IfAgrees, pages_on};
 ghost use Rattle.btree.specs.Entries.{entry_with, with_value};
 ghost use Rattle.btree.specs.Told.{FewChanged, FewFilled};
 ghost use Rattle.records.specs.Spec.{is_name};
 ghost use Rattle.records.specs.Files.{Files, file_at};
-ghost use Rattle.file_trees.specs.Catalog.{padded, catalog_layout};
-ghost use Rattle.file_trees.specs.Grows.{StandsAmong};
-ghost use Rattle.file_trees.specs.Volume.{MapHolds, catalog_entry};
+ghost use Rattle.volume_format.specs.Catalog.{padded_name, catalog_layout};
+ghost use Rattle.volume_format.specs.Grows.{IsTreeAmong};
+ghost use Rattle.volume_format.specs.Volume.{MapHolds, catalog_entry};
 ghost use Rattle.alternate_keys.specs.Among.{OnAmong};
 ghost use Rattle.alternate_keys.specs.Calls.{Edits};
 ghost use Rattle.alternate_keys.specs.Faults.{IsReadFault};
@@ -17,12 +17,12 @@ ghost use Rattle.alternate_keys.specs.Listed.{IsListed, catalog_at};
 
 use crate::fault::to_fault;
 use btree::{Entry, Tree};
-use file_trees::{LISTING_BYTES, NAME_BYTES, pad_name};
+use btree_pages::RowLayout;
 use pages::PageMap;
 use records::StoreFault;
 use station::Device;
 use std::alloc::Global;
-use tree_pages::RowLayout;
+use volume_format::{LISTING_BYTES, NAME_BYTES, pad_name};
 
 /// The tree of the catalog.
 pub(crate) fn catalog_tree(alloc: Global, root: u32) -> Tree
@@ -48,14 +48,14 @@ pub(crate) fn find_listing<D: Device>(
     requires sectors { sectors_of pages.old ≤ D.sectors device.old }
     requires name { is_name name.now ≡ true }
     ensures only { OnlyReads D.Device (result ≡ Err StoreFault.Device) device.old device.new }
-    ensures unchanged { Unchanged pages.old pages.new }
-    ensures agrees { Agreed D.Device pages.old device.old (Agrees pages.new (D.state device.new).disk) }
+    ensures unchanged { IsUnchanged pages.old pages.new }
+    ensures agrees { IfAgrees D.Device pages.old device.old (Agrees pages.new (D.state device.new).disk) }
     ensures open { IsOpen pages.new }
-    ensures listed { Agreed D.Device pages.old device.old ((files : Files) → MapHolds (map_now pages.old (D.state device.old).disk.present) files →
+    ensures listed { IfAgrees D.Device pages.old device.old ((files : Files) → MapHolds (map_now pages.old (D.state device.old).disk.present) files →
         IfOk result (IsListed (map_now pages.old (D.state device.old).disk.present) (file_at name.now files))) }
-    ensures entry { Agreed D.Device pages.old device.old ((files : Files) → (holds : MapHolds (map_now pages.old (D.state device.old).disk.present) files) →
-        IfOk result (λ entry. entry ≡ entry_with (map catalog_entry holds.kept) (padded name.now))) }
-    ensures damaged { Agreed D.Device pages.old device.old ((files : Files) → MapHolds (map_now pages.old (D.state device.old).disk.present) files → result ≡ Err StoreFault.Damaged → ⊥) }
+    ensures entry { IfAgrees D.Device pages.old device.old ((files : Files) → (holds : MapHolds (map_now pages.old (D.state device.old).disk.present) files) →
+        IfOk result (λ entry. entry ≡ entry_with (map catalog_entry holds.kept) (padded_name name.now))) }
+    ensures damaged { IfAgrees D.Device pages.old device.old ((files : Files) → MapHolds (map_now pages.old (D.state device.old).disk.present) files → result ≡ Err StoreFault.Damaged → ⊥) }
     ensures spent { result ≡ Err StoreFault.Spent → is_spent pages.old ≡ true }
     ensures long { IfOk result (λ entry. IfSome entry (λ e. length e.value ≡ 83)) }
     ensures cause { IfErr result IsReadFault }
@@ -81,8 +81,8 @@ pub(crate) fn replace_listing<D: Device>(
     requires listing { length listing.now ≡ 83 }
     ensures edits { Edits D.Device (result ≡ Err StoreFault.Device) pages.old device.old pages.new device.new }
     ensures replaced { OnAmong D.Device (catalog_at (catalog_of pages.old)) pages.old device.old (λ left right entries.
-        OnOk result (StandsAmong (pages_on D.Device pages.new device.old) left right (catalog_at (catalog_of pages.old)) (with_value entries (record { key = padded name.now; value = listing.now })))) }
-    ensures damaged { OnAmong D.Device (catalog_at (catalog_of pages.old)) pages.old device.old (λ left right entries. IsSome (entry_with entries (padded name.now)) → result ≡ Err StoreFault.Damaged → ⊥) }
+        OnOk result (IsTreeAmong (pages_on D.Device pages.new device.old) left right (catalog_at (catalog_of pages.old)) (with_value entries (record { key = padded_name name.now; value = listing.now })))) }
+    ensures damaged { OnAmong D.Device (catalog_at (catalog_of pages.old)) pages.old device.old (λ left right entries. IsSome (entry_with entries (padded_name name.now)) → result ≡ Err StoreFault.Damaged → ⊥) }
     ensures few { FewChanged 1 pages.old pages.new }
     ensures filled { FewFilled 1 pages.old pages.new }
     ensures spent { result ≡ Err StoreFault.Spent → is_spent pages.old ≡ true }

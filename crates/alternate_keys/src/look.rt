@@ -1,13 +1,13 @@
 //! Entries of a file's trees.
 ghost use Rattle.std.specs.Prelude.{◌≡◌, ◌≤◌, ◌<◌, ◌+◌, ◌↔◌, true, Err, Some, List, [], length, take, drop, IfOk, OnOk, OnErr, IfErr};
 ghost use Rattle.station.specs.Calls.{OnlyReads};
-ghost use Rattle.pages.specs.Pages.{map_now, is_spent, sectors_of, Agrees, IsOpen, Unchanged};
-ghost use Rattle.btree.specs.Tree.{TreeNode, Holds};
+ghost use Rattle.pages.specs.Pages.{map_now, is_spent, sectors_of, Agrees, IsOpen, IsUnchanged};
+ghost use Rattle.btree.specs.Tree.{TreeNode, IsTreeOrEmpty};
 ghost use Rattle.btree.specs.Entries.{entries_of};
 ghost use Rattle.btree.specs.Reading.{IsReadRefusal};
-ghost use Rattle.alternate_keys.specs.Aims.{looked};
+ghost use Rattle.alternate_keys.specs.Aims.{found_entry};
 
-use crate::aim::Aim;
+use crate::search_start::SearchStart;
 use btree::{Entry, Tree};
 use pages::{PageMap, PagesError};
 use station::Device;
@@ -17,28 +17,28 @@ pub(crate) fn look<D: Device>(
     tree: &Tree,
     pages: &mut PageMap,
     device: &mut D,
-    aim: Aim,
+    aim: SearchStart,
     key: &[u8],
 ) -> Result<Option<Entry>, PagesError>
     requires open { IsOpen pages.old }
     requires sectors { sectors_of pages.old ≤ D.sectors device.old }
     requires short { tree.now.layout.key_length ≤ 128 }
     ensures only { OnlyReads D.Device (result ≡ Err PagesError.Device) device.old device.new }
-    ensures unchanged { Unchanged pages.old pages.new }
+    ensures unchanged { IsUnchanged pages.old pages.new }
     ensures agrees { D.is_honest device.old → Agrees pages.old (D.state device.old).disk → Agrees pages.new (D.state device.new).disk }
     ensures open { IsOpen pages.new }
     ensures entry { D.is_honest device.old → Agrees pages.old (D.state device.old).disk → (levels : List (List TreeNode)) →
-        Holds tree.now.layout (map_now pages.old (D.state device.old).disk.present).pages tree.now.root levels →
-        IfOk result (λ entry. entry ≡ looked aim (entries_of tree.now.layout levels) key.now) }
+        IsTreeOrEmpty tree.now.layout (map_now pages.old (D.state device.old).disk.present).pages tree.now.root levels →
+        IfOk result (λ entry. entry ≡ found_entry aim (entries_of tree.now.layout levels) key.now) }
     ensures damaged { D.is_honest device.old → Agrees pages.old (D.state device.old).disk → result ≡ Err PagesError.Damaged →
-        (levels : List (List TreeNode)) → Holds tree.now.layout (map_now pages.old (D.state device.old).disk.present).pages tree.now.root levels → ⊥ }
+        (levels : List (List TreeNode)) → IsTreeOrEmpty tree.now.layout (map_now pages.old (D.state device.old).disk.present).pages tree.now.root levels → ⊥ }
     ensures spent { result ≡ Err PagesError.Spent → is_spent pages.old ≡ true }
     ensures cause { IfErr result IsReadRefusal }
 {
     match aim {
-        Aim::Nothing => Ok(None),
-        Aim::From => tree.seek(pages, device, key),
-        Aim::After => tree.next(pages, device, key),
+        SearchStart::Nothing => Ok(None),
+        SearchStart::From => tree.seek(pages, device, key),
+        SearchStart::After => tree.next(pages, device, key),
     }
 }
 

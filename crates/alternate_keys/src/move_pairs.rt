@@ -3,30 +3,71 @@ ghost use Rattle.std.specs.Prelude.{◌≡◌, ◌≤◌, ◌<◌, ◌+◌, ◌*
 ghost use Rattle.pages.specs.Pages.{is_spent, committed_of, sectors_of, changed_pages_of, IsOpen};
 ghost use Rattle.pages.specs.Use.{free_count};
 ghost use Rattle.btree.specs.Calls.{pages_on};
-ghost use Rattle.btree.specs.Entries.{entry_with, with_entry, without};
+ghost use Rattle.btree.specs.Entries.{entry_with, with_new_entry, without_entry};
 ghost use Rattle.btree.specs.Told.{FewChanged};
 ghost use Rattle.records.specs.Files.{File};
 ghost use Rattle.records.specs.Stores.{spec_of, IsKey};
-ghost use Rattle.file_trees.specs.Grows.{StandsAmong};
-ghost use Rattle.file_trees.specs.Trees.{layout_under};
+ghost use Rattle.volume_format.specs.Grows.{IsTreeAmong};
+ghost use Rattle.volume_format.specs.Trees.{layout_under};
 ghost use Rattle.alternate_keys.specs.Among.{OnAmong};
 ghost use Rattle.alternate_keys.specs.Calls.{Edits};
 ghost use Rattle.alternate_keys.specs.Faults.{IsReadFault, IsWriteFault};
-ghost use Rattle.alternate_keys.specs.Moved.{HasValues, pair_entry, old_key, moved, MayMove, PairsMove, PairsMayMove};
-ghost use Rattle.alternate_keys.specs.Placed.{OnIndexes, Become};
+ghost use Rattle.alternate_keys.specs.Moved.{HasValues, pair_entry, old_key, entries_after, MayMove, PairsMove, PairsMayMove};
+ghost use Rattle.alternate_keys.specs.Placed.{OnIndexes, HaveBecome};
 
-use crate::aiming::pair_bytes;
 use crate::enter::insert_among;
 use crate::file_tree::file_tree;
 use crate::leave::remove_among;
 use crate::old_row::{is_changed, old_pair};
 use crate::row_bytes::part_of;
 use crate::row_verb::RowVerb;
+use crate::search_keys::pair_bytes;
 use btree::Tree;
 use pages::PageMap;
 use records::{FileSpec, KeyOfReference, StoreFault};
 use station::Device;
 use std::alloc::Global;
+
+/// Moves the pairs of a row in the trees of the alternate keys, beside which others stay. The answer is the pages of their roots.
+pub(crate) fn move_pairs<D: Device>(
+    alloc: Global,
+    pages: &mut PageMap,
+    device: &mut D,
+    file: &FileSpec,
+    listing: &[u8],
+    verb: RowVerb,
+    old: &[u8],
+    arrival: u64,
+    bytes: &[u8],
+) -> Result<Vec<u32>, StoreFault>
+    requires open { IsOpen pages.old }
+    requires sectors { sectors_of pages.old ≤ D.sectors device.old }
+    requires listing { length listing.now ≡ 83 }
+    requires values { HasValues verb (spec_of file.now) old.now bytes.now }
+    ensures edits { Edits D.Device (result ≡ Err StoreFault.Device) pages.old device.old pages.new device.new }
+    ensures came { OnIndexes D.Device (spec_of file.now) pages.old device.old listing.now (λ held left right trees. (after : File) → after.spec ≡ held.spec → PairsMove verb held after old.now bytes.now arrival →
+        IfOk result (λ roots. HaveBecome after (pages_on D.Device pages.new device.old) left right trees (length trees) roots.items)) }
+    ensures few { OnIndexes D.Device (spec_of file.now) pages.old device.old listing.now (λ held left right trees. (after : File) → after.spec ≡ held.spec → PairsMove verb held after old.now bytes.now arrival →
+        OnOk result (FewChanged (84 * length file.now.alternates.items) pages.old pages.new)) }
+    ensures room { OnIndexes D.Device (spec_of file.now) pages.old device.old listing.now (λ held left right trees. (after : File) → after.spec ≡ held.spec → PairsMove verb held after old.now bytes.now arrival →
+        result ≡ Err StoreFault.Full → free_count (committed_of pages.old) < length (changed_pages_of pages.old) + 84 * length file.now.alternates.items) }
+    ensures damaged { OnIndexes D.Device (spec_of file.now) pages.old device.old listing.now (λ held left right trees. (after : File) → after.spec ≡ held.spec → PairsMove verb held after old.now bytes.now arrival →
+        PairsMayMove verb held old.now bytes.now arrival → result ≡ Err StoreFault.Damaged → ⊥) }
+    ensures count { IfOk result (λ roots. length roots.items ≡ length file.now.alternates.items) }
+    ensures spent { result ≡ Err StoreFault.Spent → is_spent pages.old ≡ true }
+    ensures cause { IfErr result IsWriteFault }
+{
+    let mut roots = Vec::new(alloc);
+    let count = file.alternates.len() as u8;
+    for key in 0..count {
+        let mut tree = file_tree(alloc, file, KeyOfReference::Alternate(key), listing);
+        move_pair(
+            alloc, &mut tree, pages, device, file, key, verb, old, arrival, bytes,
+        )?;
+        roots.push(tree.root())?;
+    }
+    Ok(roots)
+}
 
 /// Takes the pair of a row out of the tree of an alternate key, beside which others stay.
 fn take_pair<D: Device>(
@@ -44,7 +85,7 @@ fn take_pair<D: Device>(
     requires old { length old.now ≡ file.now.record_length + 8 * length file.now.alternates.items }
     ensures edits { Edits D.Device (result ≡ Err StoreFault.Device) pages.old device.old pages.new device.new }
     ensures taken { OnAmong D.Device tree.old pages.old device.old (λ left right entries.
-        OnOk result (StandsAmong (pages_on D.Device pages.new device.old) left right tree.new (without entries (old_key (spec_of file.now) key old.now)))) }
+        OnOk result (IsTreeAmong (pages_on D.Device pages.new device.old) left right tree.new (without_entry entries (old_key (spec_of file.now) key old.now)))) }
     ensures damaged { OnAmong D.Device tree.old pages.old device.old (λ left right entries. IsSome (entry_with entries (old_key (spec_of file.now) key old.now)) → result ≡ Err StoreFault.Damaged → ⊥) }
     ensures few { OnAmong D.Device tree.old pages.old device.old (λ left right entries. OnOk result (FewChanged 42 pages.old pages.new)) }
     ensures layout { tree.new.layout ≡ tree.old.layout }
@@ -74,7 +115,7 @@ fn give_pair<D: Device>(
     requires bytes { length bytes.now ≡ file.now.record_length }
     ensures edits { Edits D.Device (result ≡ Err StoreFault.Device) pages.old device.old pages.new device.new }
     ensures given { OnAmong D.Device tree.old pages.old device.old (λ left right entries.
-        OnOk result (StandsAmong (pages_on D.Device pages.new device.old) left right tree.new (with_entry entries (pair_entry (spec_of file.now) key bytes.now arrival)))) }
+        OnOk result (IsTreeAmong (pages_on D.Device pages.new device.old) left right tree.new (with_new_entry entries (pair_entry (spec_of file.now) key bytes.now arrival)))) }
     ensures damaged { OnAmong D.Device tree.old pages.old device.old (λ left right entries.
         entry_with entries (pair_entry (spec_of file.now) key bytes.now arrival).key ≡ None → result ≡ Err StoreFault.Damaged → ⊥) }
     ensures few { OnAmong D.Device tree.old pages.old device.old (λ left right entries. FewChanged 42 pages.old pages.new) }
@@ -114,7 +155,7 @@ fn move_pair<D: Device>(
     requires values { HasValues verb (spec_of file.now) old.now bytes.now }
     ensures edits { Edits D.Device (result ≡ Err StoreFault.Device) pages.old device.old pages.new device.new }
     ensures moved { OnAmong D.Device tree.old pages.old device.old (λ left right entries.
-        OnOk result (StandsAmong (pages_on D.Device pages.new device.old) left right tree.new (moved verb (spec_of file.now) key old.now bytes.now arrival entries))) }
+        OnOk result (IsTreeAmong (pages_on D.Device pages.new device.old) left right tree.new (entries_after verb (spec_of file.now) key old.now bytes.now arrival entries))) }
     ensures damaged { OnAmong D.Device tree.old pages.old device.old (λ left right entries. MayMove verb (spec_of file.now) key old.now bytes.now arrival entries → result ≡ Err StoreFault.Damaged → ⊥) }
     ensures few { OnAmong D.Device tree.old pages.old device.old (λ left right entries. OnOk result (FewChanged 84 pages.old pages.new)) }
     ensures room { OnAmong D.Device tree.old pages.old device.old (λ left right entries. result ≡ Err StoreFault.Full → free_count (committed_of pages.old) < length (changed_pages_of pages.old) + 84) }
@@ -140,45 +181,4 @@ fn move_pair<D: Device>(
             Ok(())
         }
     }
-}
-
-/// Moves the pairs of a row in the trees of the alternate keys, beside which others stay. The answer is the pages of their roots.
-pub(crate) fn move_pairs<D: Device>(
-    alloc: Global,
-    pages: &mut PageMap,
-    device: &mut D,
-    file: &FileSpec,
-    listing: &[u8],
-    verb: RowVerb,
-    old: &[u8],
-    arrival: u64,
-    bytes: &[u8],
-) -> Result<Vec<u32>, StoreFault>
-    requires open { IsOpen pages.old }
-    requires sectors { sectors_of pages.old ≤ D.sectors device.old }
-    requires listing { length listing.now ≡ 83 }
-    requires values { HasValues verb (spec_of file.now) old.now bytes.now }
-    ensures edits { Edits D.Device (result ≡ Err StoreFault.Device) pages.old device.old pages.new device.new }
-    ensures came { OnIndexes D.Device (spec_of file.now) pages.old device.old listing.now (λ held left right trees. (after : File) → after.spec ≡ held.spec → PairsMove verb held after old.now bytes.now arrival →
-        IfOk result (λ roots. Become after (pages_on D.Device pages.new device.old) left right trees (length trees) roots.items)) }
-    ensures few { OnIndexes D.Device (spec_of file.now) pages.old device.old listing.now (λ held left right trees. (after : File) → after.spec ≡ held.spec → PairsMove verb held after old.now bytes.now arrival →
-        OnOk result (FewChanged (84 * length file.now.alternates.items) pages.old pages.new)) }
-    ensures room { OnIndexes D.Device (spec_of file.now) pages.old device.old listing.now (λ held left right trees. (after : File) → after.spec ≡ held.spec → PairsMove verb held after old.now bytes.now arrival →
-        result ≡ Err StoreFault.Full → free_count (committed_of pages.old) < length (changed_pages_of pages.old) + 84 * length file.now.alternates.items) }
-    ensures damaged { OnIndexes D.Device (spec_of file.now) pages.old device.old listing.now (λ held left right trees. (after : File) → after.spec ≡ held.spec → PairsMove verb held after old.now bytes.now arrival →
-        PairsMayMove verb held old.now bytes.now arrival → result ≡ Err StoreFault.Damaged → ⊥) }
-    ensures count { IfOk result (λ roots. length roots.items ≡ length file.now.alternates.items) }
-    ensures spent { result ≡ Err StoreFault.Spent → is_spent pages.old ≡ true }
-    ensures cause { IfErr result IsWriteFault }
-{
-    let mut roots = Vec::new(alloc);
-    let count = file.alternates.len() as u8;
-    for key in 0..count {
-        let mut tree = file_tree(alloc, file, KeyOfReference::Alternate(key), listing);
-        move_pair(
-            alloc, &mut tree, pages, device, file, key, verb, old, arrival, bytes,
-        )?;
-        roots.push(tree.root())?;
-    }
-    Ok(roots)
 }

@@ -1,14 +1,14 @@
 //! A new row comes to the tree of rows.
 ghost use Rattle.std.specs.Prelude.{◌≡◌, ◌≤◌, ◌<◌, ◌+◌, true, false, Ok, Err, None, IsSome, length, IfErr};
 ghost use Rattle.station.specs.Calls.{OnlyReads};
-ghost use Rattle.pages.specs.Pages.{is_spent, catalog_of, committed_of, sectors_of, changed_pages_of, Agrees, IsOpen, SameCommitted, Unchanged};
+ghost use Rattle.pages.specs.Pages.{is_spent, catalog_of, committed_of, sectors_of, changed_pages_of, Agrees, IsOpen, SameCommitted, IsUnchanged};
 ghost use Rattle.pages.specs.Use.{free_count};
-ghost use Rattle.btree.specs.Calls.{Agreed, pages_on};
-ghost use Rattle.btree.specs.Entries.{entry_with, with_entry};
+ghost use Rattle.btree.specs.Calls.{IfAgrees, pages_on};
+ghost use Rattle.btree.specs.Entries.{entry_with, with_new_entry};
 ghost use Rattle.btree.specs.Told.{FewChanged};
 ghost use Rattle.records.specs.Stores.{spec_of};
-ghost use Rattle.file_trees.specs.Grows.{StandsAmong};
-ghost use Rattle.file_trees.specs.Trees.{entry_under, layout_under};
+ghost use Rattle.volume_format.specs.Grows.{IsTreeAmong};
+ghost use Rattle.volume_format.specs.Trees.{entry_under, layout_under};
 ghost use Rattle.alternate_keys.specs.Among.{OnAmong};
 ghost use Rattle.alternate_keys.specs.Faults.{IsWriteFault};
 ghost use Rattle.alternate_keys.specs.NewRow.{row_with};
@@ -40,17 +40,17 @@ pub(crate) fn insert_row<D: Device>(
     ensures only { OnlyReads D.Device (result ≡ Err StoreFault.Device) device.old device.new }
     ensures inserted { OnAmong D.Device prime.old pages.old device.old (λ left right entries. result ≡ Ok true →
         (entry_with entries (entry_under (spec_of file.now) KeyOfReference.Prime (row_with (spec_of file.now) number arrival bytes.now)).key ≡ None)
-        × StandsAmong (pages_on D.Device pages.new device.old) left right prime.new (with_entry entries (entry_under (spec_of file.now) KeyOfReference.Prime (row_with (spec_of file.now) number arrival bytes.now)))) }
+        × IsTreeAmong (pages_on D.Device pages.new device.old) left right prime.new (with_new_entry entries (entry_under (spec_of file.now) KeyOfReference.Prime (row_with (spec_of file.now) number arrival bytes.now)))) }
     ensures there { OnAmong D.Device prime.old pages.old device.old (λ left right entries. result ≡ Ok false →
         IsSome (entry_with entries (entry_under (spec_of file.now) KeyOfReference.Prime (row_with (spec_of file.now) number arrival bytes.now)).key)) }
-    ensures same { result ≡ Ok false → Unchanged pages.old pages.new }
+    ensures same { result ≡ Ok false → IsUnchanged pages.old pages.new }
     ensures damaged { OnAmong D.Device prime.old pages.old device.old (λ left right entries. result ≡ Err StoreFault.Damaged → ⊥) }
     ensures changed_pages { OnAmong D.Device prime.old pages.old device.old (λ left right entries. FewChanged 42 pages.old pages.new) }
     ensures room { OnAmong D.Device prime.old pages.old device.old (λ left right entries. result ≡ Err StoreFault.Full → free_count (committed_of pages.old) < length (changed_pages_of pages.old) + 42) }
     ensures layout { prime.new.layout ≡ prime.old.layout }
     ensures committed { SameCommitted pages.old pages.new }
     ensures catalog { catalog_of pages.new ≡ catalog_of pages.old }
-    ensures agrees { Agreed D.Device pages.old device.old (Agrees pages.new (D.state device.new).disk) }
+    ensures agrees { IfAgrees D.Device pages.old device.old (Agrees pages.new (D.state device.new).disk) }
     ensures open { IsOpen pages.new }
     ensures spent { result ≡ Err StoreFault.Spent → is_spent pages.old ≡ true }
     ensures cause { IfErr result IsWriteFault }

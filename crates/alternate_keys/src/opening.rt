@@ -1,24 +1,24 @@
 //! A volume is made, and opened.
 ghost use Rattle.std.specs.Prelude.{◌≡◌, ◌⊎◌, ◌≤◌, ◌↔◌, false, Err, [], IfOk, IfErr, OnOk, OnErr};
-ghost use Rattle.station.specs.State.{synced, SameConsole};
+ghost use Rattle.station.specs.State.{state_after_sync, SameConsole};
 ghost use Rattle.station.specs.History.{Through, EachImage};
 ghost use Rattle.station.specs.Failures.{Blames, CountsFailure};
-ghost use Rattle.station.specs.Opening.{Opening};
+ghost use Rattle.station.specs.Opening.{IsOpening};
 ghost use Rattle.pages.specs.Layout.{IsForeign};
 ghost use Rattle.pages.specs.Pages.{sectors_of, committed_of};
 ghost use Rattle.pages.specs.Use.{free_count};
 ghost use Rattle.records.specs.Files.{Files};
-ghost use Rattle.file_trees.specs.Volume.{Holds};
-ghost use Rattle.alternate_keys.specs.Opened.{HasMap, Refused, IsReadCause, Tells};
-ghost use Rattle.alternate_keys.specs.Stands.{Stands};
+ghost use Rattle.volume_format.specs.Volume.{Holds};
+ghost use Rattle.alternate_keys.specs.Opened.{HasMap, IsOpenRefusal, IsReadCause, FailsWith};
+ghost use Rattle.alternate_keys.specs.Stands.{Represents};
 
 use crate::fault::to_fault;
 use crate::store::PagedStore;
-use file_trees::empty_holds;
 use pages::PageMap;
 use records::StoreFault;
 use station::{Device, DeviceError};
 use std::alloc::Global;
+use volume_format::empty_holds;
 
 /// Makes a volume of the device's size without files. What the device held before is gone.
 pub fn format<D: Device>(device: &mut D) -> Result<(), DeviceError>
@@ -50,21 +50,21 @@ impl PagedStore {
         ensures failures { Blames (result ≡ Err StoreFault.Device) (D.failures device.old) (D.failures device.new) }
 
         // Until it has succeeded, a crash leaves what was possible before.
-        ensures moments { D.is_honest device.old → Through (D.history device.old) (D.history device.new) (D.state device.new) (Opening (D.state device.old)) }
-        ensures state { D.is_honest device.old → OnOk result (D.state device.new ≡ synced (D.state device.old)) }
-        ensures unwritten { D.is_honest device.old → OnErr result ((D.state device.new ≡ D.state device.old) ⊎ (D.state device.new ≡ synced (D.state device.old))) }
+        ensures moments { D.is_honest device.old → Through (D.history device.old) (D.history device.new) (D.state device.new) (IsOpening (D.state device.old)) }
+        ensures state { D.is_honest device.old → OnOk result (D.state device.new ≡ state_after_sync (D.state device.old)) }
+        ensures unwritten { D.is_honest device.old → OnErr result ((D.state device.new ≡ D.state device.old) ⊎ (D.state device.new ≡ state_after_sync (D.state device.old))) }
 
         // The store stands for the files that the disk holds, where it holds some.
         ensures stands { D.is_honest device.old → (files : Files) → Holds (D.state device.old).disk.present files →
-            IfOk result (λ store. Stands store.pages (D.state device.new).disk files) }
+            IfOk result (λ store. Represents store.pages (D.state device.new).disk files) }
         ensures ready { IfOk result (λ store. (store.spent ≡ false) × (sectors_of store.pages ≤ D.sectors device.old)) }
 
         // Only a disk that holds a map is opened. Where it holds files, the device and memory alone refuse. `Layout` comes exactly where the
         // newest root is the other store's, and `Damaged` only where the disk holds no files.
         ensures map { D.is_honest device.old → OnOk result (HasMap (D.state device.old).disk.present) }
-        ensures refused { D.is_honest device.old → IfErr result (Refused (D.state device.old).disk.present) }
+        ensures refused { D.is_honest device.old → IfErr result (IsOpenRefusal (D.state device.old).disk.present) }
         ensures opens { D.is_honest device.old → (files : Files) → Holds (D.state device.old).disk.present files → IfErr result IsReadCause }
-        ensures foreign { D.is_honest device.old → IsForeign (D.state device.old).disk.present → Tells StoreFault.Layout result }
+        ensures foreign { D.is_honest device.old → IsForeign (D.state device.old).disk.present → FailsWith StoreFault.Layout result }
     {
         match PageMap::open(alloc, device, capacity) {
             Ok(pages) => Ok(PagedStore {

@@ -4,9 +4,9 @@ ghost use Rattle.std.specs.List.{flat_map};
 ghost use Rattle.byteorder.specs.Endian.{big_bytes};
 ghost use Rattle.records.specs.Rows.{part, named_pair};
 ghost use Rattle.records.specs.Changes.{new_number};
-ghost use Rattle.file_trees.specs.Trees.{prime_key};
+ghost use Rattle.volume_format.specs.Trees.{prime_key};
 
-use crate::aiming::{ARRIVAL_BYTES, number_bytes, pair_bytes};
+use crate::search_keys::{ARRIVAL_BYTES, number_bytes, pair_bytes};
 use records::{AlternateKey, FileSpec, KeyOfReference, KeyPlace, Organization, StoreFault};
 use std::alloc::Global;
 

@@ -1,9 +1,9 @@
 //! The call of the store that changes a row.
 ghost use Rattle.std.specs.Prelude.{◌≡◌, ◌≤◌, true, false, Err, length, IfOk};
-ghost use Rattle.records.specs.Changes.{inserted, replaced, removed};
+ghost use Rattle.records.specs.Changes.{insertion, replacement, removal};
 ghost use Rattle.records.specs.Files.{File, Files};
-ghost use Rattle.records.specs.Stores.{spec_of, Has, IsNumber, key_length, pair_of, is_change, files_after};
-ghost use Rattle.records.specs.Calls.{StandsFor, Changes, Spends, Turns};
+ghost use Rattle.records.specs.Stores.{spec_of, Has, IsNewNumber, key_length, pair_of, is_change, files_after};
+ghost use Rattle.records.specs.Calls.{Represents, Changes, Spends, ChangesFiles};
 ghost use Rattle.alternate_keys.specs.Moved.{IsAsked, changed_by};
 
 use crate::changing::change_in;
@@ -26,11 +26,11 @@ impl PagedStore {
         requires asked { IsAsked verb (spec_of file.now) number bytes.now }
         ensures changes { Changes ⟦<PagedStore as Keeps>⟧ D.Device result self.old device.old self.new device.new }
         ensures spends { Spends ⟦<PagedStore as Keeps>⟧ result self.old self.new }
-        ensures outcome { (files : Files) (held : File) → StandsFor ⟦<PagedStore as Keeps>⟧ D.Device self.old device.old files → Has files file.now held →
+        ensures outcome { (files : Files) (held : File) → Represents ⟦<PagedStore as Keeps>⟧ D.Device self.old device.old files → Has files file.now held →
             IfOk result (λ outcome. outcome ≡ (changed_by verb file.now.organization number bytes.now held).outcome) }
-        ensures turns { (files : Files) (held : File) → StandsFor ⟦<PagedStore as Keeps>⟧ D.Device self.old device.old files → Has files file.now held →
-            Turns ⟦<PagedStore as Keeps>⟧ D.Device result false file.now.name.items files (files_after file.now.name.items files (changed_by verb file.now.organization number bytes.now held)) self.old device.old self.new device.new }
-        ensures full { (files : Files) (held : File) → StandsFor ⟦<PagedStore as Keeps>⟧ D.Device self.old device.old files → Has files file.now held →
+        ensures turns { (files : Files) (held : File) → Represents ⟦<PagedStore as Keeps>⟧ D.Device self.old device.old files → Has files file.now held →
+            ChangesFiles ⟦<PagedStore as Keeps>⟧ D.Device result false file.now.name.items files (files_after file.now.name.items files (changed_by verb file.now.organization number bytes.now held)) self.old device.old self.new device.new }
+        ensures full { (files : Files) (held : File) → Represents ⟦<PagedStore as Keeps>⟧ D.Device self.old device.old files → Has files file.now held →
             result ≡ Err StoreFault.Full → is_change (changed_by verb file.now.organization number bytes.now held).outcome ≡ true }
         ensures idle { D.is_honest device.old → IfOk result (λ outcome. is_change outcome ≡ false → D.state device.new ≡ D.state device.old) }
     {

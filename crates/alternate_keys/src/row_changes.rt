@@ -1,16 +1,17 @@
 //! A row comes to the trees of its file, gets another record there, or leaves them. The catalog doesn't say so yet.
 ghost use Rattle.std.specs.Prelude.{◌≡◌, ◌≤◌, ◌<◌, ◌+◌, ◌*◌, true, false, Err, length, OnOk, IfOk, IfErr};
-ghost use Rattle.pages.specs.Pages.{is_spent, committed_of, sectors_of, changed_pages_of, IsOpen, Unchanged};
+ghost use Rattle.pages.specs.Pages.{is_spent, committed_of, sectors_of, changed_pages_of, IsOpen, IsUnchanged};
 ghost use Rattle.pages.specs.Use.{free_count};
 ghost use Rattle.btree.specs.Calls.{pages_on};
 ghost use Rattle.btree.specs.Told.{FewChanged};
-ghost use Rattle.records.specs.Changes.{inserted, replaced, removed};
-ghost use Rattle.records.specs.Stores.{spec_of, key_length, pair_of, IsNumber, is_change};
+ghost use Rattle.records.specs.Changes.{insertion, replacement, removal};
+ghost use Rattle.records.specs.Stores.{spec_of, key_length, pair_of, IsNewNumber, is_change};
 ghost use Rattle.alternate_keys.specs.Calls.{Edits};
 ghost use Rattle.alternate_keys.specs.Faults.{IsWriteFault};
 ghost use Rattle.alternate_keys.specs.Moved.{named_after, changed_by, IsAsked};
-ghost use Rattle.alternate_keys.specs.Placed.{OnTrees, Placed};
+ghost use Rattle.alternate_keys.specs.Placed.{OnTrees, HasFileTrees};
 
+use crate::commit::is_done;
 use crate::file_tree::file_tree;
 use crate::finding_row::find_row;
 use crate::leave::{remove_among, replace_among};
@@ -20,14 +21,50 @@ use crate::row_bytes::{number_for, part_of};
 use crate::row_trees::move_row;
 use crate::row_turn::RowTurn;
 use crate::row_verb::RowVerb;
-use crate::settling::is_done;
 use crate::taken_row::look_at_new_row;
-use crate::values::look_at_values;
-use file_trees::next_arrival;
+use crate::values::find_duplicate_key;
 use pages::PageMap;
 use records::{FileSpec, KeyOfReference, Outcome, StoreFault};
 use station::Device;
 use std::alloc::Global;
+use volume_format::next_arrival;
+
+/// A row of a file changes. The bytes are a record, or the prime key of a row that leaves.
+pub(crate) fn change_trees<D: Device>(
+    alloc: Global,
+    pages: &mut PageMap,
+    device: &mut D,
+    file: &FileSpec,
+    listing: &[u8],
+    verb: RowVerb,
+    number: u64,
+    bytes: &[u8],
+) -> Result<RowTurn, StoreFault>
+    requires open { IsOpen pages.old }
+    requires sectors { sectors_of pages.old ≤ D.sectors device.old }
+    requires listing { length listing.now ≡ 83 }
+    requires asked { IsAsked verb (spec_of file.now) number bytes.now }
+    ensures edits { Edits D.Device (result ≡ Err StoreFault.Device) pages.old device.old pages.new device.new }
+    ensures outcome { OnTrees D.Device (spec_of file.now) pages.old device.old listing.now (λ named generation left right. IfOk result (λ turn. turn.outcome ≡ (changed_by verb file.now.organization number bytes.now named.file).outcome)) }
+    ensures placed { OnTrees D.Device (spec_of file.now) pages.old device.old listing.now (λ named generation left right. IfOk result (λ turn. is_change turn.outcome ≡ true →
+        HasFileTrees (named_after named (changed_by verb file.now.organization number bytes.now named.file)) (generation + 1) (pages_on D.Device pages.new device.old) left right turn.listing.items)) }
+    ensures few { OnTrees D.Device (spec_of file.now) pages.old device.old listing.now (λ named generation left right. OnOk result (FewChanged (84 * length file.now.alternates.items + 42) pages.old pages.new)) }
+    ensures room { OnTrees D.Device (spec_of file.now) pages.old device.old listing.now (λ named generation left right. result ≡ Err StoreFault.Full →
+        free_count (committed_of pages.old) < length (changed_pages_of pages.old) + (84 * length file.now.alternates.items + 42)) }
+    ensures full { is_spent pages.old ≡ false → OnTrees D.Device (spec_of file.now) pages.old device.old listing.now (λ named generation left right. result ≡ Err StoreFault.Full →
+        is_change (changed_by verb file.now.organization number bytes.now named.file).outcome ≡ true) }
+    ensures damaged { OnTrees D.Device (spec_of file.now) pages.old device.old listing.now (λ named generation left right. result ≡ Err StoreFault.Damaged → ⊥) }
+    ensures same { IfOk result (λ turn. is_change turn.outcome ≡ false → IsUnchanged pages.old pages.new) }
+    ensures long { IfOk result (λ turn. is_change turn.outcome ≡ true → length turn.listing.items ≡ 83) }
+    ensures spent { result ≡ Err StoreFault.Spent → is_spent pages.old ≡ true }
+    ensures cause { IfErr result IsWriteFault }
+{
+    match verb {
+        RowVerb::Insert => insert_trees(alloc, pages, device, file, listing, number, bytes),
+        RowVerb::Replace => replace_trees(alloc, pages, device, file, listing, number, bytes),
+        RowVerb::Remove => remove_trees(alloc, pages, device, file, listing, number, bytes),
+    }
+}
 
 /// A new row comes.
 fn insert_trees<D: Device>(
@@ -42,19 +79,19 @@ fn insert_trees<D: Device>(
     requires open { IsOpen pages.old }
     requires sectors { sectors_of pages.old ≤ D.sectors device.old }
     requires listing { length listing.now ≡ 83 }
-    requires number { IsNumber file.now.organization number }
+    requires number { IsNewNumber file.now.organization number }
     requires bytes { length bytes.now ≡ file.now.record_length }
     ensures edits { Edits D.Device (result ≡ Err StoreFault.Device) pages.old device.old pages.new device.new }
-    ensures outcome { OnTrees D.Device (spec_of file.now) pages.old device.old listing.now (λ named generation left right. IfOk result (λ turn. turn.outcome ≡ (inserted number bytes.now named.file).outcome)) }
+    ensures outcome { OnTrees D.Device (spec_of file.now) pages.old device.old listing.now (λ named generation left right. IfOk result (λ turn. turn.outcome ≡ (insertion number bytes.now named.file).outcome)) }
     ensures placed { OnTrees D.Device (spec_of file.now) pages.old device.old listing.now (λ named generation left right. IfOk result (λ turn. is_change turn.outcome ≡ true →
-        Placed (named_after named (inserted number bytes.now named.file)) (generation + 1) (pages_on D.Device pages.new device.old) left right turn.listing.items)) }
+        HasFileTrees (named_after named (insertion number bytes.now named.file)) (generation + 1) (pages_on D.Device pages.new device.old) left right turn.listing.items)) }
     ensures few { OnTrees D.Device (spec_of file.now) pages.old device.old listing.now (λ named generation left right. OnOk result (FewChanged (84 * length file.now.alternates.items + 42) pages.old pages.new)) }
     ensures room { OnTrees D.Device (spec_of file.now) pages.old device.old listing.now (λ named generation left right. result ≡ Err StoreFault.Full →
         free_count (committed_of pages.old) < length (changed_pages_of pages.old) + (84 * length file.now.alternates.items + 42)) }
     ensures full { is_spent pages.old ≡ false → OnTrees D.Device (spec_of file.now) pages.old device.old listing.now (λ named generation left right. result ≡ Err StoreFault.Full →
-        is_change (inserted number bytes.now named.file).outcome ≡ true) }
+        is_change (insertion number bytes.now named.file).outcome ≡ true) }
     ensures damaged { OnTrees D.Device (spec_of file.now) pages.old device.old listing.now (λ named generation left right. result ≡ Err StoreFault.Damaged → ⊥) }
-    ensures same { IfOk result (λ turn. is_change turn.outcome ≡ false → Unchanged pages.old pages.new) }
+    ensures same { IfOk result (λ turn. is_change turn.outcome ≡ false → IsUnchanged pages.old pages.new) }
     ensures long { IfOk result (λ turn. is_change turn.outcome ≡ true → length turn.listing.items ≡ 83) }
     ensures spent { result ≡ Err StoreFault.Spent → is_spent pages.old ≡ true }
     ensures cause { IfErr result IsWriteFault }
@@ -104,16 +141,16 @@ fn replace_trees<D: Device>(
     requires listing { length listing.now ≡ 83 }
     requires bytes { length bytes.now ≡ file.now.record_length }
     ensures edits { Edits D.Device (result ≡ Err StoreFault.Device) pages.old device.old pages.new device.new }
-    ensures outcome { OnTrees D.Device (spec_of file.now) pages.old device.old listing.now (λ named generation left right. IfOk result (λ turn. turn.outcome ≡ (replaced number bytes.now named.file).outcome)) }
+    ensures outcome { OnTrees D.Device (spec_of file.now) pages.old device.old listing.now (λ named generation left right. IfOk result (λ turn. turn.outcome ≡ (replacement number bytes.now named.file).outcome)) }
     ensures placed { OnTrees D.Device (spec_of file.now) pages.old device.old listing.now (λ named generation left right. IfOk result (λ turn. is_change turn.outcome ≡ true →
-        Placed (named_after named (replaced number bytes.now named.file)) (generation + 1) (pages_on D.Device pages.new device.old) left right turn.listing.items)) }
+        HasFileTrees (named_after named (replacement number bytes.now named.file)) (generation + 1) (pages_on D.Device pages.new device.old) left right turn.listing.items)) }
     ensures few { OnTrees D.Device (spec_of file.now) pages.old device.old listing.now (λ named generation left right. OnOk result (FewChanged (84 * length file.now.alternates.items + 42) pages.old pages.new)) }
     ensures room { OnTrees D.Device (spec_of file.now) pages.old device.old listing.now (λ named generation left right. result ≡ Err StoreFault.Full →
         free_count (committed_of pages.old) < length (changed_pages_of pages.old) + (84 * length file.now.alternates.items + 42)) }
     ensures full { OnTrees D.Device (spec_of file.now) pages.old device.old listing.now (λ named generation left right. result ≡ Err StoreFault.Full →
-        is_change (replaced number bytes.now named.file).outcome ≡ true) }
+        is_change (replacement number bytes.now named.file).outcome ≡ true) }
     ensures damaged { OnTrees D.Device (spec_of file.now) pages.old device.old listing.now (λ named generation left right. result ≡ Err StoreFault.Damaged → ⊥) }
-    ensures same { IfOk result (λ turn. is_change turn.outcome ≡ false → Unchanged pages.old pages.new) }
+    ensures same { IfOk result (λ turn. is_change turn.outcome ≡ false → IsUnchanged pages.old pages.new) }
     ensures long { IfOk result (λ turn. is_change turn.outcome ≡ true → length turn.listing.items ≡ 83) }
     ensures spent { result ≡ Err StoreFault.Spent → is_spent pages.old ≡ true }
     ensures cause { IfErr result IsWriteFault }
@@ -133,7 +170,7 @@ fn replace_trees<D: Device>(
         None => return Ok(RowTurn::none(alloc, Outcome::Missing)),
     };
     let old = row.value();
-    let outcome = look_at_values(
+    let outcome = find_duplicate_key(
         alloc,
         pages,
         device,
@@ -185,16 +222,16 @@ fn remove_trees<D: Device>(
     requires listing { length listing.now ≡ 83 }
     requires key { length key.now ≡ key_length (spec_of file.now) KeyOfReference.Prime }
     ensures edits { Edits D.Device (result ≡ Err StoreFault.Device) pages.old device.old pages.new device.new }
-    ensures outcome { OnTrees D.Device (spec_of file.now) pages.old device.old listing.now (λ named generation left right. IfOk result (λ turn. turn.outcome ≡ (removed (pair_of file.now.organization key.now number) named.file).outcome)) }
+    ensures outcome { OnTrees D.Device (spec_of file.now) pages.old device.old listing.now (λ named generation left right. IfOk result (λ turn. turn.outcome ≡ (removal (pair_of file.now.organization key.now number) named.file).outcome)) }
     ensures placed { OnTrees D.Device (spec_of file.now) pages.old device.old listing.now (λ named generation left right. IfOk result (λ turn. is_change turn.outcome ≡ true →
-        Placed (named_after named (removed (pair_of file.now.organization key.now number) named.file)) (generation + 1) (pages_on D.Device pages.new device.old) left right turn.listing.items)) }
+        HasFileTrees (named_after named (removal (pair_of file.now.organization key.now number) named.file)) (generation + 1) (pages_on D.Device pages.new device.old) left right turn.listing.items)) }
     ensures few { OnTrees D.Device (spec_of file.now) pages.old device.old listing.now (λ named generation left right. OnOk result (FewChanged (84 * length file.now.alternates.items + 42) pages.old pages.new)) }
     ensures room { OnTrees D.Device (spec_of file.now) pages.old device.old listing.now (λ named generation left right. result ≡ Err StoreFault.Full →
         free_count (committed_of pages.old) < length (changed_pages_of pages.old) + (84 * length file.now.alternates.items + 42)) }
     ensures full { OnTrees D.Device (spec_of file.now) pages.old device.old listing.now (λ named generation left right. result ≡ Err StoreFault.Full →
-        is_change (removed (pair_of file.now.organization key.now number) named.file).outcome ≡ true) }
+        is_change (removal (pair_of file.now.organization key.now number) named.file).outcome ≡ true) }
     ensures damaged { OnTrees D.Device (spec_of file.now) pages.old device.old listing.now (λ named generation left right. result ≡ Err StoreFault.Damaged → ⊥) }
-    ensures same { IfOk result (λ turn. is_change turn.outcome ≡ false → Unchanged pages.old pages.new) }
+    ensures same { IfOk result (λ turn. is_change turn.outcome ≡ false → IsUnchanged pages.old pages.new) }
     ensures long { IfOk result (λ turn. is_change turn.outcome ≡ true → length turn.listing.items ≡ 83) }
     ensures spent { result ≡ Err StoreFault.Spent → is_spent pages.old ≡ true }
     ensures cause { IfErr result IsWriteFault }
@@ -224,41 +261,4 @@ fn remove_trees<D: Device>(
         outcome: Outcome::Done,
         listing,
     })
-}
-
-/// A row of a file changes. The bytes are a record, or the prime key of a row that leaves.
-pub(crate) fn change_trees<D: Device>(
-    alloc: Global,
-    pages: &mut PageMap,
-    device: &mut D,
-    file: &FileSpec,
-    listing: &[u8],
-    verb: RowVerb,
-    number: u64,
-    bytes: &[u8],
-) -> Result<RowTurn, StoreFault>
-    requires open { IsOpen pages.old }
-    requires sectors { sectors_of pages.old ≤ D.sectors device.old }
-    requires listing { length listing.now ≡ 83 }
-    requires asked { IsAsked verb (spec_of file.now) number bytes.now }
-    ensures edits { Edits D.Device (result ≡ Err StoreFault.Device) pages.old device.old pages.new device.new }
-    ensures outcome { OnTrees D.Device (spec_of file.now) pages.old device.old listing.now (λ named generation left right. IfOk result (λ turn. turn.outcome ≡ (changed_by verb file.now.organization number bytes.now named.file).outcome)) }
-    ensures placed { OnTrees D.Device (spec_of file.now) pages.old device.old listing.now (λ named generation left right. IfOk result (λ turn. is_change turn.outcome ≡ true →
-        Placed (named_after named (changed_by verb file.now.organization number bytes.now named.file)) (generation + 1) (pages_on D.Device pages.new device.old) left right turn.listing.items)) }
-    ensures few { OnTrees D.Device (spec_of file.now) pages.old device.old listing.now (λ named generation left right. OnOk result (FewChanged (84 * length file.now.alternates.items + 42) pages.old pages.new)) }
-    ensures room { OnTrees D.Device (spec_of file.now) pages.old device.old listing.now (λ named generation left right. result ≡ Err StoreFault.Full →
-        free_count (committed_of pages.old) < length (changed_pages_of pages.old) + (84 * length file.now.alternates.items + 42)) }
-    ensures full { is_spent pages.old ≡ false → OnTrees D.Device (spec_of file.now) pages.old device.old listing.now (λ named generation left right. result ≡ Err StoreFault.Full →
-        is_change (changed_by verb file.now.organization number bytes.now named.file).outcome ≡ true) }
-    ensures damaged { OnTrees D.Device (spec_of file.now) pages.old device.old listing.now (λ named generation left right. result ≡ Err StoreFault.Damaged → ⊥) }
-    ensures same { IfOk result (λ turn. is_change turn.outcome ≡ false → Unchanged pages.old pages.new) }
-    ensures long { IfOk result (λ turn. is_change turn.outcome ≡ true → length turn.listing.items ≡ 83) }
-    ensures spent { result ≡ Err StoreFault.Spent → is_spent pages.old ≡ true }
-    ensures cause { IfErr result IsWriteFault }
-{
-    match verb {
-        RowVerb::Insert => insert_trees(alloc, pages, device, file, listing, number, bytes),
-        RowVerb::Replace => replace_trees(alloc, pages, device, file, listing, number, bytes),
-        RowVerb::Remove => remove_trees(alloc, pages, device, file, listing, number, bytes),
-    }
 }

@@ -8,15 +8,15 @@ ghost use Rattle.records.specs.Stores.{spec_of};
 ghost use Rattle.alternate_keys.specs.Calls.{Edits};
 ghost use Rattle.alternate_keys.specs.Faults.{IsWriteFault};
 ghost use Rattle.alternate_keys.specs.Moved.{HasValues, OnMoving, PairsMayMove};
-ghost use Rattle.alternate_keys.specs.Placed.{Placed};
+ghost use Rattle.alternate_keys.specs.Placed.{HasFileTrees};
 
 use crate::move_pairs::move_pairs;
 use crate::row_verb::RowVerb;
-use file_trees::spell_listing;
 use pages::PageMap;
 use records::{FileSpec, StoreFault};
 use station::Device;
 use std::alloc::Global;
+use volume_format::spell_listing;
 
 /// Moves the pairs of a row, after the tree of rows has changed. The answer is what the catalog is to say of the file then.
 pub(crate) fn move_row<D: Device>(
@@ -38,7 +38,7 @@ pub(crate) fn move_row<D: Device>(
     requires values { HasValues verb (spec_of file.now) old.now bytes.now }
     ensures edits { Edits D.Device (result ≡ Err StoreFault.Device) pages.old device.old pages.new device.new }
     ensures placed { OnMoving D.Device verb (spec_of file.now) pages.old device.old listing.now root old.now bytes.now arrival next (λ held after generation left right.
-        IfOk result (λ new. Placed after (generation + 1) (pages_on D.Device pages.new device.old) left right new.items)) }
+        IfOk result (λ new. HasFileTrees after (generation + 1) (pages_on D.Device pages.new device.old) left right new.items)) }
     ensures few { OnMoving D.Device verb (spec_of file.now) pages.old device.old listing.now root old.now bytes.now arrival next (λ held after generation left right.
         OnOk result (FewChanged (84 * length file.now.alternates.items) pages.old pages.new)) }
     ensures room { OnMoving D.Device verb (spec_of file.now) pages.old device.old listing.now root old.now bytes.now arrival next (λ held after generation left right.

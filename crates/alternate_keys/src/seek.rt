@@ -2,16 +2,16 @@
 ghost use Rattle.std.specs.Prelude.{◌≡◌, ◌≤◌, ◌↔◌, true, Err, List, length, IfOk, OnOk, OnErr, IfErr};
 ghost use Rattle.std.specs.Option.{option_map};
 ghost use Rattle.station.specs.Calls.{OnlyReads};
-ghost use Rattle.pages.specs.Pages.{map_now, is_spent, sectors_of, Agrees, IsOpen, Unchanged};
+ghost use Rattle.pages.specs.Pages.{map_now, is_spent, sectors_of, Agrees, IsOpen, IsUnchanged};
 ghost use Rattle.records.specs.Rows.{Row};
-ghost use Rattle.records.specs.Order.{Bound, sought, found};
+ghost use Rattle.records.specs.Order.{RowBound, sought_row, found_row};
 ghost use Rattle.records.specs.Stores.{spec_of, IsKey, record_of};
 ghost use Rattle.btree.specs.Reading.{IsReadRefusal};
 ghost use Rattle.alternate_keys.specs.Seen.{IsSought};
 
-use crate::aim::Aim;
+use crate::found_rows::{read_alternate_row, read_prime_row};
 use crate::look::look;
-use crate::tell::{tell_alternate, tell_prime};
+use crate::search_start::SearchStart;
 use btree::Tree;
 use pages::{PageMap, PagesError};
 use records::{FileSpec, Found, KeyOfReference};
@@ -26,7 +26,7 @@ pub fn seek_row<D: Device>(
     device: &mut D,
     file: &FileSpec,
     key: KeyOfReference,
-    aim: Aim,
+    aim: SearchStart,
     at: &[u8],
     bytes: &mut [u8],
 ) -> Result<Option<Found>, PagesError>
@@ -35,16 +35,16 @@ pub fn seek_row<D: Device>(
     requires key { IsKey (spec_of file.now) key }
     requires short { (prime.now.layout.key_length ≤ 128) × (under.now.layout.key_length ≤ 128) }
     ensures only { OnlyReads D.Device (result ≡ Err PagesError.Device) device.old device.new }
-    ensures unchanged { Unchanged pages.old pages.new }
+    ensures unchanged { IsUnchanged pages.old pages.new }
     ensures agrees { D.is_honest device.old → Agrees pages.old (D.state device.old).disk → Agrees pages.new (D.state device.new).disk }
     ensures open { IsOpen pages.new }
-    ensures found { D.is_honest device.old → Agrees pages.old (D.state device.old).disk → (bound : Bound) (rows : List Row) →
+    ensures found { D.is_honest device.old → Agrees pages.old (D.state device.old).disk → (bound : RowBound) (rows : List Row) →
         IsSought (spec_of file.now) key bound (map_now pages.old (D.state device.old).disk.present).pages rows prime.now under.now aim at.now →
-        IfOk result (λ answer. answer ≡ option_map (found (spec_of file.now) key rows) (sought (spec_of file.now) key bound rows)) }
-    ensures bytes { D.is_honest device.old → Agrees pages.old (D.state device.old).disk → (bound : Bound) (rows : List Row) →
+        IfOk result (λ answer. answer ≡ option_map (found_row (spec_of file.now) key rows) (sought_row (spec_of file.now) key bound rows)) }
+    ensures bytes { D.is_honest device.old → Agrees pages.old (D.state device.old).disk → (bound : RowBound) (rows : List Row) →
         IsSought (spec_of file.now) key bound (map_now pages.old (D.state device.old).disk.present).pages rows prime.now under.now aim at.now →
-        length bytes.old ≡ file.now.record_length → OnOk result (bytes.new ≡ record_of bytes.old (sought (spec_of file.now) key bound rows)) }
-    ensures damaged { D.is_honest device.old → Agrees pages.old (D.state device.old).disk → result ≡ Err PagesError.Damaged → (bound : Bound) (rows : List Row) →
+        length bytes.old ≡ file.now.record_length → OnOk result (bytes.new ≡ record_of bytes.old (sought_row (spec_of file.now) key bound rows)) }
+    ensures damaged { D.is_honest device.old → Agrees pages.old (D.state device.old).disk → result ≡ Err PagesError.Damaged → (bound : RowBound) (rows : List Row) →
         IsSought (spec_of file.now) key bound (map_now pages.old (D.state device.old).disk.present).pages rows prime.now under.now aim at.now →
         length bytes.old ≡ file.now.record_length → ⊥ }
     ensures spent { result ≡ Err PagesError.Spent → is_spent pages.old ≡ true }
@@ -57,12 +57,12 @@ pub fn seek_row<D: Device>(
     };
     match key {
         KeyOfReference::Prime => {
-            let told = tell_prime(file.organization, &entry, bytes)?;
+            let told = read_prime_row(file.organization, &entry, bytes)?;
             Ok(Some(told))
         }
         KeyOfReference::Alternate(_) => {
             let length = file.key_place(key).length as usize;
-            let told = tell_alternate(prime, under, pages, device, length, &entry, bytes)?;
+            let told = read_alternate_row(prime, under, pages, device, length, &entry, bytes)?;
             Ok(Some(told))
         }
     }

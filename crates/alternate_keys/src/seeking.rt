@@ -2,18 +2,18 @@
 ghost use Rattle.std.specs.Prelude.{◌≡◌, ◌≤◌, Err, true, false, length, IfOk, OnOk, OnErr, IfErr};
 ghost use Rattle.std.specs.Option.{option_map};
 ghost use Rattle.station.specs.Calls.{OnlyReads};
-ghost use Rattle.pages.specs.Pages.{map_now, is_spent, sectors_of, Agrees, IsOpen, Unchanged};
-ghost use Rattle.btree.specs.Calls.{Agreed};
-ghost use Rattle.records.specs.Order.{sought, found};
+ghost use Rattle.pages.specs.Pages.{map_now, is_spent, sectors_of, Agrees, IsOpen, IsUnchanged};
+ghost use Rattle.btree.specs.Calls.{IfAgrees};
+ghost use Rattle.records.specs.Order.{sought_row, found_row};
 ghost use Rattle.records.specs.Files.{File, Files};
-ghost use Rattle.records.specs.Stores.{spec_of, Has, IsKey, key_length, bound, record_of};
-ghost use Rattle.file_trees.specs.Volume.{MapHolds};
+ghost use Rattle.records.specs.Stores.{spec_of, Has, IsKey, key_length, bound_at, record_of};
+ghost use Rattle.volume_format.specs.Volume.{MapHolds};
 ghost use Rattle.alternate_keys.specs.Faults.{IsReadFault};
 
-use crate::aiming::{aim_for, key_for};
 use crate::fault::to_fault;
 use crate::file_tree::file_tree;
 use crate::listing::find_listing;
+use crate::search_keys::{key_for, search_start_for};
 use crate::seek::seek_row;
 use pages::{PageMap, map_bounds};
 use records::{FileSpec, Found, KeyOfReference, Side, StoreFault};
@@ -40,15 +40,15 @@ pub(crate) fn seek_in<D: Device>(
     requires value { length value.now ≤ key_length (spec_of file.now) key }
     requires bytes { length bytes.old ≡ file.now.record_length }
     ensures only { OnlyReads D.Device (result ≡ Err StoreFault.Device) device.old device.new }
-    ensures unchanged { Unchanged pages.old pages.new }
-    ensures agrees { Agreed D.Device pages.old device.old (Agrees pages.new (D.state device.new).disk) }
+    ensures unchanged { IsUnchanged pages.old pages.new }
+    ensures agrees { IfAgrees D.Device pages.old device.old (Agrees pages.new (D.state device.new).disk) }
     ensures open { IsOpen pages.new }
-    ensures found { Agreed D.Device pages.old device.old ((files : Files) (held : File) → MapHolds (map_now pages.old (D.state device.old).disk.present) files → Has files file.now held →
-        IfOk result (λ answer. answer ≡ option_map (found (spec_of file.now) key held.rows) (sought (spec_of file.now) key (bound side value.now number) held.rows))) }
-    ensures bytes { Agreed D.Device pages.old device.old ((files : Files) (held : File) → MapHolds (map_now pages.old (D.state device.old).disk.present) files → Has files file.now held →
-        OnOk result (bytes.new ≡ record_of bytes.old (sought (spec_of file.now) key (bound side value.now number) held.rows))) }
+    ensures found { IfAgrees D.Device pages.old device.old ((files : Files) (held : File) → MapHolds (map_now pages.old (D.state device.old).disk.present) files → Has files file.now held →
+        IfOk result (λ answer. answer ≡ option_map (found_row (spec_of file.now) key held.rows) (sought_row (spec_of file.now) key (bound_at side value.now number) held.rows))) }
+    ensures bytes { IfAgrees D.Device pages.old device.old ((files : Files) (held : File) → MapHolds (map_now pages.old (D.state device.old).disk.present) files → Has files file.now held →
+        OnOk result (bytes.new ≡ record_of bytes.old (sought_row (spec_of file.now) key (bound_at side value.now number) held.rows))) }
     ensures kept { OnErr result (bytes.new ≡ bytes.old) }
-    ensures damaged { Agreed D.Device pages.old device.old ((files : Files) (held : File) → MapHolds (map_now pages.old (D.state device.old).disk.present) files → Has files file.now held → result ≡ Err StoreFault.Damaged → ⊥) }
+    ensures damaged { IfAgrees D.Device pages.old device.old ((files : Files) (held : File) → MapHolds (map_now pages.old (D.state device.old).disk.present) files → Has files file.now held → result ≡ Err StoreFault.Damaged → ⊥) }
     ensures spent { result ≡ Err StoreFault.Spent → is_spent pages.old ≡ true }
     ensures cause { IfErr result IsReadFault }
 {
@@ -60,7 +60,7 @@ pub(crate) fn seek_in<D: Device>(
     let prime = file_tree(alloc, file, KeyOfReference::Prime, entry.value());
     let under = file_tree(alloc, file, key, entry.value());
     let at = key_for(alloc, file, key, side, value, number)?;
-    let aim = aim_for(file, key, side, value, number);
+    let aim = search_start_for(file, key, side, value, number);
     match seek_row(&prime, &under, pages, device, file, key, aim, &at, bytes) {
         Ok(found) => Ok(found),
         Err(error) => Err(to_fault(error)),

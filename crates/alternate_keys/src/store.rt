@@ -17,9 +17,9 @@ impl Model for PagedStore {
     ghost use Rattle.pages.specs.Pages.{IsOpen, is_spent};
     ghost use Rattle.std.specs.Coded.{codes};
     ghost use Rattle.pages.specs.contracts.page_map.PageMap as page_map;
-    ghost use Rattle.alternate_keys.specs.Opened.{Opened};
+    ghost use Rattle.alternate_keys.specs.Opened.{OpenedVolume};
 
-    ghost Value = { Opened };
+    ghost Value = { OpenedVolume };
 
     ghost coded = { Prim.hlevel (codes, page_map.the_row.coded) };
 

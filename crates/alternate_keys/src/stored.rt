@@ -3,16 +3,16 @@ ghost use Rattle.std.specs.Prelude.{◌≡◌, ◌≤◌, ◌+◌, ◌==◌, tru
 ghost use Rattle.byteorder.specs.Endian.{big_number};
 ghost use Rattle.records.specs.Spec.{is_spec};
 ghost use Rattle.records.specs.Stores.{IsKey, key_count};
-ghost use Rattle.file_trees.specs.Catalog.{Listing, spelled};
-ghost use Rattle.file_trees.specs.Trees.{layout_under};
+ghost use Rattle.volume_format.specs.Catalog.{Listing, listing_bytes};
+ghost use Rattle.volume_format.specs.Trees.{layout_under};
 ghost use Rattle.alternate_keys.specs.Listed.{root_in};
 
 use btree::Tree;
+use btree_pages::RowLayout;
 use byteorder::{BigEndian, ByteOrder};
-use file_trees::{alternate_root, prime_root};
 use records::{KeyOfReference, StoreFault};
 use std::alloc::Global;
-use tree_pages::RowLayout;
+use volume_format::{alternate_root, prime_root};
 
 /// Where the bytes of a record, the length of the prime key, how many alternate keys, and the length of the first of them stand in a
 /// value of the catalog, counted from 0.
@@ -31,7 +31,7 @@ const ARRIVAL_BYTES: usize = 8;
 /// How many alternate keys the file has, at most seven.
 pub(crate) fn stored_count(value: &[u8]) -> u8
     requires { length value.now ≡ 83 }
-    ensures count { (l : Listing) → is_spec l.spec ≡ true → value.now ≡ spelled l → result ≡ length l.spec.alternates }
+    ensures count { (l : Listing) → is_spec l.spec ≡ true → value.now ≡ listing_bytes l → result ≡ length l.spec.alternates }
     ensures few { result ≤ 7 }
 {
     let count = value[COUNT_AT];
@@ -63,7 +63,7 @@ fn key_bytes(organization: u8, prime: usize) -> usize
 fn stored_layout(value: &[u8], key: KeyOfReference) -> RowLayout
     requires value { length value.now ≡ 83 }
     requires key { key_count key ≤ 7 }
-    ensures { (l : Listing) → is_spec l.spec ≡ true → value.now ≡ spelled l → IsKey l.spec key → result ≡ layout_under l.spec key }
+    ensures { (l : Listing) → is_spec l.spec ≡ true → value.now ≡ listing_bytes l → IsKey l.spec key → result ≡ layout_under l.spec key }
 {
     let prime = number_at(value, PRIME_AT);
     match key {
@@ -93,9 +93,9 @@ pub(crate) fn stored_tree(
 ) -> Result<Tree, StoreFault>
     requires value { length value.now ≡ 83 }
     requires key { key_count key ≤ 7 }
-    ensures tree { (l : Listing) → is_spec l.spec ≡ true → value.now ≡ spelled l → IsKey l.spec key →
+    ensures tree { (l : Listing) → is_spec l.spec ≡ true → value.now ≡ listing_bytes l → IsKey l.spec key →
         IfOk result (λ tree. (tree.layout ≡ layout_under l.spec key) × (tree.root ≡ root_in key value.now)) }
-    ensures damaged { (l : Listing) → is_spec l.spec ≡ true → value.now ≡ spelled l → IsKey l.spec key → result ≡ Err StoreFault.Damaged → ⊥ }
+    ensures damaged { (l : Listing) → is_spec l.spec ≡ true → value.now ≡ listing_bytes l → IsKey l.spec key → result ≡ Err StoreFault.Damaged → ⊥ }
     ensures cause { IfErr result (λ fault. fault ≡ StoreFault.Damaged) }
 {
     let layout = stored_layout(value, key);

@@ -2,33 +2,85 @@
 ghost use Rattle.std.specs.Prelude.{◌≡◌, ◌≤◌, ◌<◌, ◌+◌, true, false, List, [], Err, length, map, filter, is_some, if◌then◌else◌, IfOk, IfErr};
 ghost use Rattle.pages.specs.Pages.{is_spent, committed_of, sectors_of, changed_pages_of, IsOpen};
 ghost use Rattle.pages.specs.Use.{free_count};
-ghost use Rattle.btree.specs.Calls.{Agreed, pages_on};
+ghost use Rattle.btree.specs.Calls.{IfAgrees, pages_on};
 ghost use Rattle.btree.specs.Entries.{entry_with};
 ghost use Rattle.records.specs.Rows.{Row, named_pair};
-ghost use Rattle.records.specs.Changes.{inserted, is_taken, is_duplicate, done};
-ghost use Rattle.records.specs.Stores.{spec_of, IsNumber, is_change};
-ghost use Rattle.file_trees.specs.Trees.{entry_under, prime_key};
+ghost use Rattle.records.specs.Changes.{insertion, is_taken, is_duplicate, done_outcome};
+ghost use Rattle.records.specs.Stores.{spec_of, IsNewNumber, is_change};
+ghost use Rattle.volume_format.specs.Trees.{entry_under, prime_key};
 ghost use Rattle.alternate_keys.specs.Calls.{LooksAt};
 ghost use Rattle.alternate_keys.specs.Faults.{IsReadFault};
 ghost use Rattle.alternate_keys.specs.Moved.{is_new};
 ghost use Rattle.alternate_keys.specs.Placed.{OnTrees};
 ghost use Rattle.alternate_keys.specs.Seen.{HasRows};
 
+use crate::commit::is_done;
 use crate::fault::to_fault;
 use crate::file_tree::file_tree;
 use crate::row_bytes::{number_for, row_key};
 use crate::row_verb::RowVerb;
-use crate::settling::is_done;
-use crate::values::look_at_values;
+use crate::values::find_duplicate_key;
 use btree::Tree;
-use file_trees::next_arrival;
 use pages::PageMap;
 use records::{FileSpec, KeyOfReference, Outcome, StoreFault};
 use station::Device;
 use std::alloc::Global;
+use volume_format::next_arrival;
 
 /// How many pages a new entry changes at most.
 const ENTRY_PAGES: usize = 42;
+
+/// What a new row comes to by its values, before a page is changed: `Taken` where it may not come. That its prime key or number is
+/// there is looked at only where a page may be refused; elsewhere the tree of rows finds it.
+pub(crate) fn look_at_new_row<D: Device>(
+    alloc: Global,
+    pages: &mut PageMap,
+    device: &mut D,
+    file: &FileSpec,
+    listing: &[u8],
+    number: u64,
+    bytes: &[u8],
+) -> Result<Outcome, StoreFault>
+    requires open { IsOpen pages.old }
+    requires sectors { sectors_of pages.old ≤ D.sectors device.old }
+    requires listing { length listing.now ≡ 83 }
+    requires number { IsNewNumber file.now.organization number }
+    requires bytes { length bytes.now ≡ file.now.record_length }
+    ensures looks { LooksAt D.Device (result ≡ Err StoreFault.Device) pages.old device.old pages.new device.new }
+    ensures told { OnTrees D.Device (spec_of file.now) pages.old device.old listing.now (λ named generation left right. IfOk result (λ outcome. is_change outcome ≡ true →
+        outcome ≡ (if is_taken (filter (is_new RowVerb.Insert [] bytes.now) (spec_of file.now).alternates) named.file.rows bytes.now then Outcome.Taken else
+        done_outcome (is_duplicate (filter (is_new RowVerb.Insert [] bytes.now) (spec_of file.now).alternates) named.file.rows bytes.now)))) }
+    ensures taken { OnTrees D.Device (spec_of file.now) pages.old device.old listing.now (λ named generation left right. IfOk result (λ outcome. is_change outcome ≡ false →
+        outcome ≡ (insertion number bytes.now named.file).outcome)) }
+    ensures free { is_spent pages.old ≡ false → OnTrees D.Device (spec_of file.now) pages.old device.old listing.now (λ named generation left right. IfOk result (λ outcome. is_change outcome ≡ true →
+        free_count (committed_of pages.old) < length (changed_pages_of pages.old) + 42 → is_change (insertion number bytes.now named.file).outcome ≡ true)) }
+    ensures damaged { OnTrees D.Device (spec_of file.now) pages.old device.old listing.now (λ named generation left right. result ≡ Err StoreFault.Damaged → ⊥) }
+    ensures spent { result ≡ Err StoreFault.Spent → is_spent pages.old ≡ true }
+    ensures cause { IfErr result IsReadFault }
+{
+    let outcome = find_duplicate_key(
+        alloc,
+        pages,
+        device,
+        file,
+        listing,
+        RowVerb::Insert,
+        &[],
+        bytes,
+    )?;
+    if !is_done(outcome) {
+        return Ok(outcome);
+    }
+    if !is_scarce(pages) {
+        return Ok(outcome);
+    }
+    let prime = file_tree(alloc, file, KeyOfReference::Prime, listing);
+    let own = number_for(file.organization, number, next_arrival(listing));
+    if is_row_there(alloc, &prime, pages, device, file, own, bytes)? {
+        return Ok(Outcome::Taken);
+    }
+    Ok(outcome)
+}
 
 /// Whether a new entry may find no page for it.
 fn is_scarce(pages: &PageMap) -> bool
@@ -57,9 +109,9 @@ fn is_row_there<D: Device>(
     requires sectors { sectors_of pages.old ≤ D.sectors device.old }
     requires bytes { length bytes.now ≡ file.now.record_length }
     ensures looks { LooksAt D.Device (result ≡ Err StoreFault.Device) pages.old device.old pages.new device.new }
-    ensures there { Agreed D.Device pages.old device.old ((rows : List Row) → HasRows (spec_of file.now) (pages_on D.Device pages.old device.old) rows prime.now →
+    ensures there { IfAgrees D.Device pages.old device.old ((rows : List Row) → HasRows (spec_of file.now) (pages_on D.Device pages.old device.old) rows prime.now →
         IfOk result (λ there. there ≡ is_some (entry_with (map (entry_under (spec_of file.now) KeyOfReference.Prime) rows) (prime_key file.now.organization (named_pair file.now.organization number bytes.now))))) }
-    ensures damaged { Agreed D.Device pages.old device.old ((rows : List Row) → HasRows (spec_of file.now) (pages_on D.Device pages.old device.old) rows prime.now → result ≡ Err StoreFault.Damaged → ⊥) }
+    ensures damaged { IfAgrees D.Device pages.old device.old ((rows : List Row) → HasRows (spec_of file.now) (pages_on D.Device pages.old device.old) rows prime.now → result ≡ Err StoreFault.Damaged → ⊥) }
     ensures spent { result ≡ Err StoreFault.Spent → is_spent pages.old ≡ true }
     ensures cause { IfErr result IsReadFault }
 {
@@ -68,56 +120,4 @@ fn is_row_there<D: Device>(
         Ok(entry) => Ok(entry.is_some()),
         Err(error) => Err(to_fault(error)),
     }
-}
-
-/// What a new row comes to by its values, before a page is changed: `Taken` where it may not come. That its prime key or number is
-/// there is looked at only where a page may be refused; elsewhere the tree of rows finds it.
-pub(crate) fn look_at_new_row<D: Device>(
-    alloc: Global,
-    pages: &mut PageMap,
-    device: &mut D,
-    file: &FileSpec,
-    listing: &[u8],
-    number: u64,
-    bytes: &[u8],
-) -> Result<Outcome, StoreFault>
-    requires open { IsOpen pages.old }
-    requires sectors { sectors_of pages.old ≤ D.sectors device.old }
-    requires listing { length listing.now ≡ 83 }
-    requires number { IsNumber file.now.organization number }
-    requires bytes { length bytes.now ≡ file.now.record_length }
-    ensures looks { LooksAt D.Device (result ≡ Err StoreFault.Device) pages.old device.old pages.new device.new }
-    ensures told { OnTrees D.Device (spec_of file.now) pages.old device.old listing.now (λ named generation left right. IfOk result (λ outcome. is_change outcome ≡ true →
-        outcome ≡ (if is_taken (filter (is_new RowVerb.Insert [] bytes.now) (spec_of file.now).alternates) named.file.rows bytes.now then Outcome.Taken else
-        done (is_duplicate (filter (is_new RowVerb.Insert [] bytes.now) (spec_of file.now).alternates) named.file.rows bytes.now)))) }
-    ensures taken { OnTrees D.Device (spec_of file.now) pages.old device.old listing.now (λ named generation left right. IfOk result (λ outcome. is_change outcome ≡ false →
-        outcome ≡ (inserted number bytes.now named.file).outcome)) }
-    ensures free { is_spent pages.old ≡ false → OnTrees D.Device (spec_of file.now) pages.old device.old listing.now (λ named generation left right. IfOk result (λ outcome. is_change outcome ≡ true →
-        free_count (committed_of pages.old) < length (changed_pages_of pages.old) + 42 → is_change (inserted number bytes.now named.file).outcome ≡ true)) }
-    ensures damaged { OnTrees D.Device (spec_of file.now) pages.old device.old listing.now (λ named generation left right. result ≡ Err StoreFault.Damaged → ⊥) }
-    ensures spent { result ≡ Err StoreFault.Spent → is_spent pages.old ≡ true }
-    ensures cause { IfErr result IsReadFault }
-{
-    let outcome = look_at_values(
-        alloc,
-        pages,
-        device,
-        file,
-        listing,
-        RowVerb::Insert,
-        &[],
-        bytes,
-    )?;
-    if !is_done(outcome) {
-        return Ok(outcome);
-    }
-    if !is_scarce(pages) {
-        return Ok(outcome);
-    }
-    let prime = file_tree(alloc, file, KeyOfReference::Prime, listing);
-    let own = number_for(file.organization, number, next_arrival(listing));
-    if is_row_there(alloc, &prime, pages, device, file, own, bytes)? {
-        return Ok(Outcome::Taken);
-    }
-    Ok(outcome)
 }

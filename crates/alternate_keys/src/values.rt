@@ -1,9 +1,9 @@
 //! Which values of a new record are there already.
 ghost use Rattle.std.specs.Prelude.{◌≡◌, ◌≤◌, ◌&&◌, ◌||◌, not, true, List, Err, length, take, filter, if◌then◌else◌, slice_index_or, IfOk, IfErr};
 ghost use Rattle.pages.specs.Pages.{is_spent, sectors_of, IsOpen};
-ghost use Rattle.btree.specs.Calls.{Agreed, pages_on};
+ghost use Rattle.btree.specs.Calls.{IfAgrees, pages_on};
 ghost use Rattle.records.specs.Rows.{Row, no_key};
-ghost use Rattle.records.specs.Changes.{repeats, is_taken, is_duplicate, done};
+ghost use Rattle.records.specs.Changes.{repeats, is_taken, is_duplicate, done_outcome};
 ghost use Rattle.records.specs.Stores.{spec_of, IsKey};
 ghost use Rattle.alternate_keys.specs.Calls.{LooksAt};
 ghost use Rattle.alternate_keys.specs.Faults.{IsReadFault};
@@ -20,19 +20,6 @@ use pages::PageMap;
 use records::{FileSpec, KeyOfReference, Outcome, StoreFault};
 use station::Device;
 use std::alloc::Global;
-
-/// Whether a row comes to its value of an alternate key by this change.
-fn is_new_value(verb: RowVerb, file: &FileSpec, key: u8, old: &[u8], bytes: &[u8]) -> bool
-    requires key { IsKey (spec_of file.now) (KeyOfReference.Alternate key) }
-    requires values { HasValues verb (spec_of file.now) old.now bytes.now }
-    ensures { result ≡ is_new verb (take file.now.record_length old.now) bytes.now (slice_index_or (spec_of file.now).alternates key no_key) }
-{
-    match verb {
-        RowVerb::Insert => true,
-        RowVerb::Replace => is_changed(file, key, old, bytes),
-        RowVerb::Remove => true,
-    }
-}
 
 /// Whether a record comes to a value of an alternate key that a row has.
 pub(crate) fn is_repeated<D: Device>(
@@ -53,9 +40,9 @@ pub(crate) fn is_repeated<D: Device>(
     requires values { HasValues verb (spec_of file.now) old.now bytes.now }
     requires bytes { length bytes.now ≡ file.now.record_length }
     ensures looks { LooksAt D.Device (result ≡ Err StoreFault.Device) pages.old device.old pages.new device.new }
-    ensures repeated { Agreed D.Device pages.old device.old ((rows : List Row) → HasPairs (spec_of file.now) (KeyOfReference.Alternate key) (pages_on D.Device pages.old device.old) rows (listed_tree (spec_of file.now) key listing.now) →
+    ensures repeated { IfAgrees D.Device pages.old device.old ((rows : List Row) → HasPairs (spec_of file.now) (KeyOfReference.Alternate key) (pages_on D.Device pages.old device.old) rows (listed_tree (spec_of file.now) key listing.now) →
         IfOk result (λ repeated. repeated ≡ (is_new verb (take file.now.record_length old.now) bytes.now (slice_index_or (spec_of file.now).alternates key no_key) && repeats rows bytes.now (slice_index_or (spec_of file.now).alternates key no_key)))) }
-    ensures damaged { Agreed D.Device pages.old device.old ((rows : List Row) → HasPairs (spec_of file.now) (KeyOfReference.Alternate key) (pages_on D.Device pages.old device.old) rows (listed_tree (spec_of file.now) key listing.now) →
+    ensures damaged { IfAgrees D.Device pages.old device.old ((rows : List Row) → HasPairs (spec_of file.now) (KeyOfReference.Alternate key) (pages_on D.Device pages.old device.old) rows (listed_tree (spec_of file.now) key listing.now) →
         result ≡ Err StoreFault.Damaged → ⊥) }
     ensures spent { result ≡ Err StoreFault.Spent → is_spent pages.old ≡ true }
     ensures cause { IfErr result IsReadFault }
@@ -68,23 +55,9 @@ pub(crate) fn is_repeated<D: Device>(
     is_value_there(alloc, &tree, pages, device, part_of(place, bytes))
 }
 
-/// Whether a value that is there already bars a record.
-fn is_barred(duplicates: bool, repeated: bool) -> bool
-    ensures { result ≡ (not duplicates && repeated) }
-{
-    if duplicates { false } else { repeated }
-}
-
-/// Whether one of two is so.
-fn either(one: bool, two: bool) -> bool
-    ensures { result ≡ (one || two) }
-{
-    if one { true } else { two }
-}
-
 /// What a record comes to by its values of the alternate keys, or of those of which it has another value than the row had: `Taken`
 /// where a row has its value of one without DUPLICATES, `Duplicate` where a row has its value of one with them, or `Done`.
-pub(crate) fn look_at_values<D: Device>(
+pub(crate) fn find_duplicate_key<D: Device>(
     alloc: Global,
     pages: &mut PageMap,
     device: &mut D,
@@ -100,10 +73,10 @@ pub(crate) fn look_at_values<D: Device>(
     requires values { HasValues verb (spec_of file.now) old.now bytes.now }
     requires bytes { length bytes.now ≡ file.now.record_length }
     ensures looks { LooksAt D.Device (result ≡ Err StoreFault.Device) pages.old device.old pages.new device.new }
-    ensures told { Agreed D.Device pages.old device.old ((rows : List Row) → HasAllPairs (spec_of file.now) (pages_on D.Device pages.old device.old) rows listing.now →
+    ensures told { IfAgrees D.Device pages.old device.old ((rows : List Row) → HasAllPairs (spec_of file.now) (pages_on D.Device pages.old device.old) rows listing.now →
         IfOk result (λ outcome. outcome ≡ (if is_taken (filter (is_new verb (take file.now.record_length old.now) bytes.now) (spec_of file.now).alternates) rows bytes.now then Outcome.Taken else
-        done (is_duplicate (filter (is_new verb (take file.now.record_length old.now) bytes.now) (spec_of file.now).alternates) rows bytes.now)))) }
-    ensures damaged { Agreed D.Device pages.old device.old ((rows : List Row) → HasAllPairs (spec_of file.now) (pages_on D.Device pages.old device.old) rows listing.now → result ≡ Err StoreFault.Damaged → ⊥) }
+        done_outcome (is_duplicate (filter (is_new verb (take file.now.record_length old.now) bytes.now) (spec_of file.now).alternates) rows bytes.now)))) }
+    ensures damaged { IfAgrees D.Device pages.old device.old ((rows : List Row) → HasAllPairs (spec_of file.now) (pages_on D.Device pages.old device.old) rows listing.now → result ≡ Err StoreFault.Damaged → ⊥) }
     ensures spent { result ≡ Err StoreFault.Spent → is_spent pages.old ≡ true }
     ensures cause { IfErr result IsReadFault }
 {
@@ -120,4 +93,31 @@ pub(crate) fn look_at_values<D: Device>(
         return Ok(Outcome::Duplicate);
     }
     Ok(Outcome::Done)
+}
+
+/// Whether a row comes to its value of an alternate key by this change.
+fn is_new_value(verb: RowVerb, file: &FileSpec, key: u8, old: &[u8], bytes: &[u8]) -> bool
+    requires key { IsKey (spec_of file.now) (KeyOfReference.Alternate key) }
+    requires values { HasValues verb (spec_of file.now) old.now bytes.now }
+    ensures { result ≡ is_new verb (take file.now.record_length old.now) bytes.now (slice_index_or (spec_of file.now).alternates key no_key) }
+{
+    match verb {
+        RowVerb::Insert => true,
+        RowVerb::Replace => is_changed(file, key, old, bytes),
+        RowVerb::Remove => true,
+    }
+}
+
+/// Whether a value that is there already bars a record.
+fn is_barred(duplicates: bool, repeated: bool) -> bool
+    ensures { result ≡ (not duplicates && repeated) }
+{
+    if duplicates { false } else { repeated }
+}
+
+/// Whether one of two is so.
+fn either(one: bool, two: bool) -> bool
+    ensures { result ≡ (one || two) }
+{
+    if one { true } else { two }
 }

@@ -11,73 +11,6 @@ use std::process::Abort;
 /// So many pages are kept in memory.
 const CACHED: usize = 4;
 
-fn station_of_zeros(alloc: Global) -> Result<MemoryStation, AllocError> {
-    let bytes = vec![in alloc; [0; 4096]; 1024]?;
-    MemoryStation::new(alloc, bytes, Vec::new(alloc))
-}
-
-/// A station of 1,024 sectors of zeros.
-pub fn blank_station(rt: &impl Abort, alloc: Global) -> MemoryStation {
-    match station_of_zeros(alloc) {
-        Ok(station) => station,
-        Err(_) => panic!(rt; "no memory"),
-    }
-}
-
-fn text(alloc: Global, bytes: &[u8]) -> Result<Vec<u8>, AllocError> {
-    Vec::from_slice(alloc, bytes)
-}
-
-/// A sequential file of records of this length.
-pub fn sequential(rt: &impl Abort, alloc: Global, name: &[u8], length: u16) -> FileSpec {
-    file(rt, alloc, name, Organization::Sequential, length, &[])
-}
-
-/// A file whose prime key is the first byte, with one alternate key, the second byte.
-pub fn indexed(rt: &impl Abort, alloc: Global, duplicates: bool) -> FileSpec {
-    let prime = KeyPlace {
-        offset: 0,
-        length: 1,
-    };
-    let alternate = AlternateKey {
-        place: KeyPlace {
-            offset: 1,
-            length: 1,
-        },
-        duplicates,
-    };
-    file(
-        rt,
-        alloc,
-        b"SALES",
-        Organization::Indexed(prime),
-        3,
-        &[alternate],
-    )
-}
-
-/// A relative file of records of this length.
-pub fn relative(rt: &impl Abort, alloc: Global, name: &[u8], length: u16) -> FileSpec {
-    file(rt, alloc, name, Organization::Relative, length, &[])
-}
-
-fn file(
-    rt: &impl Abort,
-    alloc: Global,
-    name: &[u8],
-    organization: Organization,
-    length: u16,
-    keys: &[AlternateKey],
-) -> FileSpec {
-    let (Ok(name), Ok(keys)) = (text(alloc, name), Vec::from_slice(alloc, keys)) else {
-        panic!(rt; "no memory")
-    };
-    match FileSpec::new(name, organization, length, keys) {
-        Some(file) => file,
-        None => panic!(rt; "no file"),
-    }
-}
-
 /// A store and the station that it is on.
 #[derive(Drop)]
 pub struct Volume {
@@ -227,5 +160,72 @@ impl Volume {
             number,
             bytes,
         )
+    }
+}
+
+/// A station of 1,024 sectors of zeros.
+pub fn blank_station(rt: &impl Abort, alloc: Global) -> MemoryStation {
+    match station_of_zeros(alloc) {
+        Ok(station) => station,
+        Err(_) => panic!(rt; "no memory"),
+    }
+}
+
+/// A sequential file of records of this length.
+pub fn sequential(rt: &impl Abort, alloc: Global, name: &[u8], length: u16) -> FileSpec {
+    file(rt, alloc, name, Organization::Sequential, length, &[])
+}
+
+/// A file whose prime key is the first byte, with one alternate key, the second byte.
+pub fn indexed(rt: &impl Abort, alloc: Global, duplicates: bool) -> FileSpec {
+    let prime = KeyPlace {
+        offset: 0,
+        length: 1,
+    };
+    let alternate = AlternateKey {
+        place: KeyPlace {
+            offset: 1,
+            length: 1,
+        },
+        duplicates,
+    };
+    file(
+        rt,
+        alloc,
+        b"SALES",
+        Organization::Indexed(prime),
+        3,
+        &[alternate],
+    )
+}
+
+/// A relative file of records of this length.
+pub fn relative(rt: &impl Abort, alloc: Global, name: &[u8], length: u16) -> FileSpec {
+    file(rt, alloc, name, Organization::Relative, length, &[])
+}
+
+fn station_of_zeros(alloc: Global) -> Result<MemoryStation, AllocError> {
+    let bytes = vec![in alloc; [0; 4096]; 1024]?;
+    MemoryStation::new(alloc, bytes, Vec::new(alloc))
+}
+
+fn text(alloc: Global, bytes: &[u8]) -> Result<Vec<u8>, AllocError> {
+    Vec::from_slice(alloc, bytes)
+}
+
+fn file(
+    rt: &impl Abort,
+    alloc: Global,
+    name: &[u8],
+    organization: Organization,
+    length: u16,
+    keys: &[AlternateKey],
+) -> FileSpec {
+    let (Ok(name), Ok(keys)) = (text(alloc, name), Vec::from_slice(alloc, keys)) else {
+        panic!(rt; "no memory")
+    };
+    match FileSpec::new(name, organization, length, keys) {
+        Some(file) => file,
+        None => panic!(rt; "no file"),
     }
 }

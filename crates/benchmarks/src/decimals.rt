@@ -27,6 +27,56 @@ const DECIMALS: u8 = 2;
 /// Digits of a text.
 const TEXT: usize = 18;
 
+const ALL: [Operation; 9] = [
+    Operation::Sum,
+    Operation::Difference,
+    Operation::Product,
+    Operation::Quotient,
+    Operation::Fit,
+    Operation::Cut,
+    Operation::Order,
+    Operation::Text,
+    Operation::Digits,
+];
+
+/// Each operation by each body, on pairs of one scale and of several.
+pub fn measure(rt: &HostRuntime) -> io::Result<()> {
+    println!(rt;
+        "a Dec takes {} bytes, an Option of one {}",
+        size_of::<Dec>(),
+        size_of::<Option<Dec>>()
+    )?;
+    let mut sum = 0u64;
+    for mixed in [false, true] {
+        let mut operands = Operands::new(mixed);
+        println!(rt;
+            "{}: nanoseconds an operation, now, replaced and plain",
+            if mixed {
+                "scales 0 to 6"
+            } else {
+                "both of scale 2"
+            }
+        )?;
+        for operation in ALL {
+            let now = operation.tenths(rt, Body::Now, &mut operands, &mut sum)?;
+            let replaced = operation.tenths(rt, Body::Replaced, &mut operands, &mut sum)?;
+            let plain = operation.tenths(rt, Body::Plain, &mut operands, &mut sum)?;
+            println!(rt;
+                "{}: {}.{}, {}.{}, {}.{}",
+                operation.name(),
+                now / 10,
+                now % 10,
+                replaced / 10,
+                replaced % 10,
+                plain / 10,
+                plain % 10
+            )?;
+        }
+    }
+    println!(rt; "checksum {sum}")?;
+    Ok(())
+}
+
 /// The same operands for each body.
 #[derive(Drop)]
 struct Operands {
@@ -482,18 +532,6 @@ enum Operation {
     Digits,
 }
 
-const ALL: [Operation; 9] = [
-    Operation::Sum,
-    Operation::Difference,
-    Operation::Product,
-    Operation::Quotient,
-    Operation::Fit,
-    Operation::Cut,
-    Operation::Order,
-    Operation::Text,
-    Operation::Digits,
-];
-
 /// Who does it.
 #[derive(Clone, Copy)]
 enum Body {
@@ -586,42 +624,4 @@ impl Operation {
         }
         Ok(least.saturating_mul(10) / (PASSES as u128 * COUNT as u128))
     }
-}
-
-/// Each operation by each body, on pairs of one scale and of several.
-pub fn measure(rt: &HostRuntime) -> io::Result<()> {
-    println!(rt;
-        "a Dec takes {} bytes, an Option of one {}",
-        size_of::<Dec>(),
-        size_of::<Option<Dec>>()
-    )?;
-    let mut sum = 0u64;
-    for mixed in [false, true] {
-        let mut operands = Operands::new(mixed);
-        println!(rt;
-            "{}: nanoseconds an operation, now, replaced and plain",
-            if mixed {
-                "scales 0 to 6"
-            } else {
-                "both of scale 2"
-            }
-        )?;
-        for operation in ALL {
-            let now = operation.tenths(rt, Body::Now, &mut operands, &mut sum)?;
-            let replaced = operation.tenths(rt, Body::Replaced, &mut operands, &mut sum)?;
-            let plain = operation.tenths(rt, Body::Plain, &mut operands, &mut sum)?;
-            println!(rt;
-                "{}: {}.{}, {}.{}, {}.{}",
-                operation.name(),
-                now / 10,
-                now % 10,
-                replaced / 10,
-                replaced % 10,
-                plain / 10,
-                plain % 10
-            )?;
-        }
-    }
-    println!(rt; "checksum {sum}")?;
-    Ok(())
 }

@@ -32,6 +32,29 @@ const SOUGHT: u32 = 1_000;
 /// A step from number to number, far from the one before.
 const STEP: u64 = 48_271;
 
+const ALL: [Measurement; 4] = [
+    Measurement::Open,
+    Measurement::Seek,
+    Measurement::SeekAlternate,
+    Measurement::Insert,
+];
+
+/// Opening, seeking and changing at each number of rows.
+pub fn measure(rt: &HostRuntime) -> io::Result<()> {
+    let Ok(Some(mut halves)) = Halves::new(rt.alloc()) else {
+        return println!(rt; "no store");
+    };
+    let mut from = 0;
+    for rows in COUNTS {
+        if !fill(&mut halves, from, rows) {
+            return println!(rt; "the store refused a row");
+        }
+        measure_at(rt, &mut halves, rows)?;
+        from = rows.saturating_add(TIMINGS);
+    }
+    Ok(())
+}
+
 fn file_of(alloc: Global) -> Result<Option<FileSpec>, AllocError> {
     let prime = KeyPlace {
         offset: 0,
@@ -161,13 +184,6 @@ enum Measurement {
     Insert,
 }
 
-const ALL: [Measurement; 4] = [
-    Measurement::Open,
-    Measurement::Seek,
-    Measurement::SeekAlternate,
-    Measurement::Insert,
-];
-
 /// The numbers that are sought among so many rows.
 fn sought(n: u32, rows: u32) -> u64 {
     u64::from(n) * STEP % u64::from(rows.max(1))
@@ -247,22 +263,6 @@ fn measure_at(rt: &HostRuntime, halves: &mut Halves, rows: u32) -> io::Result<()
             Some(time) => println!(rt; "{name}: {time} ns")?,
             None => println!(rt; "{name} failed")?,
         }
-    }
-    Ok(())
-}
-
-/// Opening, seeking and changing at each number of rows.
-pub fn measure(rt: &HostRuntime) -> io::Result<()> {
-    let Ok(Some(mut halves)) = Halves::new(rt.alloc()) else {
-        return println!(rt; "no store");
-    };
-    let mut from = 0;
-    for rows in COUNTS {
-        if !fill(&mut halves, from, rows) {
-            return println!(rt; "the store refused a row");
-        }
-        measure_at(rt, &mut halves, rows)?;
-        from = rows.saturating_add(TIMINGS);
     }
     Ok(())
 }

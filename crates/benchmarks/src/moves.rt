@@ -4,7 +4,7 @@
 ghost use Rattle.std.specs.Prelude.{◌≡◌, ◌<◌, ◌^◌, length, true, false, IfSome, unsigned_abs};
 ghost use Rattle.decimal18.specs.Fraction.{is_negative};
 ghost use Rattle.items.specs.Numbers.{IsNumeric, length_of};
-ghost use Rattle.items.specs.Items.{IsItem, IsOf, IsTaken};
+ghost use Rattle.items.specs.Items.{IsItem, HasLengthOf, IsTaken};
 ghost use Rattle.edited_move.specs.Moves.{IsPlainKind, is_short};
 ghost use Rattle.items.specs.declared.item.Kind.TheVariants.{Alphanumeric};
 
@@ -52,6 +52,45 @@ const PLACES: usize = 12;
 
 /// Sizes of texts.
 const SIZES: [usize; 4] = [32, 100, 1_000, 10_000];
+
+/// The picoseconds of a move of nine digits, as a plain call.
+pub fn time_of_move(rt: &HostRuntime) -> io::Result<u128> {
+    let Ok(picture) = Picture::read(rt.alloc(), PICTURE) else {
+        return Ok(0);
+    };
+    Operands::new(rt, picture, 1)?.nanoseconds(rt, Measurement::Move)
+}
+
+/// Moves and editing, in picoseconds a call.
+pub fn measure(rt: &HostRuntime) -> io::Result<()> {
+    let Ok(picture) = Picture::read(rt.alloc(), PICTURE) else {
+        return Ok(());
+    };
+    let mut operands = Operands::new(rt, picture, 1)?;
+    let read = operands.nanoseconds(rt, Measurement::Number)?;
+    let stored = operands.nanoseconds(rt, Measurement::Store)?;
+    let both = operands.nanoseconds(rt, Measurement::ReadAndStore)?;
+    let moved = operands.nanoseconds(rt, Measurement::Move)?;
+    let edited = operands.nanoseconds(rt, Measurement::Edit)?;
+    print(rt, "number beside store, 9 digits", read, stored)?;
+    print(
+        rt,
+        "move beside number and store, 9 digits",
+        moved,
+        read.saturating_add(stored),
+    )?;
+    print(rt, "move beside a number that is then stored", moved, both)?;
+    print(
+        rt,
+        "edit of 12 places beside store, 9 digits",
+        edited,
+        stored,
+    )?;
+    for size in SIZES {
+        measure_texts(rt, size)?;
+    }
+    Ok(())
+}
 
 /// Numbers as text.
 fn numbers() -> [[u8; NINE]; TEXTS] {
@@ -178,7 +217,7 @@ fn edited_numbers(picture: &Picture) -> u64 {
 
 /// The item of a text.
 fn word(text: &[u8]) -> Option<Item>
-    ensures of { IfSome result (λ item. IsOf item text.now) }
+    ensures of { IfSome result (λ item. HasLengthOf item text.now) }
     ensures kind { IfSome result (λ item. item.kind ≡ Alphanumeric false) }
 {
     if text.is_empty() || text.len() > 65_535 {
@@ -335,43 +374,4 @@ fn measure_texts(rt: &HostRuntime, size: usize) -> io::Result<()> {
         in_place,
         copy,
     )
-}
-
-/// The picoseconds of a move of nine digits, as a plain call.
-pub fn time_of_move(rt: &HostRuntime) -> io::Result<u128> {
-    let Ok(picture) = Picture::read(rt.alloc(), PICTURE) else {
-        return Ok(0);
-    };
-    Operands::new(rt, picture, 1)?.nanoseconds(rt, Measurement::Move)
-}
-
-/// Moves and editing, in picoseconds a call.
-pub fn measure(rt: &HostRuntime) -> io::Result<()> {
-    let Ok(picture) = Picture::read(rt.alloc(), PICTURE) else {
-        return Ok(());
-    };
-    let mut operands = Operands::new(rt, picture, 1)?;
-    let read = operands.nanoseconds(rt, Measurement::Number)?;
-    let stored = operands.nanoseconds(rt, Measurement::Store)?;
-    let both = operands.nanoseconds(rt, Measurement::ReadAndStore)?;
-    let moved = operands.nanoseconds(rt, Measurement::Move)?;
-    let edited = operands.nanoseconds(rt, Measurement::Edit)?;
-    print(rt, "number beside store, 9 digits", read, stored)?;
-    print(
-        rt,
-        "move beside number and store, 9 digits",
-        moved,
-        read.saturating_add(stored),
-    )?;
-    print(rt, "move beside a number that is then stored", moved, both)?;
-    print(
-        rt,
-        "edit of 12 places beside store, 9 digits",
-        edited,
-        stored,
-    )?;
-    for size in SIZES {
-        measure_texts(rt, size)?;
-    }
-    Ok(())
 }

@@ -25,6 +25,21 @@ const DAY: [u8; 6] = *b"000000";
 const HEAD: &str =
     "       IDENTIFICATION DIVISION.\n       PROGRAM-ID. MANY.\n       DATA DIVISION.\n       WORKING-STORAGE SECTION.\n";
 
+/// Programs of 500 and 5,000 entries, and a MOVE in a run beside the plain call.
+pub fn measure(rt: &HostRuntime) -> io::Result<()> {
+    measure_compiling(rt)?;
+    let source = program(rt.alloc(), ENTRIES, TURNS)?;
+    let Ok(image) = compile(rt.alloc(), source.as_bytes()) else {
+        return println!(rt; "a program was refused");
+    };
+    let time = time_of_statement(rt, image.as_slice())?;
+    let beside = moves::time_of_move(rt)?;
+    let hundredths = time.min(1_000_000_000_000) * 100 / beside.max(1);
+    println!(rt;
+        "a MOVE of 9 digits in a run: {time} ps beside {beside} ps for the plain call, {hundredths} hundredths"
+    )
+}
+
 /// Entries of nine digits, each with a value.
 fn push_entries(alloc: Global, text: &mut String, entries: u32) -> Result<(), AllocError> {
     for n in 0..entries {
@@ -100,20 +115,5 @@ fn measure_compiling(rt: &HostRuntime) -> io::Result<()> {
     let hundredths = time.min(1_000_000_000_000) * 100 / beside.max(1);
     println!(rt;
         "5,000 entries and 50,000 MOVEs: {time} us beside {beside} us for a tenth of them, {hundredths} hundredths"
-    )
-}
-
-/// Programs of 500 and 5,000 entries, and a MOVE in a run beside the plain call.
-pub fn measure(rt: &HostRuntime) -> io::Result<()> {
-    measure_compiling(rt)?;
-    let source = program(rt.alloc(), ENTRIES, TURNS)?;
-    let Ok(image) = compile(rt.alloc(), source.as_bytes()) else {
-        return println!(rt; "a program was refused");
-    };
-    let time = time_of_statement(rt, image.as_slice())?;
-    let beside = moves::time_of_move(rt)?;
-    let hundredths = time.min(1_000_000_000_000) * 100 / beside.max(1);
-    println!(rt;
-        "a MOVE of 9 digits in a run: {time} ps beside {beside} ps for the plain call, {hundredths} hundredths"
     )
 }

@@ -9,6 +9,32 @@ use tokens::scan;
 /// Bytes that a source is filled up to.
 const BYTES: usize = 7_999_000;
 
+/// Comment lines, plain lines and short lines.
+pub fn measure(rt: &HostRuntime) -> io::Result<()> {
+    measure_one(
+        rt,
+        "comment lines",
+        b"      * A COMMENT OF SOME WORDS, AS THEY STAND IN PROGRAMS.\n",
+    )?;
+    measure_one(
+        rt,
+        "plain lines",
+        b"           DISPLAY \"A LITERAL\" 12.50 'ANOTHER' NO ADVANCING.\n",
+    )?;
+    measure_one(rt, "short lines", b"       A.\n")
+}
+
+/// Seven tabs and a letter in each line, through `logical` alone: most characters for the bytes. What memory that takes is told by
+/// the system that runs this program.
+pub fn measure_memory(rt: &HostRuntime) -> io::Result<()> {
+    let source = filled(rt.alloc(), b"\t\t\t\t\t\t\tA\n")?;
+    let count = match logical(rt.alloc(), source.as_slice()) {
+        Ok(lines) => lines.characters().len(),
+        Err(_) => 0,
+    };
+    println!(rt; "lines of tabs: {count} characters")
+}
+
 fn filled(alloc: Global, line: &[u8]) -> Result<Vec<u8>, AllocError> {
     let mut source = Vec::new(alloc);
     for _ in 0..BYTES {
@@ -35,30 +61,4 @@ fn measure_one(rt: &HostRuntime, name: &str, line: &[u8]) -> io::Result<()> {
     let scanned = start.elapsed(rt)?.as_millis();
     let characters = lines.characters().len();
     println!(rt; "{name}: {characters} characters in {read} ms, {count} tokens in {scanned} ms")
-}
-
-/// Comment lines, plain lines and short lines.
-pub fn measure(rt: &HostRuntime) -> io::Result<()> {
-    measure_one(
-        rt,
-        "comment lines",
-        b"      * A COMMENT OF SOME WORDS, AS THEY STAND IN PROGRAMS.\n",
-    )?;
-    measure_one(
-        rt,
-        "plain lines",
-        b"           DISPLAY \"A LITERAL\" 12.50 'ANOTHER' NO ADVANCING.\n",
-    )?;
-    measure_one(rt, "short lines", b"       A.\n")
-}
-
-/// Seven tabs and a letter in each line, through `logical` alone: most characters for the bytes. What memory that takes is told by
-/// the system that runs this program.
-pub fn measure_memory(rt: &HostRuntime) -> io::Result<()> {
-    let source = filled(rt.alloc(), b"\t\t\t\t\t\t\tA\n")?;
-    let count = match logical(rt.alloc(), source.as_slice()) {
-        Ok(lines) => lines.characters().len(),
-        Err(_) => 0,
-    };
-    println!(rt; "lines of tabs: {count} characters")
 }

@@ -1,7 +1,7 @@
 //! Comparison of texts beside that of slices, and INSPECT by its text and its entries.
 
 ghost use Rattle.std.specs.Prelude.{length, IfSome};
-ghost use Rattle.items.specs.Items.{IsOf};
+ghost use Rattle.items.specs.Items.{HasLengthOf};
 ghost use Rattle.text_ops.specs.Entries.{AreWithin, IsEntry};
 
 use items::{Item, Kind, Taken};
@@ -31,9 +31,22 @@ const MOST_ENTRIES: usize = 16;
 /// Pairs of a byte and an entry that a round of INSPECT goes through.
 const PAIRS: usize = 400_000;
 
+/// Both, in nanoseconds.
+pub fn measure(rt: &HostRuntime) -> io::Result<()> {
+    for size in COMPARED {
+        measure_comparison(rt, size)?;
+    }
+    for size in INSPECTED {
+        for count in ENTRIES {
+            measure_inspection(rt, size, count)?;
+        }
+    }
+    Ok(())
+}
+
 /// The item of a text.
 fn word(text: &[u8]) -> Option<Item>
-    ensures { IfSome result (λ item. IsOf item text.now) }
+    ensures { IfSome result (λ item. HasLengthOf item text.now) }
 {
     if text.is_empty() || text.len() > 65_535 {
         return None;
@@ -150,17 +163,4 @@ fn measure_inspection(rt: &HostRuntime, size: usize, count: usize) -> io::Result
         least = least.min(start.elapsed(rt)?.as_nanos());
     }
     println!(rt; "{size} bytes, {count} entries: {least} ns for {turns} (counted {sum})")
-}
-
-/// Both, in nanoseconds.
-pub fn measure(rt: &HostRuntime) -> io::Result<()> {
-    for size in COMPARED {
-        measure_comparison(rt, size)?;
-    }
-    for size in INSPECTED {
-        for count in ENTRIES {
-            measure_inspection(rt, size, count)?;
-        }
-    }
-    Ok(())
 }

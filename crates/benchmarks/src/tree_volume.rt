@@ -4,11 +4,11 @@ ghost use Rattle.pages.specs.Pages.{sectors_of};
 
 use crate::sparse::SparseDevice;
 use btree::{Entry, Tree};
+use btree_pages::{Kind, RowLayout, TreePage};
 use pages::{PageMap, PagesError, format};
 use station::Device;
 use std::alloc::Global;
 use std::marker::Model;
-use tree_pages::{Kind, RowLayout, TreePage};
 
 /// How many sectors the volume has.
 const SECTORS: u32 = 921_600;

@@ -1,10 +1,10 @@
 //! Inserts, gets, walks and removals of trees of entries.
 
 use crate::tree_volume::TreeVolume;
+use btree_pages::RowLayout;
 use pages::PagesError;
 use std::io;
 use std::time::Instant;
-use tree_pages::RowLayout;
 
 /// The entries of each tree.
 const ENTRIES: u32 = 100_000;
@@ -20,6 +20,14 @@ const PRIME: u64 = 100_003;
 
 /// A step from number to number that reaches each one, far from the one before.
 const STEP: u64 = 48_271;
+
+/// Each tree from its first entry to its last.
+pub fn measure(rt: &HostRuntime) -> io::Result<()> {
+    for case in cases() {
+        measure_case(rt, case)?;
+    }
+    Ok(())
+}
 
 /// In which order entries come.
 #[derive(Clone, Copy)]
@@ -249,12 +257,4 @@ fn measure_case(rt: &HostRuntime, case: Case) -> io::Result<()> {
     measure_shape(rt, &mut volume)?;
     measure_removals(rt, &mut volume, case, SOON_GONE, ENTRIES)?;
     measure_shape(rt, &mut volume)
-}
-
-/// Each tree from its first entry to its last.
-pub fn measure(rt: &HostRuntime) -> io::Result<()> {
-    for case in cases() {
-        measure_case(rt, case)?;
-    }
-    Ok(())
 }

@@ -59,6 +59,26 @@ const NUMBERS: [u64; TEXTS] = [
     161_803_398_874_989_484,
 ];
 
+const READING: [Measurement; 4] = [
+    Measurement::UnsignedNumber,
+    Measurement::DisplayNumber,
+    Measurement::PackedNumber,
+    Measurement::BinaryNumber,
+];
+
+const WRITING: [Measurement; 4] = [
+    Measurement::UnsignedStore,
+    Measurement::DisplayStore,
+    Measurement::PackedStore,
+    Measurement::BinaryStore,
+];
+
+/// Numbers of 18 digits, read and written in each usage.
+pub fn measure(rt: &HostRuntime) -> io::Result<()> {
+    compare(rt, Measurement::PlainNumber, &READING)?;
+    compare(rt, Measurement::PlainStore, &WRITING)
+}
+
 /// The number of ASCII digits, or none.
 fn plain_number(bytes: &[u8; 18]) -> Option<u64> {
     let mut number = 0u64;
@@ -231,20 +251,6 @@ enum Measurement {
     BinaryStore,
 }
 
-const READING: [Measurement; 4] = [
-    Measurement::UnsignedNumber,
-    Measurement::DisplayNumber,
-    Measurement::PackedNumber,
-    Measurement::BinaryNumber,
-];
-
-const WRITING: [Measurement; 4] = [
-    Measurement::UnsignedStore,
-    Measurement::DisplayStore,
-    Measurement::PackedStore,
-    Measurement::BinaryStore,
-];
-
 impl Measurement {
     fn name(self) -> &'static str {
         match self {
@@ -303,10 +309,4 @@ fn compare(rt: &HostRuntime, plain: Measurement, others: &[Measurement]) -> io::
         println!(rt; "{name}: {time} ps, {ratio} hundredths of the plain loop")?;
     }
     Ok(())
-}
-
-/// Numbers of 18 digits, read and written in each usage.
-pub fn measure(rt: &HostRuntime) -> io::Result<()> {
-    compare(rt, Measurement::PlainNumber, &READING)?;
-    compare(rt, Measurement::PlainStore, &WRITING)
 }

@@ -30,6 +30,25 @@ const FILLED_AT_ONCE: u32 = 1_000;
 /// Pages that the cache may hold: all that are read.
 const CACHED_PAGES: usize = 128;
 
+/// Volumes with as many pages as there may be, after a new one. The memory that it takes at most is read from the system.
+pub fn measure_releases(rt: &HostRuntime) -> io::Result<()> {
+    let mut device = SparseDevice::new(rt.alloc(), 921_600);
+    match fresh_volume(rt.alloc(), &mut device) {
+        Ok(mut map) => measure_commits(rt, &mut map, &mut device)?,
+        Err(error) => return println!(rt; "{error}"),
+    }
+    measure_filled(rt, MANY_PAGES)?;
+    measure_filled(rt, MOST_PAGES)
+}
+
+/// Commits, and then single calls.
+pub fn measure(rt: &HostRuntime) -> io::Result<()> {
+    for case in cases() {
+        measure_case(rt, case)?;
+    }
+    measure_calls(rt)
+}
+
 /// An empty volume.
 fn fresh_volume(alloc: Global, device: &mut SparseDevice) -> Result<PageMap, PagesError>
     ensures open { IfOk result (λ map. IsOpen map × (sectors_of map ≤ device.new.sectors)) }
@@ -290,23 +309,4 @@ fn measure_filled(rt: &HostRuntime, count: u32) -> io::Result<()> {
     let milliseconds = start.elapsed(rt)?.as_millis();
     println!(rt; "{count} pages released and committed: {milliseconds} ms")?;
     measure_commits(rt, &mut map, &mut device)
-}
-
-/// Volumes with as many pages as there may be, after a new one. The memory that it takes at most is read from the system.
-pub fn measure_releases(rt: &HostRuntime) -> io::Result<()> {
-    let mut device = SparseDevice::new(rt.alloc(), 921_600);
-    match fresh_volume(rt.alloc(), &mut device) {
-        Ok(mut map) => measure_commits(rt, &mut map, &mut device)?,
-        Err(error) => return println!(rt; "{error}"),
-    }
-    measure_filled(rt, MANY_PAGES)?;
-    measure_filled(rt, MOST_PAGES)
-}
-
-/// Commits, and then single calls.
-pub fn measure(rt: &HostRuntime) -> io::Result<()> {
-    for case in cases() {
-        measure_case(rt, case)?;
-    }
-    measure_calls(rt)
 }

@@ -1,5 +1,5 @@
 -- Pages that leave the map.
-use Rattle.pages.specs.Pages.{Keeps}
+use Rattle.pages.specs.Pages.{KeepsCommitted}
 use Rattle.std.proofs.Common.{◌≡◌, inr, ⊎_elim, ◌≤◌, ◌<◌, ◌+◌, ◌^◌, ℕ, List, [], ◌∷◌, ◌++◌, length, map, take, drop, set, refl, sym, ap, subst, ◌∙◌, arith, length-set, get_or-set_same, get_or-set_other}
 use Rattle.std.specs.Prelude.{Contains, slice_index_or, Option, Some, None}
 use Rattle.std.specs.List.{All}
@@ -9,12 +9,12 @@ use Rattle.byteorder.specs.Endian.{big_bytes, big_number}
 use Rattle.byteorder.specs.Numbers.{big_number-reads_back}
 use Rattle.station.specs.Disk.{Sector}
 use Rattle.pages.specs.declared.page_map.PageMap.{PageMap}
-use Rattle.tree_pages.specs.declared.row_layout.RowLayout.{RowLayout}
-use Rattle.tree_pages.specs.declared.row_layout.Kind.{Kind}
-use Rattle.tree_pages.specs.declared.row_layout.Kind.TheVariants.{Leaf, Inner}
-use Rattle.tree_pages.specs.Node.{Node}
-use Rattle.tree_pages.specs.Keys.{child_of}
-use Rattle.btree.specs.Tree.{TreeNode, row_of, rows_of, node_at, Stands, pages_of, IsTree}
+use Rattle.btree_pages.specs.declared.row_layout.RowLayout.{RowLayout}
+use Rattle.btree_pages.specs.declared.row_layout.Kind.{Kind}
+use Rattle.btree_pages.specs.declared.row_layout.Kind.TheVariants.{Leaf, Inner}
+use Rattle.btree_pages.specs.Node.{Node}
+use Rattle.btree_pages.specs.Keys.{child_of}
+use Rattle.btree.specs.Tree.{TreeNode, row_of, rows_of, node_at, IsOnPage, pages_of, IsTree}
 use Rattle.btree.specs.Laws.{IsSmall}
 use Rattle.btree.specs.Propagates.{node_with}
 use Rattle.btree.specs.Clears.{HasPages, levels_below, IsDown}
@@ -29,10 +29,10 @@ use Rattle.btree.proofs.Splices.{rows_append, joined_still}
 use Rattle.btree.proofs.TreeNodes.{RootNode}
 
 -- What stays, from call to call.
-pub keeps_still : (p : PageMap) → Keeps p p
+pub keeps_still : (p : PageMap) → KeepsCommitted p p
 keeps_still p = record { committed = record { volume = refl; spent = refl }; catalog = refl; agrees = λ disk agrees. agrees; is_open = λ ready. ready }
 
-pub keeps_on : (one two three : PageMap) → Keeps one two → Keeps two three → Keeps one three
+pub keeps_on : (one two three : PageMap) → KeepsCommitted one two → KeepsCommitted two three → KeepsCommitted one three
 keeps_on one two three first second = record {
   committed = record { volume = second.committed.volume ∙ first.committed.volume; spent = second.committed.spent ∙ first.committed.spent };
   catalog = second.catalog ∙ first.catalog;
@@ -109,7 +109,7 @@ few_children layout level place children is =
     omega arith
 
 -- The first level.
-none_there : (layout : RowLayout) (pages : List (Option Sector)) (kind : Kind) (level : List TreeNode) (numbers : List ℕ) → numbers_of level ≡ numbers → 0 < length level → All (Stands layout pages kind) level → RootNode layout pages (slice_index_or numbers 0 0)
+none_there : (layout : RowLayout) (pages : List (Option Sector)) (kind : Kind) (level : List TreeNode) (numbers : List ℕ) → numbers_of level ≡ numbers → 0 < length level → All (IsOnPage layout pages kind) level → RootNode layout pages (slice_index_or numbers 0 0)
 none_there layout pages kind level numbers is some stand = record {
   kind = kind;
   node = slice_index_or level 0 (node_with 0 []);
@@ -122,7 +122,7 @@ first_node layout pages numbers [] some down = let count = ap length down.top in
 first_node layout pages numbers (leaves ∷ []) some down = none_there layout pages Leaf leaves numbers down.top.0 down.top.1 down.joined
 first_node layout pages numbers (upper ∷ lower ∷ more) some down = none_there layout pages Inner upper numbers down.top.0 down.top.1 down.joined.0
 
-first_kind : (layout : RowLayout) (pages : List (Option Sector)) (kind : Kind) (level : List TreeNode) (numbers : List ℕ) (node : Node) → numbers_of level ≡ numbers → 0 < length level → All (Stands layout pages kind) level
+first_kind : (layout : RowLayout) (pages : List (Option Sector)) (kind : Kind) (level : List TreeNode) (numbers : List ℕ) (node : Node) → numbers_of level ≡ numbers → 0 < length level → All (IsOnPage layout pages kind) level
     → node_at layout pages (slice_index_or numbers 0 0) ≡ Some node → kind ≡ node.kind
 first_kind layout pages kind level numbers node is some stand read =
     let none : TreeNode = node_with 0 [] in
@@ -148,7 +148,7 @@ child_numbers layout (node ∷ level) all small =
     child_of_row layout node (All-head (HasRows layout) node level all) (All-head P node.page (numbers_of level) small) in
     ap (λ (n : ℕ). n ∷ map (child_of layout) (map (row_of layout) level)) page ∙ ap (λ (xs : List ℕ). node.page ∷ xs) (child_numbers layout level (All-tail (HasRows layout) node level all) (All-tail P node.page (numbers_of level) small))
 
-some_names : (layout : RowLayout) (pages : List (Option Sector)) (level lower : List TreeNode) → 0 < length level → All (Stands layout pages Inner) level → rows_of level ≡ map (row_of layout) lower → 0 < length lower
+some_names : (layout : RowLayout) (pages : List (Option Sector)) (level lower : List TreeNode) → 0 < length level → All (IsOnPage layout pages Inner) level → rows_of level ≡ map (row_of layout) lower → 0 < length lower
 some_names layout pages level lower some stand names =
     let count : length (rows_of level) ≡ length lower = ap length names ∙ length-map lower (row_of layout) in
     let double = twice layout pages level stand in
@@ -168,7 +168,7 @@ few_names layout pages numbers upper lower more down =
 -- what is below inner pages
 pub record InnerTop (layout : RowLayout) (pages : List (Option Sector)) (numbers : List ℕ) (below : List (List TreeNode)) : Type 0 where
   pub level : List TreeNode
-  pub stand : All (Stands layout pages Inner) level
+  pub stand : All (IsOnPage layout pages Inner) level
   pub is : numbers_of level ≡ numbers
   pub few : length (rows_of level) ≤ length pages
   pub next : IsSmall pages → HasPages (map (child_of layout) (rows_of level)) below

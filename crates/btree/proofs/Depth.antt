@@ -11,9 +11,9 @@ use Rattle.std.proofs.lemmas.List.Elements.{All-head, All-tail, All-cons, All-we
 use Rattle.std.proofs.lemmas.Map.Made.{IsDistinct-from_AllPairs}
 use Rattle.std.proofs.lemmas.Map.Steps.{length-le_from_distinct_below}
 use Rattle.station.specs.Disk.{Sector}
-use Rattle.tree_pages.specs.declared.row_layout.RowLayout.{RowLayout}
-use Rattle.tree_pages.specs.declared.row_layout.Kind.TheVariants.{Inner}
-use Rattle.btree.specs.Tree.{TreeNode, row_of, rows_of, Stands, Joined, pages_of, IsTree, Holds}
+use Rattle.btree_pages.specs.declared.row_layout.RowLayout.{RowLayout}
+use Rattle.btree_pages.specs.declared.row_layout.Kind.TheVariants.{Inner}
+use Rattle.btree.specs.Tree.{TreeNode, row_of, rows_of, IsOnPage, AreJoinedLevels, pages_of, IsTree, IsTreeOrEmpty}
 
 -- Numbers below a bound, none of them twice.
 any_tail : (q x : ℕ) (xs : List ℕ) → eqb q x ≡ false → list_any (eqb q) (x ∷ xs) ≡ true → list_any (eqb q) xs ≡ true
@@ -49,11 +49,11 @@ few_numbers_above n (x ∷ xs) once between =
     omega arith
 
 -- Each level of inner pages has twice as many nodes below it.
-pub twice : (layout : RowLayout) (pages : List (Option Sector)) (level : List TreeNode) → All (Stands layout pages Inner) level → 2 * length level ≤ length (rows_of level)
+pub twice : (layout : RowLayout) (pages : List (Option Sector)) (level : List TreeNode) → All (IsOnPage layout pages Inner) level → 2 * length level ≤ length (rows_of level)
 twice layout pages [] all = omega arith
 twice layout pages (node ∷ level) all =
-    let here = All-head (Stands layout pages Inner) node level all in
-    let more = twice layout pages level (All-tail (Stands layout pages Inner) node level all) in
+    let here = All-head (IsOnPage layout pages Inner) node level all in
+    let more = twice layout pages level (All-tail (IsOnPage layout pages Inner) node level all) in
     let enough : 2 ≤ length node.rows = here.enough in
     let count = length-append node.rows (rows_of level) in
     omega arith
@@ -64,7 +64,7 @@ split power level lower below all next is low double more =
     let f : power * (2 * level) ≤ power * lower = mul-le-mul_left power double in
     omega arith
 
-grows : (layout : RowLayout) (pages : List (Option Sector)) (level : List TreeNode) (more : List (List TreeNode)) → Joined layout pages (level ∷ more) → 2 ^ length more * length level ≤ length (pages_of (level ∷ more))
+grows : (layout : RowLayout) (pages : List (Option Sector)) (level : List TreeNode) (more : List (List TreeNode)) → AreJoinedLevels layout pages (level ∷ more) → 2 ^ length more * length level ≤ length (pages_of (level ∷ more))
 grows layout pages level [] joined =
     let count = length-map level (λ (node : TreeNode). node.page) in
     let end = length-append (map (λ (node : TreeNode). node.page) level) [] in
@@ -90,6 +90,6 @@ few_levels layout pages root (top ∷ more) small tree =
     let few = few_levels_from (length more) (length pages) (omega arith) small in
     omega arith
 
-pub few_levels_held : (layout : RowLayout) (pages : List (Option Sector)) (root : ℕ) (levels : List (List TreeNode)) → length pages ≤ 2 ^ 20 → Holds layout pages root levels → length levels ≤ 20
+pub few_levels_held : (layout : RowLayout) (pages : List (Option Sector)) (root : ℕ) (levels : List (List TreeNode)) → length pages ≤ 2 ^ 20 → IsTreeOrEmpty layout pages root levels → length levels ≤ 20
 few_levels_held layout pages root levels small (inl none) = let count : length levels ≡ 0 = ap length none.1 in omega arith
 few_levels_held layout pages root levels small (inr tree) = few_levels layout pages root levels small tree.1

@@ -4,14 +4,14 @@ use Rattle.std.specs.Prelude.{slice_index_or, Option, Some, None}
 use Rattle.std.proofs.lemmas.List.{length-append}
 use Rattle.std.proofs.lemmas.Bool.{cases_lt}
 use Rattle.station.specs.Disk.{Sector}
-use Rattle.tree_pages.specs.declared.row_layout.RowLayout.{RowLayout}
-use Rattle.tree_pages.specs.Keys.{key_of}
+use Rattle.btree_pages.specs.declared.row_layout.RowLayout.{RowLayout}
+use Rattle.btree_pages.specs.Keys.{key_of}
 use Rattle.btree.specs.declared.sought.Sought.{Sought}
 use Rattle.btree.specs.Tree.{TreeNode, IsTree}
 use Rattle.btree.specs.Path.{PathStep}
 use Rattle.btree.specs.Entries.{Entry, entries_of}
 use Rattle.btree.specs.Steps.{LeadsTo}
-use Rattle.btree.specs.Sought.{AnswersAt, DescendsAt, Finds}
+use Rattle.btree.specs.Sought.{AnswersAt, DescendsAt, FindsEntry}
 use Rattle.btree.proofs.Descents.{Along, IsBeside, start, step_read, too_deep}
 use Rattle.btree.proofs.Stepping.{step_ends}
 use Rattle.btree.proofs.Answering.{got_entry, found_entry}
@@ -63,12 +63,12 @@ ends layout pages root levels key page depth sought answer tree down answers =
 
 -- what the leaf at the end answers, all entries do
 pub finds_entry : (layout : RowLayout) (pages : List (Option Sector)) (root : ℕ) (levels : List (List TreeNode)) (key : List ℕ) (page depth : ℕ) (sought : Sought) (entry : Entry)
-    → IsTree layout pages root levels → Down layout pages levels key page depth → AnswersAt layout pages page key sought (Some entry) → Finds (entries_of layout levels) key sought entry true
+    → IsTree layout pages root levels → Down layout pages levels key page depth → AnswersAt layout pages page key sought (Some entry) → FindsEntry (entries_of layout levels) key sought entry true
 finds_entry layout pages root levels key page depth sought entry tree down answers =
     found_entry layout pages root key levels down.steps page down.right sought entry tree (ends layout pages root levels key page depth sought (Some entry) tree down answers) answers
 
 pub finds_none : (layout : RowLayout) (pages : List (Option Sector)) (root : ℕ) (levels : List (List TreeNode)) (key : List ℕ) (page depth : ℕ) (sought : Sought) (entry : Entry)
-    → IsTree layout pages root levels → Down layout pages levels key page depth → AnswersAt layout pages page key sought None → Finds (entries_of layout levels) key sought entry false
+    → IsTree layout pages root levels → Down layout pages levels key page depth → AnswersAt layout pages page key sought None → FindsEntry (entries_of layout levels) key sought entry false
 finds_none layout pages root levels key page depth sought entry tree down answers = λ with.
     got_entry layout pages root key levels down.steps page down.right None tree (ends layout pages root levels key page depth sought None tree down answers)
     (subst (λ (s : Sought). AnswersAt layout pages page key s None) with answers)

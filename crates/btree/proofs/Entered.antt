@@ -6,31 +6,31 @@ use Rattle.std.specs.declared.cmp.Ordering.{Ordering}
 use Rattle.std.proofs.lemmas.Cmp.{tied_itself}
 use Rattle.std.proofs.lemmas.List.{map-append}
 use Rattle.std.proofs.lemmas.List.Elements.{All-append, All-head, All-tail, All-cons, All-nil}
-use Rattle.tree_pages.specs.declared.row_layout.RowLayout.{RowLayout}
-use Rattle.tree_pages.specs.Keys.{key_cmp, key_of, keys_of, Precedes, Ascend, AllBelow, AllAbove}
+use Rattle.btree_pages.specs.declared.row_layout.RowLayout.{RowLayout}
+use Rattle.btree_pages.specs.Keys.{key_cmp, key_of, keys_of, Precedes, Ascend, AllBelow, AllAbove}
 use Rattle.btree.specs.Tree.{TreeNode, rows_of}
-use Rattle.btree.specs.Path.{Spot, IsSide}
-use Rattle.btree.specs.Entries.{entry_of, with_entry, with_value, without}
+use Rattle.btree.specs.Path.{LevelZipper, IsSide}
+use Rattle.btree.specs.Entries.{entry_of, with_new_entry, with_value, without_entry}
 use Rattle.btree.proofs.Order.{key_order, greater_is, all_left, all_right, Up, up_cons, up_head, up_tail, all_below_first, all_below_weaker}
 
 pub entry_comes : (layout : RowLayout) (left right : List (List ℕ)) (row : List ℕ) → AllBelow layout (key_of layout row) left → AllAbove layout (key_of layout row) right
-    → map (entry_of layout) (left ++ row ∷ right) ≡ with_entry (map (entry_of layout) (left ++ right)) (entry_of layout row)
+    → map (entry_of layout) (left ++ row ∷ right) ≡ with_new_entry (map (entry_of layout) (left ++ right)) (entry_of layout row)
 entry_comes layout [] [] row below above = refl
 entry_comes layout [] (r ∷ right) row below above =
-    sym (ap (λ (o : Ordering). if is_lt o then entry_of layout r ∷ with_entry (map (entry_of layout) right) (entry_of layout row) else entry_of layout row ∷ entry_of layout r ∷ map (entry_of layout) right)
+    sym (ap (λ (o : Ordering). if is_lt o then entry_of layout r ∷ with_new_entry (map (entry_of layout) right) (entry_of layout row) else entry_of layout row ∷ entry_of layout r ∷ map (entry_of layout) right)
     (greater_is (key_of layout r) (key_of layout row) (All-head (λ x. Precedes (key_of layout row) (key_of layout x)) r right above)))
 entry_comes layout (l ∷ left) right row below above =
     ap (λ x. entry_of layout l ∷ x) (entry_comes layout left right row (All-tail (λ x. Precedes (key_of layout x) (key_of layout row)) l left below) above)
-    ∙ sym (ap (λ (o : Ordering). if is_lt o then entry_of layout l ∷ with_entry (map (entry_of layout) (left ++ right)) (entry_of layout row) else entry_of layout row ∷ entry_of layout l ∷ map (entry_of layout) (left ++ right))
+    ∙ sym (ap (λ (o : Ordering). if is_lt o then entry_of layout l ∷ with_new_entry (map (entry_of layout) (left ++ right)) (entry_of layout row) else entry_of layout row ∷ entry_of layout l ∷ map (entry_of layout) (left ++ right))
     (All-head (λ x. Precedes (key_of layout x) (key_of layout row)) l left below))
 
 pub entry_goes : (layout : RowLayout) (left right : List (List ℕ)) (row : List ℕ) → AllBelow layout (key_of layout row) left
-    → map (entry_of layout) (left ++ right) ≡ without (map (entry_of layout) (left ++ row ∷ right)) (key_of layout row)
+    → map (entry_of layout) (left ++ right) ≡ without_entry (map (entry_of layout) (left ++ row ∷ right)) (key_of layout row)
 entry_goes layout [] right row below =
-    sym (ap (λ (o : Ordering). if is_eq o then map (entry_of layout) right else entry_of layout row ∷ without (map (entry_of layout) right) (key_of layout row)) (tied_itself key_order (key_of layout row)))
+    sym (ap (λ (o : Ordering). if is_eq o then map (entry_of layout) right else entry_of layout row ∷ without_entry (map (entry_of layout) right) (key_of layout row)) (tied_itself key_order (key_of layout row)))
 entry_goes layout (l ∷ left) right row below =
     ap (λ x. entry_of layout l ∷ x) (entry_goes layout left right row (All-tail (λ x. Precedes (key_of layout x) (key_of layout row)) l left below))
-    ∙ sym (ap (λ (o : Ordering). if is_eq o then map (entry_of layout) (left ++ row ∷ right) else entry_of layout l ∷ without (map (entry_of layout) (left ++ row ∷ right)) (key_of layout row))
+    ∙ sym (ap (λ (o : Ordering). if is_eq o then map (entry_of layout) (left ++ row ∷ right) else entry_of layout l ∷ without_entry (map (entry_of layout) (left ++ row ∷ right)) (key_of layout row))
     (All-head (λ x. Precedes (key_of layout x) (key_of layout row)) l left below))
 
 pub entry_changes : (layout : RowLayout) (left right : List (List ℕ)) (row new : List ℕ) → key_of layout row ≡ key_of layout new → AllBelow layout (key_of layout new) left
@@ -66,7 +66,7 @@ up_changes layout left right row new same up =
     subst Ascend (map-append (key_of layout) left (row ∷ right) ∙ ap (λ k. keys_of layout left ++ k ∷ keys_of layout right) same ∙ sym (map-append (key_of layout) left (new ∷ right))) up
 
 -- All rows to the left of a leaf are below a key that belongs there.
-pub left_below : (layout : RowLayout) (key : List ℕ) (spot : Spot) (row : List ℕ) (rows : List (List ℕ)) → IsSide layout key spot → spot.node.rows ≡ row ∷ rows → Up layout (rows_of spot.before ++ (spot.node.rows ++ rows_of spot.after)) → AllBelow layout key (rows_of spot.before)
+pub left_below : (layout : RowLayout) (key : List ℕ) (spot : LevelZipper) (row : List ℕ) (rows : List (List ℕ)) → IsSide layout key spot → spot.node.rows ≡ row ∷ rows → Up layout (rows_of spot.before ++ (spot.node.rows ++ rows_of spot.after)) → AllBelow layout key (rows_of spot.before)
 left_below layout key spot row rows side some up =
     ⊎_elim
     (λ none. subst (λ (nodes : List TreeNode). AllBelow layout key (rows_of nodes)) (sym none) (All-nil (λ r. Precedes (key_of layout r) key)))

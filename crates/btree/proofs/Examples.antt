@@ -6,13 +6,13 @@ use Rattle.std.specs.List.Sorted.{IsStrictlySortedBy}
 use Rattle.std.proofs.lemmas.List.Elements.{All-cons, All-nil}
 use Rattle.std.proofs.lemmas.List.Kept.{AllPairs-cons}
 use Rattle.station.specs.Disk.{Sector}
-use Rattle.tree_pages.specs.declared.row_layout.RowLayout.{RowLayout}
-use Rattle.tree_pages.specs.declared.row_layout.Kind.TheVariants.{Leaf, Inner}
-use Rattle.tree_pages.specs.RowLayouts.{row_length}
-use Rattle.tree_pages.specs.Keys.{Ascend, keys_of}
-use Rattle.btree.specs.Entries.{Entry, entries_of, entry_with, first_after, first_from, with_entry, with_value, without}
+use Rattle.btree_pages.specs.declared.row_layout.RowLayout.{RowLayout}
+use Rattle.btree_pages.specs.declared.row_layout.Kind.TheVariants.{Leaf, Inner}
+use Rattle.btree_pages.specs.RowLayouts.{row_length}
+use Rattle.btree_pages.specs.Keys.{Ascend, keys_of}
+use Rattle.btree.specs.Entries.{Entry, entries_of, entry_with, first_entry_after, first_from, with_new_entry, with_value, without_entry}
 use Rattle.btree.specs.Path.{right_key}
-use Rattle.btree.specs.Tree.{HasTop, Holds, IsTree, Joined, TreeNode, Stands, node_of, pages_of, row_of, rows_in_order}
+use Rattle.btree.specs.Tree.{HasTop, IsTreeOrEmpty, IsTree, AreJoinedLevels, TreeNode, IsOnPage, node_of, pages_of, row_of, rows_in_order}
 use Rattle.btree.proofs.Runs.{in_none, pairs_from_once}
 use Rattle.btree.proofs.Descents.{along_stands, start}
 use Rattle.btree.proofs.TreeNodes.{read_few, read_none}
@@ -82,16 +82,16 @@ from_a_key_on_itself = refl
 from_a_gap_on : first_from three (1 ∷ 3 ∷ []) ≡ Some (entry 3 0 30)
 from_a_gap_on = refl
 
-after_a_key_not_itself : first_after three (1 ∷ 2 ∷ []) ≡ Some (entry 3 0 30)
+after_a_key_not_itself : first_entry_after three (1 ∷ 2 ∷ []) ≡ Some (entry 3 0 30)
 after_a_key_not_itself = refl
 
-after_the_last : first_after three (3 ∷ 0 ∷ []) ≡ None
+after_the_last : first_entry_after three (3 ∷ 0 ∷ []) ≡ None
 after_the_last = refl
 
-comes_between : with_entry three (entry 2 0 25) ≡ entry 1 1 10 ∷ entry 1 2 20 ∷ entry 2 0 25 ∷ entry 3 0 30 ∷ []
+comes_between : with_new_entry three (entry 2 0 25) ≡ entry 1 1 10 ∷ entry 1 2 20 ∷ entry 2 0 25 ∷ entry 3 0 30 ∷ []
 comes_between = refl
 
-comes_last : with_entry three (entry 255 0 40) ≡ entry 1 1 10 ∷ entry 1 2 20 ∷ entry 3 0 30 ∷ entry 255 0 40 ∷ []
+comes_last : with_new_entry three (entry 255 0 40) ≡ entry 1 1 10 ∷ entry 1 2 20 ∷ entry 3 0 30 ∷ entry 255 0 40 ∷ []
 comes_last = refl
 
 gets_another_value : with_value three (entry 1 2 21) ≡ entry 1 1 10 ∷ entry 1 2 21 ∷ entry 3 0 30 ∷ []
@@ -100,25 +100,25 @@ gets_another_value = refl
 no_entry_no_other_value : with_value three (entry 2 0 25) ≡ three
 no_entry_no_other_value = refl
 
-first_goes : without three (1 ∷ 1 ∷ []) ≡ entry 1 2 20 ∷ entry 3 0 30 ∷ []
+first_goes : without_entry three (1 ∷ 1 ∷ []) ≡ entry 1 2 20 ∷ entry 3 0 30 ∷ []
 first_goes = refl
 
-none_goes : without three (1 ∷ 3 ∷ []) ≡ three
+none_goes : without_entry three (1 ∷ 3 ∷ []) ≡ three
 none_goes = refl
 
 first_of_the_right_leaf : right_key pairs (record { before = []; node = low; after = high ∷ [] }) ≡ Some (3 ∷ 0 ∷ [])
 first_of_the_right_leaf = refl
 
 -- Both are trees.
-low_stands : Stands pairs pages Leaf low
+low_stands : IsOnPage pairs pages Leaf low
 low_stands =
     let P = λ (row : List ℕ). length row ≡ row_length pairs Leaf in
     record { node = refl; lengths = All-cons P (1 ∷ 1 ∷ 10 ∷ []) ((1 ∷ 2 ∷ 20 ∷ []) ∷ []) refl (All-cons P (1 ∷ 2 ∷ 20 ∷ []) [] refl (All-nil P)); enough = lit≤ tt }
 
-high_stands : Stands pairs pages Leaf high
+high_stands : IsOnPage pairs pages Leaf high
 high_stands = let P = λ (row : List ℕ). length row ≡ row_length pairs Leaf in record { node = refl; lengths = All-cons P (3 ∷ 0 ∷ 30 ∷ []) [] refl (All-nil P); enough = lit≤ tt }
 
-top_stands : Stands pairs pages Inner top
+top_stands : IsOnPage pairs pages Inner top
 top_stands =
     let P = λ (row : List ℕ). length row ≡ row_length pairs Inner in
     record { node = refl; lengths = All-cons P (row_of pairs low) (row_of pairs high ∷ []) refl (All-cons P (row_of pairs high) [] refl (All-nil P)); enough = lit≤ tt }
@@ -136,7 +136,7 @@ leaf_is_a_tree : IsTree pairs pages 1 leaf
 unfolding IsStrictlySortedBy
 leaf_is_a_tree = record {
   top = (low, refl, refl);
-  joined = All-cons (Stands pairs pages Leaf) low [] low_stands (All-nil (Stands pairs pages Leaf));
+  joined = All-cons (IsOnPage pairs pages Leaf) low [] low_stands (All-nil (IsOnPage pairs pages Leaf));
   ascend = ((refl, tt), (tt, tt));
   once = pairs_from_once (1 ∷ []) ((λ has. in_none 1 has), tt);
   numbers = All-cons IsNumber 1 [] (lit< tt, lit< tt) (All-nil IsNumber);
@@ -147,9 +147,9 @@ unfolding IsStrictlySortedBy
 two_is_a_tree = record {
   top = top_of_two;
   joined = (
-    All-cons (Stands pairs pages Inner) top [] top_stands (All-nil (Stands pairs pages Inner)),
+    All-cons (IsOnPage pairs pages Inner) top [] top_stands (All-nil (IsOnPage pairs pages Inner)),
     refl,
-    All-cons (Stands pairs pages Leaf) low (high ∷ []) low_stands (All-cons (Stands pairs pages Leaf) high [] high_stands (All-nil (Stands pairs pages Leaf))),
+    All-cons (IsOnPage pairs pages Leaf) low (high ∷ []) low_stands (All-cons (IsOnPage pairs pages Leaf) high [] high_stands (All-nil (IsOnPage pairs pages Leaf))),
   );
   ascend = ((refl, (refl, tt)), ((refl, tt), (tt, tt)));
   once = AllPairs-cons Differ 3 (1 ∷ 2 ∷ [])
@@ -159,7 +159,7 @@ two_is_a_tree = record {
 }
 
 -- root 0 is a tree without levels, and no page is needed for it
-none_is_held : Holds pairs [] 0 []
+none_is_held : IsTreeOrEmpty pairs [] 0 []
 none_is_held = inl (refl, refl)
 
 -- What is no tree, whatever its levels: an inner page that names one child, and a page that isn't in the map.
@@ -180,7 +180,7 @@ no_page levels tree =
 no_top : (root : ℕ) → HasTop root ((low ∷ high ∷ []) ∷ []) → ⊥
 no_top root has = let one : ◌≡◌ {A = ℕ} 2 1 = ap length has.1 in omega arith
 
-not_named : Joined pairs pages ((top ∷ []) ∷ (low ∷ []) ∷ []) → ⊥
+not_named : AreJoinedLevels pairs pages ((top ∷ []) ∷ (low ∷ []) ∷ []) → ⊥
 not_named joined = let one : ◌≡◌ {A = ℕ} 2 1 = ap length joined.1 in omega arith
 
 -- keys that don't ascend

@@ -7,14 +7,14 @@ use Rattle.std.proofs.Math.Nat.{suc-mul, add-mul}
 use Rattle.std.proofs.lemmas.List.{append-nil, length-map}
 use Rattle.std.proofs.lemmas.List.Sums.{sum_by-append, sum_by-cons}
 use Rattle.std.proofs.lemmas.List.Elements.{All-head, All-tail}
-use Rattle.tree_pages.specs.declared.row_layout.RowLayout.{RowLayout}
-use Rattle.tree_pages.specs.declared.row_layout.Kind.TheVariants.{Leaf}
-use Rattle.tree_pages.specs.RowLayouts.{capacity}
+use Rattle.btree_pages.specs.declared.row_layout.RowLayout.{RowLayout}
+use Rattle.btree_pages.specs.declared.row_layout.Kind.TheVariants.{Leaf}
+use Rattle.btree_pages.specs.RowLayouts.{capacity}
 use Rattle.btree.specs.Tree.{TreeNode, rows_of, leaves_of, rows_in_order}
 use Rattle.btree.specs.Entries.{entry_of}
 use Rattle.btree.specs.Laws.{FewLeaves}
 use Rattle.btree.specs.Outcomes.{rows_together}
-use Rattle.btree.specs.Fills.{IsShort, is_thin, thin_leaves, IsEven}
+use Rattle.btree.specs.Fills.{HasTooFewRows, is_thin, thin_leaves, IsEven}
 
 thin_append : (layout : RowLayout) (a b : List TreeNode) → thin_leaves layout (a ++ b) ≡ thin_leaves layout a + thin_leaves layout b
 thin_append layout a b = sum_by-append (λ (leaf : TreeNode). cond (is_thin layout leaf) 1 0) a b
@@ -32,7 +32,7 @@ thin_around layout before run run' after less =
     omega (arith, new, new_rest, old, old_rest, less)
 
 -- a leaf that has enough rows
-pub not_thin : (layout : RowLayout) (leaf : TreeNode) → (IsShort layout Leaf (length leaf.rows) → ⊥) → thin_leaves layout (leaf ∷ []) ≡ 0
+pub not_thin : (layout : RowLayout) (leaf : TreeNode) → (HasTooFewRows layout Leaf (length leaf.rows) → ⊥) → thin_leaves layout (leaf ∷ []) ≡ 0
 not_thin layout leaf enough =
     let all : capacity layout Leaf ≤ 4 * length leaf.rows = not_below (4 * length leaf.rows) (capacity layout Leaf) enough in
     thin_cons layout leaf [] ∙ ap (λ (b : Bool). cond b 1 0 + 0) (le-ltb (4 * length leaf.rows) (capacity layout Leaf) all)

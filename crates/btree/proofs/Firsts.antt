@@ -9,11 +9,11 @@ use Rattle.std.proofs.lemmas.Cmp.{ranked}
 use Rattle.std.proofs.lemmas.List.{length-take-le}
 use Rattle.std.proofs.lemmas.List.Elements.{All-head, All-nil, All-append, All-tail}
 use Rattle.station.specs.Disk.{Sector}
-use Rattle.tree_pages.specs.declared.row_layout.RowLayout.{RowLayout}
-use Rattle.tree_pages.specs.declared.row_layout.Kind.TheVariants.{Leaf}
-use Rattle.tree_pages.specs.Keys.{key_cmp, key_of, Precedes}
-use Rattle.btree.specs.Tree.{TreeNode, rows_of, rows_in_order, leaves_of, Joined, Holds}
-use Rattle.btree.specs.Entries.{entry_of, listed, entries_of, first_from, first_entry}
+use Rattle.btree_pages.specs.declared.row_layout.RowLayout.{RowLayout}
+use Rattle.btree_pages.specs.declared.row_layout.Kind.TheVariants.{Leaf}
+use Rattle.btree_pages.specs.Keys.{key_cmp, key_of, Precedes}
+use Rattle.btree.specs.Tree.{TreeNode, rows_of, rows_in_order, leaves_of, AreJoinedLevels, IsTreeOrEmpty}
+use Rattle.btree.specs.Entries.{entry_of, entries_of_rows, entries_of, first_from, first_entry}
 use Rattle.btree.proofs.Levels.{HasRows, all_have_rows}
 
 not_below_from : (x : ℕ) (o more : Ordering) → o ≡ nat_cmp x 0 → ordering_then o more ≡ Less → (more ≡ Less → ⊥) → ⊥
@@ -32,25 +32,25 @@ not_less Less never = absurd (never refl)
 not_less Equal never = refl
 not_less Greater never = refl
 
-from_zeros : (layout : RowLayout) (rows : List (List ℕ)) → All (λ row. layout.key_length ≤ length row) rows → first_from (listed layout rows) (replicate layout.key_length 0) ≡ first_entry (listed layout rows)
+from_zeros : (layout : RowLayout) (rows : List (List ℕ)) → All (λ row. layout.key_length ≤ length row) rows → first_from (entries_of_rows layout rows) (replicate layout.key_length 0) ≡ first_entry (entries_of_rows layout rows)
 from_zeros layout [] long = refl
 from_zeros layout (row ∷ rows) long =
     let here : layout.key_length ≤ length row = All-head (λ (r : List ℕ). layout.key_length ≤ length r) row rows long in
     let count : length (key_of layout row) ≡ layout.key_length = length-take-le layout.key_length row here in
     let high : is_lt (key_cmp (key_of layout row) (replicate layout.key_length 0)) ≡ false = not_less (key_cmp (key_of layout row) (replicate layout.key_length 0)) (not_below_zeros (key_of layout row) layout.key_length (omega arith)) in
-    ap (λ (b : Bool). if b then first_from (listed layout rows) (replicate layout.key_length 0) else Some (entry_of layout row)) high
+    ap (λ (b : Bool). if b then first_from (entries_of_rows layout rows) (replicate layout.key_length 0) else Some (entry_of layout row)) high
 
 rows_long : (layout : RowLayout) (nodes : List TreeNode) → All (HasRows layout) nodes → All (λ row. layout.key_length ≤ length row) (rows_of nodes)
 rows_long layout [] all = All-nil (λ row. layout.key_length ≤ length row)
 rows_long layout (node ∷ nodes) all =
     All-append (λ (row : List ℕ). layout.key_length ≤ length row) node.rows (rows_of nodes) (All-head (HasRows layout) node nodes all).lengths (rows_long layout nodes (All-tail (HasRows layout) node nodes all))
 
-leaves_have_rows : (layout : RowLayout) (pages : List (Option Sector)) (levels : List (List TreeNode)) → Joined layout pages levels → All (HasRows layout) (leaves_of levels)
+leaves_have_rows : (layout : RowLayout) (pages : List (Option Sector)) (levels : List (List TreeNode)) → AreJoinedLevels layout pages levels → All (HasRows layout) (leaves_of levels)
 leaves_have_rows layout pages [] joined = absurd joined
 leaves_have_rows layout pages (leaves ∷ []) joined = all_have_rows layout pages Leaf leaves joined
 leaves_have_rows layout pages (upper ∷ lower ∷ more) joined = leaves_have_rows layout pages (lower ∷ more) joined.2
 
-pub first_from_zeros : (layout : RowLayout) (pages : List (Option Sector)) (root : ℕ) (levels : List (List TreeNode)) → Holds layout pages root levels → first_from (entries_of layout levels) (replicate layout.key_length 0) ≡ first_entry (entries_of layout levels)
+pub first_from_zeros : (layout : RowLayout) (pages : List (Option Sector)) (root : ℕ) (levels : List (List TreeNode)) → IsTreeOrEmpty layout pages root levels → first_from (entries_of layout levels) (replicate layout.key_length 0) ≡ first_entry (entries_of layout levels)
 first_from_zeros layout pages root levels (inl none) =
     let P : List (List TreeNode) → Type 0 = λ l. first_from (entries_of layout l) (replicate layout.key_length 0) ≡ first_entry (entries_of layout l) in
     subst P (sym none.1) refl

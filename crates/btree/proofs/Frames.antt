@@ -6,15 +6,15 @@ use Rattle.std.proofs.lemmas.List.Elements.{All-head}
 use Rattle.station.specs.Disk.{Sector}
 use Rattle.station.specs.State.{State}
 use Rattle.pages.specs.Image.{Map}
-use Rattle.pages.specs.Pages.{map_now, page_of, Unchanged}
+use Rattle.pages.specs.Pages.{map_now, page_of, IsUnchanged}
 use Rattle.pages.specs.declared.page_map.PageMap.{PageMap}
-use Rattle.tree_pages.specs.declared.row_layout.RowLayout.{RowLayout}
-use Rattle.btree.specs.Tree.{TreeNode, IsTree, Holds, pages_of}
+use Rattle.btree_pages.specs.declared.row_layout.RowLayout.{RowLayout}
+use Rattle.btree.specs.Tree.{TreeNode, IsTree, IsTreeOrEmpty, pages_of}
 
-pub unchanged_still : (p : PageMap) → Unchanged p p
+pub unchanged_still : (p : PageMap) → IsUnchanged p p
 unchanged_still p = record { map = λ image. refl; changed_pages = refl; filled = refl; committed = record { volume = refl; spent = refl } }
 
-pub unchanged_on : (one two three : PageMap) → Unchanged one two → Unchanged two three → Unchanged one three
+pub unchanged_on : (one two three : PageMap) → IsUnchanged one two → IsUnchanged two three → IsUnchanged one three
 unchanged_on one two three first second = record {
   map = λ image. second.map image ∙ first.map image;
   changed_pages = second.changed_pages ∙ first.changed_pages;
@@ -22,16 +22,16 @@ unchanged_on one two three first second = record {
   committed = record { volume = second.committed.volume ∙ first.committed.volume; spent = second.committed.spent ∙ first.committed.spent };
 }
 
-pub same_pages : (old new : PageMap) (before after : State) → Unchanged old new → after ≡ before → (map_now new after.disk.present).pages ≡ (map_now old before.disk.present).pages
+pub same_pages : (old new : PageMap) (before after : State) → IsUnchanged old new → after ≡ before → (map_now new after.disk.present).pages ≡ (map_now old before.disk.present).pages
 same_pages old new before after unchanged same =
     ap (λ (state : State). (map_now new state.disk.present).pages) same ∙ ap (λ (map : Map). map.pages) (unchanged.map before.disk.present)
 
 -- a page that is seen after a call that only reads is the page from before
-pub seen_before : (old new : PageMap) (before after : State) (page : ℕ) (bytes : Sector) → Unchanged old new → after ≡ before → page_of (map_now new after.disk.present) page ≡ Some bytes → slice_index_or (map_now old before.disk.present).pages page None ≡ Some bytes
+pub seen_before : (old new : PageMap) (before after : State) (page : ℕ) (bytes : Sector) → IsUnchanged old new → after ≡ before → page_of (map_now new after.disk.present) page ≡ Some bytes → slice_index_or (map_now old before.disk.present).pages page None ≡ Some bytes
 seen_before old new before after page bytes unchanged same seen = sym (ap (λ (p : List (Option Sector)). slice_index_or p page None) (same_pages old new before after unchanged same)) ∙ seen
 
 -- the pages where nothing was done yet
-pub pages_yet : (one two three : PageMap) (before after : State) → Unchanged one two → three ≡ two → after ≡ before → (map_now three after.disk.present).pages ≡ (map_now one before.disk.present).pages
+pub pages_yet : (one two three : PageMap) (before after : State) → IsUnchanged one two → three ≡ two → after ≡ before → (map_now three after.disk.present).pages ≡ (map_now one before.disk.present).pages
 pages_yet one two three before after unchanged same state = ap (λ (p : PageMap). (map_now p after.disk.present).pages) same ∙ same_pages one two before after unchanged state
 
 pub false_unless : (b : Bool) → (b ≡ true → ⊥) → b ≡ false
@@ -51,9 +51,9 @@ tree_rooted layout pages root (top ∷ more) tree none =
     let is = tree.top.2 in
     omega arith
 
-pub holds_tree : (layout : RowLayout) (pages : List (Option Sector)) (root : ℕ) (levels : List (List TreeNode)) → Holds layout pages root levels → (root ≡ 0 → ⊥) → IsTree layout pages root levels
+pub holds_tree : (layout : RowLayout) (pages : List (Option Sector)) (root : ℕ) (levels : List (List TreeNode)) → IsTreeOrEmpty layout pages root levels → (root ≡ 0 → ⊥) → IsTree layout pages root levels
 holds_tree layout pages root levels (inl none) some = absurd (some none.0)
 holds_tree layout pages root levels (inr tree) some = tree.1
 
-pub tree_holds : (layout : RowLayout) (pages : List (Option Sector)) (root : ℕ) (levels : List (List TreeNode)) → IsTree layout pages root levels → Holds layout pages root levels
+pub tree_holds : (layout : RowLayout) (pages : List (Option Sector)) (root : ℕ) (levels : List (List TreeNode)) → IsTree layout pages root levels → IsTreeOrEmpty layout pages root levels
 tree_holds layout pages root levels tree = inr (tree_rooted layout pages root levels tree, tree)

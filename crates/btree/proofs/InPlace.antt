@@ -4,17 +4,17 @@ use Rattle.std.specs.Prelude.{Option, Some, None}
 use Rattle.std.specs.List.{insert}
 use Rattle.std.proofs.lemmas.List.{append-nil}
 use Rattle.station.specs.Disk.{Sector}
-use Rattle.tree_pages.specs.declared.row_layout.RowLayout.{RowLayout}
-use Rattle.tree_pages.specs.declared.row_layout.Kind.{Kind}
-use Rattle.tree_pages.specs.declared.row_layout.Kind.TheVariants.{Leaf}
-use Rattle.tree_pages.specs.RowLayouts.{rest_length}
-use Rattle.tree_pages.specs.Node.{Node, node_in}
-use Rattle.tree_pages.specs.Edits.{inserted}
+use Rattle.btree_pages.specs.declared.row_layout.RowLayout.{RowLayout}
+use Rattle.btree_pages.specs.declared.row_layout.Kind.{Kind}
+use Rattle.btree_pages.specs.declared.row_layout.Kind.TheVariants.{Leaf}
+use Rattle.btree_pages.specs.RowLayouts.{rest_length}
+use Rattle.btree_pages.specs.Node.{Node, node_in}
+use Rattle.btree_pages.specs.Edits.{node_with_row}
 use Rattle.btree.specs.declared.split_result.SplitResult.{SplitResult}
 use Rattle.btree.specs.Tree.{TreeNode, IsTree, node_at, node_on, rows_of}
 use Rattle.btree.specs.Path.{PathStep, EndsAt}
 use Rattle.btree.specs.Steps.{LeadsTo}
-use Rattle.btree.specs.Moves.{Replaced}
+use Rattle.btree.specs.Moves.{ReplacesNodes}
 use Rattle.btree.specs.Propagates.{node_with, run_of}
 use Rattle.btree.specs.Changes.{CanTake, InsertsIntoLeaf, Inserts}
 use Rattle.btree.specs.Entering.{EntersOn}
@@ -34,7 +34,7 @@ module _ (layout : RowLayout) (before after : List (Option Sector)) (page : ℕ)
   place = on.enters.place
 
   abbrev made : Node
-  made = inserted node place (key ++ value)
+  made = node_with_row node place (key ++ value)
 
   -- the page without a new neighbour
   abbrev alone : SplitResult
@@ -46,7 +46,7 @@ module _ (layout : RowLayout) (before after : List (Option Sector)) (page : ℕ)
   rows_are : rows_of (run_of alone) ≡ insert node.rows place (key ++ value)
   rows_are = append-nil (insert node.rows place (key ++ value))
 
-  row_put : length key ≡ layout.key_length → length value ≡ layout.value_length → CanTake before page node → Replaced node.layout node.kind before (node_with page node.rows ∷ []) after (run_of alone)
+  row_put : length key ≡ layout.key_length → length value ≡ layout.value_length → CanTake before page node → ReplacesNodes node.layout node.kind before (node_with page node.rows ∷ []) after (run_of alone)
   row_put key_is value_is can =
       let key_in : length key ≡ node.layout.key_length = subst (λ (f : RowLayout). length key ≡ f.key_length) (sym on.enters.layout_is) key_is in
       let value_in : length value ≡ rest_length node.layout node.kind =

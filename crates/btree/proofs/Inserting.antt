@@ -3,13 +3,13 @@ use Rattle.std.proofs.Common.{◌≡◌, ⊎_elim, ◌<◌, ◌≤◌, ℕ, List
 use Rattle.std.specs.Prelude.{Option, Some, None, IsSome, slice_index_or}
 use Rattle.std.proofs.lemmas.List.Elements.{All-nil}
 use Rattle.station.specs.Disk.{Sector}
-use Rattle.tree_pages.specs.declared.row_layout.RowLayout.{RowLayout}
-use Rattle.tree_pages.specs.declared.row_layout.Kind.TheVariants.{Leaf}
-use Rattle.tree_pages.specs.Keys.{key_of, Precedes}
-use Rattle.btree.specs.Tree.{TreeNode, IsTree, Holds}
+use Rattle.btree_pages.specs.declared.row_layout.RowLayout.{RowLayout}
+use Rattle.btree_pages.specs.declared.row_layout.Kind.TheVariants.{Leaf}
+use Rattle.btree_pages.specs.Keys.{key_of, Precedes}
+use Rattle.btree.specs.Tree.{TreeNode, IsTree, IsTreeOrEmpty}
 use Rattle.btree.specs.Path.{PathStep, EndsAt}
 use Rattle.btree.specs.Entries.{Entry}
-use Rattle.btree.specs.Moves.{Replaced}
+use Rattle.btree.specs.Moves.{ReplacesNodes}
 use Rattle.btree.specs.Propagates.{node_with}
 use Rattle.btree.specs.Changes.{InsertsIntoLeaf, Inserts}
 use Rattle.btree.proofs.Order.{up_cons, up_none}
@@ -18,12 +18,12 @@ use Rattle.btree.proofs.Searches.{leaf_among, FindsAt, FindsGap, got, got_none}
 use Rattle.btree.proofs.NewRoots.{first_leaf, tree_after}
 use Rattle.btree.proofs.Settling.{entry_is}
 
-no_levels : (layout : RowLayout) (pages : List (Option Sector)) (root : ℕ) (levels : List (List TreeNode)) → root ≡ 0 → Holds layout pages root levels → levels ≡ []
+no_levels : (layout : RowLayout) (pages : List (Option Sector)) (root : ℕ) (levels : List (List TreeNode)) → root ≡ 0 → IsTreeOrEmpty layout pages root levels → levels ≡ []
 no_levels layout pages root levels none holds = ⊎_elim (λ empty. empty.1) (λ tree. absurd (tree.0 none)) holds
 
 -- into a tree without entries
-pub planted : (layout : RowLayout) (before after : List (Option Sector)) (root : ℕ) (levels : List (List TreeNode)) (new : ℕ) (key value : List ℕ) → root ≡ 0 → Holds layout before root levels → length key ≡ layout.key_length → 0 < new
-    → Replaced layout Leaf before [] after (node_with new ((key ++ value) ∷ []) ∷ []) → Inserts layout before levels after key value (Some new)
+pub planted : (layout : RowLayout) (before after : List (Option Sector)) (root : ℕ) (levels : List (List TreeNode)) (new : ℕ) (key value : List ℕ) → root ≡ 0 → IsTreeOrEmpty layout before root levels → length key ≡ layout.key_length → 0 < new
+    → ReplacesNodes layout Leaf before [] after (node_with new ((key ++ value) ∷ []) ∷ []) → Inserts layout before levels after key value (Some new)
 planted layout before after root levels new key value none holds key_is some own =
     let leaf = node_with new ((key ++ value) ∷ []) in
     let became = first_leaf layout before after leaf own in

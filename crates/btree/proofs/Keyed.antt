@@ -5,7 +5,7 @@ use Rattle.std.specs.declared.cmp.Ordering.{Ordering}
 use Rattle.std.specs.declared.cmp.Ordering.TheVariants.{Less, Equal, Greater}
 use Rattle.std.specs.Ordering.{is_eq, nat_cmp, ordering_then}
 use Rattle.std.proofs.lemmas.Cmp.{ranked}
-use Rattle.tree_pages.specs.Keys.{key_cmp}
+use Rattle.btree_pages.specs.Keys.{key_cmp}
 use Rattle.btree.specs.Entries.{Entry, entry_with, value_of}
 
 -- keys that compare as equal are equal

@@ -5,20 +5,20 @@ use Rattle.std.proofs.lemmas.Bool.{ltb-true}
 use Rattle.std.proofs.lemmas.List.Elements.{All-nil}
 use Rattle.byteorder.specs.Endian.{big_bytes}
 use Rattle.station.specs.Disk.{Sector}
-use Rattle.tree_pages.specs.declared.row_layout.RowLayout.{RowLayout}
-use Rattle.tree_pages.specs.declared.row_layout.Kind.{Kind}
-use Rattle.tree_pages.specs.declared.row_layout.Kind.TheVariants.{Leaf, Inner}
-use Rattle.tree_pages.specs.Keys.{key_of, rest_of}
-use Rattle.tree_pages.specs.Node.{Node}
-use Rattle.tree_pages.specs.Edits.{removed, with_key, with_rows}
+use Rattle.btree_pages.specs.declared.row_layout.RowLayout.{RowLayout}
+use Rattle.btree_pages.specs.declared.row_layout.Kind.{Kind}
+use Rattle.btree_pages.specs.declared.row_layout.Kind.TheVariants.{Leaf, Inner}
+use Rattle.btree_pages.specs.Keys.{key_of, rest_of}
+use Rattle.btree_pages.specs.Node.{Node}
+use Rattle.btree_pages.specs.Edits.{node_without_row, with_key, with_rows}
 use Rattle.btree.specs.declared.removal_outcome.RemovalOutcome.{RemovalOutcome}
 use Rattle.btree.specs.declared.removal_outcome.Child.{Child}
-use Rattle.btree.specs.Tree.{least, row_of, fewest, Stands}
-use Rattle.btree.specs.Moves.{Replaced}
+use Rattle.btree.specs.Tree.{least_key, row_of, fewest, IsOnPage}
+use Rattle.btree.specs.Moves.{ReplacesNodes}
 use Rattle.btree.specs.Propagates.{node_with}
 use Rattle.btree.specs.Changes.{IsIn}
-use Rattle.btree.specs.Outcomes.{Fares}
-use Rattle.btree.specs.Fills.{IsShort}
+use Rattle.btree.specs.Outcomes.{IsRemovalResult}
+use Rattle.btree.specs.Fills.{HasTooFewRows}
 use Rattle.btree.proofs.Runs.{in_none, in_cases, in_head}
 use Rattle.btree.proofs.Writes.{is_low}
 use Rattle.btree.proofs.ParentUpdates.{named_row, first_same}
@@ -29,9 +29,9 @@ has_room pages count page is some is_in = (some, omega (arith, is_low pages page
 
 -- a page that leaves the map
 pub write_none : (layout : RowLayout) (kind : Kind) (pages after : List (Option Sector)) (page : ℕ) (old : List (List ℕ)) → after ≡ set pages page None → page < length pages
-    → Replaced layout kind pages (node_with page old ∷ []) after []
+    → ReplacesNodes layout kind pages (node_with page old ∷ []) after []
 write_none layout kind pages after page old is low = record {
-  stand = All-nil (Stands layout after kind);
+  stand = All-nil (IsOnPage layout after kind);
   once = tt;
   moves = record {
     count = ap length is ∙ length-set pages page None;
@@ -45,23 +45,23 @@ write_none layout kind pages after page old is low = record {
 }
 
 -- some rows that aren't too few are enough
-pub enough_left : (layout : RowLayout) (kind : Kind) (count : ℕ) → count ≢ 0 → (IsShort layout kind count → ⊥) → fewest kind ≤ count
+pub enough_left : (layout : RowLayout) (kind : Kind) (count : ℕ) → count ≢ 0 → (HasTooFewRows layout kind count → ⊥) → fewest kind ≤ count
 enough_left layout Leaf count some more = omega (arith, some)
 enough_left layout Inner count some more = omega (arith, more)
 
 -- A node's rows became others from a place on. What became of its page, to which it is told whether a row stands before that place.
 pub front_fares : (before after : List (Option Sector)) (page place : ℕ) (node new : Node) (more : List (List ℕ)) (kind : Kind) (outcome : RemovalOutcome) → new ≡ with_rows node (take place node.rows ++ more)
     → node.kind ≡ kind → place < length node.rows
-    → ((nat_lt 0 place ≡ true → least new.layout (node_with page new.rows) ≡ least new.layout (node_with page node.rows)) → Fares new.layout new.kind before after page node.rows new.rows outcome)
-    → Fares node.layout kind before after page node.rows (take place node.rows ++ more) outcome
+    → ((nat_lt 0 place ≡ true → least_key new.layout (node_with page new.rows) ≡ least_key new.layout (node_with page node.rows)) → IsRemovalResult new.layout new.kind before after page node.rows new.rows outcome)
+    → IsRemovalResult node.layout kind before after page node.rows (take place node.rows ++ more) outcome
 front_fares before after page place node new more kind outcome is kind_is low put =
     let rows = take place node.rows ++ more in
-    let same : nat_lt 0 place ≡ true → least new.layout (node_with page new.rows) ≡ least new.layout (node_with page node.rows) =
+    let same : nat_lt 0 place ≡ true → least_key new.layout (node_with page new.rows) ≡ least_key new.layout (node_with page node.rows) =
     λ some. ap (λ (n : Node). key_of new.layout (slice_index_or n.rows 0 [])) is ∙ ap (key_of new.layout) (first_same place node.rows more (ltb-true 0 place some) low) in
-    subst (λ (k : Kind). Fares node.layout k before after page node.rows rows outcome) kind_is
-    (subst (λ (n : Node). Fares n.layout n.kind before after page node.rows n.rows outcome) is (put same))
+    subst (λ (k : Kind). IsRemovalResult node.layout k before after page node.rows rows outcome) kind_is
+    (subst (λ (n : Node). IsRemovalResult n.layout n.kind before after page node.rows n.rows outcome) is (put same))
 
-pub removed_rows : (node new : Node) (place : ℕ) → new ≡ removed node place → new ≡ with_rows node (take place node.rows ++ drop (place + 1) node.rows)
+pub removed_rows : (node new : Node) (place : ℕ) → new ≡ node_without_row node place → new ≡ with_rows node (take place node.rows ++ drop (place + 1) node.rows)
 removed_rows node new place is = let next : suc place ≡ place + 1 = omega arith in is ∙ ap (λ (n : ℕ). with_rows node (take place node.rows ++ drop n node.rows)) next
 
 -- the row of a child got the child's least key

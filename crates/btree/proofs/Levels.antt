@@ -7,12 +7,12 @@ use Rattle.std.proofs.lemmas.List.{append_assoc, length-take-le}
 use Rattle.std.proofs.lemmas.List.Elements.{All-head, All-tail, All-cons, All-nil, All-append, All-weaker}
 use Rattle.station.specs.Disk.{Sector}
 use Rattle.byteorder.specs.Endian.{big_bytes}
-use Rattle.tree_pages.specs.declared.row_layout.RowLayout.{RowLayout}
-use Rattle.tree_pages.specs.declared.row_layout.Kind.{Kind}
-use Rattle.tree_pages.specs.declared.row_layout.Kind.TheVariants.{Leaf, Inner}
-use Rattle.tree_pages.specs.RowLayouts.{row_length}
-use Rattle.tree_pages.specs.Keys.{key_of, keys_of, rest_of, Precedes, Ascend, AllAbove}
-use Rattle.btree.specs.Tree.{TreeNode, least, row_of, rows_of, Stands, fewest, Joined, rows_in_order}
+use Rattle.btree_pages.specs.declared.row_layout.RowLayout.{RowLayout}
+use Rattle.btree_pages.specs.declared.row_layout.Kind.{Kind}
+use Rattle.btree_pages.specs.declared.row_layout.Kind.TheVariants.{Leaf, Inner}
+use Rattle.btree_pages.specs.RowLayouts.{row_length}
+use Rattle.btree_pages.specs.Keys.{key_of, keys_of, rest_of, Precedes, Ascend, AllAbove}
+use Rattle.btree.specs.Tree.{TreeNode, least_key, row_of, rows_of, IsOnPage, fewest, AreJoinedLevels, rows_in_order}
 use Rattle.btree.specs.Path.{first_key}
 use Rattle.btree.specs.Laws.{AllAscend}
 use Rattle.btree.proofs.Order.{all_left, all_right, Up, up_none, up_cons, up_left, up_right, up_across, above_from_first}
@@ -30,21 +30,21 @@ key_within : (layout : RowLayout) (kind : Kind) → layout.key_length ≤ row_le
 key_within layout Leaf = omega arith
 key_within layout Inner = omega arith
 
-pub has_rows : (layout : RowLayout) (pages : List (Option Sector)) (kind : Kind) (node : TreeNode) → Stands layout pages kind node → HasRows layout node
+pub has_rows : (layout : RowLayout) (pages : List (Option Sector)) (kind : Kind) (node : TreeNode) → IsOnPage layout pages kind node → HasRows layout node
 has_rows layout pages kind node stands = record {
   some = let few = least_is_enough kind in let enough = stands.enough in omega arith;
   lengths = All-weaker (λ row. length row ≡ row_length layout kind) (λ row. layout.key_length ≤ length row) (λ row is. let within = key_within layout kind in omega arith) node.rows stands.lengths;
 }
 
-pub all_have_rows : (layout : RowLayout) (pages : List (Option Sector)) (kind : Kind) (level : List TreeNode) → All (Stands layout pages kind) level → All (HasRows layout) level
-all_have_rows layout pages kind level all = All-weaker (Stands layout pages kind) (HasRows layout) (has_rows layout pages kind) level all
+pub all_have_rows : (layout : RowLayout) (pages : List (Option Sector)) (kind : Kind) (level : List TreeNode) → All (IsOnPage layout pages kind) level → All (HasRows layout) level
+all_have_rows layout pages kind level all = All-weaker (IsOnPage layout pages kind) (HasRows layout) (has_rows layout pages kind) level all
 
-pub joined_have_rows : (layout : RowLayout) (pages : List (Option Sector)) (level : List TreeNode) (more : List (List TreeNode)) → Joined layout pages (level ∷ more) → All (HasRows layout) level
+pub joined_have_rows : (layout : RowLayout) (pages : List (Option Sector)) (level : List TreeNode) (more : List (List TreeNode)) → AreJoinedLevels layout pages (level ∷ more) → All (HasRows layout) level
 joined_have_rows layout pages level [] joined = all_have_rows layout pages Leaf level joined
 joined_have_rows layout pages level (lower ∷ more) joined = all_have_rows layout pages Inner level joined.0
 
 -- The row of a node, in the level above.
-pub length_least : (layout : RowLayout) (node : TreeNode) → HasRows layout node → length (least layout node) ≡ layout.key_length
+pub length_least : (layout : RowLayout) (node : TreeNode) → HasRows layout node → length (least_key layout node) ≡ layout.key_length
 length_least layout node has = length-take-le layout.key_length (slice_index_or node.rows 0 []) (has.lengths 0 [] has.some)
 
 take_front : (n : ℕ) (xs ys : List ℕ) → length xs ≡ n → take n (xs ++ ys) ≡ xs
@@ -53,11 +53,11 @@ take_front n xs ys is = subst (λ (m : ℕ). take m (xs ++ ys) ≡ xs) is (take-
 drop_front : (n : ℕ) (xs ys : List ℕ) → length xs ≡ n → drop n (xs ++ ys) ≡ ys
 drop_front n xs ys is = subst (λ (m : ℕ). drop m (xs ++ ys) ≡ ys) is (drop-append_seam xs ys)
 
-pub key_of_row : (layout : RowLayout) (node : TreeNode) → HasRows layout node → key_of layout (row_of layout node) ≡ least layout node
-key_of_row layout node has = take_front layout.key_length (least layout node) (big_bytes 4 node.page) (length_least layout node has)
+pub key_of_row : (layout : RowLayout) (node : TreeNode) → HasRows layout node → key_of layout (row_of layout node) ≡ least_key layout node
+key_of_row layout node has = take_front layout.key_length (least_key layout node) (big_bytes 4 node.page) (length_least layout node has)
 
 pub rest_of_row : (layout : RowLayout) (node : TreeNode) → HasRows layout node → rest_of layout (row_of layout node) ≡ big_bytes 4 node.page
-rest_of_row layout node has = drop_front layout.key_length (least layout node) (big_bytes 4 node.page) (length_least layout node has)
+rest_of_row layout node has = drop_front layout.key_length (least_key layout node) (big_bytes 4 node.page) (length_least layout node has)
 
 pub rows_of_append : (one two : List TreeNode) → rows_of (one ++ two) ≡ rows_of one ++ rows_of two
 rows_of_append [] two = refl
@@ -95,10 +95,10 @@ names_up layout (node ∷ nodes) all up =
     let tail = All-tail (HasRows layout) node nodes all in
     up_cons layout (row_of layout node) (map (row_of layout) nodes)
     (subst (λ (key : List ℕ). AllAbove layout key (map (row_of layout) nodes)) (sym (key_of_row layout node has))
-    (above_names layout (least layout node) nodes tail (up_across layout node.rows (rows_of nodes) up 0 [] has.some)))
+    (above_names layout (least_key layout node) nodes tail (up_across layout node.rows (rows_of nodes) up 0 [] has.some)))
     (names_up layout nodes tail (up_right layout node.rows (rows_of nodes) up))
 
-pub all_ascend : (layout : RowLayout) (pages : List (Option Sector)) (levels : List (List TreeNode)) → Joined layout pages levels → Ascend (keys_of layout (rows_in_order levels)) → AllAscend layout levels
+pub all_ascend : (layout : RowLayout) (pages : List (Option Sector)) (levels : List (List TreeNode)) → AreJoinedLevels layout pages levels → Ascend (keys_of layout (rows_in_order levels)) → AllAscend layout levels
 all_ascend layout pages [] joined up = tt
 all_ascend layout pages (leaves ∷ []) joined up = (up, tt)
 all_ascend layout pages (upper ∷ lower ∷ more) joined up =

@@ -6,11 +6,11 @@ use Rattle.std.proofs.lemmas.Bool.{cases_lt}
 use Rattle.std.proofs.lemmas.List.{append-nil, get_or_past}
 use Rattle.std.proofs.lemmas.List.Elements.{All-nil, Contains-get_or, All-contains}
 use Rattle.station.specs.Disk.{Sector}
-use Rattle.tree_pages.specs.declared.row_layout.RowLayout.{RowLayout}
-use Rattle.tree_pages.specs.declared.row_layout.Kind.TheVariants.{Leaf, Inner}
-use Rattle.btree.specs.Tree.{TreeNode, row_of, rows_of, Stands, pages_of, rows_in_order, HasTop, IsTree}
-use Rattle.btree.specs.Path.{Spot, level_of}
-use Rattle.btree.specs.Moves.{Once, Became, Replaced}
+use Rattle.btree_pages.specs.declared.row_layout.RowLayout.{RowLayout}
+use Rattle.btree_pages.specs.declared.row_layout.Kind.TheVariants.{Leaf, Inner}
+use Rattle.btree.specs.Tree.{TreeNode, row_of, rows_of, IsOnPage, pages_of, rows_in_order, HasTop, IsTree}
+use Rattle.btree.specs.Path.{LevelZipper, level_of}
+use Rattle.btree.specs.Moves.{Once, Became, ReplacesNodes}
 use Rattle.btree.specs.declared.split_result.SplitResult.{SplitResult}
 use Rattle.btree.specs.Propagates.{Propagates}
 use Rattle.btree.proofs.Order.{Up}
@@ -21,11 +21,11 @@ use Rattle.btree.proofs.Steps.{Step, turned, step_moves, step_once, step_stand, 
 
 -- A new page above the first level, with the rows that name its nodes.
 pub new_root : (layout : RowLayout) (one two three : List (Option Sector)) (levels : List (List TreeNode)) (run : List TreeNode) (more : List (List TreeNode)) (top : TreeNode)
-    → Once (pages_of levels) → Became layout one levels two (run ∷ more) → Replaced layout Inner two [] three (top ∷ []) → rows_of (top ∷ []) ≡ map (row_of layout) run
+    → Once (pages_of levels) → Became layout one levels two (run ∷ more) → ReplacesNodes layout Inner two [] three (top ∷ []) → rows_of (top ∷ []) ≡ map (row_of layout) run
     → Became layout one levels three ((top ∷ []) ∷ run ∷ more)
 new_root layout one two three levels run more top once low own names =
     let s : Step layout Inner one two three [] [] (top ∷ []) [] (pages_of levels) (pages_of (run ∷ more)) =
-    record { stand = All-nil (Stands layout one Inner); once = once; lower = low.moves; low_there = joined_there layout two (run ∷ more) low.joined; low_once = low.once; own = own } in
+    record { stand = All-nil (IsOnPage layout one Inner); once = once; lower = low.moves; low_there = joined_there layout two (run ∷ more) low.joined; low_once = low.once; own = own } in
     record {
       joined = (
         step_stand layout Inner one two three [] [] (top ∷ []) [] (pages_of levels) (pages_of (run ∷ more)) s,
@@ -37,13 +37,13 @@ new_root layout one two three levels run more top once low own names =
     }
 
 -- The first page of a tree, over none.
-pub first_leaf : (layout : RowLayout) (one three : List (Option Sector)) (leaf : TreeNode) → Replaced layout Leaf one [] three (leaf ∷ []) → Became layout one [] three ((leaf ∷ []) ∷ [])
+pub first_leaf : (layout : RowLayout) (one three : List (Option Sector)) (leaf : TreeNode) → ReplacesNodes layout Leaf one [] three (leaf ∷ []) → Became layout one [] three ((leaf ∷ []) ∷ [])
 first_leaf layout one three leaf own =
-    let became = step_leaves layout one three [] [] (leaf ∷ []) [] (All-nil (Stands layout one Leaf)) tt own in
+    let became = step_leaves layout one three [] [] (leaf ∷ []) [] (All-nil (IsOnPage layout one Leaf)) tt own in
     record { joined = became.joined; once = became.once; moves = became.moves }
 
 -- The root alone stands in the first level.
-pub record IsAlone (root : ℕ) (spot : Spot) : Type 0 where
+pub record IsAlone (root : ℕ) (spot : LevelZipper) : Type 0 where
   pub before : spot.before ≡ []
   pub after : spot.after ≡ []
   pub page : spot.node.page ≡ root
@@ -52,7 +52,7 @@ alone : (node top : TreeNode) (before after : List TreeNode) → before ++ node 
 alone node top [] after same = (refl, cc, cc)
 alone node top (b ∷ before) after same = absurd (omega (arith, ap length same, length-append before (node ∷ after)))
 
-pub is_alone : (root : ℕ) (spot : Spot) (more : List (List TreeNode)) → HasTop root (level_of spot ∷ more) → IsAlone root spot
+pub is_alone : (root : ℕ) (spot : LevelZipper) (more : List (List TreeNode)) → HasTop root (level_of spot ∷ more) → IsAlone root spot
 is_alone root spot more top =
     let is = alone spot.node top.0 spot.before spot.after top.1 in
     record { before = is.0; after = is.1; page = ap (λ (node : TreeNode). node.page) is.2 ∙ top.2 }
@@ -62,7 +62,7 @@ pub record TopPropagates (layout : RowLayout) (pages : List (Option Sector)) (le
   pub became : Became layout pages levels after (run ∷ more)
   pub rows : rows_in_order (run ∷ more) ≡ ordered
 
-pub top_propagates : (layout : RowLayout) (one two : List (Option Sector)) (root : ℕ) (levels : List (List TreeNode)) (spot : Spot) (rows : List (List ℕ)) (told : Option SplitResult)
+pub top_propagates : (layout : RowLayout) (one two : List (Option Sector)) (root : ℕ) (levels : List (List TreeNode)) (spot : LevelZipper) (rows : List (List ℕ)) (told : Option SplitResult)
     → IsAlone root spot → (propagates : Propagates layout one levels spot two rows told) → TopPropagates layout one levels two rows propagates.run propagates.more
 top_propagates layout one two root levels spot rows told is propagates =
     let same : spot.before ++ (propagates.run ++ spot.after) ≡ propagates.run =

@@ -7,12 +7,12 @@ use Rattle.std.proofs.lemmas.List.Elements.{All-head, All-tail, All-cons}
 use Rattle.station.specs.Disk.{Sector}
 use Rattle.byteorder.specs.Endian.{big_bytes, big_number}
 use Rattle.byteorder.specs.Numbers.{big_number-reads_back}
-use Rattle.tree_pages.specs.declared.row_layout.RowLayout.{RowLayout}
-use Rattle.tree_pages.specs.declared.row_layout.Kind.{Kind}
-use Rattle.tree_pages.specs.declared.row_layout.Kind.TheVariants.{Leaf, Inner}
-use Rattle.tree_pages.specs.Node.{Node}
-use Rattle.tree_pages.specs.Keys.{rest_of}
-use Rattle.btree.specs.Tree.{TreeNode, row_of, rows_of, Stands, Joined, pages_of, IsTree, Holds, node_at, node_of}
+use Rattle.btree_pages.specs.declared.row_layout.RowLayout.{RowLayout}
+use Rattle.btree_pages.specs.declared.row_layout.Kind.{Kind}
+use Rattle.btree_pages.specs.declared.row_layout.Kind.TheVariants.{Leaf, Inner}
+use Rattle.btree_pages.specs.Node.{Node}
+use Rattle.btree_pages.specs.Keys.{rest_of}
+use Rattle.btree.specs.Tree.{TreeNode, row_of, rows_of, IsOnPage, AreJoinedLevels, pages_of, IsTree, IsTreeOrEmpty, node_at, node_of}
 use Rattle.btree.proofs.Order.{all_left, all_right}
 use Rattle.btree.proofs.Levels.{has_rows, rest_of_row}
 use Rattle.btree.proofs.Depth.{twice}
@@ -20,13 +20,13 @@ use Rattle.btree.proofs.Depth.{twice}
 -- a node stands, whatever its kind
 pub record StandsHere (layout : RowLayout) (pages : List (Option Sector)) (node : TreeNode) : Type 0 where
   pub kind : Kind
-  pub stands : Stands layout pages kind node
+  pub stands : IsOnPage layout pages kind node
   pub small : node.page < 2 ^ 32
 
 same_node : (one two : Node) → Some one ≡ Some two → one ≡ two
 same_node one two same = cc
 
-pub same_kind : (layout : RowLayout) (pages : List (Option Sector)) (one two : Kind) (tree_node : TreeNode) → Stands layout pages one tree_node → Stands layout pages two tree_node → one ≡ two
+pub same_kind : (layout : RowLayout) (pages : List (Option Sector)) (one two : Kind) (tree_node : TreeNode) → IsOnPage layout pages one tree_node → IsOnPage layout pages two tree_node → one ≡ two
 same_kind layout pages one two tree_node first second =
     ap (λ (node : Node). node.kind) (same_node (node_of layout one tree_node.rows) (node_of layout two tree_node.rows) (sym first.node ∙ second.node))
 
@@ -63,35 +63,35 @@ level_numbers : (P : ℕ → Type 0) (level : List TreeNode) → All P (map (λ 
 level_numbers P [] all = λ k d low. absurd (omega arith)
 level_numbers P (node ∷ level) all = All-cons (λ (p : TreeNode). P p.page) node level (All-head P node.page (map (λ (p : TreeNode). p.page) level) all) (level_numbers P level (All-tail P node.page (map (λ (p : TreeNode). p.page) level) all))
 
-all_stand : (layout : RowLayout) (pages : List (Option Sector)) (kind : Kind) (level : List TreeNode) → All (Stands layout pages kind) level → All (λ (node : TreeNode). node.page < 2 ^ 32) level → All (StandsHere layout pages) level
+all_stand : (layout : RowLayout) (pages : List (Option Sector)) (kind : Kind) (level : List TreeNode) → All (IsOnPage layout pages kind) level → All (λ (node : TreeNode). node.page < 2 ^ 32) level → All (StandsHere layout pages) level
 all_stand layout pages kind level stands small = λ k d low. record { kind = kind; stands = stands k d low; small = small k d low }
 
-pub level_stands : (layout : RowLayout) (pages : List (Option Sector)) (level : List TreeNode) (more : List (List TreeNode)) → Joined layout pages (level ∷ more) → All (λ page. page < 2 ^ 32) (pages_of (level ∷ more)) → All (StandsHere layout pages) level
+pub level_stands : (layout : RowLayout) (pages : List (Option Sector)) (level : List TreeNode) (more : List (List TreeNode)) → AreJoinedLevels layout pages (level ∷ more) → All (λ page. page < 2 ^ 32) (pages_of (level ∷ more)) → All (StandsHere layout pages) level
 level_stands layout pages level [] joined small =
     all_stand layout pages Leaf level joined (level_numbers (λ page. page < 2 ^ 32) level (all_left (λ page. page < 2 ^ 32) (map (λ (node : TreeNode). node.page) level) [] small))
 level_stands layout pages level (lower ∷ more) joined small =
     all_stand layout pages Inner level joined.0 (level_numbers (λ page. page < 2 ^ 32) level (all_left (λ page. page < 2 ^ 32) (map (λ (node : TreeNode). node.page) level) (pages_of (lower ∷ more)) small))
 
-leaf_or_inner : (layout : RowLayout) (pages : List (Option Sector)) (level : List TreeNode) → 1 ≤ length level → All (Stands layout pages Leaf) level → All (Stands layout pages Inner) level → ⊥
+leaf_or_inner : (layout : RowLayout) (pages : List (Option Sector)) (level : List TreeNode) → 1 ≤ length level → All (IsOnPage layout pages Leaf) level → All (IsOnPage layout pages Inner) level → ⊥
 leaf_or_inner layout pages level some leaf inner =
     let none : TreeNode = record { page = 0; rows = [] } in
     let clash : Leaf ≡ Inner = same_kind layout pages Leaf Inner (slice_index_or level 0 none) (leaf 0 none some) (inner 0 none some) in
     cc
 
-some_below : (layout : RowLayout) (pages : List (Option Sector)) (level lower : List TreeNode) → 1 ≤ length level → All (Stands layout pages Inner) level → rows_of level ≡ map (row_of layout) lower → 1 ≤ length lower
+some_below : (layout : RowLayout) (pages : List (Option Sector)) (level lower : List TreeNode) → 1 ≤ length level → All (IsOnPage layout pages Inner) level → rows_of level ≡ map (row_of layout) lower → 1 ≤ length lower
 some_below layout pages level lower some inner names =
     let count : length (rows_of level) ≡ length lower = ap length names ∙ length-map lower (row_of layout) in
     let double = twice layout pages level inner in
     omega arith
 
-same_below : (layout : RowLayout) (pages : List (Option Sector)) (level : List TreeNode) (one two : List (List TreeNode)) → 1 ≤ length level → Joined layout pages (level ∷ one) → Joined layout pages (level ∷ two)
+same_below : (layout : RowLayout) (pages : List (Option Sector)) (level : List TreeNode) (one two : List (List TreeNode)) → 1 ≤ length level → AreJoinedLevels layout pages (level ∷ one) → AreJoinedLevels layout pages (level ∷ two)
     → All (λ page. page < 2 ^ 32) (pages_of one) → All (λ page. page < 2 ^ 32) (pages_of two) → one ≡ two
 same_below layout pages level [] [] some first second small_one small_two = refl
 same_below layout pages level [] (lower ∷ two) some first second small_one small_two = absurd (leaf_or_inner layout pages level some first second.0)
 same_below layout pages level (lower ∷ one) [] some first second small_one small_two = absurd (leaf_or_inner layout pages level some second first.0)
 same_below layout pages level (lower ∷ one) (other ∷ two) some first second small_one small_two =
     let same : lower ≡ other = same_nodes layout pages lower other (level_stands layout pages lower one first.2 small_one) (level_stands layout pages other two second.2 small_two) (sym first.1 ∙ second.1) in
-    let joined : Joined layout pages (lower ∷ two) = subst (λ (l : List TreeNode). Joined layout pages (l ∷ two)) (sym same) second.2 in
+    let joined : AreJoinedLevels layout pages (lower ∷ two) = subst (λ (l : List TreeNode). AreJoinedLevels layout pages (l ∷ two)) (sym same) second.2 in
     let rest : one ≡ two =
     same_below layout pages lower one two (some_below layout pages level lower some first.0 first.1) first.2 joined
     (all_right (λ page. page < 2 ^ 32) (map (λ (node : TreeNode). node.page) lower) (pages_of one) small_one)
@@ -114,13 +114,13 @@ one_tree_from layout pages root (top ∷ one) (other ∷ two) small first second
     same_tree_node layout pages first.top.0 second.top.0 (All-head (StandsHere layout pages) first.top.0 [] here) (All-head (StandsHere layout pages) second.top.0 [] there) (first.top.2 ∙ sym second.top.2) in
     let same : top ≡ other = first.top.1 ∙ ap (λ (p : TreeNode). p ∷ []) node ∙ sym second.top.1 in
     let some : 1 ≤ length top = let count : length top ≡ 1 = ap length first.top.1 in omega arith in
-    let joined : Joined layout pages (top ∷ two) = subst (λ (l : List TreeNode). Joined layout pages (l ∷ two)) (sym same) second.joined in
+    let joined : AreJoinedLevels layout pages (top ∷ two) = subst (λ (l : List TreeNode). AreJoinedLevels layout pages (l ∷ two)) (sym same) second.joined in
     let rest : one ≡ two =
     same_below layout pages top one two some first.joined joined
     (all_right P (map (λ (p : TreeNode). p.page) top) (pages_of one) small_one) (all_right P (map (λ (p : TreeNode). p.page) other) (pages_of two) small_two) in
     cc
 
-pub one_tree : (layout : RowLayout) (pages : List (Option Sector)) (root : ℕ) (one two : List (List TreeNode)) → length pages ≤ 2 ^ 20 → Holds layout pages root one → Holds layout pages root two → one ≡ two
+pub one_tree : (layout : RowLayout) (pages : List (Option Sector)) (root : ℕ) (one two : List (List TreeNode)) → length pages ≤ 2 ^ 20 → IsTreeOrEmpty layout pages root one → IsTreeOrEmpty layout pages root two → one ≡ two
 one_tree layout pages root one two small (inl first) (inl second) = first.1 ∙ sym second.1
 one_tree layout pages root one two small (inl first) (inr second) = absurd (second.0 first.0)
 one_tree layout pages root one two small (inr first) (inl second) = absurd (first.0 second.0)

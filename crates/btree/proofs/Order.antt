@@ -8,8 +8,8 @@ use Rattle.std.specs.Ordering.{ordering_reverse}
 use Rattle.std.specs.Cmp.{IsTotalOrder}
 use Rattle.std.proofs.lemmas.Cmp.{nat_list_cmp_total, alike_right}
 use Rattle.std.proofs.lemmas.List.Elements.{All-head, All-tail, All-cons, All-nil, All-append, All-weaker}
-use Rattle.tree_pages.specs.declared.row_layout.RowLayout.{RowLayout}
-use Rattle.tree_pages.specs.Keys.{key_cmp, key_of, keys_of, Precedes, Ascend, AllBelow, AllAbove}
+use Rattle.btree_pages.specs.declared.row_layout.RowLayout.{RowLayout}
+use Rattle.btree_pages.specs.Keys.{key_cmp, key_of, keys_of, Precedes, Ascend, AllBelow, AllAbove}
 
 -- The order of keys.
 pub key_order : IsTotalOrder key_cmp

@@ -7,23 +7,23 @@ use Rattle.byteorder.specs.Endian.{big_bytes, big_number}
 use Rattle.byteorder.specs.Numbers.{big_number-reads_back}
 use Rattle.station.specs.Disk.{Sector}
 use Rattle.pages.specs.Image.{Map}
-use Rattle.pages.specs.Pages.{catalog_of, Unchanged}
+use Rattle.pages.specs.Pages.{catalog_of, IsUnchanged}
 use Rattle.pages.specs.declared.page_map.PageMap.{PageMap}
-use Rattle.tree_pages.specs.declared.row_layout.RowLayout.{RowLayout}
-use Rattle.tree_pages.specs.declared.row_layout.Kind.{Kind}
-use Rattle.tree_pages.specs.declared.row_layout.Kind.TheVariants.{Inner}
-use Rattle.tree_pages.specs.RowLayouts.{row_length}
-use Rattle.tree_pages.specs.Keys.{child_of}
-use Rattle.tree_pages.specs.Node.{Node, IsNode}
+use Rattle.btree_pages.specs.declared.row_layout.RowLayout.{RowLayout}
+use Rattle.btree_pages.specs.declared.row_layout.Kind.{Kind}
+use Rattle.btree_pages.specs.declared.row_layout.Kind.TheVariants.{Inner}
+use Rattle.btree_pages.specs.RowLayouts.{row_length}
+use Rattle.btree_pages.specs.Keys.{child_of}
+use Rattle.btree_pages.specs.Node.{Node, IsNode}
 use Rattle.btree.specs.declared.removal_outcome.RemovalOutcome.{RemovalOutcome}
-use Rattle.btree.specs.Tree.{TreeNode, row_of, node_at, Stands}
+use Rattle.btree.specs.Tree.{TreeNode, row_of, node_at, IsOnPage}
 use Rattle.btree.specs.Changes.{IsIn}
-use Rattle.btree.specs.Outcomes.{AreTwo, ArePair, Joins, IsPair, Rebalanced, pair_of, rows_together}
+use Rattle.btree.specs.Outcomes.{AreTwo, ArePair, Joins, IsPair, RebalancesNeighbours, pair_of, rows_together}
 use Rattle.btree.proofs.Writes.{is_low}
 use Rattle.btree.proofs.Sharing.{kind_lengths}
 use Rattle.btree.proofs.Rebalancing.{names_page}
 
-pub same_catalog : (old new : PageMap) → Unchanged old new → catalog_of new ≡ catalog_of old
+pub same_catalog : (old new : PageMap) → IsUnchanged old new → catalog_of new ≡ catalog_of old
 same_catalog old new unchanged = ap (λ (m : Map). m.catalog) (unchanged.map [])
 
 pair_at : (layout : RowLayout) (kind : Kind) (before : List (Option Sector)) (page : ℕ) (old : List (List ℕ)) (place at lone : ℕ) (left right : TreeNode) → IsPair layout kind before page old place lone left right → pair_of place ≡ at
@@ -72,7 +72,7 @@ pub record IsNear (pages : List (Option Sector)) (layout : RowLayout) (kind : Ki
   pub are : ArePair layout pages page node.rows at left right
   pub child_is : child.page ≡ lone
   pub near_is : child_of node.layout (slice_index_or node.rows beside []) ≡ neighbour.page
-  pub stands : Stands layout pages kind neighbour
+  pub stands : IsOnPage layout pages kind neighbour
 
 pub first_near : (pages : List (Option Sector)) (layout : RowLayout) (kind : Kind) (node : Node) (page place lone : ℕ) (left right : TreeNode) → Above pages layout node → place ≡ 0 → IsPair layout kind pages page node.rows place lone left right
     → IsNear pages layout kind node page place 0 1 lone left right left right
@@ -98,13 +98,13 @@ other_near pages layout kind node page place lone left right above some pair =
     pair.either
 
 -- the rows of a node that stands, as read
-pub rows_read : (layout : RowLayout) (kind : Kind) (pages : List (Option Sector)) (page : ℕ) (node : Node) (tree_node : TreeNode) → page ≡ tree_node.page → node_at layout pages page ≡ Some node → Stands layout pages kind tree_node → node.rows ≡ tree_node.rows
+pub rows_read : (layout : RowLayout) (kind : Kind) (pages : List (Option Sector)) (page : ℕ) (node : Node) (tree_node : TreeNode) → page ≡ tree_node.page → node_at layout pages page ≡ Some node → IsOnPage layout pages kind tree_node → node.rows ≡ tree_node.rows
 rows_read layout kind pages page node tree_node same read stands = let there = ap (node_at layout pages) same ∙ stands.node in cc
 
 -- What was joined is what was to be rebalanced.
 pub rebalanced_so : (layout : RowLayout) (kind : Kind) (before now after : List (Option Sector)) (page place at : ℕ) (node : Node) (lone rows : List (List ℕ)) (left right : TreeNode) (outcome : RemovalOutcome) → node.layout ≡ layout → now ≡ before
     → ArePair layout before page node.rows at left right → pair_of place ≡ at → rows ≡ rows_together place lone left right
-    → (ArePair node.layout now page node.rows at left right → Joins node.layout kind now after page node.rows at rows left right outcome) → Rebalanced layout kind before after page node.rows place lone left right outcome
+    → (ArePair node.layout now page node.rows at left right → Joins node.layout kind now after page node.rows at rows left right outcome) → RebalancesNeighbours layout kind before after page node.rows place lone left right outcome
 rebalanced_so layout kind before now after page place at node lone rows left right outcome layout_is same are place_is rows_is join =
     let told : ArePair layout before page node.rows at left right → Joins layout kind before after page node.rows at rows left right outcome =
     subst (λ (pages : List (Option Sector)). ArePair layout pages page node.rows at left right → Joins layout kind pages after page node.rows at rows left right outcome) same

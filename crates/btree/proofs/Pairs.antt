@@ -5,11 +5,11 @@ use Rattle.std.specs.List.{All}
 use Rattle.std.proofs.lemmas.List.{append-nil, length-map, take-append-drop, drop_more}
 use Rattle.std.proofs.lemmas.List.Elements.{All-head, All-tail, Contains-append_left, Contains-append_right}
 use Rattle.station.specs.Disk.{Sector}
-use Rattle.tree_pages.specs.declared.row_layout.RowLayout.{RowLayout}
-use Rattle.tree_pages.specs.declared.row_layout.Kind.{Kind}
-use Rattle.tree_pages.specs.declared.row_layout.Kind.TheVariants.{Inner}
-use Rattle.btree.specs.Tree.{TreeNode, row_of, rows_of, Stands, pages_of}
-use Rattle.btree.specs.Path.{Spot, level_of, PathStep, StepsTo}
+use Rattle.btree_pages.specs.declared.row_layout.RowLayout.{RowLayout}
+use Rattle.btree_pages.specs.declared.row_layout.Kind.{Kind}
+use Rattle.btree_pages.specs.declared.row_layout.Kind.TheVariants.{Inner}
+use Rattle.btree.specs.Tree.{TreeNode, row_of, rows_of, IsOnPage, pages_of}
+use Rattle.btree.specs.Path.{LevelZipper, level_of, PathStep, StepsTo}
 use Rattle.btree.specs.Moves.{Once, numbers_of}
 use Rattle.btree.specs.Outcomes.{pair_of, rows_together, IsPair}
 use Rattle.btree.specs.Changes.{IsIn}
@@ -18,7 +18,7 @@ use Rattle.btree.proofs.Splices.{numbers_append, rows_append, all_right, no_node
 use Rattle.btree.proofs.Propagating.{steps_here}
 
 -- The nodes at the left place of a pair and at the next one are neighbours, one of which is the spot's.
-pub record Neighbours (spot next : Spot) (place : ℕ) : Type 0 where
+pub record Neighbours (spot next : LevelZipper) (place : ℕ) : Type 0 where
   pub before : List TreeNode
   pub left : TreeNode
   pub right : TreeNode
@@ -42,7 +42,7 @@ last_of (x ∷ y ∷ ys) some =
     record { front = x ∷ more.front; last = more.last; is = ap (λ zs. x ∷ zs) more.is }
 
 -- how many nodes there are to the right
-right_count : (layout : RowLayout) (spot next : Spot) (step : PathStep) → StepsTo spot step next → rows_of (level_of spot) ≡ map (row_of layout) (level_of next) → length spot.node.rows ≤ step.place + 1 + length next.after
+right_count : (layout : RowLayout) (spot next : LevelZipper) (step : PathStep) → StepsTo spot step next → rows_of (level_of spot) ≡ map (row_of layout) (level_of next) → length spot.node.rows ≤ step.place + 1 + length next.after
 right_count layout spot next step steps names =
     let all = ap length names in
     let named = length-map (level_of next) (row_of layout) in
@@ -52,7 +52,7 @@ right_count layout spot next step steps names =
     let lower = length-append next.before (next.node ∷ next.after) in
     omega (arith, all, named, upper, cut, rest, lower, steps.leads)
 
-first_pair : (spot next : Spot) (after : List TreeNode) → length (rows_of spot.before) + 0 ≡ length next.before → next.after ≡ after → 0 < length after → Neighbours spot next 0
+first_pair : (spot next : LevelZipper) (after : List TreeNode) → length (rows_of spot.before) + 0 ≡ length next.before → next.after ≡ after → 0 < length after → Neighbours spot next 0
 first_pair spot next [] count is some = absurd (omega (arith, some))
 first_pair spot next (right ∷ after) count is some = record {
   before = next.before;
@@ -65,7 +65,7 @@ first_pair spot next (right ∷ after) count is some = record {
   either = inl (refl, refl);
 }
 
-later_pair : (spot next : Spot) (place : ℕ) → length (rows_of spot.before) + suc place ≡ length next.before → Neighbours spot next (suc place)
+later_pair : (spot next : LevelZipper) (place : ℕ) → length (rows_of spot.before) + suc place ≡ length next.before → Neighbours spot next (suc place)
 later_pair spot next place count =
     let last = last_of next.before (omega (arith, count)) in
     let one = length-append last.front (last.last ∷ []) in
@@ -84,11 +84,11 @@ later_pair spot next place count =
       either = inr ((λ same. omega (arith, same)), refl);
     }
 
-neighbours_at : (spot next : Spot) (place : ℕ) → length (rows_of spot.before) + place ≡ length next.before → 0 < place + length next.after → Neighbours spot next place
+neighbours_at : (spot next : LevelZipper) (place : ℕ) → length (rows_of spot.before) + place ≡ length next.before → 0 < place + length next.after → Neighbours spot next place
 neighbours_at spot next zero count some = first_pair spot next next.after count refl (omega (arith, some))
 neighbours_at spot next (suc place) count some = later_pair spot next place count
 
-pub neighbours : (layout : RowLayout) (spot next : Spot) (step : PathStep) → StepsTo spot step next → rows_of (level_of spot) ≡ map (row_of layout) (level_of next) → 2 ≤ length spot.node.rows → Neighbours spot next step.place
+pub neighbours : (layout : RowLayout) (spot next : LevelZipper) (step : PathStep) → StepsTo spot step next → rows_of (level_of spot) ≡ map (row_of layout) (level_of next) → 2 ≤ length spot.node.rows → Neighbours spot next step.place
 neighbours layout spot next step steps names two =
     let right = right_count layout spot next step steps names in
     neighbours_at spot next step.place steps.leads (omega (arith, right, two))
@@ -105,14 +105,14 @@ pub record PairNamed (layout : RowLayout) (rows : List (List ℕ)) (place : ℕ)
   pub rows_are : rows ≡ take (pair_of place) rows ++ (map (row_of layout) (left ∷ right ∷ []) ++ drop (pair_of place + 2) rows)
 
 -- the row at a place of a spot's node names a node of the next level
-row_at : (layout : RowLayout) (spot : Spot) (place : ℕ) (before : List TreeNode) (tree_node : TreeNode) (after : List TreeNode) → place < length spot.node.rows → length (rows_of spot.before) + place ≡ length before
+row_at : (layout : RowLayout) (spot : LevelZipper) (place : ℕ) (before : List TreeNode) (tree_node : TreeNode) (after : List TreeNode) → place < length spot.node.rows → length (rows_of spot.before) + place ≡ length before
     → rows_of (level_of spot) ≡ map (row_of layout) (before ++ tree_node ∷ after) → slice_index_or spot.node.rows place [] ≡ row_of layout tree_node
 row_at layout spot place before tree_node after low count names =
     let step : PathStep = record { page = spot.node.page; place = place } in
-    let lower : Spot = record { before = before; node = tree_node; after = after } in
+    let lower : LevelZipper = record { before = before; node = tree_node; after = after } in
     (steps_here layout spot lower step (record { page = refl; place = low; leads = count }) names).row
 
-pub pair_named : (layout : RowLayout) (spot next : Spot) (place : ℕ) → place < length spot.node.rows → 2 ≤ length spot.node.rows → rows_of (level_of spot) ≡ map (row_of layout) (level_of next) → (n : Neighbours spot next place)
+pub pair_named : (layout : RowLayout) (spot next : LevelZipper) (place : ℕ) → place < length spot.node.rows → 2 ≤ length spot.node.rows → rows_of (level_of spot) ≡ map (row_of layout) (level_of next) → (n : Neighbours spot next place)
     → PairNamed layout spot.node.rows place n.left n.right
 pair_named layout spot next place low two names n =
     let rows = spot.node.rows in
@@ -133,22 +133,22 @@ pair_named layout spot next place low two names n =
     }
 
 -- What stands at a step above a page that too few rows are left for.
-pub record PairStands (layout : RowLayout) (kind : Kind) (pages : List (Option Sector)) (spot next : Spot) (more : List (List TreeNode)) : Type 0 where
-  pub own : Stands layout pages Inner spot.node
-  pub level : All (Stands layout pages kind) (level_of next)
+pub record PairStands (layout : RowLayout) (kind : Kind) (pages : List (Option Sector)) (spot next : LevelZipper) (more : List (List TreeNode)) : Type 0 where
+  pub own : IsOnPage layout pages Inner spot.node
+  pub level : All (IsOnPage layout pages kind) (level_of next)
   pub once : Once (pages_of (level_of spot ∷ level_of next ∷ more))
 
-stands_in : (layout : RowLayout) (kind : Kind) (pages : List (Option Sector)) (node : TreeNode) → Stands layout pages kind node → IsIn pages node.page
+stands_in : (layout : RowLayout) (kind : Kind) (pages : List (Option Sector)) (node : TreeNode) → IsOnPage layout pages kind node → IsIn pages node.page
 stands_in layout kind pages node stands = λ none. no_node layout pages kind node stands none
 
-pub is_pair : (layout : RowLayout) (kind : Kind) (pages : List (Option Sector)) (spot next : Spot) (place : ℕ) (more : List (List TreeNode)) → place < length spot.node.rows → rows_of (level_of spot) ≡ map (row_of layout) (level_of next) → PairStands layout kind pages spot next more
+pub is_pair : (layout : RowLayout) (kind : Kind) (pages : List (Option Sector)) (spot next : LevelZipper) (place : ℕ) (more : List (List TreeNode)) → place < length spot.node.rows → rows_of (level_of spot) ≡ map (row_of layout) (level_of next) → PairStands layout kind pages spot next more
     → (n : Neighbours spot next place) → IsPair layout kind pages spot.node.page spot.node.rows place next.node.page n.left n.right
 is_pair layout kind pages spot next place more low names s n =
     let named = pair_named layout spot next place low s.own.enough names n in
-    let level = subst (λ (l : List TreeNode). All (Stands layout pages kind) l) n.level s.level in
-    let pair = all_right (Stands layout pages kind) n.before (n.left ∷ n.right ∷ n.after) level in
-    let left = All-head (Stands layout pages kind) n.left (n.right ∷ n.after) pair in
-    let right = All-head (Stands layout pages kind) n.right n.after (All-tail (Stands layout pages kind) n.left (n.right ∷ n.after) pair) in
+    let level = subst (λ (l : List TreeNode). All (IsOnPage layout pages kind) l) n.level s.level in
+    let pair = all_right (IsOnPage layout pages kind) n.before (n.left ∷ n.right ∷ n.after) level in
+    let left = All-head (IsOnPage layout pages kind) n.left (n.right ∷ n.after) pair in
+    let right = All-head (IsOnPage layout pages kind) n.right n.after (All-tail (IsOnPage layout pages kind) n.left (n.right ∷ n.after) pair) in
     let upper = numbers_of (level_of spot) in
     let rest : Once (numbers_of (level_of next)) = once_left (numbers_of (level_of next)) (pages_of more) (once_right upper (pages_of (level_of next ∷ more)) s.once) in
     let numbers : numbers_of (level_of next) ≡ numbers_of n.before ++ (n.left.page ∷ n.right.page ∷ numbers_of n.after) = ap numbers_of n.level ∙ numbers_append n.before (n.left ∷ n.right ∷ n.after) in
@@ -174,7 +174,7 @@ is_pair layout kind pages spot next place more low names s n =
     }
 
 -- neither is page 0
-pub pair_some : (spot next : Spot) (place : ℕ) (n : Neighbours spot next place) → All (λ (page : ℕ). 0 < page) (numbers_of (level_of next)) → (0 < n.left.page) × (0 < n.right.page)
+pub pair_some : (spot next : LevelZipper) (place : ℕ) (n : Neighbours spot next place) → All (λ (page : ℕ). 0 < page) (numbers_of (level_of next)) → (0 < n.left.page) × (0 < n.right.page)
 pair_some spot next place n some =
     let P = λ (page : ℕ). 0 < page in
     let numbers : numbers_of (level_of next) ≡ numbers_of n.before ++ (n.left.page ∷ n.right.page ∷ numbers_of n.after) = ap numbers_of n.level ∙ numbers_append n.before (n.left ∷ n.right ∷ n.after) in

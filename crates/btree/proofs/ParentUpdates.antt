@@ -7,17 +7,17 @@ use Rattle.std.proofs.lemmas.List.Edits.{insert-append_right}
 use Rattle.std.proofs.lemmas.List.Elements.{All-set}
 use Rattle.byteorder.specs.Endian.{big_bytes}
 use Rattle.station.specs.Disk.{Sector}
-use Rattle.tree_pages.specs.declared.row_layout.RowLayout.{RowLayout}
-use Rattle.tree_pages.specs.declared.row_layout.Kind.{Kind}
-use Rattle.tree_pages.specs.declared.row_layout.Kind.TheVariants.{Inner}
-use Rattle.tree_pages.specs.RowLayouts.{row_length}
-use Rattle.tree_pages.specs.Keys.{key_of, rest_of}
-use Rattle.tree_pages.specs.Node.{Node}
-use Rattle.tree_pages.specs.Edits.{with_key}
+use Rattle.btree_pages.specs.declared.row_layout.RowLayout.{RowLayout}
+use Rattle.btree_pages.specs.declared.row_layout.Kind.{Kind}
+use Rattle.btree_pages.specs.declared.row_layout.Kind.TheVariants.{Inner}
+use Rattle.btree_pages.specs.RowLayouts.{row_length}
+use Rattle.btree_pages.specs.Keys.{key_of, rest_of}
+use Rattle.btree_pages.specs.Node.{Node}
+use Rattle.btree_pages.specs.Edits.{with_key}
 use Rattle.btree.specs.declared.split_result.SplitResult.{SplitResult}
 use Rattle.btree.specs.declared.split_result.Right.{Right}
 use Rattle.btree.specs.Tree.{TreeNode, row_of, rows_of}
-use Rattle.btree.specs.Moves.{Replaced}
+use Rattle.btree.specs.Moves.{ReplacesNodes}
 use Rattle.btree.specs.Propagates.{node_with, rights_of, run_of}
 use Rattle.btree.specs.Changes.{CanStand, UpdatesParent}
 
@@ -56,7 +56,7 @@ first_same (suc place) (row ∷ rows) more some low = refl
 
 -- what is told of it
 pub updates_as : (layout : RowLayout) (one two : List (Option Sector)) (page : ℕ) (rows : List (List ℕ)) (place : ℕ) (low : List TreeNode) (updated : SplitResult) (up : Option SplitResult)
-    → Replaced layout Inner one (node_with page rows ∷ []) two (run_of updated) → rows_of (run_of updated) ≡ take place rows ++ (map (row_of layout) low ++ drop (place + 1) rows) → updated.page ≡ page → place < length rows
+    → ReplacesNodes layout Inner one (node_with page rows ∷ []) two (run_of updated) → rows_of (run_of updated) ≡ take place rows ++ (map (row_of layout) low ++ drop (place + 1) rows) → updated.page ≡ page → place < length rows
     → MatchOption up ((0 < place) × (updated.right ≡ None)) (λ told. told ≡ updated) → UpdatesParent layout one two page rows place low up
 updates_as layout one two page rows place low updated (Some told) own is page_is within tells =
     record { run = run_of updated; own = own; rows = is; tells = (sym (ap run_of tells), ap (λ (g : SplitResult). g.page) tells ∙ page_is) }
@@ -75,7 +75,7 @@ updates_as layout one two page rows place low updated None own is page_is within
       };
     }
 
-pub put_again : (layout : RowLayout) (kind : Kind) (old new : List (Option Sector)) (page : ℕ) (rows rows' : List (List ℕ)) (run : List TreeNode) → Replaced layout kind old (node_with page rows' ∷ []) new run → Replaced layout kind old (node_with page rows ∷ []) new run
+pub put_again : (layout : RowLayout) (kind : Kind) (old new : List (Option Sector)) (page : ℕ) (rows rows' : List (List ℕ)) (run : List TreeNode) → ReplacesNodes layout kind old (node_with page rows' ∷ []) new run → ReplacesNodes layout kind old (node_with page rows ∷ []) new run
 put_again layout kind old new page rows rows' run r = record { stand = r.stand; once = r.once; moves = r.moves }
 
 -- What a page is updated from: the row at its place names a page that got this key.
@@ -98,14 +98,14 @@ renamed_rows old page node place key split l =
     ∙ ap (λ (k : List ℕ). take place node.rows ++ ((k ++ big_bytes 4 split.page) ∷ drop (place + 1) node.rows)) (l.key_is ∙ ap (λ (layout : RowLayout). key_of layout (slice_index_or split.left.rows 0 [])) l.layout_is)
 
 own_inner : (old new : List (Option Sector)) (page : ℕ) (node node' : Node) (place : ℕ) (key : List ℕ) (split updated : SplitResult) → ParentUpdates old page node place key split → node' ≡ with_key node place key
-    → (CanStand old page node' → Replaced node'.layout node'.kind old (node_with page node'.rows ∷ []) new (run_of updated)) → Replaced node.layout Inner old (node_with page node.rows ∷ []) new (run_of updated)
+    → (CanStand old page node' → ReplacesNodes node'.layout node'.kind old (node_with page node'.rows ∷ []) new (run_of updated)) → ReplacesNodes node.layout Inner old (node_with page node.rows ∷ []) new (run_of updated)
 own_inner old new page node node' place key split updated l is put =
-    let own = subst (λ (n : Node). CanStand old page n → Replaced n.layout n.kind old (node_with page n.rows ∷ []) new (run_of updated)) is put (renamed_can old page node place key split l) in
+    let own = subst (λ (n : Node). CanStand old page n → ReplacesNodes n.layout n.kind old (node_with page n.rows ∷ []) new (run_of updated)) is put (renamed_can old page node place key split l) in
     put_again node.layout Inner old new page node.rows (with_key node place key).rows (run_of updated)
-    (subst (λ (kind : Kind). Replaced node.layout kind old (node_with page (with_key node place key).rows ∷ []) new (run_of updated)) l.inner own)
+    (subst (λ (kind : Kind). ReplacesNodes node.layout kind old (node_with page (with_key node place key).rows ∷ []) new (run_of updated)) l.inner own)
 
 pub updated_one : (old new : List (Option Sector)) (page : ℕ) (node node' : Node) (place : ℕ) (key : List ℕ) (split updated : SplitResult) (up : Option SplitResult) → ParentUpdates old page node place key split → node' ≡ with_key node place key
-    → (CanStand old page node' → Replaced node'.layout node'.kind old (node_with page node'.rows ∷ []) new (run_of updated))
+    → (CanStand old page node' → ReplacesNodes node'.layout node'.kind old (node_with page node'.rows ∷ []) new (run_of updated))
     → split.right ≡ None → (updated.page ≡ page) × (updated.left ≡ node') × (updated.right ≡ None) → MatchOption up ((0 < place) × (updated.right ≡ None)) (λ told. told ≡ updated)
     → UpdatesParent node.layout old new page node.rows place (run_of split) up
 updated_one old new page node node' place key split updated up l is put none back tells =
@@ -115,7 +115,7 @@ updated_one old new page node node' place key split updated up l is put none bac
     back.0 l.place_low tells
 
 pub updated_two : (old new : List (Option Sector)) (page : ℕ) (node node' : Node) (place : ℕ) (key : List ℕ) (split updated : SplitResult) (right : Right) (up : Option SplitResult) → ParentUpdates old page node place key split → node' ≡ with_key node place key
-    → (CanStand old page node' → Replaced node'.layout node'.kind old (node_with page node'.rows ∷ []) new (run_of updated))
+    → (CanStand old page node' → ReplacesNodes node'.layout node'.kind old (node_with page node'.rows ∷ []) new (run_of updated))
     → split.right ≡ Some right → rows_of (run_of updated) ≡ insert node'.rows (place + 1) (row_of node'.layout (node_with right.page right.node.rows)) → updated.page ≡ page
     → MatchOption up ((0 < place) × (updated.right ≡ None)) (λ told. told ≡ updated)
     → UpdatesParent node.layout old new page node.rows place (run_of split) up

@@ -5,22 +5,22 @@ use Rattle.std.specs.List.{remove}
 use Rattle.std.proofs.lemmas.List.{take_more_set, drop-set-lt, set_split, drop_at}
 use Rattle.byteorder.specs.Endian.{big_bytes}
 use Rattle.station.specs.Disk.{Sector}
-use Rattle.tree_pages.specs.declared.row_layout.RowLayout.{RowLayout}
-use Rattle.tree_pages.specs.declared.row_layout.Kind.{Kind}
-use Rattle.tree_pages.specs.declared.row_layout.Kind.TheVariants.{Inner}
-use Rattle.tree_pages.specs.RowLayouts.{row_length}
-use Rattle.tree_pages.specs.Keys.{key_of, rest_of}
-use Rattle.tree_pages.specs.Node.{Node}
-use Rattle.tree_pages.specs.Edits.{with_key, with_rows, removed}
+use Rattle.btree_pages.specs.declared.row_layout.RowLayout.{RowLayout}
+use Rattle.btree_pages.specs.declared.row_layout.Kind.{Kind}
+use Rattle.btree_pages.specs.declared.row_layout.Kind.TheVariants.{Inner}
+use Rattle.btree_pages.specs.RowLayouts.{row_length}
+use Rattle.btree_pages.specs.Keys.{key_of, rest_of}
+use Rattle.btree_pages.specs.Node.{Node}
+use Rattle.btree_pages.specs.Edits.{with_key, with_rows, node_without_row}
 use Rattle.btree.specs.declared.removal_outcome.RemovalOutcome.{RemovalOutcome}
 use Rattle.btree.specs.declared.split_result.SplitResult.{SplitResult}
 use Rattle.btree.specs.declared.split_result.Right.{Right}
-use Rattle.btree.specs.Tree.{TreeNode, least, row_of, rows_of, node_of}
-use Rattle.btree.specs.Moves.{Replaced}
+use Rattle.btree.specs.Tree.{TreeNode, least_key, row_of, rows_of, node_of}
+use Rattle.btree.specs.Moves.{ReplacesNodes}
 use Rattle.btree.specs.Nodes.{SameNode}
 use Rattle.btree.specs.Propagates.{node_with, rights_of, run_of}
 use Rattle.btree.specs.Changes.{IsIn}
-use Rattle.btree.specs.Outcomes.{Fares, ArePair, Joins}
+use Rattle.btree.specs.Outcomes.{IsRemovalResult, ArePair, Joins}
 use Rattle.btree.specs.Fills.{IsEven}
 use Rattle.btree.proofs.Lessening.{front_fares}
 use Rattle.btree.proofs.Sharing.{still_in}
@@ -54,7 +54,7 @@ renamed layout row key page node r =
 
 -- the two rows name the one page that is left
 pub named_one : (node middle new : Node) (place : ℕ) (key : List ℕ) (joined : SplitResult) → place + 1 < length node.rows → Renames node.layout (slice_index_or node.rows place []) key joined.page joined.left
-    → middle ≡ with_key node place key → new ≡ removed middle (place + 1) → joined.right ≡ None
+    → middle ≡ with_key node place key → new ≡ node_without_row middle (place + 1) → joined.right ≡ None
     → new.rows ≡ take place node.rows ++ (map (row_of node.layout) (run_of joined) ++ drop (place + 2) node.rows)
 named_one node middle new place key joined low renames middle_is is none =
     ap (λ (n : Node). n.rows) is ∙ ap (λ (n : Node). remove n.rows (place + 1)) middle_is
@@ -80,8 +80,8 @@ named_both node middle new place key key' joined right low one two middle_is is 
 -- what stands behind the key of a row that names a node
 pub names_page : (layout : RowLayout) (row : List ℕ) (node : TreeNode) → length row ≡ row_length layout Inner → row ≡ row_of layout node → rest_of layout row ≡ big_bytes 4 node.page
 names_page layout row node row_long is =
-    let key_long : length (least layout node) ≡ layout.key_length = omega (arith, row_long, ap length is, length-append (least layout node) (big_bytes 4 node.page)) in
-    ap (rest_of layout) is ∙ drop_at (least layout node) (big_bytes 4 node.page) layout.key_length key_long
+    let key_long : length (least_key layout node) ≡ layout.key_length = omega (arith, row_long, ap length is, length-append (least_key layout node) (big_bytes 4 node.page)) in
+    ap (rest_of layout) is ∙ drop_at (least_key layout node) (big_bytes 4 node.page) layout.key_length key_long
 
 pub same_rows : (node new : Node) (rows : List (List ℕ)) → SameNode node new → new.rows ≡ rows → new ≡ with_rows node rows
 same_rows node new rows same is =
@@ -96,7 +96,7 @@ pub record Learns (kind : Kind) (before mid : List (Option Sector)) (place : ℕ
   pub inner : node.kind ≡ Inner
   pub page_is : joined.page ≡ left.page
   pub beside_is : IfSome joined.right (λ beside. beside.page ≡ right.page)
-  pub pair : Replaced node.layout kind before (left ∷ right ∷ []) mid (run_of joined)
+  pub pair : ReplacesNodes node.layout kind before (left ∷ right ∷ []) mid (run_of joined)
   pub even : IsEven node.layout kind (run_of joined)
   pub like : SameNode node new
   pub names : rest_of node.layout (slice_index_or node.rows place []) ≡ big_bytes 4 joined.page → IfSome joined.right (λ beside. rest_of node.layout (slice_index_or node.rows (place + 1) []) ≡ big_bytes 4 beside.page)
@@ -104,7 +104,7 @@ pub record Learns (kind : Kind) (before mid : List (Option Sector)) (place : ℕ
 
 pub joins_so : (kind : Kind) (before mid after : List (Option Sector)) (page place : ℕ) (node new : Node) (left right : TreeNode) (joined : SplitResult) (outcome : RemovalOutcome) → ArePair node.layout before page node.rows place left right
     → Learns kind before mid place node new left right joined
-    → (IsIn mid page → (nat_lt 0 place ≡ true → least new.layout (node_with page new.rows) ≡ least new.layout (node_with page node.rows)) → Fares new.layout new.kind mid after page node.rows new.rows outcome)
+    → (IsIn mid page → (nat_lt 0 place ≡ true → least_key new.layout (node_with page new.rows) ≡ least_key new.layout (node_with page node.rows)) → IsRemovalResult new.layout new.kind mid after page node.rows new.rows outcome)
     → Joins node.layout kind before after page node.rows place (rows_of (run_of joined)) left right outcome
 joins_so kind before mid after page place node new left right joined outcome are learns put =
     let named = learns.names

@@ -2,10 +2,10 @@
 use Rattle.std.proofs.Common.{◌≡◌, ◌≤◌, ◌<◌, ◌+◌, ℕ, List, [], length, take, drop, sym, subst}
 use Rattle.std.specs.Prelude.{slice_index_or, Option, Some, None}
 use Rattle.station.specs.Disk.{Sector}
-use Rattle.tree_pages.specs.declared.row_layout.RowLayout.{RowLayout}
-use Rattle.tree_pages.specs.Keys.{key_of, keys_of, Ascend, AllBelow, AllAbove}
+use Rattle.btree_pages.specs.declared.row_layout.RowLayout.{RowLayout}
+use Rattle.btree_pages.specs.Keys.{key_of, keys_of, Ascend, AllBelow, AllAbove}
 use Rattle.btree.specs.Tree.{TreeNode, rows_of, rows_in_order, IsTree}
-use Rattle.btree.specs.Path.{Spot, PathStep, first_key, EndsAt}
+use Rattle.btree.specs.Path.{LevelZipper, PathStep, first_key, EndsAt}
 use Rattle.btree.specs.Entries.{entry_of, entries_of, entry_with}
 use Rattle.btree.proofs.Order.{Up}
 use Rattle.btree.proofs.Descents.{IsLeafOf, leaf_of, around_leaf, leaf_up}
@@ -19,7 +19,7 @@ pub record IsLeafAmong (layout : RowLayout) (key : List ℕ) (levels : List (Lis
   pub up : Up layout rows
   pub beside : right ≡ first_key layout after
 
-leaf_at_spot : (layout : RowLayout) (pages : List (Option Sector)) (root : ℕ) (key : List ℕ) (levels : List (List TreeNode)) (leaf : Spot) (rows : List (List ℕ)) (right : Option (List ℕ)) → IsTree layout pages root levels → IsLeafOf layout pages key levels leaf
+leaf_at_spot : (layout : RowLayout) (pages : List (Option Sector)) (root : ℕ) (key : List ℕ) (levels : List (List TreeNode)) (leaf : LevelZipper) (rows : List (List ℕ)) (right : Option (List ℕ)) → IsTree layout pages root levels → IsLeafOf layout pages key levels leaf
     → leaf.node.rows ≡ rows → right ≡ first_key layout (rows_of leaf.after) → IsLeafAmong layout key levels rows right
 leaf_at_spot layout pages root key levels leaf rows right tree is same beside =
     subst (λ (r : List (List ℕ)). IsLeafAmong layout key levels r right) same (record {

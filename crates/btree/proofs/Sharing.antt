@@ -5,14 +5,14 @@ use Rattle.std.specs.List.{All}
 use Rattle.std.proofs.lemmas.List.{take-append-drop}
 use Rattle.std.proofs.lemmas.List.Elements.{All-nil, All-cons}
 use Rattle.station.specs.Disk.{Sector}
-use Rattle.tree_pages.specs.declared.row_layout.RowLayout.{RowLayout}
-use Rattle.tree_pages.specs.declared.row_layout.Kind.{Kind}
-use Rattle.tree_pages.specs.declared.row_layout.Kind.TheVariants.{Leaf, Inner}
-use Rattle.tree_pages.specs.RowLayouts.{row_length, capacity}
-use Rattle.tree_pages.specs.Node.{Node, IsNode, node_in}
-use Rattle.tree_pages.specs.Edits.{with_rows}
-use Rattle.btree.specs.Tree.{TreeNode, node_of, fewest, Stands}
-use Rattle.btree.specs.Moves.{Replaced}
+use Rattle.btree_pages.specs.declared.row_layout.RowLayout.{RowLayout}
+use Rattle.btree_pages.specs.declared.row_layout.Kind.{Kind}
+use Rattle.btree_pages.specs.declared.row_layout.Kind.TheVariants.{Leaf, Inner}
+use Rattle.btree_pages.specs.RowLayouts.{row_length, capacity}
+use Rattle.btree_pages.specs.Node.{Node, IsNode, node_in}
+use Rattle.btree_pages.specs.Edits.{with_rows}
+use Rattle.btree.specs.Tree.{TreeNode, node_of, fewest, IsOnPage}
+use Rattle.btree.specs.Moves.{ReplacesNodes}
 use Rattle.btree.specs.Propagates.{node_with}
 use Rattle.btree.specs.Changes.{IsIn}
 use Rattle.btree.specs.Outcomes.{AreTwo}
@@ -48,9 +48,9 @@ count_same pages after left right one two changed = ap length changed.is ∙ len
 
 -- the left page has the rows of both
 pub write_joined : (layout : RowLayout) (kind : Kind) (pages after : List (Option Sector)) (left right : ℕ) (bytes : List ℕ) (old other rows : List (List ℕ)) → Changed pages after left right bytes None → Spells layout kind bytes rows
-    → Replaced layout kind pages (node_with left old ∷ node_with right other ∷ []) after (node_with left rows ∷ [])
+    → ReplacesNodes layout kind pages (node_with left old ∷ node_with right other ∷ []) after (node_with left rows ∷ [])
 write_joined layout kind pages after left right bytes old other rows changed spells = record {
-  stand = All-cons (Stands layout after kind) (node_with left rows) [] (stands_on layout kind after left bytes rows (at_left pages after left right bytes None changed) spells) (All-nil (Stands layout after kind));
+  stand = All-cons (IsOnPage layout after kind) (node_with left rows) [] (stands_on layout kind after left bytes rows (at_left pages after left right bytes None changed) spells) (All-nil (IsOnPage layout after kind));
   once = ((λ has. in_none left has), tt);
   moves = record {
     count = count_same pages after left right bytes None changed;
@@ -66,11 +66,11 @@ write_joined layout kind pages after left right bytes old other rows changed spe
 -- both pages have rows of both
 pub write_shared : (layout : RowLayout) (kind : Kind) (pages after : List (Option Sector)) (left right : ℕ) (one two : List ℕ) (old other left_rows right_rows : List (List ℕ)) → Changed pages after left right one (Some two)
     → Spells layout kind one left_rows → Spells layout kind two right_rows
-    → Replaced layout kind pages (node_with left old ∷ node_with right other ∷ []) after (node_with left left_rows ∷ node_with right right_rows ∷ [])
+    → ReplacesNodes layout kind pages (node_with left old ∷ node_with right other ∷ []) after (node_with left left_rows ∷ node_with right right_rows ∷ [])
 write_shared layout kind pages after left right one two old other left_rows right_rows changed left_spells right_spells = record {
-  stand = All-cons (Stands layout after kind) (node_with left left_rows) (node_with right right_rows ∷ [])
+  stand = All-cons (IsOnPage layout after kind) (node_with left left_rows) (node_with right right_rows ∷ [])
       (stands_on layout kind after left one left_rows (at_left pages after left right one (Some two) changed) left_spells)
-      (All-cons (Stands layout after kind) (node_with right right_rows) [] (stands_on layout kind after right two right_rows (at_right pages after left right one (Some two) changed) right_spells) (All-nil (Stands layout after kind)));
+      (All-cons (IsOnPage layout after kind) (node_with right right_rows) [] (stands_on layout kind after right two right_rows (at_right pages after left right one (Some two) changed) right_spells) (All-nil (IsOnPage layout after kind)));
   once = ((λ has. ⊎_elim (λ same. changed.both.apart same) (λ past. in_none left past) (in_cases right [] left has)), ((λ has. in_none right has), tt));
   moves = record {
     count = count_same pages after left right one (Some two) changed;
@@ -81,7 +81,7 @@ write_shared layout kind pages after left right one two old other left_rows righ
 }
 
 -- a page apart from the two is in the map as before
-pub still_in : (layout : RowLayout) (kind : Kind) (pages after : List (Option Sector)) (left right : TreeNode) (run : List TreeNode) (page : ℕ) → Replaced layout kind pages (left ∷ right ∷ []) after run
+pub still_in : (layout : RowLayout) (kind : Kind) (pages after : List (Option Sector)) (left right : TreeNode) (run : List TreeNode) (page : ℕ) → ReplacesNodes layout kind pages (left ∷ right ∷ []) after run
     → left.page ≢ page → right.page ≢ page → IsIn pages page → IsIn after page
 still_in layout kind pages after left right run page replaced left_apart right_apart is_in =
     let out : Contains (left.page ∷ right.page ∷ []) page → ⊥ = λ has. ⊎_elim (λ same. left_apart (sym same)) (λ rest. ⊎_elim (λ same. right_apart (sym same)) (λ past. in_none page past) (in_cases right.page [] page rest)) (in_cases left.page (right.page ∷ []) page has) in

@@ -6,10 +6,10 @@ use Rattle.std.proofs.lemmas.List.{map-append, append_cancel_left, length-map}
 use Rattle.std.proofs.lemmas.List.Concat.{flat_map-append}
 use Rattle.std.proofs.lemmas.List.Elements.{Contains-append_left, Contains-append_right, Contains-append_cases, All-head, All-tail, All-cons, All-nil}
 use Rattle.station.specs.Disk.{Sector}
-use Rattle.tree_pages.specs.declared.row_layout.RowLayout.{RowLayout}
-use Rattle.tree_pages.specs.declared.row_layout.Kind.{Kind}
-use Rattle.tree_pages.specs.declared.row_layout.Kind.TheVariants.{Leaf, Inner}
-use Rattle.btree.specs.Tree.{TreeNode, row_of, rows_of, node_on, Stands, Joined, pages_of}
+use Rattle.btree_pages.specs.declared.row_layout.RowLayout.{RowLayout}
+use Rattle.btree_pages.specs.declared.row_layout.Kind.{Kind}
+use Rattle.btree_pages.specs.declared.row_layout.Kind.TheVariants.{Leaf, Inner}
+use Rattle.btree.specs.Tree.{TreeNode, row_of, rows_of, node_on, IsOnPage, AreJoinedLevels, pages_of}
 use Rattle.btree.specs.Moves.{numbers_of}
 use Rattle.btree.proofs.Runs.{same_cut, in_none, in_cases}
 use Rattle.btree.proofs.Shifts.{There, Kept, sector_of}
@@ -52,17 +52,17 @@ rows_replaced layout before run run' after lower_before low low' lower_after lef
     ∙ sym (names_around layout lower_before low' lower_after)
 
 -- nodes whose pages stay
-pub stands_still : (layout : RowLayout) (pages after : List (Option Sector)) (kind : Kind) (tree_node : TreeNode) → sector_of after tree_node.page ≡ sector_of pages tree_node.page → Stands layout pages kind tree_node → Stands layout after kind tree_node
+pub stands_still : (layout : RowLayout) (pages after : List (Option Sector)) (kind : Kind) (tree_node : TreeNode) → sector_of after tree_node.page ≡ sector_of pages tree_node.page → IsOnPage layout pages kind tree_node → IsOnPage layout after kind tree_node
 stands_still layout pages after kind tree_node same stands = record { node = ap (node_on layout) same ∙ stands.node; lengths = stands.lengths; enough = stands.enough }
 
-pub all_still : (layout : RowLayout) (pages after : List (Option Sector)) (kind : Kind) (nodes : List TreeNode) → Kept pages after (numbers_of nodes) → All (Stands layout pages kind) nodes → All (Stands layout after kind) nodes
-all_still layout pages after kind [] kept all = All-nil (Stands layout after kind)
+pub all_still : (layout : RowLayout) (pages after : List (Option Sector)) (kind : Kind) (nodes : List TreeNode) → Kept pages after (numbers_of nodes) → All (IsOnPage layout pages kind) nodes → All (IsOnPage layout after kind) nodes
+all_still layout pages after kind [] kept all = All-nil (IsOnPage layout after kind)
 all_still layout pages after kind (node ∷ nodes) kept all =
-    All-cons (Stands layout after kind) node nodes
-    (stands_still layout pages after kind node (kept node.page (Contains-append_left (node.page ∷ []) (numbers_of nodes) node.page (0, omega arith, refl))) (All-head (Stands layout pages kind) node nodes all))
-    (all_still layout pages after kind nodes (λ page has. kept page (Contains-append_right (node.page ∷ []) (numbers_of nodes) page has)) (All-tail (Stands layout pages kind) node nodes all))
+    All-cons (IsOnPage layout after kind) node nodes
+    (stands_still layout pages after kind node (kept node.page (Contains-append_left (node.page ∷ []) (numbers_of nodes) node.page (0, omega arith, refl))) (All-head (IsOnPage layout pages kind) node nodes all))
+    (all_still layout pages after kind nodes (λ page has. kept page (Contains-append_right (node.page ∷ []) (numbers_of nodes) page has)) (All-tail (IsOnPage layout pages kind) node nodes all))
 
-pub joined_still : (layout : RowLayout) (pages after : List (Option Sector)) (levels : List (List TreeNode)) → Kept pages after (pages_of levels) → Joined layout pages levels → Joined layout after levels
+pub joined_still : (layout : RowLayout) (pages after : List (Option Sector)) (levels : List (List TreeNode)) → Kept pages after (pages_of levels) → AreJoinedLevels layout pages levels → AreJoinedLevels layout after levels
 joined_still layout pages after [] kept joined = joined
 joined_still layout pages after (leaves ∷ []) kept joined =
     all_still layout pages after Leaf leaves (λ page has. kept page (Contains-append_left (numbers_of leaves) [] page has)) joined
@@ -73,20 +73,20 @@ joined_still layout pages after (upper ∷ lower ∷ more) kept joined = (
 )
 
 -- a node's page is in the map
-pub no_node : (layout : RowLayout) (pages : List (Option Sector)) (kind : Kind) (node : TreeNode) → Stands layout pages kind node → sector_of pages node.page ≡ None → ⊥
+pub no_node : (layout : RowLayout) (pages : List (Option Sector)) (kind : Kind) (node : TreeNode) → IsOnPage layout pages kind node → sector_of pages node.page ≡ None → ⊥
 no_node layout pages kind node stands none = let clash = sym (ap (node_on layout) none) ∙ stands.node in cc
 
-pub all_there : (layout : RowLayout) (pages : List (Option Sector)) (kind : Kind) (nodes : List TreeNode) → All (Stands layout pages kind) nodes → There pages (numbers_of nodes)
+pub all_there : (layout : RowLayout) (pages : List (Option Sector)) (kind : Kind) (nodes : List TreeNode) → All (IsOnPage layout pages kind) nodes → There pages (numbers_of nodes)
 all_there layout pages kind [] all page has none = in_none page has
 all_there layout pages kind (node ∷ nodes) all page has none =
-    ⊎_elim (λ same. no_node layout pages kind node (All-head (Stands layout pages kind) node nodes all) (sym (ap (sector_of pages) same) ∙ none))
-    (λ in_rest. all_there layout pages kind nodes (All-tail (Stands layout pages kind) node nodes all) page in_rest none)
+    ⊎_elim (λ same. no_node layout pages kind node (All-head (IsOnPage layout pages kind) node nodes all) (sym (ap (sector_of pages) same) ∙ none))
+    (λ in_rest. all_there layout pages kind nodes (All-tail (IsOnPage layout pages kind) node nodes all) page in_rest none)
     (in_cases node.page (numbers_of nodes) page has)
 
 there_both : (pages : List (Option Sector)) (a b : List ℕ) → There pages a → There pages b → There pages (a ++ b)
 there_both pages a b one two page has none = ⊎_elim (λ left. one page left none) (λ right. two page right none) (Contains-append_cases a b page has)
 
-pub joined_there : (layout : RowLayout) (pages : List (Option Sector)) (levels : List (List TreeNode)) → Joined layout pages levels → There pages (pages_of levels)
+pub joined_there : (layout : RowLayout) (pages : List (Option Sector)) (levels : List (List TreeNode)) → AreJoinedLevels layout pages levels → There pages (pages_of levels)
 joined_there layout pages [] joined = absurd joined
 joined_there layout pages (leaves ∷ []) joined = there_both pages (numbers_of leaves) [] (all_there layout pages Leaf leaves joined) (λ page has none. in_none page has)
 joined_there layout pages (upper ∷ lower ∷ more) joined =

@@ -4,10 +4,10 @@ use Rattle.std.specs.List.{insert}
 use Rattle.std.proofs.lemmas.List.{length-take-le, take-append-drop}
 use Rattle.std.proofs.lemmas.List.Edits.{insert-append_left, insert-append_right}
 use Rattle.std.proofs.Math.Nat.{le-div_iff_mul-le}
-use Rattle.tree_pages.specs.declared.row_layout.RowLayout.{RowLayout}
-use Rattle.tree_pages.specs.declared.row_layout.Kind.{Kind}
-use Rattle.tree_pages.specs.declared.row_layout.Kind.TheVariants.{Leaf, Inner}
-use Rattle.tree_pages.specs.RowLayouts.{row_length, capacity, IsRowLayout}
+use Rattle.btree_pages.specs.declared.row_layout.RowLayout.{RowLayout}
+use Rattle.btree_pages.specs.declared.row_layout.Kind.{Kind}
+use Rattle.btree_pages.specs.declared.row_layout.Kind.TheVariants.{Leaf, Inner}
+use Rattle.btree_pages.specs.RowLayouts.{row_length, capacity, IsRowLayout}
 
 pub three_fit : (layout : RowLayout) (kind : Kind) → IsRowLayout layout → 3 ≤ capacity layout kind
 three_fit layout Leaf is = (le-div_iff_mul-le {k = row_length layout Leaf} {x = 3} {y = 4080} (omega (arith, is.key))).1 is.leaf

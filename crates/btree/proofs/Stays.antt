@@ -4,10 +4,10 @@ use Rattle.std.specs.Prelude.{◌↔◌, map, Contains, Option, None, Some, slic
 use Rattle.std.specs.List.{All}
 use Rattle.std.proofs.lemmas.List.Elements.{All-head, All-tail, All-cons, All-nil, Contains-append_left, Contains-append_right, Contains-append_cases}
 use Rattle.station.specs.Disk.{Sector}
-use Rattle.tree_pages.specs.declared.row_layout.RowLayout.{RowLayout}
-use Rattle.tree_pages.specs.declared.row_layout.Kind.{Kind}
-use Rattle.tree_pages.specs.declared.row_layout.Kind.TheVariants.{Leaf, Inner}
-use Rattle.btree.specs.Tree.{TreeNode, Stands, Joined, Holds, pages_of, node_on, node_of}
+use Rattle.btree_pages.specs.declared.row_layout.RowLayout.{RowLayout}
+use Rattle.btree_pages.specs.declared.row_layout.Kind.{Kind}
+use Rattle.btree_pages.specs.declared.row_layout.Kind.TheVariants.{Leaf, Inner}
+use Rattle.btree.specs.Tree.{TreeNode, IsOnPage, AreJoinedLevels, IsTreeOrEmpty, pages_of, node_on, node_of}
 use Rattle.btree.specs.Moves.{Moves, Once}
 use Rattle.btree.specs.Laws.{Apart}
 use Rattle.btree.proofs.Runs.{in_head, in_tail, in_cases, in_none, once_from_pairs, once_left, once_right, once_apart}
@@ -19,17 +19,17 @@ Same before after numbers = (page : ℕ) → Contains numbers page → slice_ind
 abbrev numbers : List TreeNode → List ℕ
 numbers nodes = map (λ (node : TreeNode). node.page) nodes
 
-stand_still : (layout : RowLayout) (before after : List (Option Sector)) (kind : Kind) (tree_node : TreeNode) → slice_index_or after tree_node.page None ≡ slice_index_or before tree_node.page None → Stands layout before kind tree_node → Stands layout after kind tree_node
+stand_still : (layout : RowLayout) (before after : List (Option Sector)) (kind : Kind) (tree_node : TreeNode) → slice_index_or after tree_node.page None ≡ slice_index_or before tree_node.page None → IsOnPage layout before kind tree_node → IsOnPage layout after kind tree_node
 stand_still layout before after kind tree_node same stands = record { node = ap (node_on layout) same ∙ stands.node; lengths = stands.lengths; enough = stands.enough }
 
-level_still : (layout : RowLayout) (before after : List (Option Sector)) (kind : Kind) (level : List TreeNode) → Same before after (numbers level) → All (Stands layout before kind) level → All (Stands layout after kind) level
-level_still layout before after kind [] same stand = All-nil (Stands layout after kind)
+level_still : (layout : RowLayout) (before after : List (Option Sector)) (kind : Kind) (level : List TreeNode) → Same before after (numbers level) → All (IsOnPage layout before kind) level → All (IsOnPage layout after kind) level
+level_still layout before after kind [] same stand = All-nil (IsOnPage layout after kind)
 level_still layout before after kind (node ∷ level) same stand =
-    All-cons (Stands layout after kind) node level
-    (stand_still layout before after kind node (same node.page (in_head node.page (numbers level))) (All-head (Stands layout before kind) node level stand))
-    (level_still layout before after kind level (λ page has. same page (in_tail node.page (numbers level) page has)) (All-tail (Stands layout before kind) node level stand))
+    All-cons (IsOnPage layout after kind) node level
+    (stand_still layout before after kind node (same node.page (in_head node.page (numbers level))) (All-head (IsOnPage layout before kind) node level stand))
+    (level_still layout before after kind level (λ page has. same page (in_tail node.page (numbers level) page has)) (All-tail (IsOnPage layout before kind) node level stand))
 
-joined_still : (layout : RowLayout) (before after : List (Option Sector)) (levels : List (List TreeNode)) → Same before after (pages_of levels) → Joined layout before levels → Joined layout after levels
+joined_still : (layout : RowLayout) (before after : List (Option Sector)) (levels : List (List TreeNode)) → Same before after (pages_of levels) → AreJoinedLevels layout before levels → AreJoinedLevels layout after levels
 joined_still layout before after [] same joined = joined
 joined_still layout before after (leaves ∷ []) same joined = level_still layout before after Leaf leaves (λ page has. same page (Contains-append_left (numbers leaves) [] page has)) joined
 joined_still layout before after (upper ∷ lower ∷ more) same joined = (
@@ -38,7 +38,7 @@ joined_still layout before after (upper ∷ lower ∷ more) same joined = (
   joined_still layout before after (lower ∷ more) (λ page has. same page (Contains-append_right (numbers upper) (pages_of (lower ∷ more)) page has)) joined.2,
 )
 
-holds_still : (layout : RowLayout) (before after : List (Option Sector)) (root : ℕ) (levels : List (List TreeNode)) → length after ≡ length before → Same before after (pages_of levels) → Holds layout before root levels → Holds layout after root levels
+holds_still : (layout : RowLayout) (before after : List (Option Sector)) (root : ℕ) (levels : List (List TreeNode)) → length after ≡ length before → Same before after (pages_of levels) → IsTreeOrEmpty layout before root levels → IsTreeOrEmpty layout after root levels
 holds_still layout before after root levels count same (inl none) = inl none
 holds_still layout before after root levels count same (inr tree) =
     let P : ℕ → Type 0 = λ n. All (λ page. (0 < page) × (page < n)) (pages_of levels) in
@@ -54,19 +54,19 @@ holds_still layout before after root levels count same (inr tree) =
     )
 
 -- the pages of a tree are in the map
-level_there : (layout : RowLayout) (pages : List (Option Sector)) (kind : Kind) (level : List TreeNode) (page : ℕ) → All (Stands layout pages kind) level → Contains (numbers level) page → slice_index_or pages page None ≡ None → ⊥
+level_there : (layout : RowLayout) (pages : List (Option Sector)) (kind : Kind) (level : List TreeNode) (page : ℕ) → All (IsOnPage layout pages kind) level → Contains (numbers level) page → slice_index_or pages page None ≡ None → ⊥
 level_there layout pages kind [] page stand has none = in_none page has
 level_there layout pages kind (tree_node ∷ level) page stand has none =
     ⊎_elim
     (λ same.
     let here : slice_index_or pages tree_node.page None ≡ None = subst (λ (n : ℕ). slice_index_or pages n None ≡ None) same none in
-    let node = (All-head (Stands layout pages kind) tree_node level stand).node in
+    let node = (All-head (IsOnPage layout pages kind) tree_node level stand).node in
     let clash : None ≡ Some (node_of layout kind tree_node.rows) = sym (ap (node_on layout) here) ∙ node in
     cc)
-    (λ more. level_there layout pages kind level page (All-tail (Stands layout pages kind) tree_node level stand) more none)
+    (λ more. level_there layout pages kind level page (All-tail (IsOnPage layout pages kind) tree_node level stand) more none)
     (in_cases tree_node.page (numbers level) page has)
 
-joined_there : (layout : RowLayout) (pages : List (Option Sector)) (levels : List (List TreeNode)) (page : ℕ) → Joined layout pages levels → Contains (pages_of levels) page → slice_index_or pages page None ≡ None → ⊥
+joined_there : (layout : RowLayout) (pages : List (Option Sector)) (levels : List (List TreeNode)) (page : ℕ) → AreJoinedLevels layout pages levels → Contains (pages_of levels) page → slice_index_or pages page None ≡ None → ⊥
 joined_there layout pages [] page joined has none = absurd joined
 joined_there layout pages (leaves ∷ []) page joined has none =
     ⊎_elim (λ here. level_there layout pages Leaf leaves page joined here none) (λ more. in_none page more) (Contains-append_cases (numbers leaves) [] page has)
@@ -74,19 +74,19 @@ joined_there layout pages (upper ∷ lower ∷ more) page joined has none =
     ⊎_elim (λ here. level_there layout pages Inner upper page joined.0 here none) (λ below. joined_there layout pages (lower ∷ more) page joined.2 below none)
     (Contains-append_cases (numbers upper) (pages_of (lower ∷ more)) page has)
 
-pub holds_there : (layout : RowLayout) (pages : List (Option Sector)) (root : ℕ) (levels : List (List TreeNode)) (page : ℕ) → Holds layout pages root levels → Contains (pages_of levels) page → slice_index_or pages page None ≡ None → ⊥
+pub holds_there : (layout : RowLayout) (pages : List (Option Sector)) (root : ℕ) (levels : List (List TreeNode)) (page : ℕ) → IsTreeOrEmpty layout pages root levels → Contains (pages_of levels) page → slice_index_or pages page None ≡ None → ⊥
 holds_there layout pages root levels page (inl none) has = λ free. in_none page (subst (λ (l : List (List TreeNode)). Contains (pages_of l) page) none.1 has)
 holds_there layout pages root levels page (inr tree) has = joined_there layout pages levels page tree.1.joined has
 
 pub tree_stays : (layout : RowLayout) (before after : List (Option Sector)) (old new : List ℕ) (root : ℕ) (levels : List (List TreeNode)) →
-    Moves before old after new → Holds layout before root levels → Apart (pages_of levels) old → Holds layout after root levels × Apart (pages_of levels) new
+    Moves before old after new → IsTreeOrEmpty layout before root levels → Apart (pages_of levels) old → IsTreeOrEmpty layout after root levels × Apart (pages_of levels) new
 tree_stays layout before after old new root levels moves holds apart =
     let out : (page : ℕ) → Contains (pages_of levels) page → Contains new page → ⊥ =
     λ page has joins. ⊎_elim (apart page has) (λ free. holds_there layout before root levels page holds has free.1) (moves.joins page joins) in
     (holds_still layout before after root levels moves.count (λ page has. moves.others page (apart page has) (out page has)) holds, out)
 
 -- no page stands in a tree twice
-pub pages_once : (layout : RowLayout) (pages : List (Option Sector)) (root : ℕ) (levels : List (List TreeNode)) → Holds layout pages root levels → Once (pages_of levels)
+pub pages_once : (layout : RowLayout) (pages : List (Option Sector)) (root : ℕ) (levels : List (List TreeNode)) → IsTreeOrEmpty layout pages root levels → Once (pages_of levels)
 pages_once layout pages root levels (inl none) = subst (λ (l : List (List TreeNode)). Once (pages_of l)) (sym none.1) tt
 pages_once layout pages root levels (inr tree) = once_from_pairs (pages_of levels) tree.1.once
 

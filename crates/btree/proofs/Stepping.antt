@@ -2,11 +2,11 @@
 use Rattle.std.proofs.Common.{◌≡◌, ℕ, List, [], ◌∷◌, ◌++◌, sym, ap, subst, ◌∙◌}
 use Rattle.std.specs.Prelude.{slice_index_or, Option, Some, None, Result, Ok, Err, IfOk}
 use Rattle.station.specs.Disk.{Sector}
-use Rattle.tree_pages.specs.declared.row_layout.RowLayout.{RowLayout}
+use Rattle.btree_pages.specs.declared.row_layout.RowLayout.{RowLayout}
 use Rattle.btree.specs.declared.child.Child.{Child}
 use Rattle.btree.specs.Tree.{TreeNode, IsTree, node_on}
 use Rattle.btree.specs.Path.{PathStep, EndsAt}
-use Rattle.btree.specs.Steps.{GoesOn, StepsIn, StepsAt, LeadsTo}
+use Rattle.btree.specs.Steps.{StepsToChild, StepsIn, StepsAt, LeadsTo}
 use Rattle.btree.proofs.Descents.{Along, step_read, ends_at}
 use Rattle.btree.proofs.Entering.{end_stands}
 
@@ -23,7 +23,7 @@ step_there layout pages page bytes key old new child is step = record { node = s
 pub step_on : (layout : RowLayout) (pages : List (Option Sector)) (levels : List (List TreeNode)) (key : List ℕ) (steps : List PathStep) (page : ℕ) (old new : Option (List ℕ)) (child : Child)
     → Along layout pages levels key steps page old → StepsAt layout pages page key old new (Some child) → Along layout pages levels key (steps ++ record { page = page; place = child.place } ∷ []) child.page new
 step_on layout pages levels key steps page old new child along at =
-    let goes : GoesOn at.node key old new child = at.steps in
+    let goes : StepsToChild at.node key old new child = at.steps in
     subst (λ (next : ℕ). Along layout pages levels key (steps ++ record { page = page; place = child.place } ∷ []) next new) (sym goes.page)
     (step_read layout at.node.layout pages levels key steps page old new at.node child.place at.layout_is along at.read goes.inner goes.chosen (record { within = goes.within; beyond = goes.beyond }))
 

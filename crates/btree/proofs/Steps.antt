@@ -4,11 +4,11 @@ use Rattle.std.specs.Prelude.{Contains, Option}
 use Rattle.std.specs.List.{All}
 use Rattle.std.proofs.lemmas.List.Elements.{Contains-append_left, Contains-append_right, Contains-append_cases, All-append}
 use Rattle.station.specs.Disk.{Sector}
-use Rattle.tree_pages.specs.declared.row_layout.RowLayout.{RowLayout}
-use Rattle.tree_pages.specs.declared.row_layout.Kind.{Kind}
-use Rattle.tree_pages.specs.declared.row_layout.Kind.TheVariants.{Leaf, Inner}
-use Rattle.btree.specs.Tree.{TreeNode, row_of, rows_of, Stands, Joined, pages_of}
-use Rattle.btree.specs.Moves.{Moves, Once, numbers_of, Became, Replaced}
+use Rattle.btree_pages.specs.declared.row_layout.RowLayout.{RowLayout}
+use Rattle.btree_pages.specs.declared.row_layout.Kind.{Kind}
+use Rattle.btree_pages.specs.declared.row_layout.Kind.TheVariants.{Leaf, Inner}
+use Rattle.btree.specs.Tree.{TreeNode, row_of, rows_of, IsOnPage, AreJoinedLevels, pages_of}
+use Rattle.btree.specs.Moves.{Moves, Once, numbers_of, Became, ReplacesNodes}
 use Rattle.btree.proofs.Runs.{in_none, once_left, once_right, once_apart}
 use Rattle.btree.proofs.Shifts.{There, Turned, kept_by, kept_stays, low_stays, moves_both, once_both}
 use Rattle.btree.proofs.Splices.{numbers_append, Named, rows_replaced, all_still, joined_still, all_there, joined_there, all_left, all_right}
@@ -33,12 +33,12 @@ into a b c d page has =
 
 -- What a step stands on: the level before it, the pages of lower levels before and after it, and the run that replaces another.
 pub record Step (layout : RowLayout) (kind : Kind) (one two three : List (Option Sector)) (before run run' after : List TreeNode) (low low' : List ℕ) : Type 0 where
-  pub stand : All (Stands layout one kind) (before ++ (run ++ after))
+  pub stand : All (IsOnPage layout one kind) (before ++ (run ++ after))
   pub once : Once (numbers_of (before ++ (run ++ after)) ++ low)
   pub lower : Moves one low two low'
   pub low_there : There two low'
   pub low_once : Once low'
-  pub own : Replaced layout kind two run three run'
+  pub own : ReplacesNodes layout kind two run three run'
 
 pub turned : (layout : RowLayout) (kind : Kind) (one two three : List (Option Sector)) (before run run' after : List TreeNode) (low low' : List ℕ) → Step layout kind one two three before run run' after low low'
     → Turned one two three (numbers_of before ++ numbers_of after) (numbers_of run) low (numbers_of run') low'
@@ -47,15 +47,15 @@ turned layout kind one two three before run run' after low low' s =
     let own_level = once_left (numbers_of before ++ (numbers_of run ++ numbers_of after)) low level in
     let down = once_apart (numbers_of before ++ (numbers_of run ++ numbers_of after)) low level in
     let behind = once_right (numbers_of before) (numbers_of run ++ numbers_of after) own_level in
-    let rest = all_right (Stands layout one kind) before (run ++ after) s.stand in
+    let rest = all_right (IsOnPage layout one kind) before (run ++ after) s.stand in
     record {
       lower = s.lower;
       upper = s.own.moves;
       kept_there = λ page has none. ⊎_elim
-          (λ left. all_there layout one kind before (all_left (Stands layout one kind) before (run ++ after) s.stand) page left none)
-          (λ right. all_there layout one kind after (all_right (Stands layout one kind) run after rest) page right none)
+          (λ left. all_there layout one kind before (all_left (IsOnPage layout one kind) before (run ++ after) s.stand) page left none)
+          (λ right. all_there layout one kind after (all_right (IsOnPage layout one kind) run after rest) page right none)
           (Contains-append_cases (numbers_of before) (numbers_of after) page has);
-      own_there = all_there layout one kind run (all_left (Stands layout one kind) run after rest);
+      own_there = all_there layout one kind run (all_left (IsOnPage layout one kind) run after rest);
       low_there = s.low_there;
       kept_own = λ page has mid. ⊎_elim
           (λ left. once_apart (numbers_of before) (numbers_of run ++ numbers_of after) own_level page left (Contains-append_left (numbers_of run) (numbers_of after) page mid))
@@ -87,21 +87,21 @@ step_once layout kind one two three before run run' after low low' s =
     (once_left (numbers_of before ++ (numbers_of run ++ numbers_of after)) low level) s.own.once s.low_once)
 
 pub step_stand : (layout : RowLayout) (kind : Kind) (one two three : List (Option Sector)) (before run run' after : List TreeNode) (low low' : List ℕ) → Step layout kind one two three before run run' after low low'
-    → All (Stands layout three kind) (before ++ (run' ++ after))
+    → All (IsOnPage layout three kind) (before ++ (run' ++ after))
 step_stand layout kind one two three before run run' after low low' s =
     let kept = kept_stays one two three (numbers_of before ++ numbers_of after) (numbers_of run) low (numbers_of run') low' (turned layout kind one two three before run run' after low low' s) in
-    let rest = all_right (Stands layout one kind) before (run ++ after) s.stand in
-    All-append (Stands layout three kind) before (run' ++ after)
-    (all_still layout one three kind before (λ page has. kept page (Contains-append_left (numbers_of before) (numbers_of after) page has)) (all_left (Stands layout one kind) before (run ++ after) s.stand))
-    (All-append (Stands layout three kind) run' after s.own.stand
-    (all_still layout one three kind after (λ page has. kept page (Contains-append_right (numbers_of before) (numbers_of after) page has)) (all_right (Stands layout one kind) run after rest)))
+    let rest = all_right (IsOnPage layout one kind) before (run ++ after) s.stand in
+    All-append (IsOnPage layout three kind) before (run' ++ after)
+    (all_still layout one three kind before (λ page has. kept page (Contains-append_left (numbers_of before) (numbers_of after) page has)) (all_left (IsOnPage layout one kind) before (run ++ after) s.stand))
+    (All-append (IsOnPage layout three kind) run' after s.own.stand
+    (all_still layout one three kind after (λ page has. kept page (Contains-append_right (numbers_of before) (numbers_of after) page has)) (all_right (IsOnPage layout one kind) run after rest)))
 
 -- The step, where the levels below became others, which the new level names.
 pub step_by : (layout : RowLayout) (one two three : List (Option Sector)) (before run run' after lower lower' : List TreeNode) (more more' : List (List TreeNode))
-    → Joined layout one ((before ++ (run ++ after)) ∷ lower ∷ more)
+    → AreJoinedLevels layout one ((before ++ (run ++ after)) ∷ lower ∷ more)
     → Once (pages_of ((before ++ (run ++ after)) ∷ lower ∷ more))
     → Became layout one (lower ∷ more) two (lower' ∷ more')
-    → Replaced layout Inner two run three run'
+    → ReplacesNodes layout Inner two run three run'
     → rows_of (before ++ (run' ++ after)) ≡ map (row_of layout) lower'
     → Became layout one ((before ++ (run ++ after)) ∷ lower ∷ more) three ((before ++ (run' ++ after)) ∷ lower' ∷ more')
 step_by layout one two three before run run' after lower lower' more more' joined once low own names =
@@ -123,10 +123,10 @@ step_by layout one two three before run run' after lower lower' more more' joine
 
 -- The step, where the next level's `low` became `low'`.
 pub step : (layout : RowLayout) (one two three : List (Option Sector)) (before run run' after lower_before low low' lower_after : List TreeNode) (more more' : List (List TreeNode)) (left right : List (List ℕ))
-    → Joined layout one ((before ++ (run ++ after)) ∷ (lower_before ++ (low ++ lower_after)) ∷ more)
+    → AreJoinedLevels layout one ((before ++ (run ++ after)) ∷ (lower_before ++ (low ++ lower_after)) ∷ more)
     → Once (pages_of ((before ++ (run ++ after)) ∷ (lower_before ++ (low ++ lower_after)) ∷ more))
     → Became layout one ((lower_before ++ (low ++ lower_after)) ∷ more) two ((lower_before ++ (low' ++ lower_after)) ∷ more')
-    → Replaced layout Inner two run three run'
+    → ReplacesNodes layout Inner two run three run'
     → Named layout before run run' lower_before low low' left right
     → Became layout one ((before ++ (run ++ after)) ∷ (lower_before ++ (low ++ lower_after)) ∷ more) three ((before ++ (run' ++ after)) ∷ (lower_before ++ (low' ++ lower_after)) ∷ more')
 step layout one two three before run run' after lower_before low low' lower_after more more' left right joined once lower own named =
@@ -135,7 +135,7 @@ step layout one two three before run run' after lower_before low low' lower_afte
 
 -- The step at the leaves.
 pub step_leaves : (layout : RowLayout) (one three : List (Option Sector)) (before run run' after : List TreeNode)
-    → All (Stands layout one Leaf) (before ++ (run ++ after)) → Once (pages_of ((before ++ (run ++ after)) ∷ [])) → Replaced layout Leaf one run three run'
+    → All (IsOnPage layout one Leaf) (before ++ (run ++ after)) → Once (pages_of ((before ++ (run ++ after)) ∷ [])) → ReplacesNodes layout Leaf one run three run'
     → Became layout one ((before ++ (run ++ after)) ∷ []) three ((before ++ (run' ++ after)) ∷ [])
 step_leaves layout one three before run run' after stand once own =
     let s : Step layout Leaf one one three before run run' after [] [] =
@@ -148,8 +148,8 @@ step_leaves layout one three before run run' after stand once own =
 
 -- A page of the run that a step replaces is, after the lower levels changed, as it was.
 pub own_kept : (layout : RowLayout) (one two : List (Option Sector)) (before run after : List TreeNode) (lower lower' : List (List TreeNode))
-    → All (Stands layout one Inner) (before ++ (run ++ after)) → Once (pages_of ((before ++ (run ++ after)) ∷ lower)) → Became layout one lower two lower'
-    → All (Stands layout two Inner) (before ++ (run ++ after))
+    → All (IsOnPage layout one Inner) (before ++ (run ++ after)) → Once (pages_of ((before ++ (run ++ after)) ∷ lower)) → Became layout one lower two lower'
+    → All (IsOnPage layout two Inner) (before ++ (run ++ after))
 own_kept layout one two before run after lower lower' stand once low =
     all_still layout one two Inner (before ++ (run ++ after))
     (kept_by one two (numbers_of (before ++ (run ++ after))) (pages_of lower) (pages_of lower') low.moves (all_there layout one Inner (before ++ (run ++ after)) stand) (once_apart (numbers_of (before ++ (run ++ after))) (pages_of lower) once))

@@ -8,9 +8,9 @@ use Rattle.std.specs.declared.cmp.Ordering.{Ordering}
 use Rattle.std.specs.declared.cmp.Ordering.TheVariants.{Less}
 use Rattle.std.proofs.lemmas.Cmp.{nat_list_cmp_total, tied_itself}
 use Rattle.station.specs.Disk.{Sector}
-use Rattle.tree_pages.specs.declared.row_layout.RowLayout.{RowLayout}
-use Rattle.tree_pages.specs.Keys.{key_cmp, key_of, keys_of, Ascend, Precedes}
-use Rattle.btree.specs.Tree.{TreeNode, Holds, rows_in_order}
+use Rattle.btree_pages.specs.declared.row_layout.RowLayout.{RowLayout}
+use Rattle.btree_pages.specs.Keys.{key_cmp, key_of, keys_of, Ascend, Precedes}
+use Rattle.btree.specs.Tree.{TreeNode, IsTreeOrEmpty, rows_in_order}
 use Rattle.btree.specs.Entries.{Entry, entry_of, entries_of, entry_with}
 use Rattle.btree.specs.Laws.{keys_listed}
 use Rattle.btree.proofs.Runs.{in_none}
@@ -29,12 +29,12 @@ keys_are : (layout : RowLayout) (rows : List (List ℕ)) → keys_listed (map (e
 keys_are layout [] = refl
 keys_are layout (row ∷ rows) = ap (λ ks. key_of layout row ∷ ks) (keys_are layout rows)
 
-holds_ascend : (layout : RowLayout) (pages : List (Option Sector)) (root : ℕ) (levels : List (List TreeNode)) → Holds layout pages root levels → Ascend (keys_of layout (rows_in_order levels))
+holds_ascend : (layout : RowLayout) (pages : List (Option Sector)) (root : ℕ) (levels : List (List TreeNode)) → IsTreeOrEmpty layout pages root levels → Ascend (keys_of layout (rows_in_order levels))
 unfolding IsStrictlySortedBy
 holds_ascend layout pages root levels (inl none) = subst (λ (l : List (List TreeNode)). Ascend (keys_of layout (rows_in_order l))) (sym none.1) tt
 holds_ascend layout pages root levels (inr tree) = tree.1.ascend
 
-pub tree_ascends : (layout : RowLayout) (pages : List (Option Sector)) (root : ℕ) (levels : List (List TreeNode)) → Holds layout pages root levels → Ascend (keys_listed (entries_of layout levels))
+pub tree_ascends : (layout : RowLayout) (pages : List (Option Sector)) (root : ℕ) (levels : List (List TreeNode)) → IsTreeOrEmpty layout pages root levels → Ascend (keys_listed (entries_of layout levels))
 tree_ascends layout pages root levels holds = subst Ascend (sym (keys_are layout (rows_in_order levels))) (holds_ascend layout pages root levels holds)
 
 -- an entry of an ascending list is the one of its key

@@ -5,24 +5,24 @@ use Rattle.std.proofs.lemmas.List.{get_or-take, length-take-le}
 use Rattle.std.specs.List.{All}
 use Rattle.std.proofs.lemmas.List.Elements.{All-head, All-drop}
 use Rattle.station.specs.Disk.{Sector}
-use Rattle.tree_pages.specs.declared.row_layout.RowLayout.{RowLayout}
-use Rattle.tree_pages.specs.declared.row_layout.Kind.{Kind}
-use Rattle.tree_pages.specs.declared.row_layout.Kind.TheVariants.{Leaf, Inner}
-use Rattle.tree_pages.specs.Node.{Node, node_in}
-use Rattle.tree_pages.specs.Keys.{key_of, Precedes, AllAbove, AllBelow}
-use Rattle.btree.specs.Tree.{TreeNode, IsTree, Stands, node_at, node_on, node_of, fewest}
+use Rattle.btree_pages.specs.declared.row_layout.RowLayout.{RowLayout}
+use Rattle.btree_pages.specs.declared.row_layout.Kind.{Kind}
+use Rattle.btree_pages.specs.declared.row_layout.Kind.TheVariants.{Leaf, Inner}
+use Rattle.btree_pages.specs.Node.{Node, node_in}
+use Rattle.btree_pages.specs.Keys.{key_of, Precedes, AllAbove, AllBelow}
+use Rattle.btree.specs.Tree.{TreeNode, IsTree, IsOnPage, node_at, node_on, node_of, fewest}
 use Rattle.btree.specs.Reading.{SpellsNoNode}
 use Rattle.btree.specs.Path.{IsChosen}
 use Rattle.btree.proofs.Order.{not_itself, not_both}
 use Rattle.btree.proofs.Descents.{rows_read, kind_read}
 
 -- A page that is none of a tree.
-pub read_none : (layout : RowLayout) (pages : List (Option Sector)) (page : ℕ) (bytes : Option Sector) (kind : Kind) (node : TreeNode) → bytes ≡ slice_index_or pages page None → node_on layout bytes ≡ None → node.page ≡ page → Stands layout pages kind node → ⊥
+pub read_none : (layout : RowLayout) (pages : List (Option Sector)) (page : ℕ) (bytes : Option Sector) (kind : Kind) (node : TreeNode) → bytes ≡ slice_index_or pages page None → node_on layout bytes ≡ None → node.page ≡ page → IsOnPage layout pages kind node → ⊥
 read_none layout pages page bytes kind node is none same stands =
     let clash : None ≡ Some (node_of layout kind node.rows) = sym none ∙ ap (node_on layout) is ∙ ap (node_at layout pages) (sym same) ∙ stands.node in
     cc
 
-pub read_few : (layout : RowLayout) (pages : List (Option Sector)) (page : ℕ) (node : Node) (kind : Kind) (tree_node : TreeNode) → node_at layout pages page ≡ Some node → length node.rows < fewest node.kind → tree_node.page ≡ page → Stands layout pages kind tree_node → ⊥
+pub read_few : (layout : RowLayout) (pages : List (Option Sector)) (page : ℕ) (node : Node) (kind : Kind) (tree_node : TreeNode) → node_at layout pages page ≡ Some node → length node.rows < fewest node.kind → tree_node.page ≡ page → IsOnPage layout pages kind tree_node → ⊥
 read_few layout pages page node kind tree_node read few same stands =
     let rows : length tree_node.rows ≡ length node.rows = ap length (rows_read layout pages kind tree_node page node same stands read) in
     let least : fewest kind ≡ fewest node.kind = ap fewest (kind_read layout pages kind tree_node page node same stands read) in
@@ -33,7 +33,7 @@ read_few layout pages page node kind tree_node read few same stands =
 pub node_seen : (layout : RowLayout) (pages : List (Option Sector)) (page : ℕ) (bytes : Sector) → slice_index_or pages page None ≡ Some bytes → node_at layout pages page ≡ node_in layout bytes
 node_seen layout pages page bytes is = ap (node_on layout) is
 
-pub spells_none : (layout : RowLayout) (pages : List (Option Sector)) (page : ℕ) (bytes : Sector) → slice_index_or pages page None ≡ Some bytes → SpellsNoNode layout bytes → (kind : Kind) (node : TreeNode) → node.page ≡ page → Stands layout pages kind node → ⊥
+pub spells_none : (layout : RowLayout) (pages : List (Option Sector)) (page : ℕ) (bytes : Sector) → slice_index_or pages page None ≡ Some bytes → SpellsNoNode layout bytes → (kind : Kind) (node : TreeNode) → node.page ≡ page → IsOnPage layout pages kind node → ⊥
 spells_none layout pages page bytes is none kind node same stands =
     none kind node.rows (sym (node_seen layout pages page bytes is) ∙ ap (node_at layout pages) (sym same) ∙ stands.node) stands.enough
 
@@ -73,7 +73,7 @@ pub record RootNode (layout : RowLayout) (pages : List (Option Sector)) (root : 
   pub kind : Kind
   pub node : TreeNode
   pub page : node.page ≡ root
-  pub stands : Stands layout pages kind node
+  pub stands : IsOnPage layout pages kind node
 
 pub root_node : (layout : RowLayout) (pages : List (Option Sector)) (root : ℕ) (levels : List (List TreeNode)) → IsTree layout pages root levels → RootNode layout pages root
 root_node layout pages root [] tree = absurd tree.top
@@ -81,11 +81,11 @@ root_node layout pages root (leaves ∷ []) tree = record {
   kind = Leaf;
   node = tree.top.0;
   page = tree.top.2;
-  stands = All-head (Stands layout pages Leaf) tree.top.0 [] (subst (All (Stands layout pages Leaf)) tree.top.1 tree.joined);
+  stands = All-head (IsOnPage layout pages Leaf) tree.top.0 [] (subst (All (IsOnPage layout pages Leaf)) tree.top.1 tree.joined);
 }
 root_node layout pages root (upper ∷ lower ∷ more) tree = record {
   kind = Inner;
   node = tree.top.0;
   page = tree.top.2;
-  stands = All-head (Stands layout pages Inner) tree.top.0 [] (subst (All (Stands layout pages Inner)) tree.top.1 tree.joined.0);
+  stands = All-head (IsOnPage layout pages Inner) tree.top.0 [] (subst (All (IsOnPage layout pages Inner)) tree.top.1 tree.joined.0);
 }

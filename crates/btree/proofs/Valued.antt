@@ -4,15 +4,15 @@ use Rattle.std.specs.Prelude.{Option, None, IsSome, slice_index_or}
 use Rattle.std.proofs.lemmas.List.{append-nil, set_split, take_at, drop_more, take-append-drop, get_or-set_same, get_or-set_other, length-take-le}
 use Rattle.std.proofs.lemmas.List.Elements.{All-append}
 use Rattle.station.specs.Disk.{Sector}
-use Rattle.tree_pages.specs.declared.row_layout.RowLayout.{RowLayout}
-use Rattle.tree_pages.specs.declared.row_layout.Kind.{Kind}
-use Rattle.tree_pages.specs.declared.row_layout.Kind.TheVariants.{Leaf}
-use Rattle.tree_pages.specs.Node.{Node}
-use Rattle.tree_pages.specs.Keys.{key_of, Precedes, AllBelow}
-use Rattle.btree.specs.Tree.{TreeNode, rows_of, Stands, rows_in_order, IsTree}
-use Rattle.btree.specs.Path.{Spot, PathStep, Leads, lowest, EndsAt}
+use Rattle.btree_pages.specs.declared.row_layout.RowLayout.{RowLayout}
+use Rattle.btree_pages.specs.declared.row_layout.Kind.{Kind}
+use Rattle.btree_pages.specs.declared.row_layout.Kind.TheVariants.{Leaf}
+use Rattle.btree_pages.specs.Node.{Node}
+use Rattle.btree_pages.specs.Keys.{key_of, Precedes, AllBelow}
+use Rattle.btree.specs.Tree.{TreeNode, rows_of, IsOnPage, rows_in_order, IsTree}
+use Rattle.btree.specs.Path.{LevelZipper, PathStep, IsPathOf, lowest, EndsAt}
 use Rattle.btree.specs.Entries.{Entry, entry_of, entries_of, entry_with, with_value}
-use Rattle.btree.specs.Moves.{Replaced}
+use Rattle.btree.specs.Moves.{ReplacesNodes}
 use Rattle.btree.specs.Propagates.{node_with, IsSame}
 use Rattle.btree.specs.Changes.{CanStand, Becomes}
 use Rattle.btree.proofs.Order.{Up}
@@ -43,10 +43,10 @@ rows_around_place : (before after : List (List ℕ)) (rows : List (List ℕ)) (p
 rows_around_place before after rows place row =
     ap (λ x. before ++ x) (append_assoc (take place rows) (row ∷ drop (place + 1) rows) after) ∙ sym (append_assoc before (take place rows) (row ∷ (drop (place + 1) rows ++ after)))
 
-pub tree_valued : (layout : RowLayout) (before after : List (Option Sector)) (root : ℕ) (levels : List (List TreeNode)) (steps : List PathStep) (top : Spot) (below : List Spot) (place : ℕ) (key value : List ℕ)
-    → IsTree layout before root levels → Leads layout key levels steps top below → place < length (lowest top below).node.rows → key_of layout (slice_index_or (lowest top below).node.rows place []) ≡ key
+pub tree_valued : (layout : RowLayout) (before after : List (Option Sector)) (root : ℕ) (levels : List (List TreeNode)) (steps : List PathStep) (top : LevelZipper) (below : List LevelZipper) (place : ℕ) (key value : List ℕ)
+    → IsTree layout before root levels → IsPathOf layout key levels steps top below → place < length (lowest top below).node.rows → key_of layout (slice_index_or (lowest top below).node.rows place []) ≡ key
     → AllBelow layout key (take place (lowest top below).node.rows)
-    → Replaced layout Leaf before ((lowest top below).node ∷ []) after (node_with (lowest top below).node.page (set (lowest top below).node.rows place (valued_row layout (lowest top below).node.rows place value)) ∷ [])
+    → ReplacesNodes layout Leaf before ((lowest top below).node ∷ []) after (node_with (lowest top below).node.page (set (lowest top below).node.rows place (valued_row layout (lowest top below).node.rows place value)) ∷ [])
     → Becomes layout before levels after root (with_value (entries_of layout levels) (record { key = key; value = value }))
 tree_valued layout before after root levels steps top below place key value tree leads low here under own =
     let leaf = lowest top below in
@@ -91,7 +91,7 @@ tree_valued layout before after root levels steps top below place key value tree
 pub end_valued : (layout : RowLayout) (before after : List (Option Sector)) (root : ℕ) (levels : List (List TreeNode)) (steps : List PathStep) (page : ℕ) (node : Node) (right : Option (List ℕ)) (place : ℕ) (key value : List ℕ)
     → IsTree layout before root levels → EndsAt layout key levels steps page node.rows right → node.layout ≡ layout → node.kind ≡ Leaf
     → place < length node.rows → key_of node.layout (slice_index_or node.rows place []) ≡ key → FindsAt node.layout key node.rows place
-    → (CanStand before page node → Replaced node.layout node.kind before (node_with page node.rows ∷ []) after (node_with page (set node.rows place (key_of node.layout (slice_index_or node.rows place []) ++ value)) ∷ []))
+    → (CanStand before page node → ReplacesNodes node.layout node.kind before (node_with page node.rows ∷ []) after (node_with page (set node.rows place (key_of node.layout (slice_index_or node.rows place []) ++ value)) ∷ []))
     → IsSome (entry_with (entries_of layout levels) key) × Becomes layout before levels after root (with_value (entries_of layout levels) (record { key = key; value = value }))
 end_valued layout before after root levels steps page node right place key value tree ends layout_is kind_is low here finds put =
     let leaf = leaf_among layout before root key levels steps page node.rows right tree ends in
@@ -99,12 +99,12 @@ end_valued layout before after root levels steps page node right place key value
     let same = tree_node_is layout key levels steps page node.rows right ends in
     let here_in : key_of layout (slice_index_or node.rows place []) ≡ key = subst (λ (f : RowLayout). key_of f (slice_index_or node.rows place []) ≡ key) layout_is here in
     let finds_in = subst (λ (f : RowLayout). FindsAt f key node.rows place) layout_is finds in
-    let stands : Stands node.layout before node.kind (node_with page node.rows) =
-    subst (λ (f : RowLayout). Stands f before node.kind (node_with page node.rows)) (sym layout_is) (subst (λ (k : Kind). Stands layout before k (node_with page node.rows)) (sym kind_is) end.stands) in
+    let stands : IsOnPage node.layout before node.kind (node_with page node.rows) =
+    subst (λ (f : RowLayout). IsOnPage f before node.kind (node_with page node.rows)) (sym layout_is) (subst (λ (k : Kind). IsOnPage layout before k (node_with page node.rows)) (sym kind_is) end.stands) in
     let raw = put (record { is_in = end_in layout before page node.rows end; lengths = stands.lengths; enough = stands.enough }) in
-    let kinded = subst (λ (k : Kind). Replaced node.layout k before (node_with page node.rows ∷ []) after (node_with page (set node.rows place (key_of node.layout (slice_index_or node.rows place []) ++ value)) ∷ [])) kind_is raw in
-    let formed = subst (λ (f : RowLayout). Replaced f Leaf before (node_with page node.rows ∷ []) after (node_with page (set node.rows place (key_of f (slice_index_or node.rows place []) ++ value)) ∷ [])) layout_is kinded in
-    let own = subst (λ (tree_node : TreeNode). Replaced layout Leaf before (tree_node ∷ []) after (node_with tree_node.page (set tree_node.rows place (valued_row layout tree_node.rows place value)) ∷ [])) (sym same) formed in
+    let kinded = subst (λ (k : Kind). ReplacesNodes node.layout k before (node_with page node.rows ∷ []) after (node_with page (set node.rows place (key_of node.layout (slice_index_or node.rows place []) ++ value)) ∷ [])) kind_is raw in
+    let formed = subst (λ (f : RowLayout). ReplacesNodes f Leaf before (node_with page node.rows ∷ []) after (node_with page (set node.rows place (key_of f (slice_index_or node.rows place []) ++ value)) ∷ [])) layout_is kinded in
+    let own = subst (λ (tree_node : TreeNode). ReplacesNodes layout Leaf before (tree_node ∷ []) after (node_with tree_node.page (set tree_node.rows place (valued_row layout tree_node.rows place value)) ∷ [])) (sym same) formed in
     let same_rows = ap (λ (tree_node : TreeNode). tree_node.rows) same in (
       subst (λ (o : Option Entry). IsSome o) (got layout key levels node.rows right place leaf low here_in finds_in) refl,
       tree_valued layout before after root levels steps ends.reaches.top ends.reaches.below place key value tree ends.reaches.leads

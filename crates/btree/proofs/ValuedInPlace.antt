@@ -2,18 +2,18 @@
 use Rattle.std.proofs.Common.{◌≡◌, ℕ, List, [], ◌∷◌, ◌++◌, length, set, refl, sym, ◌∙◌, ap, subst}
 use Rattle.std.specs.Prelude.{Option, Some, IsSome, slice_index_or}
 use Rattle.station.specs.Disk.{Sector}
-use Rattle.tree_pages.specs.declared.row_layout.RowLayout.{RowLayout}
-use Rattle.tree_pages.specs.declared.row_layout.Kind.{Kind}
-use Rattle.tree_pages.specs.declared.row_layout.Kind.TheVariants.{Leaf}
-use Rattle.tree_pages.specs.RowLayouts.{rest_length}
-use Rattle.tree_pages.specs.Keys.{key_of}
-use Rattle.tree_pages.specs.Node.{Node, node_in}
-use Rattle.tree_pages.specs.Edits.{with_rest}
+use Rattle.btree_pages.specs.declared.row_layout.RowLayout.{RowLayout}
+use Rattle.btree_pages.specs.declared.row_layout.Kind.{Kind}
+use Rattle.btree_pages.specs.declared.row_layout.Kind.TheVariants.{Leaf}
+use Rattle.btree_pages.specs.RowLayouts.{rest_length}
+use Rattle.btree_pages.specs.Keys.{key_of}
+use Rattle.btree_pages.specs.Node.{Node, node_in}
+use Rattle.btree_pages.specs.Edits.{with_rest}
 use Rattle.btree.specs.Tree.{TreeNode, IsTree, node_at, node_on}
 use Rattle.btree.specs.Entries.{entries_of, entry_with, with_value}
 use Rattle.btree.specs.Path.{PathStep, EndsAt}
 use Rattle.btree.specs.Steps.{LeadsTo}
-use Rattle.btree.specs.Moves.{Replaced}
+use Rattle.btree.specs.Moves.{ReplacesNodes}
 use Rattle.btree.specs.Propagates.{node_with}
 use Rattle.btree.specs.Changes.{CanStand, Becomes}
 use Rattle.btree.specs.Entering.{SetsOn}
@@ -35,7 +35,7 @@ module _ (layout : RowLayout) (before after : List (Option Sector)) (page : ℕ)
   seen : node_at layout before page ≡ Some node
   seen = ap (node_on layout) on.at ∙ on.sets.read
 
-  rest_put : length value ≡ layout.value_length → CanStand before page node → Replaced node.layout node.kind before (node_with page node.rows ∷ []) after (node_with page (set node.rows place (key_of node.layout (slice_index_or node.rows place []) ++ value)) ∷ [])
+  rest_put : length value ≡ layout.value_length → CanStand before page node → ReplacesNodes node.layout node.kind before (node_with page node.rows ∷ []) after (node_with page (set node.rows place (key_of node.layout (slice_index_or node.rows place []) ++ value)) ∷ [])
   rest_put value_is can =
       let value_in : length value ≡ rest_length node.layout node.kind =
       subst (λ (k : Kind). length value ≡ rest_length node.layout k) (sym on.sets.kind_is) (subst (λ (f : RowLayout). length value ≡ f.value_length) (sym on.sets.layout_is) value_is) in

@@ -8,15 +8,15 @@ use Rattle.std.proofs.lemmas.List.{get_or_past}
 use Rattle.std.proofs.lemmas.List.Edits.{length-insert}
 use Rattle.std.proofs.lemmas.List.Elements.{All-nil, All-cons, All-append, All-take, All-drop}
 use Rattle.station.specs.Disk.{Sector}
-use Rattle.tree_pages.specs.declared.row_layout.RowLayout.{RowLayout}
-use Rattle.tree_pages.specs.declared.row_layout.Kind.{Kind}
-use Rattle.tree_pages.specs.RowLayouts.{rest_length, row_length}
-use Rattle.tree_pages.specs.Node.{Node, node_in}
-use Rattle.tree_pages.specs.Edits.{inserted}
+use Rattle.btree_pages.specs.declared.row_layout.RowLayout.{RowLayout}
+use Rattle.btree_pages.specs.declared.row_layout.Kind.{Kind}
+use Rattle.btree_pages.specs.RowLayouts.{rest_length, row_length}
+use Rattle.btree_pages.specs.Node.{Node, node_in}
+use Rattle.btree_pages.specs.Edits.{node_with_row}
 use Rattle.btree.specs.Nodes.{SameNode}
 use Rattle.btree.specs.Changes.{IsIn, CanTake}
-use Rattle.btree.specs.Tree.{node_of, node_on, fewest, Stands}
-use Rattle.btree.specs.Moves.{Once, Replaced}
+use Rattle.btree.specs.Tree.{node_of, node_on, fewest, IsOnPage}
+use Rattle.btree.specs.Moves.{Once, ReplacesNodes}
 use Rattle.btree.specs.Propagates.{node_with}
 use Rattle.btree.proofs.Runs.{in_none, in_cases, in_head, in_tail}
 use Rattle.btree.proofs.Splices.{all_left, all_right}
@@ -27,18 +27,18 @@ pub record Spells (layout : RowLayout) (kind : Kind) (bytes : List ℕ) (rows : 
   pub lengths : All (λ row. length row ≡ row_length layout kind) rows
   pub enough : fewest kind ≤ length rows
 
-pub stands_on : (layout : RowLayout) (kind : Kind) (pages : List (Option Sector)) (page : ℕ) (bytes : List ℕ) (rows : List (List ℕ)) → slice_index_or pages page None ≡ Some bytes → Spells layout kind bytes rows → Stands layout pages kind (node_with page rows)
+pub stands_on : (layout : RowLayout) (kind : Kind) (pages : List (Option Sector)) (page : ℕ) (bytes : List ℕ) (rows : List (List ℕ)) → slice_index_or pages page None ≡ Some bytes → Spells layout kind bytes rows → IsOnPage layout pages kind (node_with page rows)
 stands_on layout kind pages page bytes rows at spells = record { node = ap (node_on layout) at ∙ spells.node; lengths = spells.lengths; enough = spells.enough }
 
 one_once : (page : ℕ) → Once (page ∷ [])
 one_once page = ((λ has. in_none page has), tt)
 
 pub write_one : (layout : RowLayout) (kind : Kind) (pages after : List (Option Sector)) (page : ℕ) (bytes : List ℕ) (old rows : List (List ℕ))
-    → after ≡ set pages page (Some bytes) → page < length pages → Spells layout kind bytes rows → Replaced layout kind pages (node_with page old ∷ []) after (node_with page rows ∷ [])
+    → after ≡ set pages page (Some bytes) → page < length pages → Spells layout kind bytes rows → ReplacesNodes layout kind pages (node_with page old ∷ []) after (node_with page rows ∷ [])
 write_one layout kind pages after page bytes old rows is low spells = record {
-  stand = All-cons (Stands layout after kind) (node_with page rows) []
+  stand = All-cons (IsOnPage layout after kind) (node_with page rows) []
       (stands_on layout kind after page bytes rows (ap (λ l. slice_index_or l page None) is ∙ get_or-set_same pages page (Some bytes) None low) spells)
-      (All-nil (Stands layout after kind));
+      (All-nil (IsOnPage layout after kind));
   once = one_once page;
   moves = record {
     count = ap length is ∙ length-set pages page (Some bytes);
@@ -51,13 +51,13 @@ write_one layout kind pages after page bytes old rows is low spells = record {
 -- a page that wasn't in the map
 pub write_new : (layout : RowLayout) (kind : Kind) (pages after : List (Option Sector)) (page : ℕ) (zeros bytes : List ℕ) (rows : List (List ℕ))
     → after ≡ set (set pages page (Some zeros)) page (Some bytes) → page < length pages → 0 < page → slice_index_or pages page None ≡ None → Spells layout kind bytes rows
-    → Replaced layout kind pages [] after (node_with page rows ∷ [])
+    → ReplacesNodes layout kind pages [] after (node_with page rows ∷ [])
 write_new layout kind pages after page zeros bytes rows is low some none spells =
     let wide : page < length (set pages page (Some zeros)) = omega (arith, length-set pages page (Some zeros)) in
     record {
-      stand = All-cons (Stands layout after kind) (node_with page rows) []
+      stand = All-cons (IsOnPage layout after kind) (node_with page rows) []
           (stands_on layout kind after page bytes rows (ap (λ l. slice_index_or l page None) is ∙ get_or-set_same (set pages page (Some zeros)) page (Some bytes) None wide) spells)
-          (All-nil (Stands layout after kind));
+          (All-nil (IsOnPage layout after kind));
       once = one_once page;
       moves = record {
         count = ap length is ∙ length-set (set pages page (Some zeros)) page (Some bytes) ∙ length-set pages page (Some zeros);
@@ -103,11 +103,11 @@ two_others pages after page new left right w q not_page not_new =
 
 pub write_two : (layout : RowLayout) (kind : Kind) (pages after : List (Option Sector)) (page new : ℕ) (left right : List ℕ) (old left_rows right_rows : List (List ℕ))
     → WrittenTwo pages after page new left right → Spells layout kind left left_rows → Spells layout kind right right_rows
-    → Replaced layout kind pages (node_with page old ∷ []) after (node_with page left_rows ∷ node_with new right_rows ∷ [])
+    → ReplacesNodes layout kind pages (node_with page old ∷ []) after (node_with page left_rows ∷ node_with new right_rows ∷ [])
 write_two layout kind pages after page new left right old left_rows right_rows w one two = record {
-  stand = All-cons (Stands layout after kind) (node_with page left_rows) (node_with new right_rows ∷ [])
+  stand = All-cons (IsOnPage layout after kind) (node_with page left_rows) (node_with new right_rows ∷ [])
       (stands_on layout kind after page left left_rows (two_left pages after page new left right w) one)
-      (All-cons (Stands layout after kind) (node_with new right_rows) [] (stands_on layout kind after new right right_rows (two_right pages after page new left right w) two) (All-nil (Stands layout after kind)));
+      (All-cons (IsOnPage layout after kind) (node_with new right_rows) [] (stands_on layout kind after new right right_rows (two_right pages after page new left right w) two) (All-nil (IsOnPage layout after kind)));
   once = ((λ has. ⊎_elim (λ same. two_apart pages after page new left right w same) (λ past. in_none page past) (in_cases new [] page has)), one_once new);
   moves = record {
     count = ap length w.is ∙ length-set (set (set pages new (Some w.zeros)) page (Some left)) new (Some right) ∙ length-set (set pages new (Some w.zeros)) page (Some left) ∙ length-set pages new (Some w.zeros);
@@ -146,7 +146,7 @@ insert_lengths node place key rest key_is rest_is all =
     (All-cons P (key ++ rest) (drop place node.rows) (omega (arith, length-append key rest, key_is, rest_is)) (All-drop P place node.rows all))
 
 -- a row came into a page with room
-pub spells_inserted : (pages : List (Option Sector)) (page : ℕ) (node new : Node) (place : ℕ) (key rest bytes : List ℕ) → CanTake pages page node → new ≡ inserted node place (key ++ rest) → place ≤ length node.rows
+pub spells_inserted : (pages : List (Option Sector)) (page : ℕ) (node new : Node) (place : ℕ) (key rest bytes : List ℕ) → CanTake pages page node → new ≡ node_with_row node place (key ++ rest) → place ≤ length node.rows
     → length key ≡ node.layout.key_length → length rest ≡ rest_length node.layout node.kind → node_in new.layout bytes ≡ Some new → Spells node.layout node.kind bytes new.rows
 spells_inserted pages page node new place key rest bytes can is low key_is rest_is spelled =
     let P = λ (row : List ℕ). length row ≡ row_length node.layout node.kind in
@@ -169,7 +169,7 @@ spells_right pages page node left right place key rest bytes can is key_is rest_
 
 -- a node that was put on a new page
 pub put_node : (layout : RowLayout) (kind : Kind) (node : Node) (rows : List (List ℕ)) (page : ℕ) (old new : List (Option Sector)) → node ≡ node_of layout kind rows
-    → (All (λ row. length row ≡ row_length node.layout node.kind) node.rows → fewest node.kind ≤ length node.rows → Replaced node.layout node.kind old [] new (node_with page node.rows ∷ []))
-    → All (λ row. length row ≡ row_length layout kind) rows → fewest kind ≤ length rows → Replaced layout kind old [] new (node_with page rows ∷ [])
+    → (All (λ row. length row ≡ row_length node.layout node.kind) node.rows → fewest node.kind ≤ length node.rows → ReplacesNodes node.layout node.kind old [] new (node_with page node.rows ∷ []))
+    → All (λ row. length row ≡ row_length layout kind) rows → fewest kind ≤ length rows → ReplacesNodes layout kind old [] new (node_with page rows ∷ [])
 put_node layout kind node rows page old new is put lengths enough =
-    subst (λ (n : Node). All (λ (row : List ℕ). length row ≡ row_length n.layout n.kind) n.rows → fewest n.kind ≤ length n.rows → Replaced n.layout n.kind old [] new (node_with page n.rows ∷ [])) is put lengths enough
+    subst (λ (n : Node). All (λ (row : List ℕ). length row ≡ row_length n.layout n.kind) n.rows → fewest n.kind ≤ length n.rows → ReplacesNodes n.layout n.kind old [] new (node_with page n.rows ∷ [])) is put lengths enough

@@ -2,8 +2,8 @@
 use Rattle.std.specs.Prelude.{◌≡◌, ◌<◌, ℕ, List, [], ◌∷◌, length, Option, ⊤}
 use Rattle.std.specs.List.{All}
 use Rattle.station.specs.Disk.{Sector}
-use Rattle.tree_pages.specs.declared.row_layout.RowLayout.{RowLayout}
-use Rattle.btree.specs.Tree.{TreeNode, pages_of, Joined}
+use Rattle.btree_pages.specs.declared.row_layout.RowLayout.{RowLayout}
+use Rattle.btree.specs.Tree.{TreeNode, pages_of, AreJoinedLevels}
 use Rattle.btree.specs.Moves.{Once, numbers_of}
 
 -- these are the pages of the first level, or none where there are no levels
@@ -13,7 +13,7 @@ HasPages numbers (top ∷ more) = (numbers_of top ≡ numbers) × (0 < length to
 
 abbrev pub JoinedOrNone : RowLayout → List (Option Sector) → List (List TreeNode) → Type 0
 JoinedOrNone layout pages [] = ⊤
-JoinedOrNone layout pages (top ∷ more) = Joined layout pages (top ∷ more)
+JoinedOrNone layout pages (top ∷ more) = AreJoinedLevels layout pages (top ∷ more)
 
 -- the levels below the first one
 abbrev pub levels_below : List (List TreeNode) → List (List TreeNode)

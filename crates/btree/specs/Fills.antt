@@ -1,16 +1,16 @@
 -- How well the leaves of a tree are filled.
 use Rattle.std.specs.Prelude.{◌≤◌, ◌<◌, ◌*◌, ◌⊎◌, ◌≡◌, ℕ, Bool, nat_lt, List, length}
 use Rattle.std.specs.List.{All, count_by}
-use Rattle.tree_pages.specs.declared.row_layout.RowLayout.{RowLayout}
-use Rattle.tree_pages.specs.declared.row_layout.Kind.{Kind}
-use Rattle.tree_pages.specs.declared.row_layout.Kind.TheVariants.{Leaf, Inner}
-use Rattle.tree_pages.specs.RowLayouts.{capacity}
+use Rattle.btree_pages.specs.declared.row_layout.RowLayout.{RowLayout}
+use Rattle.btree_pages.specs.declared.row_layout.Kind.{Kind}
+use Rattle.btree_pages.specs.declared.row_layout.Kind.TheVariants.{Leaf, Inner}
+use Rattle.btree_pages.specs.RowLayouts.{capacity}
 use Rattle.btree.specs.Tree.{TreeNode, leaves_of}
 
 -- So many rows are too few for a page that has a neighbour: less than a quarter of those that it has room for, in a leaf, and less than two, in an inner page.
-abbrev pub IsShort : RowLayout → Kind → ℕ → Type 0
-IsShort layout Leaf count = 4 * count < capacity layout Leaf
-IsShort layout Inner count = count < 2
+abbrev pub HasTooFewRows : RowLayout → Kind → ℕ → Type 0
+HasTooFewRows layout Leaf count = 4 * count < capacity layout Leaf
+HasTooFewRows layout Inner count = count < 2
 
 -- a leaf has less than a quarter of the rows that it has room for, and how many of these leaves have
 abbrev pub is_thin : RowLayout → TreeNode → Bool

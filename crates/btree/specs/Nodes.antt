@@ -1,6 +1,6 @@
 -- Two pages of one kind.
 use Rattle.std.specs.Prelude.{◌≡◌}
-use Rattle.tree_pages.specs.Node.{Node}
+use Rattle.btree_pages.specs.Node.{Node}
 
 -- pages of the same layout and kind
 pub record SameNode (one two : Node) : Type 0 where

@@ -2,34 +2,34 @@
 use Rattle.std.specs.Prelude.{◌≡◌, ◌≢◌, ◌<◌, ◌+◌, ◌++◌, ◌⊎◌, ℕ, zero, suc, List, [], ◌∷◌, length, map, take, drop, slice_index_or, Option, IfSome, ⊤}
 use Rattle.std.specs.List.{All}
 use Rattle.station.specs.Disk.{Sector}
-use Rattle.tree_pages.specs.declared.row_layout.RowLayout.{RowLayout}
-use Rattle.tree_pages.specs.declared.row_layout.Kind.{Kind}
-use Rattle.tree_pages.specs.declared.row_layout.Kind.TheVariants.{Inner}
-use Rattle.tree_pages.specs.RowLayouts.{row_length}
+use Rattle.btree_pages.specs.declared.row_layout.RowLayout.{RowLayout}
+use Rattle.btree_pages.specs.declared.row_layout.Kind.{Kind}
+use Rattle.btree_pages.specs.declared.row_layout.Kind.TheVariants.{Inner}
+use Rattle.btree_pages.specs.RowLayouts.{row_length}
 use Rattle.btree.specs.declared.removal_outcome.RemovalOutcome.{RemovalOutcome}
 use Rattle.btree.specs.declared.removal_outcome.RemovalOutcome.TheVariants.{Kept, Renamed, Gone, Underfull}
 use Rattle.btree.specs.declared.split_result.SplitResult.{SplitResult}
-use Rattle.btree.specs.Tree.{TreeNode, least, row_of, rows_of, node_of, Stands}
-use Rattle.btree.specs.Fills.{IsShort, IsEven}
-use Rattle.btree.specs.Moves.{Replaced}
+use Rattle.btree.specs.Tree.{TreeNode, least_key, row_of, rows_of, node_of, IsOnPage}
+use Rattle.btree.specs.Fills.{HasTooFewRows, IsEven}
+use Rattle.btree.specs.Moves.{ReplacesNodes}
 use Rattle.btree.specs.Propagates.{node_with}
 use Rattle.btree.specs.Changes.{IsIn, HasKeys}
 
 -- What a page became that had the old rows and is to have these.
-abbrev pub Fares : RowLayout → Kind → List (Option Sector) → List (Option Sector) → ℕ → List (List ℕ) → List (List ℕ) → RemovalOutcome → Type 0
-Fares layout kind before after page old rows Kept =
-    Replaced layout kind before (node_with page old ∷ []) after (node_with page rows ∷ []) × (least layout (node_with page rows) ≡ least layout (node_with page old)) × (IsShort layout kind (length rows) → ⊥)
-Fares layout kind before after page old rows (Renamed child) =
-    Replaced layout kind before (node_with page old ∷ []) after (node_with page rows ∷ []) × (child.page ≡ page) × (child.node ≡ node_of layout kind rows) × (IsShort layout kind (length rows) → ⊥)
-Fares layout kind before after page old rows Gone = Replaced layout kind before (node_with page old ∷ []) after [] × (rows ≡ [])
-Fares layout kind before after page old rows (Underfull child) = (after ≡ before) × (child.page ≡ page) × (child.node ≡ node_of layout kind rows) × (0 < length rows) × IsShort layout kind (length rows)
+abbrev pub IsRemovalResult : RowLayout → Kind → List (Option Sector) → List (Option Sector) → ℕ → List (List ℕ) → List (List ℕ) → RemovalOutcome → Type 0
+IsRemovalResult layout kind before after page old rows Kept =
+    ReplacesNodes layout kind before (node_with page old ∷ []) after (node_with page rows ∷ []) × (least_key layout (node_with page rows) ≡ least_key layout (node_with page old)) × (HasTooFewRows layout kind (length rows) → ⊥)
+IsRemovalResult layout kind before after page old rows (Renamed child) =
+    ReplacesNodes layout kind before (node_with page old ∷ []) after (node_with page rows ∷ []) × (child.page ≡ page) × (child.node ≡ node_of layout kind rows) × (HasTooFewRows layout kind (length rows) → ⊥)
+IsRemovalResult layout kind before after page old rows Gone = ReplacesNodes layout kind before (node_with page old ∷ []) after [] × (rows ≡ [])
+IsRemovalResult layout kind before after page old rows (Underfull child) = (after ≡ before) × (child.page ≡ page) × (child.node ≡ node_of layout kind rows) × (0 < length rows) × HasTooFewRows layout kind (length rows)
 
 -- what the page above needs of it
-abbrev pub Fits : RowLayout → RemovalOutcome → Type 0
-Fits layout Kept = ⊤
-Fits layout (Renamed child) = (child.node.layout ≡ layout) × (0 < length child.node.rows)
-Fits layout Gone = ⊤
-Fits layout (Underfull child) = (child.node.layout ≡ layout) × (0 < length child.node.rows) × IsShort layout child.node.kind (length child.node.rows)
+abbrev pub FitsAbove : RowLayout → RemovalOutcome → Type 0
+FitsAbove layout Kept = ⊤
+FitsAbove layout (Renamed child) = (child.node.layout ≡ layout) × (0 < length child.node.rows)
+FitsAbove layout Gone = ⊤
+FitsAbove layout (Underfull child) = (child.node.layout ≡ layout) × (0 < length child.node.rows) × HasTooFewRows layout child.node.kind (length child.node.rows)
 
 -- a page that wasn't written may be changed yet
 abbrev pub spare : RemovalOutcome → ℕ
@@ -59,16 +59,16 @@ pub record IsPair (layout : RowLayout) (kind : Kind) (before : List (Option Sect
   pub apart : left.page ≢ right.page
   pub left_apart : left.page ≢ page
   pub right_apart : right.page ≢ page
-  pub either : (place ≡ 0) × (left.page ≡ child) × Stands layout before kind right ⊎ (place ≢ 0) × (right.page ≡ child) × Stands layout before kind left
+  pub either : (place ≡ 0) × (left.page ≡ child) × IsOnPage layout before kind right ⊎ (place ≢ 0) × (right.page ≡ child) × IsOnPage layout before kind left
 
 -- What the two neighbours became, and the page above them.
-pub record Rebalanced (layout : RowLayout) (kind : Kind) (before after : List (Option Sector)) (page : ℕ) (old : List (List ℕ)) (place : ℕ) (lone : List (List ℕ)) (left right : TreeNode) (outcome : RemovalOutcome) : Type 0 where
+pub record RebalancesNeighbours (layout : RowLayout) (kind : Kind) (before after : List (Option Sector)) (page : ℕ) (old : List (List ℕ)) (place : ℕ) (lone : List (List ℕ)) (left right : TreeNode) (outcome : RemovalOutcome) : Type 0 where
   pub mid : List (Option Sector)
   pub run : List TreeNode
-  pub pair : Replaced layout kind before (left ∷ right ∷ []) mid run
+  pub pair : ReplacesNodes layout kind before (left ∷ right ∷ []) mid run
   pub even : IsEven layout kind run
   pub rows : rows_of run ≡ rows_together place lone left right
-  pub fares : Fares layout Inner mid after page old (take (pair_of place) old ++ (map (row_of layout) run ++ drop (pair_of place + 2) old)) outcome
+  pub fares : IsRemovalResult layout Inner mid after page old (take (pair_of place) old ++ (map (row_of layout) run ++ drop (pair_of place + 2) old)) outcome
 
 -- two pages of the map
 pub record AreTwo (pages : List (Option Sector)) (left right : ℕ) : Type 0 where
@@ -97,7 +97,7 @@ pub record ArePair (layout : RowLayout) (before : List (Option Sector)) (page : 
 pub record Joins (layout : RowLayout) (kind : Kind) (before after : List (Option Sector)) (page : ℕ) (old : List (List ℕ)) (place : ℕ) (rows : List (List ℕ)) (left right : TreeNode) (outcome : RemovalOutcome) : Type 0 where
   pub mid : List (Option Sector)
   pub run : List TreeNode
-  pub pair : Replaced layout kind before (left ∷ right ∷ []) mid run
+  pub pair : ReplacesNodes layout kind before (left ∷ right ∷ []) mid run
   pub even : IsEven layout kind run
   pub rows_are : rows_of run ≡ rows
-  pub fares : Fares layout Inner mid after page old (take place old ++ (map (row_of layout) run ++ drop (place + 2) old)) outcome
+  pub fares : IsRemovalResult layout Inner mid after page old (take place old ++ (map (row_of layout) run ++ drop (place + 2) old)) outcome

@@ -4,38 +4,38 @@ use Rattle.std.specs.List.{All, insert}
 use Rattle.byteorder.specs.Endian.{big_bytes}
 use Rattle.station.specs.Disk.{Sector}
 use Rattle.pages.specs.declared.page_map.PageMap.{PageMap}
-use Rattle.tree_pages.specs.declared.row_layout.RowLayout.{RowLayout}
-use Rattle.tree_pages.specs.declared.row_layout.Kind.{Kind}
-use Rattle.tree_pages.specs.declared.row_layout.Kind.TheVariants.{Inner}
-use Rattle.tree_pages.specs.RowLayouts.{row_length}
-use Rattle.tree_pages.specs.Keys.{key_of, rest_of}
-use Rattle.tree_pages.specs.Node.{Node}
+use Rattle.btree_pages.specs.declared.row_layout.RowLayout.{RowLayout}
+use Rattle.btree_pages.specs.declared.row_layout.Kind.{Kind}
+use Rattle.btree_pages.specs.declared.row_layout.Kind.TheVariants.{Inner}
+use Rattle.btree_pages.specs.RowLayouts.{row_length}
+use Rattle.btree_pages.specs.Keys.{key_of, rest_of}
+use Rattle.btree_pages.specs.Node.{Node}
 use Rattle.btree.specs.declared.split_result.SplitResult.{SplitResult}
 use Rattle.btree.specs.declared.split_result.Right.{Right}
 use Rattle.btree.specs.declared.removal_outcome.Child.{Child}
 use Rattle.btree.specs.declared.removal_outcome.RemovalOutcome.{RemovalOutcome}
 use Rattle.btree.specs.declared.path_step.PathStep.{PathStep}
-use Rattle.btree.specs.Tree.{TreeNode, least, row_of, rows_of, fewest}
-use Rattle.btree.specs.Moves.{Replaced}
+use Rattle.btree.specs.Tree.{TreeNode, least_key, row_of, rows_of, fewest}
+use Rattle.btree.specs.Moves.{ReplacesNodes}
 use Rattle.btree.specs.Propagates.{node_with, run_of}
 use Rattle.btree.specs.Changes.{pages_of_map, IsIn, CanStand, UpdatesParent}
-use Rattle.btree.specs.Outcomes.{Fares, AreTwo, ArePair, Joins}
+use Rattle.btree.specs.Outcomes.{IsRemovalResult, AreTwo, ArePair, Joins}
 
 -- where the node can stand on its page, or take a row, the page becomes the one or the two of the answer
 abbrev pub PutsWhere : (List (Option Sector) → ℕ → Node → Type 0) → PageMap → PageMap → ℕ → Node → SplitResult → Type 0
 PutsWhere can old new page node split =
     (image : List Sector) → can (pages_of_map old image) page node →
-    Replaced node.layout node.kind (pages_of_map old image) (node_with page node.rows ∷ []) (pages_of_map new image) (run_of split)
+    ReplacesNodes node.layout node.kind (pages_of_map old image) (node_with page node.rows ∷ []) (pages_of_map new image) (run_of split)
 
 -- a node with rows enough, of their lengths, comes to a new page
 abbrev pub PutsNew : PageMap → PageMap → Node → ℕ → Type 0
 PutsNew old new node page =
     (image : List Sector) → All (λ row. length row ≡ row_length node.layout node.kind) node.rows → fewest node.kind ≤ length node.rows →
-    Replaced node.layout node.kind (pages_of_map old image) [] (pages_of_map new image) (node_with page node.rows ∷ [])
+    ReplacesNodes node.layout node.kind (pages_of_map old image) [] (pages_of_map new image) (node_with page node.rows ∷ [])
 
 -- so do these rows
 abbrev pub PutsRows : RowLayout → Kind → PageMap → PageMap → List (List ℕ) → ℕ → Type 0
-PutsRows layout kind old new rows page = (image : List Sector) → Replaced layout kind (pages_of_map old image) [] (pages_of_map new image) (node_with page rows ∷ [])
+PutsRows layout kind old new rows page = (image : List Sector) → ReplacesNodes layout kind (pages_of_map old image) [] (pages_of_map new image) (node_with page rows ∷ [])
 
 -- the rows of a page and of its new neighbour in the page above them
 abbrev pub two_rows : RowLayout → SplitResult → Right → List (List ℕ)
@@ -45,7 +45,7 @@ two_rows layout split right = row_of layout (node_with split.page split.left.row
 abbrev pub PutsRest : PageMap → PageMap → ℕ → Node → ℕ → List ℕ → Type 0
 PutsRest old new page node place rest =
     (image : List Sector) → CanStand (pages_of_map old image) page node →
-    Replaced node.layout node.kind (pages_of_map old image) (node_with page node.rows ∷ []) (pages_of_map new image)
+    ReplacesNodes node.layout node.kind (pages_of_map old image) (node_with page node.rows ∷ []) (pages_of_map new image)
     (node_with page (slice_set node.rows place (key_of node.layout (slice_index_or node.rows place []) ++ rest)) ∷ [])
 
 -- the page above, whose row at a place names the page that was split
@@ -59,28 +59,28 @@ PutsParent old new page node place split up =
 abbrev pub PutsBack : PageMap → PageMap → ℕ → Node → Bool → RemovalOutcome → Type 0
 PutsBack old new page node keeps_least outcome =
     (image : List Sector) (before : List (List ℕ)) → IsIn (pages_of_map old image) page →
-    (keeps_least ≡ true → least node.layout (node_with page node.rows) ≡ least node.layout (node_with page before)) →
-    Fares node.layout node.kind (pages_of_map old image) (pages_of_map new image) page before node.rows outcome
+    (keeps_least ≡ true → least_key node.layout (node_with page node.rows) ≡ least_key node.layout (node_with page before)) →
+    IsRemovalResult node.layout node.kind (pages_of_map old image) (pages_of_map new image) page before node.rows outcome
 
 -- the row at a place leaves the node
 abbrev pub LosesRow : Kind → PageMap → PageMap → ℕ → Node → ℕ → RemovalOutcome → Type 0
 LosesRow kind old new page node place outcome =
     (image : List Sector) → CanStand (pages_of_map old image) page node →
-    Fares node.layout kind (pages_of_map old image) (pages_of_map new image) page node.rows (take place node.rows ++ drop (place + 1) node.rows) outcome
+    IsRemovalResult node.layout kind (pages_of_map old image) (pages_of_map new image) page node.rows (take place node.rows ++ drop (place + 1) node.rows) outcome
 
 -- the row of a child gets the child's least key
 abbrev pub RenamesRow : PageMap → PageMap → PathStep → Node → Child → RemovalOutcome → Type 0
 RenamesRow old new step node child outcome =
     (image : List Sector) → CanStand (pages_of_map old image) step.page node →
     rest_of node.layout (slice_index_or node.rows step.place []) ≡ big_bytes 4 child.page →
-    Fares node.layout Inner (pages_of_map old image) (pages_of_map new image) step.page node.rows
+    IsRemovalResult node.layout Inner (pages_of_map old image) (pages_of_map new image) step.page node.rows
     (take step.place node.rows ++ (row_of node.layout (node_with child.page child.node.rows) ∷ drop (step.place + 1) node.rows)) outcome
 
 -- two pages become the one or the two of the answer
 abbrev pub PutsTogether : PageMap → PageMap → Child → Child → SplitResult → Type 0
 PutsTogether old new left right joined =
     (image : List Sector) (one two : List (List ℕ)) → AreTwo (pages_of_map old image) left.page right.page →
-    Replaced left.node.layout left.node.kind (pages_of_map old image) (node_with left.page one ∷ node_with right.page two ∷ []) (pages_of_map new image) (run_of joined)
+    ReplacesNodes left.node.layout left.node.kind (pages_of_map old image) (node_with left.page one ∷ node_with right.page two ∷ []) (pages_of_map new image) (run_of joined)
 
 -- so do two neighbours, and the page above them learns it
 abbrev pub JoinsPair : PageMap → PageMap → ℕ → Node → ℕ → Child → Child → RemovalOutcome → Type 0

@@ -3,10 +3,10 @@ use Rattle.std.specs.Prelude.{◌≡◌, ◌<◌, ◌≤◌, ℕ, List, length, 
 use Rattle.station.specs.Disk.{Sector}
 use Rattle.pages.specs.declared.error.PagesError.{PagesError}
 use Rattle.pages.specs.declared.error.PagesError.TheVariants.{Device, Full, Damaged, Memory, Spent, ForeignMark}
-use Rattle.tree_pages.specs.declared.row_layout.RowLayout.{RowLayout}
-use Rattle.tree_pages.specs.declared.row_layout.Kind.{Kind}
-use Rattle.tree_pages.specs.Node.{Node, node_in}
-use Rattle.btree.specs.Tree.{TreeNode, node_of, fewest, Stands, IsTree}
+use Rattle.btree_pages.specs.declared.row_layout.RowLayout.{RowLayout}
+use Rattle.btree_pages.specs.declared.row_layout.Kind.{Kind}
+use Rattle.btree_pages.specs.Node.{Node, node_in}
+use Rattle.btree.specs.Tree.{TreeNode, node_of, fewest, IsOnPage, IsTree}
 
 -- a page is refused by the device, by a spent map, or as damaged
 abbrev pub IsReadRefusal : PagesError → Type 0
@@ -18,13 +18,13 @@ IsReadRefusal Memory = ⊥
 IsReadRefusal ForeignMark = ⊥
 
 -- so is a search, and memory may be wanting for a key of more than 128 bytes
-abbrev pub IsRefusal : RowLayout → PagesError → Type 0
-IsRefusal layout Device = ⊤
-IsRefusal layout Damaged = ⊤
-IsRefusal layout Spent = ⊤
-IsRefusal layout Full = ⊥
-IsRefusal layout Memory = 128 < layout.key_length
-IsRefusal layout ForeignMark = ⊥
+abbrev pub IsSearchRefusal : RowLayout → PagesError → Type 0
+IsSearchRefusal layout Device = ⊤
+IsSearchRefusal layout Damaged = ⊤
+IsSearchRefusal layout Spent = ⊤
+IsSearchRefusal layout Full = ⊥
+IsSearchRefusal layout Memory = 128 < layout.key_length
+IsSearchRefusal layout ForeignMark = ⊥
 
 -- bytes spell no page of a tree that has enough rows
 abbrev pub SpellsNoNode : RowLayout → Sector → Type 0
@@ -39,10 +39,10 @@ HasKindShape layout kind node = (node.layout ≡ layout) × (node.kind ≡ kind)
 
 -- where this is told, no node of a tree stands on the page, none of this kind, and the pages under the root are no tree
 abbrev pub NoneStands : RowLayout → ℕ → Type 0 → List (Option Sector) → Type 0
-NoneStands layout page told pages = told → (kind : Kind) (node : TreeNode) → node.page ≡ page → Stands layout pages kind node → ⊥
+NoneStands layout page told pages = told → (kind : Kind) (node : TreeNode) → node.page ≡ page → IsOnPage layout pages kind node → ⊥
 
 abbrev pub NoneOfKind : RowLayout → Kind → ℕ → Type 0 → List (Option Sector) → Type 0
-NoneOfKind layout kind page told pages = told → (node : TreeNode) → node.page ≡ page → Stands layout pages kind node → ⊥
+NoneOfKind layout kind page told pages = told → (node : TreeNode) → node.page ≡ page → IsOnPage layout pages kind node → ⊥
 
 abbrev pub NoTree : RowLayout → ℕ → Type 0 → List (Option Sector) → Type 0
 NoTree layout root told pages = told → (levels : List (List TreeNode)) → IsTree layout pages root levels → ⊥

@@ -3,12 +3,12 @@ use Rattle.std.specs.Prelude.{◌≡◌, ◌≢◌, ◌≤◌, ◌<◌, ◌++◌
 use Rattle.std.specs.List.{All, flat_map, AllPairs}
 use Rattle.byteorder.specs.Endian.{big_bytes}
 use Rattle.station.specs.Disk.{Sector}
-use Rattle.tree_pages.specs.declared.row_layout.RowLayout.{RowLayout}
-use Rattle.tree_pages.specs.declared.row_layout.Kind.{Kind}
-use Rattle.tree_pages.specs.declared.row_layout.Kind.TheVariants.{Leaf, Inner}
-use Rattle.tree_pages.specs.RowLayouts.{row_length}
-use Rattle.tree_pages.specs.Node.{Node, node_in}
-use Rattle.tree_pages.specs.Keys.{key_of, keys_of, Ascend}
+use Rattle.btree_pages.specs.declared.row_layout.RowLayout.{RowLayout}
+use Rattle.btree_pages.specs.declared.row_layout.Kind.{Kind}
+use Rattle.btree_pages.specs.declared.row_layout.Kind.TheVariants.{Leaf, Inner}
+use Rattle.btree_pages.specs.RowLayouts.{row_length}
+use Rattle.btree_pages.specs.Node.{Node, node_in}
+use Rattle.btree_pages.specs.Keys.{key_of, keys_of, Ascend}
 
 -- a page of a tree, with its rows
 pub record TreeNode : Type 0 where
@@ -16,11 +16,11 @@ pub record TreeNode : Type 0 where
   pub rows : List (List ℕ)
 
 -- the key of its first row, and its row in the level above
-abbrev pub least : RowLayout → TreeNode → List ℕ
-least layout node = key_of layout (slice_index_or node.rows 0 [])
+abbrev pub least_key : RowLayout → TreeNode → List ℕ
+least_key layout node = key_of layout (slice_index_or node.rows 0 [])
 
 abbrev pub row_of : RowLayout → TreeNode → List ℕ
-row_of layout node = least layout node ++ big_bytes 4 node.page
+row_of layout node = least_key layout node ++ big_bytes 4 node.page
 
 -- the rows of a level, from left to right
 abbrev pub rows_of : List TreeNode → List (List ℕ)
@@ -43,16 +43,16 @@ fewest Leaf = 1
 fewest Inner = 2
 
 -- the node stands on its page
-pub record Stands (layout : RowLayout) (pages : List (Option Sector)) (kind : Kind) (tree_node : TreeNode) : Type 0 where
+pub record IsOnPage (layout : RowLayout) (pages : List (Option Sector)) (kind : Kind) (tree_node : TreeNode) : Type 0 where
   pub node : node_at layout pages tree_node.page ≡ Some (node_of layout kind tree_node.rows)
   pub lengths : All (λ row. length row ≡ row_length layout kind) tree_node.rows
   pub enough : fewest kind ≤ length tree_node.rows
 
 -- the last level is one of leaves; the rows of each other level name the nodes of the next one, each by its least key
-abbrev pub Joined : RowLayout → List (Option Sector) → List (List TreeNode) → Type 0
-Joined layout pages [] = ⊥
-Joined layout pages (leaves ∷ []) = All (Stands layout pages Leaf) leaves
-Joined layout pages (upper ∷ lower ∷ more) = All (Stands layout pages Inner) upper × (rows_of upper ≡ map (row_of layout) lower) × Joined layout pages (lower ∷ more)
+abbrev pub AreJoinedLevels : RowLayout → List (Option Sector) → List (List TreeNode) → Type 0
+AreJoinedLevels layout pages [] = ⊥
+AreJoinedLevels layout pages (leaves ∷ []) = All (IsOnPage layout pages Leaf) leaves
+AreJoinedLevels layout pages (upper ∷ lower ∷ more) = All (IsOnPage layout pages Inner) upper × (rows_of upper ≡ map (row_of layout) lower) × AreJoinedLevels layout pages (lower ∷ more)
 
 abbrev pub leaves_of : List (List TreeNode) → List TreeNode
 leaves_of [] = []
@@ -74,11 +74,11 @@ HasTop root (top ∷ more) = (node : TreeNode) × (top ≡ node ∷ []) × (node
 -- the pages under the root are this tree: its keys ascend, and no page stands in it twice
 pub record IsTree (layout : RowLayout) (pages : List (Option Sector)) (root : ℕ) (levels : List (List TreeNode)) : Type 0 where
   pub top : HasTop root levels
-  pub joined : Joined layout pages levels
+  pub joined : AreJoinedLevels layout pages levels
   pub ascend : Ascend (keys_of layout (rows_in_order levels))
   pub once : AllPairs (λ one two. one ≢ two) (pages_of levels)
   pub numbers : All (λ page. (0 < page) × (page < length pages)) (pages_of levels)
 
 -- root 0 is the tree without entries
-abbrev pub Holds : RowLayout → List (Option Sector) → ℕ → List (List TreeNode) → Type 0
-Holds layout pages root levels = (root ≡ 0) × (levels ≡ []) ⊎ (root ≢ 0) × IsTree layout pages root levels
+abbrev pub IsTreeOrEmpty : RowLayout → List (Option Sector) → ℕ → List (List TreeNode) → Type 0
+IsTreeOrEmpty layout pages root levels = (root ≡ 0) × (levels ≡ []) ⊎ (root ≢ 0) × IsTree layout pages root levels

@@ -1,11 +1,11 @@
 //! The child of an inner page that a key leads to.
 ghost use Rattle.std.specs.Prelude.{◌≡◌, ◌≤◌, ◌<◌, ◌+◌, Some, [], length, slice_index_or, OnOk, IsOk};
-ghost use Rattle.tree_pages.specs.Keys.{key_of, keys_of, Ascend};
+ghost use Rattle.btree_pages.specs.Keys.{key_of, keys_of, Ascend};
 ghost use Rattle.btree.specs.Path.{IsChosen};
 
 use crate::key::Key;
+use btree_pages::NodeView;
 use std::alloc::{AllocError, Global};
-use tree_pages::NodeView;
 
 /// The child that a row of an inner page names: the row's place, and the child's page.
 #[derive(Clone, Copy, PartialEq, Eq)]

@@ -3,25 +3,25 @@ ghost use Rattle.std.specs.Prelude.{◌≡◌, ◌≢◌, ◌≤◌, ◌<◌, �
 ghost use Rattle.std.specs.List.{All};
 ghost use Rattle.station.specs.Disk.{Sector};
 ghost use Rattle.station.specs.Calls.{OnlyReads};
-ghost use Rattle.pages.specs.Pages.{is_spent, sectors_of, catalog_of, page_count, filled_of, Agrees, IsOpen, SameCommitted, Keeps, Unchanged};
-ghost use Rattle.tree_pages.specs.RowLayouts.{IsRowLayout};
-ghost use Rattle.tree_pages.specs.Keys.{child_of};
-ghost use Rattle.btree.specs.Tree.{TreeNode, rows_of, pages_of, Stands};
+ghost use Rattle.pages.specs.Pages.{is_spent, sectors_of, catalog_of, page_count, filled_of, Agrees, IsOpen, SameCommitted, KeepsCommitted, IsUnchanged};
+ghost use Rattle.btree_pages.specs.RowLayouts.{IsRowLayout};
+ghost use Rattle.btree_pages.specs.Keys.{child_of};
+ghost use Rattle.btree.specs.Tree.{TreeNode, rows_of, pages_of, IsOnPage};
 ghost use Rattle.btree.specs.Laws.{IsSmall};
 ghost use Rattle.btree.specs.Moves.{Moves, numbers_of};
 ghost use Rattle.btree.specs.Changes.{pages_of_map};
 ghost use Rattle.btree.specs.Clears.{HasPages, IsDown, levels_below};
 ghost use Rattle.btree.specs.Refusals.{IsRestRefusal, IsChangeRefusal};
-ghost use Rattle.btree.specs.Calls.{Agreed, OnNoTree, OnPages, OnChange, OnTreeChange};
+ghost use Rattle.btree.specs.Calls.{IfAgrees, OnNoTree, OnPages, OnChange, OnTreeChange};
 ghost use Rattle.btree.specs.Told.{TellsDamaged, OnlyIfSpent, ExactlyIfSpent};
 
 use crate::descend::LEVELS;
 use crate::node::read_node;
 use crate::tree::Tree;
+use btree_pages::{Kind, RowLayout, TreePage};
 use pages::{PageMap, PagesError};
 use station::Device;
 use std::alloc::Global;
-use tree_pages::{Kind, RowLayout, TreePage};
 
 /// Takes these pages out of the map. `Damaged` tells that one of the numbers is no page's.
 fn release_pages(pages: &mut PageMap, numbers: &[u32]) -> Result<(), PagesError>
@@ -30,7 +30,7 @@ fn release_pages(pages: &mut PageMap, numbers: &[u32]) -> Result<(), PagesError>
     ensures damaged { result ≡ Err PagesError.Damaged → (image : List Sector) →
         All (λ page. (0 < page) × (page < length (pages_of_map pages.old image))) numbers.now → ⊥ }
     ensures filled { filled_of pages.new ≤ filled_of pages.old }
-    ensures keeps { Keeps pages.old pages.new }
+    ensures keeps { KeepsCommitted pages.old pages.new }
     ensures spent { OnlyIfSpent pages.old result }
     ensures cause { IfErr result IsRestRefusal }
 {
@@ -72,13 +72,13 @@ fn children_of<D: Device>(
     requires sectors { sectors_of pages.old ≤ D.sectors device.old }
     requires layout { IsRowLayout layout }
     ensures only { OnlyReads D.Device (result ≡ Err PagesError.Device) device.old device.new }
-    ensures unchanged { Unchanged pages.old pages.new }
-    ensures agrees { Agreed D.Device pages.old device.old (Agrees pages.new (D.state device.new).disk) }
+    ensures unchanged { IsUnchanged pages.old pages.new }
+    ensures agrees { IfAgrees D.Device pages.old device.old (Agrees pages.new (D.state device.new).disk) }
     ensures open { IsOpen pages.new }
     ensures children { OnPages D.Device pages.old device.old
-        (λ before. (level : List TreeNode) → All (Stands layout before Kind.Inner) level → numbers_of level ≡ numbers.now → IfOk result (λ children. children.items ≡ map (child_of layout) (rows_of level))) }
+        (λ before. (level : List TreeNode) → All (IsOnPage layout before Kind.Inner) level → numbers_of level ≡ numbers.now → IfOk result (λ children. children.items ≡ map (child_of layout) (rows_of level))) }
     ensures damaged { OnPages D.Device pages.old device.old
-        (λ before. result ≡ Err PagesError.Damaged → (level : List TreeNode) → All (Stands layout before Kind.Inner) level → numbers_of level ≡ numbers.now → length (rows_of level) ≤ length before → ⊥) }
+        (λ before. result ≡ Err PagesError.Damaged → (level : List TreeNode) → All (IsOnPage layout before Kind.Inner) level → numbers_of level ≡ numbers.now → length (rows_of level) ≤ length before → ⊥) }
     ensures few { IfOk result (λ children. length children.items ≤ page_count pages.old) }
     ensures spent { OnlyIfSpent pages.old result }
     ensures cause { IfErr result IsChangeRefusal }
@@ -112,8 +112,8 @@ fn below<D: Device>(
     requires layout { IsRowLayout layout }
     requires some { 0 < length numbers.now }
     ensures only { OnlyReads D.Device (result ≡ Err PagesError.Device) device.old device.new }
-    ensures unchanged { Unchanged pages.old pages.new }
-    ensures agrees { Agreed D.Device pages.old device.old (Agrees pages.new (D.state device.new).disk) }
+    ensures unchanged { IsUnchanged pages.old pages.new }
+    ensures agrees { IfAgrees D.Device pages.old device.old (Agrees pages.new (D.state device.new).disk) }
     ensures open { IsOpen pages.new }
     ensures below { OnPages D.Device pages.old device.old
         (λ before. (levels : List (List TreeNode)) → IsSmall before → IsDown layout before numbers.now levels → IfOk result (λ children. HasPages children.items (levels_below levels))) }
@@ -150,7 +150,7 @@ fn clear_levels<D: Device>(
     ensures filled { filled_of pages.new ≤ filled_of pages.old }
     ensures committed { SameCommitted pages.old pages.new }
     ensures catalog { catalog_of pages.new ≡ catalog_of pages.old }
-    ensures agrees { Agreed D.Device pages.old device.old (Agrees pages.new (D.state device.new).disk) }
+    ensures agrees { IfAgrees D.Device pages.old device.old (Agrees pages.new (D.state device.new).disk) }
     ensures open { IsOpen pages.new }
     ensures spent { OnlyIfSpent pages.old result }
     ensures told { is_spent pages.old ≡ true → 0 < length numbers.items → 0 < depth → result ≡ Err PagesError.Spent }
@@ -191,7 +191,7 @@ impl Tree {
         ensures filled { filled_of pages.new ≤ filled_of pages.old }
         ensures committed { SameCommitted pages.old pages.new }
         ensures catalog { catalog_of pages.new ≡ catalog_of pages.old }
-        ensures agrees { Agreed D.Device pages.old device.old (Agrees pages.new (D.state device.new).disk) }
+        ensures agrees { IfAgrees D.Device pages.old device.old (Agrees pages.new (D.state device.new).disk) }
         ensures open { IsOpen pages.new }
         ensures spent { result ≡ Err PagesError.Spent → (is_spent pages.old ≡ true) × (self.old.root ≢ 0) }
         ensures cause { IfErr result IsChangeRefusal }

@@ -1,25 +1,25 @@
 //! The way of a key down a tree.
 ghost use Rattle.std.specs.Prelude.{◌≡◌, ◌≤◌, Err, List, length, IfOk, IfErr};
 ghost use Rattle.station.specs.Calls.{OnlyReads};
-ghost use Rattle.pages.specs.Pages.{sectors_of, Agrees, IsOpen, Unchanged};
-ghost use Rattle.tree_pages.specs.RowLayouts.{IsRowLayout};
-ghost use Rattle.tree_pages.specs.Node.{IsNode};
+ghost use Rattle.pages.specs.Pages.{sectors_of, Agrees, IsOpen, IsUnchanged};
+ghost use Rattle.btree_pages.specs.RowLayouts.{IsRowLayout};
+ghost use Rattle.btree_pages.specs.Node.{IsNode};
 ghost use Rattle.btree.specs.Tree.{TreeNode, IsTree};
 ghost use Rattle.btree.specs.Path.{EndsAt};
 ghost use Rattle.btree.specs.Steps.{LeadsTo};
-ghost use Rattle.btree.specs.Reading.{IsRefusal, NoTree};
-ghost use Rattle.btree.specs.Calls.{Agreed, OnPages};
+ghost use Rattle.btree.specs.Reading.{IsSearchRefusal, NoTree};
+ghost use Rattle.btree.specs.Calls.{IfAgrees, OnPages};
 ghost use Rattle.btree.specs.Told.{TellsDamaged, ExactlyIfSpent};
 
 use crate::key::Key;
 use crate::node::read_node;
 use crate::path_step::PathStep;
 use crate::step::step_at;
+use btree_pages::{Kind, RowLayout, TreePage};
 use pages::{PageMap, PagesError};
 use smallvec::SmallVec;
 use station::Device;
 use std::alloc::Global;
-use tree_pages::{Kind, RowLayout, TreePage};
 
 /// How many levels a tree has at most.
 pub const LEVELS: usize = 21;
@@ -55,14 +55,14 @@ pub(crate) fn follow<D: Device>(
     requires sectors { sectors_of pages.old ≤ D.sectors device.old }
     requires layout { IsRowLayout layout }
     ensures only { OnlyReads D.Device (result ≡ Err PagesError.Device) device.old device.new }
-    ensures unchanged { Unchanged pages.old pages.new }
-    ensures agrees { Agreed D.Device pages.old device.old (Agrees pages.new (D.state device.new).disk) }
+    ensures unchanged { IsUnchanged pages.old pages.new }
+    ensures agrees { IfAgrees D.Device pages.old device.old (Agrees pages.new (D.state device.new).disk) }
     ensures open { IsOpen pages.new }
     ensures way { OnPages D.Device pages.old device.old
         (λ before. (levels : List (List TreeNode)) → IsTree layout before root levels → IfOk result (λ way. LeadsTo layout before key.now levels way.path.items way.page way.right)) }
     ensures damaged { OnPages D.Device pages.old device.old (NoTree layout root (TellsDamaged result)) }
     ensures spent { ExactlyIfSpent pages.old result }
-    ensures cause { IfErr result (IsRefusal layout) }
+    ensures cause { IfErr result (IsSearchRefusal layout) }
 {
     // How many page numbers there are is needed below.
     let _page_count = pages.page_count();
@@ -97,8 +97,8 @@ pub(crate) fn descend<D: Device>(
     requires sectors { sectors_of pages.old ≤ D.sectors device.old }
     requires layout { IsRowLayout layout }
     ensures only { OnlyReads D.Device (result ≡ Err PagesError.Device) device.old device.new }
-    ensures unchanged { Unchanged pages.old pages.new }
-    ensures agrees { Agreed D.Device pages.old device.old (Agrees pages.new (D.state device.new).disk) }
+    ensures unchanged { IsUnchanged pages.old pages.new }
+    ensures agrees { IfAgrees D.Device pages.old device.old (Agrees pages.new (D.state device.new).disk) }
     ensures open { IsOpen pages.new }
     ensures way { OnPages D.Device pages.old device.old
         (λ before. (levels : List (List TreeNode)) → IsTree layout before root levels → IfOk result (λ descent. EndsAt layout key.now levels descent.path.items descent.page descent.leaf.rows descent.right)) }
@@ -106,7 +106,7 @@ pub(crate) fn descend<D: Device>(
     ensures leaf { IfOk result (λ descent. (descent.leaf.layout ≡ layout) × (descent.leaf.kind ≡ Kind.Leaf) × (length descent.leaf.rows ≤ 4080)) }
     ensures node { IfOk result (λ descent. IsNode descent.leaf) }
     ensures spent { ExactlyIfSpent pages.old result }
-    ensures cause { IfErr result (IsRefusal layout) }
+    ensures cause { IfErr result (IsSearchRefusal layout) }
 {
     let Way { path, page, right } = follow(alloc, pages, device, layout, root, key)?;
     let leaf = read_node(pages, device, layout, page)?;

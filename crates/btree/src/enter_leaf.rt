@@ -1,16 +1,52 @@
 //! An entry comes to a leaf in memory that has room, where no page above the leaf has to be told.
 ghost use Rattle.std.specs.Prelude.{◌≡◌, Ok, true, false, length, IfErr};
 ghost use Rattle.station.specs.Disk.{Disk};
-ghost use Rattle.pages.specs.Pages.{IsOpen, Agrees, Keeps};
-ghost use Rattle.tree_pages.specs.RowLayouts.{IsRowLayout};
+ghost use Rattle.pages.specs.Pages.{IsOpen, Agrees, KeepsCommitted};
+ghost use Rattle.btree_pages.specs.RowLayouts.{IsRowLayout};
 ghost use Rattle.btree.specs.Changes.{pages_of_map};
 ghost use Rattle.btree.specs.Refusals.{IsPutRefusal};
 ghost use Rattle.btree.specs.Told.{OnlyIfSpent, FewChanged, FewFilled};
 ghost use Rattle.btree.specs.Entering.{EntersIn, EntersOn};
 
 use crate::node::view_node;
+use btree_pages::{Kind, RowLayout};
 use pages::{PageMap, PagesError};
-use tree_pages::{Kind, RowLayout};
+
+/// Puts an entry into the leaf of that page number, behind its first row. `false` tells that the leaf isn't in memory, or that the
+/// entry can't come there, and then nothing was done.
+pub(crate) fn enter_leaf(
+    pages: &mut PageMap,
+    layout: RowLayout,
+    page: u32,
+    key: &[u8],
+    value: &[u8],
+) -> Result<bool, PagesError>
+    requires open { IsOpen pages.old }
+    requires layout { IsRowLayout layout }
+    requires key { length key.now ≡ layout.key_length }
+    requires value { length value.now ≡ layout.value_length }
+    ensures done { result ≡ Ok true → (disk : Disk) → Agrees pages.old disk → EntersOn layout page key.now value.now (pages_of_map pages.old disk.present) (pages_of_map pages.new disk.present) }
+    ensures same { result ≡ Ok false → pages.new ≡ pages.old }
+    ensures changed_pages { FewChanged 1 pages.old pages.new }
+    ensures filled { FewFilled 1 pages.old pages.new }
+    ensures keeps { KeepsCommitted pages.old pages.new }
+    ensures cause { IfErr result IsPutRefusal }
+    ensures spent { OnlyIfSpent pages.old result }
+{
+    if page == 0 || page as usize >= pages.page_count() {
+        return Ok(false);
+    }
+    let mut spelled = [0; 4096];
+    let is_spelled = match pages.view(page) {
+        Some(bytes) => spell_entered(bytes, layout, key, value, &mut spelled),
+        None => return Ok(false),
+    };
+    if !is_spelled {
+        return Ok(false);
+    }
+    pages.edit(page, &spelled)?;
+    Ok(true)
+}
 
 /// Puts the bytes of the leaf that these bytes spell, with an entry more behind its first row, into `spelled`. `false` tells that they
 /// spell no leaf, that it has no room, that the key is there, or that the entry would be the first one.
@@ -42,40 +78,4 @@ fn spell_entered(
     }
     node.spell_inserted(place, key, value, spelled);
     true
-}
-
-/// Puts an entry into the leaf of that page number, behind its first row. `false` tells that the leaf isn't in memory, or that the
-/// entry can't come there, and then nothing was done.
-pub(crate) fn enter_leaf(
-    pages: &mut PageMap,
-    layout: RowLayout,
-    page: u32,
-    key: &[u8],
-    value: &[u8],
-) -> Result<bool, PagesError>
-    requires open { IsOpen pages.old }
-    requires layout { IsRowLayout layout }
-    requires key { length key.now ≡ layout.key_length }
-    requires value { length value.now ≡ layout.value_length }
-    ensures done { result ≡ Ok true → (disk : Disk) → Agrees pages.old disk → EntersOn layout page key.now value.now (pages_of_map pages.old disk.present) (pages_of_map pages.new disk.present) }
-    ensures same { result ≡ Ok false → pages.new ≡ pages.old }
-    ensures changed_pages { FewChanged 1 pages.old pages.new }
-    ensures filled { FewFilled 1 pages.old pages.new }
-    ensures keeps { Keeps pages.old pages.new }
-    ensures cause { IfErr result IsPutRefusal }
-    ensures spent { OnlyIfSpent pages.old result }
-{
-    if page == 0 || page as usize >= pages.page_count() {
-        return Ok(false);
-    }
-    let mut spelled = [0; 4096];
-    let is_spelled = match pages.view(page) {
-        Some(bytes) => spell_entered(bytes, layout, key, value, &mut spelled),
-        None => return Ok(false),
-    };
-    if !is_spelled {
-        return Ok(false);
-    }
-    pages.edit(page, &spelled)?;
-    Ok(true)
 }

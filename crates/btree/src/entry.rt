@@ -1,8 +1,8 @@
 //! An entry of a tree.
 ghost use Rattle.std.specs.Prelude.{◌≡◌, ◌≤◌, length, take};
 
+use btree_pages::{Kind, MOST_ROW_BYTES, NodeView};
 use std::marker::Model;
-use tree_pages::{Kind, MOST_ROW_BYTES, NodeView};
 
 /// An entry, of its own: the row of its leaf in place, with room for the longest one.
 #[derive(Drop)]
@@ -33,7 +33,7 @@ fn put_front(bytes: &mut [u8; MOST_ROW_BYTES], part: &[u8])
 
 impl Entry {
     ghost use Rattle.std.specs.Prelude.{◌<◌, [], slice_index_or};
-    ghost use Rattle.tree_pages.specs.Node.{IsNode};
+    ghost use Rattle.btree_pages.specs.Node.{IsNode};
     ghost use Rattle.btree.specs.Entries.{HasLengths, entry_of};
 
     /// An entry without bytes.

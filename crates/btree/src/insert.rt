@@ -1,13 +1,13 @@
 //! A new entry.
 ghost use Rattle.std.specs.Prelude.{◌≡◌, ◌≤◌, ◌<◌, ◌+◌, Err, Ok, Some, None, length, true, false, IsSome, IfOk, IfErr, OnErr};
 ghost use Rattle.station.specs.Calls.{OnlyReads};
-ghost use Rattle.pages.specs.Pages.{IsOpen, Agrees, SameCommitted, committed_of, catalog_of, sectors_of, changed_pages_of, Unchanged};
+ghost use Rattle.pages.specs.Pages.{IsOpen, Agrees, SameCommitted, committed_of, catalog_of, sectors_of, changed_pages_of, IsUnchanged};
 ghost use Rattle.pages.specs.Use.{free_count};
-ghost use Rattle.tree_pages.specs.RowLayouts.{IsRowLayout};
+ghost use Rattle.btree_pages.specs.RowLayouts.{IsRowLayout};
 ghost use Rattle.btree.specs.Entries.{entries_of, entry_with};
 ghost use Rattle.btree.specs.Changes.{Inserts};
 ghost use Rattle.btree.specs.Refusals.{IsInsertRefusal};
-ghost use Rattle.btree.specs.Calls.{Agreed, OnNoTree, OnTree, OnTreeChange};
+ghost use Rattle.btree.specs.Calls.{IfAgrees, OnNoTree, OnTree, OnTreeChange};
 ghost use Rattle.btree.specs.Told.{TellsDamaged, ExactlyIfSpent, FullIfUsed, FewChanged, FewFilled};
 
 use crate::descend::{descend, follow};
@@ -15,10 +15,10 @@ use crate::enter_leaf::enter_leaf;
 use crate::insert_into_leaf::insert_into_leaf;
 use crate::put_new::first_leaf;
 use crate::tree::Tree;
+use btree_pages::RowLayout;
 use pages::{PageMap, PagesError, few_free};
 use station::Device;
 use std::alloc::Global;
-use tree_pages::RowLayout;
 
 /// Puts a new entry into the tree under a root, whatever it takes. Answers and refusals are those of `insert_entry`.
 #[cold]
@@ -41,12 +41,12 @@ fn insert_slowly<D: Device>(
     ensures inserted { OnTreeChange D.Device layout root pages.old pages.new device.old
         (λ before levels after. IfOk result (Inserts layout before levels after key.now value.now)) }
     ensures damaged { OnNoTree D.Device layout root pages.old device.old (TellsDamaged result) }
-    ensures there { result ≡ Ok None → Unchanged pages.old pages.new }
+    ensures there { result ≡ Ok None → IsUnchanged pages.old pages.new }
     ensures changed_pages { OnTree D.Device layout root pages.old device.old (λ levels. FewChanged 42 pages.old pages.new) }
     ensures filled { OnTree D.Device layout root pages.old device.old (λ levels. FewFilled 42 pages.old pages.new) }
     ensures committed { SameCommitted pages.old pages.new }
     ensures catalog { catalog_of pages.new ≡ catalog_of pages.old }
-    ensures agrees { Agreed D.Device pages.old device.old (Agrees pages.new (D.state device.new).disk) }
+    ensures agrees { IfAgrees D.Device pages.old device.old (Agrees pages.new (D.state device.new).disk) }
     ensures open { IsOpen pages.new }
     ensures full { FullIfUsed pages.new result }
     ensures spent { ExactlyIfSpent pages.old result }
@@ -87,12 +87,12 @@ fn insert_entry<D: Device>(
     ensures inserted { OnTreeChange D.Device layout root pages.old pages.new device.old
         (λ before levels after. IfOk result (Inserts layout before levels after key.now value.now)) }
     ensures damaged { OnNoTree D.Device layout root pages.old device.old (TellsDamaged result) }
-    ensures there { result ≡ Ok None → Unchanged pages.old pages.new }
+    ensures there { result ≡ Ok None → IsUnchanged pages.old pages.new }
     ensures changed_pages { OnTree D.Device layout root pages.old device.old (λ levels. FewChanged 42 pages.old pages.new) }
     ensures filled { OnTree D.Device layout root pages.old device.old (λ levels. FewFilled 42 pages.old pages.new) }
     ensures committed { SameCommitted pages.old pages.new }
     ensures catalog { catalog_of pages.new ≡ catalog_of pages.old }
-    ensures agrees { Agreed D.Device pages.old device.old (Agrees pages.new (D.state device.new).disk) }
+    ensures agrees { IfAgrees D.Device pages.old device.old (Agrees pages.new (D.state device.new).disk) }
     ensures open { IsOpen pages.new }
     ensures full { FullIfUsed pages.new result }
     ensures spent { ExactlyIfSpent pages.old result }
@@ -138,7 +138,7 @@ impl Tree {
             (λ before levels after. result ≡ Ok true → Inserts self.old.layout before levels after key.now value.now (Some self.new.root)) }
         ensures there { OnTree D.Device self.old.layout self.old.root pages.old device.old
             (λ levels. result ≡ Ok false → IsSome (entry_with (entries_of self.old.layout levels) key.now)) }
-        ensures same { result ≡ Ok false → Unchanged pages.old pages.new × (self.new ≡ self.old) }
+        ensures same { result ≡ Ok false → IsUnchanged pages.old pages.new × (self.new ≡ self.old) }
         ensures damaged { OnNoTree D.Device self.old.layout self.old.root pages.old device.old (TellsDamaged result) }
         ensures layout { self.new.layout ≡ self.old.layout }
         ensures refused { OnErr result (self.new ≡ self.old) }
@@ -148,7 +148,7 @@ impl Tree {
         ensures filled { OnTree D.Device self.old.layout self.old.root pages.old device.old (λ levels. FewFilled 42 pages.old pages.new) }
         ensures committed { SameCommitted pages.old pages.new }
         ensures catalog { catalog_of pages.new ≡ catalog_of pages.old }
-        ensures agrees { Agreed D.Device pages.old device.old (Agrees pages.new (D.state device.new).disk) }
+        ensures agrees { IfAgrees D.Device pages.old device.old (Agrees pages.new (D.state device.new).disk) }
         ensures open { IsOpen pages.new }
 
         // `Full` tells that each page number is used, and so that few sectors were free. `Spent` comes exactly where the map is spent.

@@ -2,13 +2,13 @@
 ghost use Rattle.std.specs.Prelude.{◌≡◌, ◌≤◌, ◌<◌, ◌+◌, ◌*◌, Err, Some, List, length, IfOk, IfErr, IfSome};
 ghost use Rattle.station.specs.Disk.{Sector};
 ghost use Rattle.station.specs.Calls.{OnlyReads};
-ghost use Rattle.pages.specs.Pages.{IsOpen, Agrees, SameCommitted, catalog_of, sectors_of, changed_pages_of, filled_of, Keeps};
-ghost use Rattle.tree_pages.specs.RowLayouts.{IsRowLayout};
+ghost use Rattle.pages.specs.Pages.{IsOpen, Agrees, SameCommitted, catalog_of, sectors_of, changed_pages_of, filled_of, KeepsCommitted};
+ghost use Rattle.btree_pages.specs.RowLayouts.{IsRowLayout};
 ghost use Rattle.btree.specs.Tree.{TreeNode, IsTree};
 ghost use Rattle.btree.specs.Path.{EndsAt};
-ghost use Rattle.btree.specs.Changes.{pages_of_map, HasKeys, Settles, InsertsIntoLeaf};
+ghost use Rattle.btree.specs.Changes.{pages_of_map, HasKeys, IsRootAfter, InsertsIntoLeaf};
 ghost use Rattle.btree.specs.Refusals.{IsWriteRefusal, IsInsertRefusal};
-ghost use Rattle.btree.specs.Calls.{Agreed, OnPages, OnChange};
+ghost use Rattle.btree.specs.Calls.{IfAgrees, OnPages, OnChange};
 ghost use Rattle.btree.specs.Told.{OnlyIfSpent, FullIfUsed, FewChanged, FewFilled};
 
 use crate::descend::Descent;
@@ -17,12 +17,12 @@ use crate::put_new::new_root;
 use crate::put_row::put_row;
 use crate::split_result::SplitResult;
 use crate::update_parent::told;
+use btree_pages::{Kind, RowLayout};
 use pages::{PageMap, PagesError};
 use station::Device;
-use tree_pages::{Kind, RowLayout};
 
 /// The page of the root, after what is told of the one there was.
-pub(crate) fn settle(
+pub(crate) fn root_after_split(
     pages: &mut PageMap,
     layout: RowLayout,
     root: u32,
@@ -31,11 +31,11 @@ pub(crate) fn settle(
     requires open { IsOpen pages.old }
     requires layout { IsRowLayout layout }
     requires keys { IfSome told (HasKeys layout) }
-    ensures settles { IfOk result (λ new. (image : List Sector) → Settles layout root told (pages_of_map pages.old image) (pages_of_map pages.new image) new) }
+    ensures settles { IfOk result (λ new. (image : List Sector) → IsRootAfter layout root told (pages_of_map pages.old image) (pages_of_map pages.new image) new) }
     ensures some { 0 < root → IfOk result (λ new. 0 < new) }
     ensures changed_pages { FewChanged 1 pages.old pages.new }
     ensures filled { FewFilled 1 pages.old pages.new }
-    ensures keeps { Keeps pages.old pages.new }
+    ensures keeps { KeepsCommitted pages.old pages.new }
     ensures cause { IfErr result IsWriteRefusal }
     ensures full { FullIfUsed pages.new result }
     ensures spent { OnlyIfSpent pages.old result }
@@ -81,7 +81,7 @@ pub(crate) fn insert_into_leaf<D: Device>(
     ensures filled { filled_of pages.new ≤ filled_of pages.old + 2 * length descent.path.items + 3 }
     ensures committed { SameCommitted pages.old pages.new }
     ensures catalog { catalog_of pages.new ≡ catalog_of pages.old }
-    ensures agrees { Agreed D.Device pages.old device.old (Agrees pages.new (D.state device.new).disk) }
+    ensures agrees { IfAgrees D.Device pages.old device.old (Agrees pages.new (D.state device.new).disk) }
     ensures open { IsOpen pages.new }
     ensures cause { IfErr result IsInsertRefusal }
     ensures full { FullIfUsed pages.new result }
@@ -99,6 +99,6 @@ pub(crate) fn insert_into_leaf<D: Device>(
         None => return Ok(root),
     };
     let up = propagate_split(pages, device, layout, descent.path.as_slice(), split)?;
-    let new = settle(pages, layout, root, up)?;
+    let new = root_after_split(pages, layout, root, up)?;
     Ok(new)
 }

@@ -1,27 +1,17 @@
 //! A page of a tree is read.
 ghost use Rattle.std.specs.Prelude.{◌≡◌, ◌≤◌, ◌<◌, Err, Some, IfOk, IfErr, OnErr};
 ghost use Rattle.station.specs.Calls.{OnlyReads};
-ghost use Rattle.pages.specs.Pages.{sectors_of, Agrees, IsOpen, Unchanged};
-ghost use Rattle.tree_pages.specs.RowLayouts.{IsRowLayout};
-ghost use Rattle.tree_pages.specs.Node.{IsNode, node_in};
+ghost use Rattle.pages.specs.Pages.{sectors_of, Agrees, IsOpen, IsUnchanged};
+ghost use Rattle.btree_pages.specs.RowLayouts.{IsRowLayout};
+ghost use Rattle.btree_pages.specs.Node.{IsNode, node_in};
 ghost use Rattle.btree.specs.Tree.{node_at, fewest};
 ghost use Rattle.btree.specs.Reading.{IsReadRefusal, SpellsNoNode, NoneStands, HasShape};
-ghost use Rattle.btree.specs.Calls.{Agreed, OnPages};
+ghost use Rattle.btree.specs.Calls.{IfAgrees, OnPages};
 ghost use Rattle.btree.specs.Told.{TellsDamaged, ExactlyIfSpent};
 
+use btree_pages::{Kind, NodeView, RowLayout, TreePage};
 use pages::{PageMap, PagesError};
 use station::Device;
-use tree_pages::{Kind, NodeView, RowLayout, TreePage};
-
-/// How many rows a page of a tree has at least.
-fn fewest_rows(kind: Kind) -> usize
-    ensures { result ≡ fewest kind }
-{
-    match kind {
-        Kind::Leaf => 1,
-        Kind::Inner => 2,
-    }
-}
 
 /// The page of a tree that these bytes spell. `Damaged` tells that they spell none, or one that has too few rows.
 pub(crate) fn view_node(bytes: &[u8; 4096], layout: RowLayout) -> Result<NodeView<'_>, PagesError>
@@ -40,6 +30,44 @@ pub(crate) fn view_node(bytes: &[u8; 4096], layout: RowLayout) -> Result<NodeVie
         return Err(PagesError::Damaged);
     }
     Ok(node)
+}
+
+/// The page of that number. `Damaged` tells that it is none of a tree, or has too few rows.
+pub fn read_node<D: Device>(
+    pages: &mut PageMap,
+    device: &mut D,
+    layout: RowLayout,
+    page: u32,
+) -> Result<TreePage, PagesError>
+    requires open { IsOpen pages.old }
+    requires sectors { sectors_of pages.old ≤ D.sectors device.old }
+    requires layout { IsRowLayout layout }
+    ensures only { OnlyReads D.Device (result ≡ Err PagesError.Device) device.old device.new }
+    ensures unchanged { IsUnchanged pages.old pages.new }
+    ensures agrees { IfAgrees D.Device pages.old device.old (Agrees pages.new (D.state device.new).disk) }
+    ensures open { IsOpen pages.new }
+    ensures node { OnPages D.Device pages.old device.old (λ before. IfOk result (λ node. node_at layout before page ≡ Some node)) }
+    ensures shape { IfOk result (HasShape layout) }
+    ensures is_node { IfOk result IsNode }
+    ensures damaged { OnPages D.Device pages.old device.old (NoneStands layout page (TellsDamaged result)) }
+    ensures spent { ExactlyIfSpent pages.old result }
+    ensures cause { IfErr result IsReadRefusal }
+{
+    pages.note_use(page);
+    if let Some(bytes) = pages.view(page) {
+        return copy_node(bytes, layout);
+    }
+    node_loaded(pages, device, layout, page)
+}
+
+/// How many rows a page of a tree has at least.
+fn fewest_rows(kind: Kind) -> usize
+    ensures { result ≡ fewest kind }
+{
+    match kind {
+        Kind::Leaf => 1,
+        Kind::Inner => 2,
+    }
 }
 
 /// The page of a tree that these bytes spell, of its own. Refusals are those of `view_node`.
@@ -65,8 +93,8 @@ fn node_read<D: Device>(
     requires sectors { sectors_of pages.old ≤ D.sectors device.old }
     requires layout { IsRowLayout layout }
     ensures only { OnlyReads D.Device (result ≡ Err PagesError.Device) device.old device.new }
-    ensures unchanged { Unchanged pages.old pages.new }
-    ensures agrees { Agreed D.Device pages.old device.old (Agrees pages.new (D.state device.new).disk) }
+    ensures unchanged { IsUnchanged pages.old pages.new }
+    ensures agrees { IfAgrees D.Device pages.old device.old (Agrees pages.new (D.state device.new).disk) }
     ensures open { IsOpen pages.new }
     ensures node { OnPages D.Device pages.old device.old (λ before. IfOk result (λ node. node_at layout before page ≡ Some node)) }
     ensures shape { IfOk result (HasShape layout) }
@@ -94,8 +122,8 @@ fn node_loaded<D: Device>(
     requires sectors { sectors_of pages.old ≤ D.sectors device.old }
     requires layout { IsRowLayout layout }
     ensures only { OnlyReads D.Device (result ≡ Err PagesError.Device) device.old device.new }
-    ensures unchanged { Unchanged pages.old pages.new }
-    ensures agrees { Agreed D.Device pages.old device.old (Agrees pages.new (D.state device.new).disk) }
+    ensures unchanged { IsUnchanged pages.old pages.new }
+    ensures agrees { IfAgrees D.Device pages.old device.old (Agrees pages.new (D.state device.new).disk) }
     ensures open { IsOpen pages.new }
     ensures node { OnPages D.Device pages.old device.old (λ before. IfOk result (λ node. node_at layout before page ≡ Some node)) }
     ensures shape { IfOk result (HasShape layout) }
@@ -109,32 +137,4 @@ fn node_loaded<D: Device>(
         return copy_node(bytes, layout);
     }
     node_read(pages, device, layout, page)
-}
-
-/// The page of that number. `Damaged` tells that it is none of a tree, or has too few rows.
-pub fn read_node<D: Device>(
-    pages: &mut PageMap,
-    device: &mut D,
-    layout: RowLayout,
-    page: u32,
-) -> Result<TreePage, PagesError>
-    requires open { IsOpen pages.old }
-    requires sectors { sectors_of pages.old ≤ D.sectors device.old }
-    requires layout { IsRowLayout layout }
-    ensures only { OnlyReads D.Device (result ≡ Err PagesError.Device) device.old device.new }
-    ensures unchanged { Unchanged pages.old pages.new }
-    ensures agrees { Agreed D.Device pages.old device.old (Agrees pages.new (D.state device.new).disk) }
-    ensures open { IsOpen pages.new }
-    ensures node { OnPages D.Device pages.old device.old (λ before. IfOk result (λ node. node_at layout before page ≡ Some node)) }
-    ensures shape { IfOk result (HasShape layout) }
-    ensures is_node { IfOk result IsNode }
-    ensures damaged { OnPages D.Device pages.old device.old (NoneStands layout page (TellsDamaged result)) }
-    ensures spent { ExactlyIfSpent pages.old result }
-    ensures cause { IfErr result IsReadRefusal }
-{
-    pages.note_use(page);
-    if let Some(bytes) = pages.view(page) {
-        return copy_node(bytes, layout);
-    }
-    node_loaded(pages, device, layout, page)
 }

@@ -1,11 +1,11 @@
 //! A change goes up from a leaf, along the way that led down to it.
 ghost use Rattle.std.specs.Prelude.{◌≡◌, ◌≤◌, ◌<◌, ◌*◌, Err, Some, length, IfOk, IfErr, IfSome};
 ghost use Rattle.station.specs.Calls.{OnlyReads};
-ghost use Rattle.pages.specs.Pages.{IsOpen, Agrees, SameCommitted, catalog_of, sectors_of, Keeps};
-ghost use Rattle.tree_pages.specs.RowLayouts.{IsRowLayout};
+ghost use Rattle.pages.specs.Pages.{IsOpen, Agrees, SameCommitted, catalog_of, sectors_of, KeepsCommitted};
+ghost use Rattle.btree_pages.specs.RowLayouts.{IsRowLayout};
 ghost use Rattle.btree.specs.Changes.{HasKeys, PropagatesBy, NeverPropagates};
 ghost use Rattle.btree.specs.Refusals.{IsParentRefusal, IsInsertRefusal};
-ghost use Rattle.btree.specs.Calls.{Agreed, OnPages, OnChange};
+ghost use Rattle.btree.specs.Calls.{IfAgrees, OnPages, OnChange};
 ghost use Rattle.btree.specs.Told.{TellsDamaged, OnlyIfSpent, FullIfUsed, FewChanged, FewFilled};
 ghost use Rattle.btree.specs.Puts.{PutsParent, NeverLeads};
 
@@ -13,44 +13,9 @@ use crate::node::read_node;
 use crate::path_step::PathStep;
 use crate::split_result::SplitResult;
 use crate::update_parent::update_parent;
+use btree_pages::{Kind, RowLayout, TreePage};
 use pages::{PageMap, PagesError};
 use station::Device;
-use tree_pages::{Kind, RowLayout, TreePage};
-
-/// The page at a step learns what became of the child that the step led to. `Damaged` tells that the step leads to no such page.
-fn update_parent_at(
-    pages: &mut PageMap,
-    step: PathStep,
-    node: TreePage,
-    split: &SplitResult,
-) -> Result<Option<SplitResult>, PagesError>
-    requires open { IsOpen pages.old }
-    requires keys { HasKeys node.layout split.now }
-    ensures pages { IfOk result (PutsParent pages.old pages.new step.page node step.place split.now) }
-    ensures keys { IfOk result (λ up. IfSome up (HasKeys node.layout)) }
-    ensures changed_pages { FewChanged 2 pages.old pages.new }
-    ensures filled { FewFilled 2 pages.old pages.new }
-    ensures keeps { Keeps pages.old pages.new }
-    ensures damaged { NeverLeads pages.old step node (TellsDamaged result) }
-    ensures cause { IfErr result IsParentRefusal }
-    ensures full { FullIfUsed pages.new result }
-    ensures spent { OnlyIfSpent pages.old result }
-{
-    if node.kind() != Kind::Inner {
-        return Err(PagesError::Damaged);
-    }
-    if node.count() <= step.place {
-        return Err(PagesError::Damaged);
-    }
-    if step.page == 0 {
-        return Err(PagesError::Damaged);
-    }
-    if pages.page_count() <= step.page as usize {
-        return Err(PagesError::Damaged);
-    }
-    let up = update_parent(pages, step.page, node, step.place, split)?;
-    Ok(up)
-}
 
 /// Tells the pages on the way, from its end on, what became of the page below each: the leaf at the end became `split`. The answer is
 /// what became of the page at the beginning, `None` if nothing that a page above it would have to know.
@@ -74,7 +39,7 @@ pub(crate) fn propagate_split<D: Device>(
     ensures filled { FewFilled (2 * length path.now) pages.old pages.new }
     ensures committed { SameCommitted pages.old pages.new }
     ensures catalog { catalog_of pages.new ≡ catalog_of pages.old }
-    ensures agrees { Agreed D.Device pages.old device.old (Agrees pages.new (D.state device.new).disk) }
+    ensures agrees { IfAgrees D.Device pages.old device.old (Agrees pages.new (D.state device.new).disk) }
     ensures open { IsOpen pages.new }
     ensures cause { IfErr result IsInsertRefusal }
     ensures full { FullIfUsed pages.new result }
@@ -90,5 +55,40 @@ pub(crate) fn propagate_split<D: Device>(
     };
     let node = read_node(pages, device, layout, step.page)?;
     let up = update_parent_at(pages, *step, node, &told)?;
+    Ok(up)
+}
+
+/// The page at a step learns what became of the child that the step led to. `Damaged` tells that the step leads to no such page.
+fn update_parent_at(
+    pages: &mut PageMap,
+    step: PathStep,
+    node: TreePage,
+    split: &SplitResult,
+) -> Result<Option<SplitResult>, PagesError>
+    requires open { IsOpen pages.old }
+    requires keys { HasKeys node.layout split.now }
+    ensures pages { IfOk result (PutsParent pages.old pages.new step.page node step.place split.now) }
+    ensures keys { IfOk result (λ up. IfSome up (HasKeys node.layout)) }
+    ensures changed_pages { FewChanged 2 pages.old pages.new }
+    ensures filled { FewFilled 2 pages.old pages.new }
+    ensures keeps { KeepsCommitted pages.old pages.new }
+    ensures damaged { NeverLeads pages.old step node (TellsDamaged result) }
+    ensures cause { IfErr result IsParentRefusal }
+    ensures full { FullIfUsed pages.new result }
+    ensures spent { OnlyIfSpent pages.old result }
+{
+    if node.kind() != Kind::Inner {
+        return Err(PagesError::Damaged);
+    }
+    if node.count() <= step.place {
+        return Err(PagesError::Damaged);
+    }
+    if step.page == 0 {
+        return Err(PagesError::Damaged);
+    }
+    if pages.page_count() <= step.page as usize {
+        return Err(PagesError::Damaged);
+    }
+    let up = update_parent(pages, step.page, node, step.place, split)?;
     Ok(up)
 }

@@ -1,34 +1,14 @@
 //! A new page of a tree.
 ghost use Rattle.std.specs.Prelude.{◌≡◌, ◌<◌, ◌+◌, ◌++◌, [], ◌∷◌, length, IfOk, IfErr};
-ghost use Rattle.pages.specs.Pages.{IsOpen, Keeps};
-ghost use Rattle.tree_pages.specs.RowLayouts.{IsRowLayout};
+ghost use Rattle.pages.specs.Pages.{IsOpen, KeepsCommitted};
+ghost use Rattle.btree_pages.specs.RowLayouts.{IsRowLayout};
 ghost use Rattle.btree.specs.Refusals.{IsWriteRefusal};
 ghost use Rattle.btree.specs.Told.{ExactlyIfSpent, FullIfUsed, FewChanged, FewFilled};
 ghost use Rattle.btree.specs.Puts.{PutsNew, PutsRows, two_rows};
 
 use crate::split_result::{Right, SplitResult};
+use btree_pages::{Kind, RowLayout, TreePage};
 use pages::{PageMap, PagesError};
-use tree_pages::{Kind, RowLayout, TreePage};
-
-/// Puts a node on a page that wasn't in the map.
-fn put_new(pages: &mut PageMap, node: TreePage) -> Result<u32, PagesError>
-    requires open { IsOpen pages.old }
-    ensures some { IfOk result (λ page. 0 < page) }
-    ensures pages { IfOk result (PutsNew pages.old pages.new node) }
-    ensures changed_pages { FewChanged 1 pages.old pages.new }
-    ensures filled { FewFilled 1 pages.old pages.new }
-    ensures keeps { Keeps pages.old pages.new }
-    ensures cause { IfErr result IsWriteRefusal }
-    ensures full { FullIfUsed pages.new result }
-    ensures spent { ExactlyIfSpent pages.old result }
-{
-    // How many page numbers there are is needed below.
-    let _page_count = pages.page_count();
-    let page = pages.allocate()?;
-    let spelled = node.bytes();
-    pages.edit(page, &spelled)?;
-    Ok(page)
-}
 
 /// The first page of a tree: a leaf with one row.
 #[tactic(auto, using(crate::proofs::SplitNodes::three_fit))]
@@ -46,7 +26,7 @@ pub(crate) fn first_leaf(
     ensures pages { IfOk result (PutsRows layout Kind.Leaf pages.old pages.new ((key.now ++ value.now) ∷ [])) }
     ensures changed_pages { FewChanged 1 pages.old pages.new }
     ensures filled { FewFilled 1 pages.old pages.new }
-    ensures keeps { Keeps pages.old pages.new }
+    ensures keeps { KeepsCommitted pages.old pages.new }
     ensures cause { IfErr result IsWriteRefusal }
     ensures full { FullIfUsed pages.new result }
     ensures spent { ExactlyIfSpent pages.old result }
@@ -75,7 +55,7 @@ pub(crate) fn new_root(
     ensures pages { IfOk result (PutsRows layout Kind.Inner pages.old pages.new (two_rows layout split.now right.now)) }
     ensures changed_pages { FewChanged 1 pages.old pages.new }
     ensures filled { FewFilled 1 pages.old pages.new }
-    ensures keeps { Keeps pages.old pages.new }
+    ensures keeps { KeepsCommitted pages.old pages.new }
     ensures cause { IfErr result IsWriteRefusal }
     ensures full { FullIfUsed pages.new result }
     ensures spent { ExactlyIfSpent pages.old result }
@@ -84,5 +64,25 @@ pub(crate) fn new_root(
     top.insert_child(0, split.left.key(0), split.page);
     top.insert_child(1, right.node.key(0), right.page);
     let page = put_new(pages, top)?;
+    Ok(page)
+}
+
+/// Puts a node on a page that wasn't in the map.
+fn put_new(pages: &mut PageMap, node: TreePage) -> Result<u32, PagesError>
+    requires open { IsOpen pages.old }
+    ensures some { IfOk result (λ page. 0 < page) }
+    ensures pages { IfOk result (PutsNew pages.old pages.new node) }
+    ensures changed_pages { FewChanged 1 pages.old pages.new }
+    ensures filled { FewFilled 1 pages.old pages.new }
+    ensures keeps { KeepsCommitted pages.old pages.new }
+    ensures cause { IfErr result IsWriteRefusal }
+    ensures full { FullIfUsed pages.new result }
+    ensures spent { ExactlyIfSpent pages.old result }
+{
+    // How many page numbers there are is needed below.
+    let _page_count = pages.page_count();
+    let page = pages.allocate()?;
+    let spelled = node.bytes();
+    pages.edit(page, &spelled)?;
     Ok(page)
 }

@@ -1,8 +1,8 @@
 //! A row comes into a page.
 ghost use Rattle.std.specs.Prelude.{◌≡◌, ◌≤◌, ◌<◌, ◌+◌, ◌++◌, length, IfOk, IfErr};
 ghost use Rattle.std.specs.List.{insert};
-ghost use Rattle.pages.specs.Pages.{IsOpen, IsPage, Keeps};
-ghost use Rattle.tree_pages.specs.RowLayouts.{rest_length, capacity};
+ghost use Rattle.pages.specs.Pages.{IsOpen, IsPage, KeepsCommitted};
+ghost use Rattle.btree_pages.specs.RowLayouts.{rest_length, capacity};
 ghost use Rattle.btree.specs.Changes.{CanTake, IsSplit};
 ghost use Rattle.btree.specs.Refusals.{IsPutRefusal, IsWriteRefusal};
 ghost use Rattle.btree.specs.Told.{ExactlyIfSpent, FullIfUsed, FewChanged, FewFilled};
@@ -10,8 +10,8 @@ ghost use Rattle.btree.specs.Puts.{PutsWhere, HasInserted};
 
 use crate::split_node::split_node;
 use crate::split_result::{Right, SplitResult};
+use btree_pages::TreePage;
 use pages::{PageMap, PagesError};
-use tree_pages::TreePage;
 
 /// Puts a row at a place of the node that stands on a page. Where the page is full, it gives rows to a new one to its right.
 pub(crate) fn put_row(
@@ -32,7 +32,7 @@ pub(crate) fn put_row(
     ensures split { IfOk result (λ split. IsSplit page node split) }
     ensures changed_pages { FewChanged 2 pages.old pages.new }
     ensures filled { FewFilled 2 pages.old pages.new }
-    ensures keeps { Keeps pages.old pages.new }
+    ensures keeps { KeepsCommitted pages.old pages.new }
     ensures cause { IfErr result IsWriteRefusal }
     ensures full { FullIfUsed pages.new result }
     ensures spent { ExactlyIfSpent pages.old result }
@@ -64,7 +64,7 @@ fn put_in_one(
     ensures split { IfOk result (λ split. IsSplit page node split) }
     ensures changed_pages { FewChanged 1 pages.old pages.new }
     ensures filled { FewFilled 1 pages.old pages.new }
-    ensures keeps { Keeps pages.old pages.new }
+    ensures keeps { KeepsCommitted pages.old pages.new }
     ensures cause { IfErr result IsPutRefusal }
     ensures spent { ExactlyIfSpent pages.old result }
 {
@@ -98,7 +98,7 @@ fn put_in_two(
     ensures split { IfOk result (λ split. IsSplit page node split) }
     ensures changed_pages { FewChanged 2 pages.old pages.new }
     ensures filled { FewFilled 2 pages.old pages.new }
-    ensures keeps { Keeps pages.old pages.new }
+    ensures keeps { KeepsCommitted pages.old pages.new }
     ensures cause { IfErr result IsWriteRefusal }
     ensures full { FullIfUsed pages.new result }
     ensures spent { ExactlyIfSpent pages.old result }

@@ -2,18 +2,18 @@
 ghost use Rattle.std.specs.Prelude.{◌≡◌, ◌≢◌, ◌≤◌, ◌<◌, ◌+◌, ◌++◌, Err, Some, [], length, map, take, drop, slice_index_or, IfSome, IfOk, IfErr, OnOk};
 ghost use Rattle.byteorder.specs.Endian.{big_bytes};
 ghost use Rattle.station.specs.Calls.{OnlyReads};
-ghost use Rattle.pages.specs.Pages.{IsOpen, IsPage, Agrees, SameCommitted, catalog_of, sectors_of, Keeps, Unchanged};
-ghost use Rattle.tree_pages.specs.RowLayouts.{IsRowLayout, capacity};
-ghost use Rattle.tree_pages.specs.Keys.{rest_of};
+ghost use Rattle.pages.specs.Pages.{IsOpen, IsPage, Agrees, SameCommitted, catalog_of, sectors_of, KeepsCommitted, IsUnchanged};
+ghost use Rattle.btree_pages.specs.RowLayouts.{IsRowLayout, capacity};
+ghost use Rattle.btree_pages.specs.Keys.{rest_of};
 ghost use Rattle.btree.specs.Tree.{TreeNode, node_at, row_of, rows_of, fewest};
 ghost use Rattle.btree.specs.Fills.{IsEven};
 ghost use Rattle.btree.specs.Reading.{IsReadRefusal, NoneOfKind};
 ghost use Rattle.btree.specs.Nodes.{SameNode};
 ghost use Rattle.btree.specs.Propagates.{run_of};
 ghost use Rattle.btree.specs.Changes.{CanStand, HasKeys};
-ghost use Rattle.btree.specs.Outcomes.{Fits, IsJoined, IsPair, Rebalanced};
+ghost use Rattle.btree.specs.Outcomes.{FitsAbove, IsJoined, IsPair, RebalancesNeighbours};
 ghost use Rattle.btree.specs.Refusals.{IsPutRefusal, IsRestRefusal};
-ghost use Rattle.btree.specs.Calls.{Agreed, OnPages, OnChange};
+ghost use Rattle.btree.specs.Calls.{IfAgrees, OnPages, OnChange};
 ghost use Rattle.btree.specs.Told.{TellsDamaged, OnlyIfSpent, ExactlyIfSpent, FewChanged, FewFilled, LeavesFewChanged, LeavesFewFilled};
 ghost use Rattle.btree.specs.Puts.{PutsTogether, JoinsPair, NeverTwo};
 
@@ -22,9 +22,57 @@ use crate::path_step::PathStep;
 use crate::removal_outcome::{Child, RemovalOutcome};
 use crate::shrink_page::{is_page, leads, write_back};
 use crate::split_result::{Right, SplitResult};
+use btree_pages::{Kind, RowLayout, TreePage};
 use pages::{PageMap, PagesError};
 use station::Device;
-use tree_pages::{Kind, RowLayout, TreePage};
+
+/// Too few rows are left for the child that a step led to. It is joined with the neighbour to its left, or to its right where it is
+/// the first. `Damaged` tells that the step leads to no such page.
+pub(crate) fn rebalance_at<D: Device>(
+    pages: &mut PageMap,
+    device: &mut D,
+    layout: RowLayout,
+    step: PathStep,
+    node: TreePage,
+    lone: Child,
+) -> Result<RemovalOutcome, PagesError>
+    requires open { IsOpen pages.old }
+    requires sectors { sectors_of pages.old ≤ D.sectors device.old }
+    requires layout { IsRowLayout layout }
+    requires node { node.layout ≡ layout }
+    requires lone { (lone.node.layout ≡ layout) × (0 < length lone.node.rows) }
+    ensures only { OnlyReads D.Device (result ≡ Err PagesError.Device) device.old device.new }
+    ensures rebalances { OnChange D.Device pages.old pages.new device.old
+        (λ before after. IfOk result (λ outcome. (left right : TreeNode) → CanStand before step.page node → IsPair layout lone.node.kind before step.page node.rows step.place lone.page left right → RebalancesNeighbours layout lone.node.kind before after step.page node.rows step.place lone.node.rows left right outcome)) }
+    ensures damaged { OnPages D.Device pages.old device.old
+        (λ before. result ≡ Err PagesError.Damaged → (left right : TreeNode) → node.kind ≡ Kind.Inner → step.place < length node.rows → 0 < step.page → 0 < left.page → 0 < right.page → IsPair layout lone.node.kind before step.page node.rows step.place lone.page left right → ⊥) }
+    ensures fits { IfOk result (FitsAbove layout) }
+    ensures changed_pages { IfOk result (LeavesFewChanged 3 pages.old pages.new) }
+    ensures filled { IfOk result (LeavesFewFilled 3 pages.old pages.new) }
+    ensures committed { SameCommitted pages.old pages.new }
+    ensures catalog { catalog_of pages.new ≡ catalog_of pages.old }
+    ensures agrees { IfAgrees D.Device pages.old device.old (Agrees pages.new (D.state device.new).disk) }
+    ensures open { IsOpen pages.new }
+    ensures spent { OnlyIfSpent pages.old result }
+    ensures cause { result ≢ Err PagesError.Full × result ≢ Err PagesError.ForeignMark }
+{
+    if !leads(pages, step, &node) {
+        return Err(PagesError::Damaged);
+    }
+    if node.count() < 2 {
+        return Err(PagesError::Damaged);
+    }
+    let kind = lone.node.kind();
+    if step.place == 0 {
+        let right = neighbour(pages, device, layout, kind, node.child(1))?;
+        let first = rebalance_pair(pages, step.page, node, 0, lone, right)?;
+        return Ok(first);
+    }
+    let place = step.place - 1;
+    let left = neighbour(pages, device, layout, kind, node.child(place))?;
+    let outcome = rebalance_pair(pages, step.page, node, place, left, lone)?;
+    Ok(outcome)
+}
 
 /// Two neighbours share their rows evenly.
 fn share_rows(left: &mut TreePage, right: &mut TreePage)
@@ -60,7 +108,7 @@ fn rebalance(pages: &mut PageMap, left: Child, right: Child) -> Result<SplitResu
     ensures even { IfOk result (λ joined. IsEven left.node.layout left.node.kind (run_of joined)) }
     ensures changed_pages { OnOk result (FewChanged 2 pages.old pages.new) }
     ensures filled { OnOk result (FewFilled 2 pages.old pages.new) }
-    ensures keeps { Keeps pages.old pages.new }
+    ensures keeps { KeepsCommitted pages.old pages.new }
     ensures damaged { NeverTwo pages.old left.page right.page (TellsDamaged result) }
     ensures spent { OnlyIfSpent pages.old result }
     ensures cause { IfErr result IsRestRefusal }
@@ -94,7 +142,7 @@ fn merge(pages: &mut PageMap, left: Child, right: Child) -> Result<SplitResult, 
     ensures even { IfOk result (λ joined. IsEven left.node.layout left.node.kind (run_of joined)) }
     ensures changed_pages { OnOk result (FewChanged 2 pages.old pages.new) }
     ensures filled { OnOk result (FewFilled 2 pages.old pages.new) }
-    ensures keeps { Keeps pages.old pages.new }
+    ensures keeps { KeepsCommitted pages.old pages.new }
     ensures spent { OnlyIfSpent pages.old result }
     ensures cause { IfErr result IsPutRefusal }
 {
@@ -126,7 +174,7 @@ fn redistribute(pages: &mut PageMap, left: Child, right: Child) -> Result<SplitR
     ensures even { IfOk result (λ joined. IsEven left.node.layout left.node.kind (run_of joined)) }
     ensures changed_pages { OnOk result (FewChanged 2 pages.old pages.new) }
     ensures filled { OnOk result (FewFilled 2 pages.old pages.new) }
-    ensures keeps { Keeps pages.old pages.new }
+    ensures keeps { KeepsCommitted pages.old pages.new }
     ensures spent { OnlyIfSpent pages.old result }
     ensures cause { IfErr result IsPutRefusal }
 {
@@ -188,10 +236,10 @@ fn rebalance_pair(
     requires like { SameNode left.node right.node }
     requires many { 2 ≤ length left.node.rows + length right.node.rows }
     ensures joins { IfOk result (JoinsPair pages.old pages.new page node place left right) }
-    ensures fits { IfOk result (Fits node.layout) }
+    ensures fits { IfOk result (FitsAbove node.layout) }
     ensures changed_pages { IfOk result (LeavesFewChanged 3 pages.old pages.new) }
     ensures filled { IfOk result (LeavesFewFilled 3 pages.old pages.new) }
-    ensures keeps { Keeps pages.old pages.new }
+    ensures keeps { KeepsCommitted pages.old pages.new }
     ensures damaged { NeverTwo pages.old left.page right.page (TellsDamaged result) }
     ensures spent { OnlyIfSpent pages.old result }
     ensures cause { IfErr result IsRestRefusal }
@@ -215,8 +263,8 @@ fn neighbour<D: Device>(
     requires sectors { sectors_of pages.old ≤ D.sectors device.old }
     requires layout { IsRowLayout layout }
     ensures only { OnlyReads D.Device (result ≡ Err PagesError.Device) device.old device.new }
-    ensures unchanged { Unchanged pages.old pages.new }
-    ensures agrees { Agreed D.Device pages.old device.old (Agrees pages.new (D.state device.new).disk) }
+    ensures unchanged { IsUnchanged pages.old pages.new }
+    ensures agrees { IfAgrees D.Device pages.old device.old (Agrees pages.new (D.state device.new).disk) }
     ensures catalog { catalog_of pages.new ≡ catalog_of pages.old }
     ensures open { IsOpen pages.new }
     ensures node { OnPages D.Device pages.old device.old (λ before. IfOk result (λ child. node_at layout before page ≡ Some child.node)) }
@@ -230,52 +278,4 @@ fn neighbour<D: Device>(
         return Err(PagesError::Damaged);
     }
     Ok(Child { page, node })
-}
-
-/// Too few rows are left for the child that a step led to. It is joined with the neighbour to its left, or to its right where it is
-/// the first. `Damaged` tells that the step leads to no such page.
-pub(crate) fn rebalance_at<D: Device>(
-    pages: &mut PageMap,
-    device: &mut D,
-    layout: RowLayout,
-    step: PathStep,
-    node: TreePage,
-    lone: Child,
-) -> Result<RemovalOutcome, PagesError>
-    requires open { IsOpen pages.old }
-    requires sectors { sectors_of pages.old ≤ D.sectors device.old }
-    requires layout { IsRowLayout layout }
-    requires node { node.layout ≡ layout }
-    requires lone { (lone.node.layout ≡ layout) × (0 < length lone.node.rows) }
-    ensures only { OnlyReads D.Device (result ≡ Err PagesError.Device) device.old device.new }
-    ensures rebalances { OnChange D.Device pages.old pages.new device.old
-        (λ before after. IfOk result (λ outcome. (left right : TreeNode) → CanStand before step.page node → IsPair layout lone.node.kind before step.page node.rows step.place lone.page left right → Rebalanced layout lone.node.kind before after step.page node.rows step.place lone.node.rows left right outcome)) }
-    ensures damaged { OnPages D.Device pages.old device.old
-        (λ before. result ≡ Err PagesError.Damaged → (left right : TreeNode) → node.kind ≡ Kind.Inner → step.place < length node.rows → 0 < step.page → 0 < left.page → 0 < right.page → IsPair layout lone.node.kind before step.page node.rows step.place lone.page left right → ⊥) }
-    ensures fits { IfOk result (Fits layout) }
-    ensures changed_pages { IfOk result (LeavesFewChanged 3 pages.old pages.new) }
-    ensures filled { IfOk result (LeavesFewFilled 3 pages.old pages.new) }
-    ensures committed { SameCommitted pages.old pages.new }
-    ensures catalog { catalog_of pages.new ≡ catalog_of pages.old }
-    ensures agrees { Agreed D.Device pages.old device.old (Agrees pages.new (D.state device.new).disk) }
-    ensures open { IsOpen pages.new }
-    ensures spent { OnlyIfSpent pages.old result }
-    ensures cause { result ≢ Err PagesError.Full × result ≢ Err PagesError.ForeignMark }
-{
-    if !leads(pages, step, &node) {
-        return Err(PagesError::Damaged);
-    }
-    if node.count() < 2 {
-        return Err(PagesError::Damaged);
-    }
-    let kind = lone.node.kind();
-    if step.place == 0 {
-        let right = neighbour(pages, device, layout, kind, node.child(1))?;
-        let first = rebalance_pair(pages, step.page, node, 0, lone, right)?;
-        return Ok(first);
-    }
-    let place = step.place - 1;
-    let left = neighbour(pages, device, layout, kind, node.child(place))?;
-    let outcome = rebalance_pair(pages, step.page, node, place, left, lone)?;
-    Ok(outcome)
 }

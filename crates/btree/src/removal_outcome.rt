@@ -1,5 +1,5 @@
 //! What a page became when rows left it.
-use tree_pages::TreePage;
+use btree_pages::TreePage;
 
 /// A page that an inner page names, with the rows that it has or is to have.
 #[derive(Drop)]

@@ -2,15 +2,15 @@
 ghost use Rattle.std.specs.Prelude.{◌≡◌, ◌≤◌, ◌<◌, Err, Ok, Some, None, true, false, List, length, IfOk, IfErr, OnOk, OnErr};
 ghost use Rattle.station.specs.Disk.{Sector};
 ghost use Rattle.station.specs.Calls.{OnlyReads};
-ghost use Rattle.pages.specs.Pages.{IsOpen, Agrees, SameCommitted, catalog_of, sectors_of, Keeps, Unchanged};
-ghost use Rattle.tree_pages.specs.RowLayouts.{IsRowLayout};
+ghost use Rattle.pages.specs.Pages.{IsOpen, Agrees, SameCommitted, catalog_of, sectors_of, KeepsCommitted, IsUnchanged};
+ghost use Rattle.btree_pages.specs.RowLayouts.{IsRowLayout};
 ghost use Rattle.btree.specs.Entries.{entries_of, entry_with};
 ghost use Rattle.btree.specs.Changes.{pages_of_map};
 ghost use Rattle.btree.specs.Outcomes.{spare};
-ghost use Rattle.btree.specs.Shrinks.{Collapsed, Stayed, SettlesShrunk, NeverSettles, Collapses};
+ghost use Rattle.btree.specs.Shrinks.{HasCollapsed, HasStayed, IsShrunkRoot, NeverIsShrunkRoot, Collapses};
 ghost use Rattle.btree.specs.Removals.{Removes};
 ghost use Rattle.btree.specs.Refusals.{IsRestRefusal, IsChangeRefusal};
-ghost use Rattle.btree.specs.Calls.{Agreed, OnNoTree, OnTree, OnTreeChange};
+ghost use Rattle.btree.specs.Calls.{IfAgrees, OnNoTree, OnTree, OnTreeChange};
 ghost use Rattle.btree.specs.Told.{TellsDamaged, OnlyIfSpent, ExactlyIfSpentAt, FewChanged, FewFilled};
 ghost use Rattle.btree.specs.Puts.{NeverIn};
 
@@ -19,19 +19,19 @@ use crate::removal_outcome::{Child, RemovalOutcome};
 use crate::shrink::shrink;
 use crate::shrink_page::{is_page, take_out};
 use crate::tree::Tree;
+use btree_pages::{Kind, RowLayout};
 use pages::{PageMap, PagesError};
 use station::Device;
 use std::alloc::Global;
-use tree_pages::{Kind, RowLayout};
 
 /// An inner page with one row gives way to the child that it names.
 fn collapse_root(pages: &mut PageMap, lone: Child) -> Result<u32, PagesError>
     requires open { IsOpen pages.old }
     requires lone { (lone.node.kind ≡ Kind.Inner) × (length lone.node.rows ≡ 1) }
-    ensures gives { IfOk result (λ new. (image : List Sector) → Collapsed (pages_of_map pages.old image) (pages_of_map pages.new image) lone new) }
+    ensures gives { IfOk result (λ new. (image : List Sector) → HasCollapsed (pages_of_map pages.old image) (pages_of_map pages.new image) lone new) }
     ensures changed_pages { OnOk result (FewChanged 1 pages.old pages.new) }
     ensures filled { OnOk result (FewFilled 1 pages.old pages.new) }
-    ensures keeps { Keeps pages.old pages.new }
+    ensures keeps { KeepsCommitted pages.old pages.new }
     ensures damaged { NeverIn pages.old lone.page (TellsDamaged result) }
     ensures spent { OnlyIfSpent pages.old result }
     ensures cause { IfErr result IsRestRefusal }
@@ -47,10 +47,10 @@ fn collapse_root(pages: &mut PageMap, lone: Child) -> Result<u32, PagesError>
 fn keep_leaf(pages: &mut PageMap, lone: Child) -> Result<u32, PagesError>
     requires open { IsOpen pages.old }
     requires lone { (lone.node.kind ≡ Kind.Leaf) × (0 < length lone.node.rows) }
-    ensures stays { IfOk result (λ new. (image : List Sector) → Stayed (pages_of_map pages.old image) (pages_of_map pages.new image) lone new) }
+    ensures stays { IfOk result (λ new. (image : List Sector) → HasStayed (pages_of_map pages.old image) (pages_of_map pages.new image) lone new) }
     ensures changed_pages { OnOk result (FewChanged 1 pages.old pages.new) }
     ensures filled { OnOk result (FewFilled 1 pages.old pages.new) }
-    ensures keeps { Keeps pages.old pages.new }
+    ensures keeps { KeepsCommitted pages.old pages.new }
     ensures damaged { NeverIn pages.old lone.page (TellsDamaged result) }
     ensures spent { OnlyIfSpent pages.old result }
     ensures cause { IfErr result IsRestRefusal }
@@ -66,14 +66,18 @@ fn keep_leaf(pages: &mut PageMap, lone: Child) -> Result<u32, PagesError>
 }
 
 /// The page of the root, after what became of the one there was: 0 where it is gone.
-fn settle_shrunk(pages: &mut PageMap, root: u32, outcome: RemovalOutcome) -> Result<u32, PagesError>
+fn root_after_removal(
+    pages: &mut PageMap,
+    root: u32,
+    outcome: RemovalOutcome,
+) -> Result<u32, PagesError>
     requires open { IsOpen pages.old }
     requires one { Collapses outcome }
-    ensures settles { IfOk result (λ new. (image : List Sector) (layout : RowLayout) → SettlesShrunk layout root outcome (pages_of_map pages.old image) (pages_of_map pages.new image) new) }
+    ensures settles { IfOk result (λ new. (image : List Sector) (layout : RowLayout) → IsShrunkRoot layout root outcome (pages_of_map pages.old image) (pages_of_map pages.new image) new) }
     ensures changed_pages { OnOk result (FewChanged (spare outcome) pages.old pages.new) }
     ensures filled { OnOk result (FewFilled (spare outcome) pages.old pages.new) }
-    ensures keeps { Keeps pages.old pages.new }
-    ensures damaged { result ≡ Err PagesError.Damaged → (image : List Sector) (layout : RowLayout) → NeverSettles layout root outcome (pages_of_map pages.old image) }
+    ensures keeps { KeepsCommitted pages.old pages.new }
+    ensures damaged { result ≡ Err PagesError.Damaged → (image : List Sector) (layout : RowLayout) → NeverIsShrunkRoot layout root outcome (pages_of_map pages.old image) }
     ensures spent { OnlyIfSpent pages.old result }
     ensures cause { IfErr result IsRestRefusal }
 {
@@ -105,12 +109,12 @@ fn remove_entry<D: Device>(
     ensures removed { OnTreeChange D.Device layout root pages.old pages.new device.old
         (λ before levels after. IfOk result (Removes layout before levels after key.now)) }
     ensures damaged { OnNoTree D.Device layout root pages.old device.old (TellsDamaged result) }
-    ensures missing { result ≡ Ok None → Unchanged pages.old pages.new }
+    ensures missing { result ≡ Ok None → IsUnchanged pages.old pages.new }
     ensures changed_pages { OnTree D.Device layout root pages.old device.old (λ levels. OnOk result (FewChanged 42 pages.old pages.new)) }
     ensures filled { OnTree D.Device layout root pages.old device.old (λ levels. OnOk result (FewFilled 42 pages.old pages.new)) }
     ensures committed { SameCommitted pages.old pages.new }
     ensures catalog { catalog_of pages.new ≡ catalog_of pages.old }
-    ensures agrees { Agreed D.Device pages.old device.old (Agrees pages.new (D.state device.new).disk) }
+    ensures agrees { IfAgrees D.Device pages.old device.old (Agrees pages.new (D.state device.new).disk) }
     ensures open { IsOpen pages.new }
     ensures spent { ExactlyIfSpentAt root pages.old result }
     ensures cause { IfErr result IsChangeRefusal }
@@ -130,7 +134,7 @@ fn remove_entry<D: Device>(
     }
     let out = take_out(pages, descent.page, descent.leaf, place)?;
     let outcome = shrink(pages, device, layout, descent.path.as_slice(), out)?;
-    let new = settle_shrunk(pages, root, outcome)?;
+    let new = root_after_removal(pages, root, outcome)?;
     Ok(Some(new))
 }
 
@@ -153,7 +157,7 @@ impl Tree {
             (λ before levels after. result ≡ Ok true → Removes self.old.layout before levels after key.now (Some self.new.root)) }
         ensures missing { OnTree D.Device self.old.layout self.old.root pages.old device.old
             (λ levels. result ≡ Ok false → entry_with (entries_of self.old.layout levels) key.now ≡ None) }
-        ensures same { result ≡ Ok false → Unchanged pages.old pages.new × (self.new ≡ self.old) }
+        ensures same { result ≡ Ok false → IsUnchanged pages.old pages.new × (self.new ≡ self.old) }
         ensures damaged { OnNoTree D.Device self.old.layout self.old.root pages.old device.old (TellsDamaged result) }
         ensures layout { self.new.layout ≡ self.old.layout }
 
@@ -162,7 +166,7 @@ impl Tree {
         ensures filled { OnTree D.Device self.old.layout self.old.root pages.old device.old (λ levels. OnOk result (FewFilled 42 pages.old pages.new)) }
         ensures committed { SameCommitted pages.old pages.new }
         ensures catalog { catalog_of pages.new ≡ catalog_of pages.old }
-        ensures agrees { Agreed D.Device pages.old device.old (Agrees pages.new (D.state device.new).disk) }
+        ensures agrees { IfAgrees D.Device pages.old device.old (Agrees pages.new (D.state device.new).disk) }
         ensures open { IsOpen pages.new }
         ensures refused { OnErr result (self.new ≡ self.old) }
         ensures spent { ExactlyIfSpentAt self.old.root pages.old result }

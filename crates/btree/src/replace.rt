@@ -1,12 +1,12 @@
 //! Another value for an entry.
 ghost use Rattle.std.specs.Prelude.{◌≡◌, ◌≤◌, ◌<◌, Err, Ok, true, false, None, length, IsSome, IfErr, OnOk};
 ghost use Rattle.station.specs.Calls.{OnlyReads};
-ghost use Rattle.pages.specs.Pages.{IsOpen, Agrees, SameCommitted, catalog_of, sectors_of, Keeps, Unchanged};
-ghost use Rattle.tree_pages.specs.RowLayouts.{rest_length};
+ghost use Rattle.pages.specs.Pages.{IsOpen, Agrees, SameCommitted, catalog_of, sectors_of, KeepsCommitted, IsUnchanged};
+ghost use Rattle.btree_pages.specs.RowLayouts.{rest_length};
 ghost use Rattle.btree.specs.Entries.{entries_of, entry_with, with_value};
 ghost use Rattle.btree.specs.Changes.{Becomes};
 ghost use Rattle.btree.specs.Refusals.{IsRestRefusal, IsChangeRefusal};
-ghost use Rattle.btree.specs.Calls.{Agreed, OnNoTree, OnTree, OnTreeChange};
+ghost use Rattle.btree.specs.Calls.{IfAgrees, OnNoTree, OnTree, OnTreeChange};
 ghost use Rattle.btree.specs.Told.{TellsDamaged, OnlyIfSpent, ExactlyIfSpentAt, FewChanged, FewFilled};
 ghost use Rattle.btree.specs.Puts.{PutsRest, NeverIn};
 
@@ -14,9 +14,9 @@ use crate::descend::{descend, follow};
 use crate::set_value::set_value_in;
 use crate::tree::Tree;
 use crate::update_parent::put_back;
+use btree_pages::TreePage;
 use pages::{PageMap, PagesError};
 use station::Device;
-use tree_pages::TreePage;
 
 /// The row at a place of the node that stands on a page gets another rest. `Damaged` tells that there is no such page.
 fn put_rest(
@@ -32,7 +32,7 @@ fn put_rest(
     ensures pages { OnOk result (PutsRest pages.old pages.new page node place rest.now) }
     ensures changed_pages { FewChanged 1 pages.old pages.new }
     ensures filled { FewFilled 1 pages.old pages.new }
-    ensures keeps { Keeps pages.old pages.new }
+    ensures keeps { KeepsCommitted pages.old pages.new }
     ensures damaged { NeverIn pages.old page (TellsDamaged result) }
     ensures cause { IfErr result IsRestRefusal }
     ensures spent { OnlyIfSpent pages.old result }
@@ -68,14 +68,14 @@ impl Tree {
             (λ before levels after. result ≡ Ok true → IsSome (entry_with (entries_of self.old.layout levels) key.now) × Becomes self.old.layout before levels after self.old.root (with_value (entries_of self.old.layout levels) (record { key = key.now; value = value.now }))) }
         ensures missing { OnTree D.Device self.old.layout self.old.root pages.old device.old
             (λ levels. result ≡ Ok false → entry_with (entries_of self.old.layout levels) key.now ≡ None) }
-        ensures same { result ≡ Ok false → Unchanged pages.old pages.new }
+        ensures same { result ≡ Ok false → IsUnchanged pages.old pages.new }
         ensures damaged { OnNoTree D.Device self.old.layout self.old.root pages.old device.old (TellsDamaged result) }
         ensures tree { self.new ≡ self.old }
         ensures changed_pages { FewChanged 1 pages.old pages.new }
         ensures filled { FewFilled 1 pages.old pages.new }
         ensures committed { SameCommitted pages.old pages.new }
         ensures catalog { catalog_of pages.new ≡ catalog_of pages.old }
-        ensures agrees { Agreed D.Device pages.old device.old (Agrees pages.new (D.state device.new).disk) }
+        ensures agrees { IfAgrees D.Device pages.old device.old (Agrees pages.new (D.state device.new).disk) }
         ensures open { IsOpen pages.new }
         ensures spent { ExactlyIfSpentAt self.old.root pages.old result }
         ensures cause { IfErr result IsChangeRefusal }
@@ -113,14 +113,14 @@ impl Tree {
             (λ before levels after. result ≡ Ok true → IsSome (entry_with (entries_of self.old.layout levels) key.now) × Becomes self.old.layout before levels after self.old.root (with_value (entries_of self.old.layout levels) (record { key = key.now; value = value.now }))) }
         ensures missing { OnTree D.Device self.old.layout self.old.root pages.old device.old
             (λ levels. result ≡ Ok false → entry_with (entries_of self.old.layout levels) key.now ≡ None) }
-        ensures same { result ≡ Ok false → Unchanged pages.old pages.new }
+        ensures same { result ≡ Ok false → IsUnchanged pages.old pages.new }
         ensures damaged { OnNoTree D.Device self.old.layout self.old.root pages.old device.old (TellsDamaged result) }
         ensures tree { self.new ≡ self.old }
         ensures changed_pages { FewChanged 1 pages.old pages.new }
         ensures filled { FewFilled 1 pages.old pages.new }
         ensures committed { SameCommitted pages.old pages.new }
         ensures catalog { catalog_of pages.new ≡ catalog_of pages.old }
-        ensures agrees { Agreed D.Device pages.old device.old (Agrees pages.new (D.state device.new).disk) }
+        ensures agrees { IfAgrees D.Device pages.old device.old (Agrees pages.new (D.state device.new).disk) }
         ensures open { IsOpen pages.new }
         ensures spent { ExactlyIfSpentAt self.old.root pages.old result }
         ensures cause { IfErr result IsChangeRefusal }

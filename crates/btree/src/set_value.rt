@@ -1,16 +1,51 @@
 //! An entry of a leaf in memory gets another value.
 ghost use Rattle.std.specs.Prelude.{◌≡◌, Ok, true, false, length, IfErr};
 ghost use Rattle.station.specs.Disk.{Disk};
-ghost use Rattle.pages.specs.Pages.{IsOpen, Agrees, Keeps};
-ghost use Rattle.tree_pages.specs.RowLayouts.{IsRowLayout};
+ghost use Rattle.pages.specs.Pages.{IsOpen, Agrees, KeepsCommitted};
+ghost use Rattle.btree_pages.specs.RowLayouts.{IsRowLayout};
 ghost use Rattle.btree.specs.Changes.{pages_of_map};
 ghost use Rattle.btree.specs.Refusals.{IsPutRefusal};
 ghost use Rattle.btree.specs.Told.{OnlyIfSpent, FewChanged, FewFilled};
 ghost use Rattle.btree.specs.Entering.{SetsIn, SetsOn};
 
 use crate::node::view_node;
+use btree_pages::{Kind, RowLayout};
 use pages::{PageMap, PagesError};
-use tree_pages::{Kind, RowLayout};
+
+/// Gives the entry of a key in the leaf of that page number another value. `false` tells that the leaf isn't in memory, or that it
+/// hasn't the key, and then nothing was done.
+pub(crate) fn set_value_in(
+    pages: &mut PageMap,
+    layout: RowLayout,
+    page: u32,
+    key: &[u8],
+    value: &[u8],
+) -> Result<bool, PagesError>
+    requires open { IsOpen pages.old }
+    requires layout { IsRowLayout layout }
+    requires value { length value.now ≡ layout.value_length }
+    ensures done { result ≡ Ok true → (disk : Disk) → Agrees pages.old disk → SetsOn layout page key.now value.now (pages_of_map pages.old disk.present) (pages_of_map pages.new disk.present) }
+    ensures same { result ≡ Ok false → pages.new ≡ pages.old }
+    ensures changed_pages { FewChanged 1 pages.old pages.new }
+    ensures filled { FewFilled 1 pages.old pages.new }
+    ensures keeps { KeepsCommitted pages.old pages.new }
+    ensures cause { IfErr result IsPutRefusal }
+    ensures spent { OnlyIfSpent pages.old result }
+{
+    if page == 0 || page as usize >= pages.page_count() {
+        return Ok(false);
+    }
+    let mut spelled = [0; 4096];
+    let is_spelled = match pages.view(page) {
+        Some(bytes) => spell_set(bytes, layout, key, value, &mut spelled),
+        None => return Ok(false),
+    };
+    if !is_spelled {
+        return Ok(false);
+    }
+    pages.edit(page, &spelled)?;
+    Ok(true)
+}
 
 /// Puts the bytes of the leaf that these bytes spell, with another value for the entry of a key, into `spelled`. `false` tells that
 /// they spell no leaf, or that the key isn't there.
@@ -38,39 +73,4 @@ fn spell_set(
     };
     node.spell_with_rest(place, value, spelled);
     true
-}
-
-/// Gives the entry of a key in the leaf of that page number another value. `false` tells that the leaf isn't in memory, or that it
-/// hasn't the key, and then nothing was done.
-pub(crate) fn set_value_in(
-    pages: &mut PageMap,
-    layout: RowLayout,
-    page: u32,
-    key: &[u8],
-    value: &[u8],
-) -> Result<bool, PagesError>
-    requires open { IsOpen pages.old }
-    requires layout { IsRowLayout layout }
-    requires value { length value.now ≡ layout.value_length }
-    ensures done { result ≡ Ok true → (disk : Disk) → Agrees pages.old disk → SetsOn layout page key.now value.now (pages_of_map pages.old disk.present) (pages_of_map pages.new disk.present) }
-    ensures same { result ≡ Ok false → pages.new ≡ pages.old }
-    ensures changed_pages { FewChanged 1 pages.old pages.new }
-    ensures filled { FewFilled 1 pages.old pages.new }
-    ensures keeps { Keeps pages.old pages.new }
-    ensures cause { IfErr result IsPutRefusal }
-    ensures spent { OnlyIfSpent pages.old result }
-{
-    if page == 0 || page as usize >= pages.page_count() {
-        return Ok(false);
-    }
-    let mut spelled = [0; 4096];
-    let is_spelled = match pages.view(page) {
-        Some(bytes) => spell_set(bytes, layout, key, value, &mut spelled),
-        None => return Ok(false),
-    };
-    if !is_spelled {
-        return Ok(false);
-    }
-    pages.edit(page, &spelled)?;
-    Ok(true)
 }

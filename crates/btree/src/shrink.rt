@@ -2,11 +2,11 @@
 ghost use Rattle.std.specs.Prelude.{◌≡◌, ◌≤◌, ◌+◌, ◌*◌, Err, length, IfOk, IfErr};
 ghost use Rattle.station.specs.Calls.{OnlyReads};
 ghost use Rattle.pages.specs.Pages.{IsOpen, Agrees, SameCommitted, catalog_of, sectors_of, changed_pages_of, filled_of};
-ghost use Rattle.tree_pages.specs.RowLayouts.{IsRowLayout};
-ghost use Rattle.btree.specs.Outcomes.{Fits, spare};
+ghost use Rattle.btree_pages.specs.RowLayouts.{IsRowLayout};
+ghost use Rattle.btree.specs.Outcomes.{FitsAbove, spare};
 ghost use Rattle.btree.specs.Shrinks.{ShrinksBy, NeverShrinks, ShrinksOn, NeverShrinksOn};
 ghost use Rattle.btree.specs.Refusals.{IsChangeRefusal};
-ghost use Rattle.btree.specs.Calls.{Agreed, OnPages, OnChange};
+ghost use Rattle.btree.specs.Calls.{IfAgrees, OnPages, OnChange};
 ghost use Rattle.btree.specs.Told.{OnlyIfSpent};
 
 use crate::node::read_node;
@@ -14,9 +14,9 @@ use crate::path_step::PathStep;
 use crate::rebalance::rebalance_at;
 use crate::removal_outcome::RemovalOutcome;
 use crate::shrink_page::{lose_at, rename_at};
+use btree_pages::RowLayout;
 use pages::{PageMap, PagesError};
 use station::Device;
-use tree_pages::RowLayout;
 
 /// Tells the pages on the way, from its end on, what became of the page below each: of the leaf at the end became `outcome`. The answer
 /// is what became of the page at the beginning.
@@ -30,16 +30,16 @@ pub(crate) fn shrink<D: Device>(
     requires open { IsOpen pages.old }
     requires sectors { sectors_of pages.old ≤ D.sectors device.old }
     requires layout { IsRowLayout layout }
-    requires fits { Fits layout outcome }
+    requires fits { FitsAbove layout outcome }
     ensures only { OnlyReads D.Device (result ≡ Err PagesError.Device) device.old device.new }
     ensures shrinks { OnChange D.Device pages.old pages.new device.old (λ before after. IfOk result (ShrinksBy layout path.now before after outcome)) }
     ensures damaged { OnPages D.Device pages.old device.old (λ before. result ≡ Err PagesError.Damaged → NeverShrinks layout path.now before outcome) }
-    ensures fits { IfOk result (Fits layout) }
+    ensures fits { IfOk result (FitsAbove layout) }
     ensures changed_pages { IfOk result (λ up. length (changed_pages_of pages.new) + spare up ≤ length (changed_pages_of pages.old) + spare outcome + 2 * length path.now) }
     ensures filled { IfOk result (λ up. filled_of pages.new + spare up ≤ filled_of pages.old + spare outcome + 2 * length path.now) }
     ensures committed { SameCommitted pages.old pages.new }
     ensures catalog { catalog_of pages.new ≡ catalog_of pages.old }
-    ensures agrees { Agreed D.Device pages.old device.old (Agrees pages.new (D.state device.new).disk) }
+    ensures agrees { IfAgrees D.Device pages.old device.old (Agrees pages.new (D.state device.new).disk) }
     ensures open { IsOpen pages.new }
     ensures spent { OnlyIfSpent pages.old result }
     ensures cause { IfErr result IsChangeRefusal }
@@ -65,16 +65,16 @@ fn shrink_at<D: Device>(
     requires open { IsOpen pages.old }
     requires sectors { sectors_of pages.old ≤ D.sectors device.old }
     requires layout { IsRowLayout layout }
-    requires fits { Fits layout below }
+    requires fits { FitsAbove layout below }
     ensures only { OnlyReads D.Device (result ≡ Err PagesError.Device) device.old device.new }
     ensures shrinks { OnChange D.Device pages.old pages.new device.old (λ before after. IfOk result (ShrinksOn layout step before after below)) }
     ensures damaged { OnPages D.Device pages.old device.old (λ before. result ≡ Err PagesError.Damaged → NeverShrinksOn layout step before below) }
-    ensures fits { IfOk result (Fits layout) }
+    ensures fits { IfOk result (FitsAbove layout) }
     ensures changed_pages { IfOk result (λ up. length (changed_pages_of pages.new) + spare up ≤ length (changed_pages_of pages.old) + spare below + 2) }
     ensures filled { IfOk result (λ up. filled_of pages.new + spare up ≤ filled_of pages.old + spare below + 2) }
     ensures committed { SameCommitted pages.old pages.new }
     ensures catalog { catalog_of pages.new ≡ catalog_of pages.old }
-    ensures agrees { Agreed D.Device pages.old device.old (Agrees pages.new (D.state device.new).disk) }
+    ensures agrees { IfAgrees D.Device pages.old device.old (Agrees pages.new (D.state device.new).disk) }
     ensures open { IsOpen pages.new }
     ensures spent { OnlyIfSpent pages.old result }
     ensures cause { IfErr result IsChangeRefusal }

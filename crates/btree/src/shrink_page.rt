@@ -1,28 +1,17 @@
 //! A page is written with fewer rows, or given up.
 ghost use Rattle.std.specs.Prelude.{◌≡◌, ◌<◌, ◌↔◌, Err, length, IfOk, IfErr, IsTrue, false};
-ghost use Rattle.pages.specs.Pages.{IsOpen, IsPage, page_count, Keeps};
+ghost use Rattle.pages.specs.Pages.{IsOpen, IsPage, page_count, KeepsCommitted};
 ghost use Rattle.btree.specs.Changes.{CountsPages, FewNumbers};
-ghost use Rattle.btree.specs.Outcomes.{Fits};
-ghost use Rattle.btree.specs.Fills.{IsShort};
+ghost use Rattle.btree.specs.Outcomes.{FitsAbove};
+ghost use Rattle.btree.specs.Fills.{HasTooFewRows};
 ghost use Rattle.btree.specs.Refusals.{IsPutRefusal, IsRestRefusal};
 ghost use Rattle.btree.specs.Told.{TellsDamaged, OnlyIfSpent, LeavesFewChanged, LeavesFewFilled};
 ghost use Rattle.btree.specs.Puts.{PutsBack, LosesRow, RenamesRow, NeverLeads};
 
 use crate::path_step::PathStep;
 use crate::removal_outcome::{Child, RemovalOutcome};
+use btree_pages::{Kind, TreePage};
 use pages::{PageMap, PagesError};
-use tree_pages::{Kind, TreePage};
-
-/// Whether a page has too few rows: a leaf less than a quarter of those that it has room for, an inner page less than two.
-fn is_short(node: &TreePage) -> bool
-    ensures { IsTrue result ↔ IsShort node.now.layout node.now.kind (length node.now.rows) }
-{
-    let count = node.count();
-    match node.kind() {
-        Kind::Leaf => count * 4 < node.layout().capacity(Kind::Leaf),
-        Kind::Inner => count < 2,
-    }
-}
 
 /// Puts a node back on its page. A node without rows gives its page up, and one with too few rows isn't written.
 pub(crate) fn write_back(
@@ -34,10 +23,10 @@ pub(crate) fn write_back(
     requires open { IsOpen pages.old }
     requires page { IsPage pages.old page }
     ensures pages { IfOk result (PutsBack pages.old pages.new page node keeps_least) }
-    ensures fits { IfOk result (Fits node.layout) }
+    ensures fits { IfOk result (FitsAbove node.layout) }
     ensures changed_pages { IfOk result (LeavesFewChanged 1 pages.old pages.new) }
     ensures filled { IfOk result (LeavesFewFilled 1 pages.old pages.new) }
-    ensures keeps { Keeps pages.old pages.new }
+    ensures keeps { KeepsCommitted pages.old pages.new }
     ensures spent { OnlyIfSpent pages.old result }
     ensures cause { IfErr result IsPutRefusal }
 {
@@ -69,10 +58,10 @@ pub(crate) fn take_out(
     requires leaf { leaf.kind ≡ Kind.Leaf }
     requires place { place < length leaf.rows }
     ensures pages { IfOk result (LosesRow Kind.Leaf pages.old pages.new page leaf place) }
-    ensures fits { IfOk result (Fits leaf.layout) }
+    ensures fits { IfOk result (FitsAbove leaf.layout) }
     ensures changed_pages { IfOk result (LeavesFewChanged 1 pages.old pages.new) }
     ensures filled { IfOk result (LeavesFewFilled 1 pages.old pages.new) }
-    ensures keeps { Keeps pages.old pages.new }
+    ensures keeps { KeepsCommitted pages.old pages.new }
     ensures spent { OnlyIfSpent pages.old result }
     ensures cause { IfErr result IsPutRefusal }
 {
@@ -89,10 +78,10 @@ pub(crate) fn lose_at(
 ) -> Result<RemovalOutcome, PagesError>
     requires open { IsOpen pages.old }
     ensures pages { IfOk result (LosesRow Kind.Inner pages.old pages.new step.page node step.place) }
-    ensures fits { IfOk result (Fits node.layout) }
+    ensures fits { IfOk result (FitsAbove node.layout) }
     ensures changed_pages { IfOk result (LeavesFewChanged 1 pages.old pages.new) }
     ensures filled { IfOk result (LeavesFewFilled 1 pages.old pages.new) }
-    ensures keeps { Keeps pages.old pages.new }
+    ensures keeps { KeepsCommitted pages.old pages.new }
     ensures damaged { NeverLeads pages.old step node (TellsDamaged result) }
     ensures spent { OnlyIfSpent pages.old result }
     ensures cause { IfErr result IsRestRefusal }
@@ -116,10 +105,10 @@ pub(crate) fn rename_at(
     requires layout { child.now.node.layout ≡ node.layout }
     requires some { 0 < length child.now.node.rows }
     ensures pages { IfOk result (RenamesRow pages.old pages.new step node child.now) }
-    ensures fits { IfOk result (Fits node.layout) }
+    ensures fits { IfOk result (FitsAbove node.layout) }
     ensures changed_pages { IfOk result (LeavesFewChanged 1 pages.old pages.new) }
     ensures filled { IfOk result (LeavesFewFilled 1 pages.old pages.new) }
-    ensures keeps { Keeps pages.old pages.new }
+    ensures keeps { KeepsCommitted pages.old pages.new }
     ensures damaged { NeverLeads pages.old step node (TellsDamaged result) }
     ensures spent { OnlyIfSpent pages.old result }
     ensures cause { IfErr result IsRestRefusal }
@@ -160,4 +149,15 @@ pub(crate) fn is_page(pages: &PageMap, page: u32) -> bool
         return false;
     }
     (page as usize) < count
+}
+
+/// Whether a page has too few rows: a leaf less than a quarter of those that it has room for, an inner page less than two.
+fn is_short(node: &TreePage) -> bool
+    ensures { IsTrue result ↔ HasTooFewRows node.now.layout node.now.kind (length node.now.rows) }
+{
+    let count = node.count();
+    match node.kind() {
+        Kind::Leaf => count * 4 < node.layout().capacity(Kind::Leaf),
+        Kind::Inner => count < 2,
+    }
 }

@@ -1,23 +1,23 @@
 //! What a search finds: the entry in the leaf where a key belongs, read where the pages stand.
 ghost use Rattle.std.specs.Prelude.{◌≡◌, ◌≤◌, Err, List, drop, IfOk, IfErr, IfSome, OnErr, true};
 ghost use Rattle.station.specs.Calls.{OnlyReads};
-ghost use Rattle.pages.specs.Pages.{sectors_of, Agrees, IsOpen, Unchanged};
-ghost use Rattle.tree_pages.specs.RowLayouts.{IsRowLayout};
-ghost use Rattle.tree_pages.specs.Keys.{Ascend, keys_of};
+ghost use Rattle.pages.specs.Pages.{sectors_of, Agrees, IsOpen, IsUnchanged};
+ghost use Rattle.btree_pages.specs.RowLayouts.{IsRowLayout};
+ghost use Rattle.btree_pages.specs.Keys.{Ascend, keys_of};
 ghost use Rattle.btree.specs.Tree.{TreeNode, IsTree};
-ghost use Rattle.btree.specs.Entries.{HasLengths, listed, entries_of, first_entry};
+ghost use Rattle.btree.specs.Entries.{HasLengths, entries_of_rows, entries_of, first_entry};
 ghost use Rattle.btree.specs.Reading.{IsReadRefusal, SpellsNoNode, NoneStands, NoneOfKind, NoTree};
-ghost use Rattle.btree.specs.Sought.{sought_in, AnswersAt, LooksIn, LooksAt, Finds};
-ghost use Rattle.btree.specs.Calls.{Agreed, OnPages};
+ghost use Rattle.btree.specs.Sought.{sought_in, AnswersAt, LooksIn, LooksAt, FindsEntry};
+ghost use Rattle.btree.specs.Calls.{IfAgrees, OnPages};
 ghost use Rattle.btree.specs.Told.{TellsDamaged, ExactlyIfSpent};
 
 use crate::child::child_place;
 use crate::descend::LEVELS;
 use crate::entry::Entry;
 use crate::node::view_node;
+use btree_pages::{Kind, NodeView, RowLayout};
 use pages::{PageMap, PagesError};
 use station::Device;
-use tree_pages::{Kind, NodeView, RowLayout};
 
 /// Which entry a search is for.
 #[derive(Clone, Copy, PartialEq, Eq)]
@@ -44,7 +44,7 @@ pub(crate) enum Look {
 /// From which place on a page the first entry is the one that is sought, or how many rows there are where the page hasn't it.
 fn sought_place(node: &NodeView, key: &[u8], sought: Sought) -> usize
     ensures { Ascend (keys_of node.now.layout node.now.rows) →
-        sought_in sought (listed node.now.layout node.now.rows) key.now ≡ first_entry (listed node.now.layout (drop result node.now.rows)) }
+        sought_in sought (entries_of_rows node.now.layout node.now.rows) key.now ≡ first_entry (entries_of_rows node.now.layout (drop result node.now.rows)) }
 {
     let count = node.count();
     match node.find(key) {
@@ -104,8 +104,8 @@ fn look_read<D: Device>(
     requires sectors { sectors_of pages.old ≤ D.sectors device.old }
     requires layout { IsRowLayout layout }
     ensures only { OnlyReads D.Device (result ≡ Err PagesError.Device) device.old device.new }
-    ensures unchanged { Unchanged pages.old pages.new }
-    ensures agrees { Agreed D.Device pages.old device.old (Agrees pages.new (D.state device.new).disk) }
+    ensures unchanged { IsUnchanged pages.old pages.new }
+    ensures agrees { IfAgrees D.Device pages.old device.old (Agrees pages.new (D.state device.new).disk) }
     ensures open { IsOpen pages.new }
     ensures look { OnPages D.Device pages.old device.old (λ before. IfOk result (LooksAt layout before page key.now sought entry.new)) }
     ensures lengths { IfOk result (λ look. look ≡ Look.Here → HasLengths layout entry.new) }
@@ -135,8 +135,8 @@ fn look_loaded<D: Device>(
     requires sectors { sectors_of pages.old ≤ D.sectors device.old }
     requires layout { IsRowLayout layout }
     ensures only { OnlyReads D.Device (result ≡ Err PagesError.Device) device.old device.new }
-    ensures unchanged { Unchanged pages.old pages.new }
-    ensures agrees { Agreed D.Device pages.old device.old (Agrees pages.new (D.state device.new).disk) }
+    ensures unchanged { IsUnchanged pages.old pages.new }
+    ensures agrees { IfAgrees D.Device pages.old device.old (Agrees pages.new (D.state device.new).disk) }
     ensures open { IsOpen pages.new }
     ensures look { OnPages D.Device pages.old device.old (λ before. IfOk result (LooksAt layout before page key.now sought entry.new)) }
     ensures lengths { IfOk result (λ look. look ≡ Look.Here → HasLengths layout entry.new) }
@@ -165,8 +165,8 @@ fn look_at<D: Device>(
     requires sectors { sectors_of pages.old ≤ D.sectors device.old }
     requires layout { IsRowLayout layout }
     ensures only { OnlyReads D.Device (result ≡ Err PagesError.Device) device.old device.new }
-    ensures unchanged { Unchanged pages.old pages.new }
-    ensures agrees { Agreed D.Device pages.old device.old (Agrees pages.new (D.state device.new).disk) }
+    ensures unchanged { IsUnchanged pages.old pages.new }
+    ensures agrees { IfAgrees D.Device pages.old device.old (Agrees pages.new (D.state device.new).disk) }
     ensures open { IsOpen pages.new }
     ensures look { OnPages D.Device pages.old device.old (λ before. IfOk result (LooksAt layout before page key.now sought entry.new)) }
     ensures lengths { IfOk result (λ look. look ≡ Look.Here → HasLengths layout entry.new) }
@@ -194,8 +194,8 @@ pub(crate) fn entry_at<D: Device>(
     requires sectors { sectors_of pages.old ≤ D.sectors device.old }
     requires layout { IsRowLayout layout }
     ensures only { OnlyReads D.Device (result ≡ Err PagesError.Device) device.old device.new }
-    ensures unchanged { Unchanged pages.old pages.new }
-    ensures agrees { Agreed D.Device pages.old device.old (Agrees pages.new (D.state device.new).disk) }
+    ensures unchanged { IsUnchanged pages.old pages.new }
+    ensures agrees { IfAgrees D.Device pages.old device.old (Agrees pages.new (D.state device.new).disk) }
     ensures open { IsOpen pages.new }
     ensures entry { OnPages D.Device pages.old device.old (λ before. IfOk result (AnswersAt layout before page key.now sought)) }
     ensures lengths { IfOk result (λ entry. IfSome entry (HasLengths layout)) }
@@ -226,11 +226,11 @@ pub(crate) fn search<D: Device>(
     requires sectors { sectors_of pages.old ≤ D.sectors device.old }
     requires layout { IsRowLayout layout }
     ensures only { OnlyReads D.Device (result ≡ Err PagesError.Device) device.old device.new }
-    ensures unchanged { Unchanged pages.old pages.new }
-    ensures agrees { Agreed D.Device pages.old device.old (Agrees pages.new (D.state device.new).disk) }
+    ensures unchanged { IsUnchanged pages.old pages.new }
+    ensures agrees { IfAgrees D.Device pages.old device.old (Agrees pages.new (D.state device.new).disk) }
     ensures open { IsOpen pages.new }
     ensures finds { OnPages D.Device pages.old device.old
-        (λ before. (levels : List (List TreeNode)) → IsTree layout before root levels → IfOk result (Finds (entries_of layout levels) key.now sought entry.new)) }
+        (λ before. (levels : List (List TreeNode)) → IsTree layout before root levels → IfOk result (FindsEntry (entries_of layout levels) key.now sought entry.new)) }
     ensures lengths { IfOk result (λ found. found ≡ true → HasLengths layout entry.new) }
     ensures damaged { OnPages D.Device pages.old device.old (NoTree layout root (TellsDamaged result)) }
     ensures spent { ExactlyIfSpent pages.old result }

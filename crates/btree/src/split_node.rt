@@ -1,11 +1,11 @@
 //! A full page is divided in two.
 ghost use Rattle.std.specs.Prelude.{◌≡◌, ◌≤◌, ◌++◌, length};
 ghost use Rattle.std.specs.List.{insert};
-ghost use Rattle.tree_pages.specs.RowLayouts.{rest_length};
+ghost use Rattle.btree_pages.specs.RowLayouts.{rest_length};
 ghost use Rattle.btree.specs.Tree.{fewest};
 ghost use Rattle.btree.specs.Nodes.{SameNode};
 
-use tree_pages::{Kind, TreePage};
+use btree_pages::{Kind, TreePage};
 
 /// Puts a row into a page of at least three rows that gives rows to another one, which is answered: the lower rows stay. A row behind
 /// the last one goes into a page of its own, so that ascending rows leave full pages, or, in an inner page, into one with the last row.

@@ -1,5 +1,5 @@
 //! What a page became when a row came into it.
-use tree_pages::TreePage;
+use btree_pages::TreePage;
 
 /// A page to the right of one that had no room, with rows of it.
 #[derive(Drop)]

@@ -1,20 +1,50 @@
 //! One step of a key's way down a tree.
 ghost use Rattle.std.specs.Prelude.{◌≡◌, ◌⊎◌, ◌<◌, ◌≤◌, Err, IfOk, IfErr, OnErr};
 ghost use Rattle.station.specs.Calls.{OnlyReads};
-ghost use Rattle.pages.specs.Pages.{sectors_of, Agrees, IsOpen, Unchanged};
-ghost use Rattle.tree_pages.specs.RowLayouts.{IsRowLayout};
-ghost use Rattle.btree.specs.Reading.{IsRefusal, SpellsNoNode, NoneStands};
+ghost use Rattle.pages.specs.Pages.{sectors_of, Agrees, IsOpen, IsUnchanged};
+ghost use Rattle.btree_pages.specs.RowLayouts.{IsRowLayout};
+ghost use Rattle.btree.specs.Reading.{IsSearchRefusal, SpellsNoNode, NoneStands};
 ghost use Rattle.btree.specs.Steps.{StepsIn, StepsAt};
-ghost use Rattle.btree.specs.Calls.{Agreed, OnPages};
+ghost use Rattle.btree.specs.Calls.{IfAgrees, OnPages};
 ghost use Rattle.btree.specs.Told.{TellsDamaged, ExactlyIfSpent};
 
 use crate::child::{Child, child_place, note_right};
 use crate::key::Key;
 use crate::node::view_node;
+use btree_pages::{Kind, RowLayout};
 use pages::{PageMap, PagesError};
 use station::Device;
 use std::alloc::Global;
-use tree_pages::{Kind, RowLayout};
+
+/// The child that a key leads to on the page of that number, or none where it is a leaf. The next key to the right is noted.
+/// `Damaged` tells that the page is none of a tree. `Memory` comes only where keys are longer than 128 bytes.
+pub(crate) fn step_at<D: Device>(
+    alloc: Global,
+    pages: &mut PageMap,
+    device: &mut D,
+    layout: RowLayout,
+    page: u32,
+    key: &[u8],
+    right: &mut Option<Key>,
+) -> Result<Option<Child>, PagesError>
+    requires open { IsOpen pages.old }
+    requires sectors { sectors_of pages.old ≤ D.sectors device.old }
+    requires layout { IsRowLayout layout }
+    ensures only { OnlyReads D.Device (result ≡ Err PagesError.Device) device.old device.new }
+    ensures unchanged { IsUnchanged pages.old pages.new }
+    ensures agrees { IfAgrees D.Device pages.old device.old (Agrees pages.new (D.state device.new).disk) }
+    ensures open { IsOpen pages.new }
+    ensures step { OnPages D.Device pages.old device.old (λ before. IfOk result (λ child. StepsAt layout before page key.now right.old right.new child)) }
+    ensures damaged { OnPages D.Device pages.old device.old (NoneStands layout page (TellsDamaged result)) }
+    ensures spent { ExactlyIfSpent pages.old result }
+    ensures cause { IfErr result (IsSearchRefusal layout) }
+{
+    pages.note_use(page);
+    if let Some(bytes) = pages.view(page) {
+        return step_in(alloc, bytes, layout, key, right);
+    }
+    step_loaded(alloc, pages, device, layout, page, key, right)
+}
 
 /// The child that a key leads to on the page that these bytes spell, or none where it is a leaf. The next key to the right is noted.
 fn step_in(
@@ -56,13 +86,13 @@ fn step_read<D: Device>(
     requires sectors { sectors_of pages.old ≤ D.sectors device.old }
     requires layout { IsRowLayout layout }
     ensures only { OnlyReads D.Device (result ≡ Err PagesError.Device) device.old device.new }
-    ensures unchanged { Unchanged pages.old pages.new }
-    ensures agrees { Agreed D.Device pages.old device.old (Agrees pages.new (D.state device.new).disk) }
+    ensures unchanged { IsUnchanged pages.old pages.new }
+    ensures agrees { IfAgrees D.Device pages.old device.old (Agrees pages.new (D.state device.new).disk) }
     ensures open { IsOpen pages.new }
     ensures step { OnPages D.Device pages.old device.old (λ before. IfOk result (λ child. StepsAt layout before page key.now right.old right.new child)) }
     ensures damaged { OnPages D.Device pages.old device.old (NoneStands layout page (TellsDamaged result)) }
     ensures spent { ExactlyIfSpent pages.old result }
-    ensures cause { IfErr result (IsRefusal layout) }
+    ensures cause { IfErr result (IsSearchRefusal layout) }
 {
     match pages.read(device, page)? {
         Some(bytes) => step_in(alloc, &bytes, layout, key, right),
@@ -86,47 +116,17 @@ fn step_loaded<D: Device>(
     requires sectors { sectors_of pages.old ≤ D.sectors device.old }
     requires layout { IsRowLayout layout }
     ensures only { OnlyReads D.Device (result ≡ Err PagesError.Device) device.old device.new }
-    ensures unchanged { Unchanged pages.old pages.new }
-    ensures agrees { Agreed D.Device pages.old device.old (Agrees pages.new (D.state device.new).disk) }
+    ensures unchanged { IsUnchanged pages.old pages.new }
+    ensures agrees { IfAgrees D.Device pages.old device.old (Agrees pages.new (D.state device.new).disk) }
     ensures open { IsOpen pages.new }
     ensures step { OnPages D.Device pages.old device.old (λ before. IfOk result (λ child. StepsAt layout before page key.now right.old right.new child)) }
     ensures damaged { OnPages D.Device pages.old device.old (NoneStands layout page (TellsDamaged result)) }
     ensures spent { ExactlyIfSpent pages.old result }
-    ensures cause { IfErr result (IsRefusal layout) }
+    ensures cause { IfErr result (IsSearchRefusal layout) }
 {
     pages.load(device, page)?;
     if let Some(bytes) = pages.view(page) {
         return step_in(alloc, bytes, layout, key, right);
     }
     step_read(alloc, pages, device, layout, page, key, right)
-}
-
-/// The child that a key leads to on the page of that number, or none where it is a leaf. The next key to the right is noted.
-/// `Damaged` tells that the page is none of a tree. `Memory` comes only where keys are longer than 128 bytes.
-pub(crate) fn step_at<D: Device>(
-    alloc: Global,
-    pages: &mut PageMap,
-    device: &mut D,
-    layout: RowLayout,
-    page: u32,
-    key: &[u8],
-    right: &mut Option<Key>,
-) -> Result<Option<Child>, PagesError>
-    requires open { IsOpen pages.old }
-    requires sectors { sectors_of pages.old ≤ D.sectors device.old }
-    requires layout { IsRowLayout layout }
-    ensures only { OnlyReads D.Device (result ≡ Err PagesError.Device) device.old device.new }
-    ensures unchanged { Unchanged pages.old pages.new }
-    ensures agrees { Agreed D.Device pages.old device.old (Agrees pages.new (D.state device.new).disk) }
-    ensures open { IsOpen pages.new }
-    ensures step { OnPages D.Device pages.old device.old (λ before. IfOk result (λ child. StepsAt layout before page key.now right.old right.new child)) }
-    ensures damaged { OnPages D.Device pages.old device.old (NoneStands layout page (TellsDamaged result)) }
-    ensures spent { ExactlyIfSpent pages.old result }
-    ensures cause { IfErr result (IsRefusal layout) }
-{
-    pages.note_use(page);
-    if let Some(bytes) = pages.view(page) {
-        return step_in(alloc, bytes, layout, key, right);
-    }
-    step_loaded(alloc, pages, device, layout, page, key, right)
 }

@@ -1,25 +1,25 @@
 //! A tree, and what is read of it.
 ghost use Rattle.std.specs.Prelude.{◌≡◌, ◌≤◌, ◌++◌, ◌⊎◌, Err, Some, None, ℕ, List, IfOk, IfErr, IfSome};
 ghost use Rattle.station.specs.Calls.{OnlyReads};
-ghost use Rattle.pages.specs.Pages.{sectors_of, Agrees, IsOpen, Unchanged};
-ghost use Rattle.tree_pages.specs.RowLayouts.{IsRowLayout};
+ghost use Rattle.pages.specs.Pages.{sectors_of, Agrees, IsOpen, IsUnchanged};
+ghost use Rattle.btree_pages.specs.RowLayouts.{IsRowLayout};
 ghost use Rattle.btree.specs.Tree.{TreeNode, IsTree, rows_in_order};
 ghost use Rattle.btree.specs.Path.{first_key};
-ghost use Rattle.btree.specs.Entries.{HasLengths, entry_with, first_from, first_after, first_entry, listed};
-ghost use Rattle.btree.specs.Reading.{IsRefusal};
+ghost use Rattle.btree.specs.Entries.{HasLengths, entry_with, first_from, first_entry_after, first_entry, entries_of_rows};
+ghost use Rattle.btree.specs.Reading.{IsSearchRefusal};
 ghost use Rattle.btree.specs.Sought.{sought_in};
-ghost use Rattle.btree.specs.Calls.{Agreed, OnNoTree, OnPages, AnswersEntry};
+ghost use Rattle.btree.specs.Calls.{IfAgrees, OnNoTree, OnPages, AnswersEntry};
 ghost use Rattle.btree.specs.Told.{TellsDamaged, OnlyIfSpent, ExactlyIfSpentAt};
 
 use crate::descend::follow;
 use crate::entry::Entry;
 use crate::key::Key;
 use crate::sought::{Sought, entry_at, search};
+use btree_pages::{MOST_ROW_BYTES, RowLayout};
 use pages::{PageMap, PagesError};
 use station::Device;
 use std::alloc::Global;
 use std::marker::Model;
-use tree_pages::{MOST_ROW_BYTES, RowLayout};
 
 /// A key of zeros, which is below each other one.
 const ZEROS: [u8; MOST_ROW_BYTES] = [0; MOST_ROW_BYTES];
@@ -34,10 +34,10 @@ pub struct Tree {
 }
 
 impl Model for Tree {
-    ghost use Rattle.tree_pages.specs.RowLayouts.{IsRowLayout};
-    ghost use Rattle.btree.specs.Rooted.{Rooted};
+    ghost use Rattle.btree_pages.specs.RowLayouts.{IsRowLayout};
+    ghost use Rattle.btree.specs.Rooted.{RootedTree};
 
-    ghost Value = { Rooted };
+    ghost Value = { RootedTree };
 
     ghost view = { λ tree. record { layout = tree.layout; root = tree.root } };
 
@@ -84,14 +84,14 @@ impl Tree {
         requires open { IsOpen pages.old }
         requires sectors { sectors_of pages.old ≤ D.sectors device.old }
         ensures only { OnlyReads D.Device (result ≡ Err PagesError.Device) device.old device.new }
-        ensures unchanged { Unchanged pages.old pages.new }
-        ensures agrees { Agreed D.Device pages.old device.old (Agrees pages.new (D.state device.new).disk) }
+        ensures unchanged { IsUnchanged pages.old pages.new }
+        ensures agrees { IfAgrees D.Device pages.old device.old (Agrees pages.new (D.state device.new).disk) }
         ensures open { IsOpen pages.new }
         ensures entry { AnswersEntry D.Device self.now pages.old device.old (λ entries. entry_with entries key.now) result }
         ensures damaged { OnNoTree D.Device self.now.layout self.now.root pages.old device.old (TellsDamaged result) }
         ensures spent { ExactlyIfSpentAt self.now.root pages.old result }
         ensures lengths { IfOk result (λ entry. IfSome entry (HasLengths self.now.layout)) }
-        ensures cause { IfErr result (IsRefusal self.now.layout) }
+        ensures cause { IfErr result (IsSearchRefusal self.now.layout) }
     {
         if self.root == 0 {
             return Ok(None);
@@ -122,14 +122,14 @@ impl Tree {
         requires open { IsOpen pages.old }
         requires sectors { sectors_of pages.old ≤ D.sectors device.old }
         ensures only { OnlyReads D.Device (result ≡ Err PagesError.Device) device.old device.new }
-        ensures unchanged { Unchanged pages.old pages.new }
-        ensures agrees { Agreed D.Device pages.old device.old (Agrees pages.new (D.state device.new).disk) }
+        ensures unchanged { IsUnchanged pages.old pages.new }
+        ensures agrees { IfAgrees D.Device pages.old device.old (Agrees pages.new (D.state device.new).disk) }
         ensures open { IsOpen pages.new }
         ensures entry { AnswersEntry D.Device self.now pages.old device.old (λ entries. first_from entries key.now) result }
         ensures damaged { OnNoTree D.Device self.now.layout self.now.root pages.old device.old (TellsDamaged result) }
         ensures spent { ExactlyIfSpentAt self.now.root pages.old result }
         ensures lengths { IfOk result (λ entry. IfSome entry (HasLengths self.now.layout)) }
-        ensures cause { IfErr result (IsRefusal self.now.layout) }
+        ensures cause { IfErr result (IsSearchRefusal self.now.layout) }
     {
         self.search_on(pages, device, key, Sought::From)
     }
@@ -144,14 +144,14 @@ impl Tree {
         requires open { IsOpen pages.old }
         requires sectors { sectors_of pages.old ≤ D.sectors device.old }
         ensures only { OnlyReads D.Device (result ≡ Err PagesError.Device) device.old device.new }
-        ensures unchanged { Unchanged pages.old pages.new }
-        ensures agrees { Agreed D.Device pages.old device.old (Agrees pages.new (D.state device.new).disk) }
+        ensures unchanged { IsUnchanged pages.old pages.new }
+        ensures agrees { IfAgrees D.Device pages.old device.old (Agrees pages.new (D.state device.new).disk) }
         ensures open { IsOpen pages.new }
-        ensures entry { AnswersEntry D.Device self.now pages.old device.old (λ entries. first_after entries key.now) result }
+        ensures entry { AnswersEntry D.Device self.now pages.old device.old (λ entries. first_entry_after entries key.now) result }
         ensures damaged { OnNoTree D.Device self.now.layout self.now.root pages.old device.old (TellsDamaged result) }
         ensures spent { ExactlyIfSpentAt self.now.root pages.old result }
         ensures lengths { IfOk result (λ entry. IfSome entry (HasLengths self.now.layout)) }
-        ensures cause { IfErr result (IsRefusal self.now.layout) }
+        ensures cause { IfErr result (IsSearchRefusal self.now.layout) }
     {
         self.search_on(pages, device, key, Sought::After)
     }
@@ -165,14 +165,14 @@ impl Tree {
         requires open { IsOpen pages.old }
         requires sectors { sectors_of pages.old ≤ D.sectors device.old }
         ensures only { OnlyReads D.Device (result ≡ Err PagesError.Device) device.old device.new }
-        ensures unchanged { Unchanged pages.old pages.new }
-        ensures agrees { Agreed D.Device pages.old device.old (Agrees pages.new (D.state device.new).disk) }
+        ensures unchanged { IsUnchanged pages.old pages.new }
+        ensures agrees { IfAgrees D.Device pages.old device.old (Agrees pages.new (D.state device.new).disk) }
         ensures open { IsOpen pages.new }
         ensures entry { AnswersEntry D.Device self.now pages.old device.old first_entry result }
         ensures damaged { OnNoTree D.Device self.now.layout self.now.root pages.old device.old (TellsDamaged result) }
         ensures spent { ExactlyIfSpentAt self.now.root pages.old result }
         ensures lengths { IfOk result (λ entry. IfSome entry (HasLengths self.now.layout)) }
-        ensures cause { IfErr result (IsRefusal self.now.layout) }
+        ensures cause { IfErr result (IsSearchRefusal self.now.layout) }
     {
         self.seek(pages, device, &ZEROS[..self.layout.key_length])
     }
@@ -189,14 +189,14 @@ impl Tree {
         requires sectors { sectors_of pages.old ≤ D.sectors device.old }
         requires sought { (sought ≡ Sought.From) ⊎ (sought ≡ Sought.After) }
         ensures only { OnlyReads D.Device (result ≡ Err PagesError.Device) device.old device.new }
-        ensures unchanged { Unchanged pages.old pages.new }
-        ensures agrees { Agreed D.Device pages.old device.old (Agrees pages.new (D.state device.new).disk) }
+        ensures unchanged { IsUnchanged pages.old pages.new }
+        ensures agrees { IfAgrees D.Device pages.old device.old (Agrees pages.new (D.state device.new).disk) }
         ensures open { IsOpen pages.new }
         ensures entry { AnswersEntry D.Device self.now pages.old device.old (λ entries. sought_in sought entries key.now) result }
         ensures damaged { OnNoTree D.Device self.now.layout self.now.root pages.old device.old (TellsDamaged result) }
         ensures spent { ExactlyIfSpentAt self.now.root pages.old result }
         ensures lengths { IfOk result (λ entry. IfSome entry (HasLengths self.now.layout)) }
-        ensures cause { IfErr result (IsRefusal self.now.layout) }
+        ensures cause { IfErr result (IsSearchRefusal self.now.layout) }
     {
         if self.root == 0 {
             return Ok(None);
@@ -231,14 +231,14 @@ impl Tree {
         requires sectors { sectors_of pages.old ≤ D.sectors device.old }
         requires sought { (sought ≡ Sought.From) ⊎ (sought ≡ Sought.After) }
         ensures only { OnlyReads D.Device (result ≡ Err PagesError.Device) device.old device.new }
-        ensures unchanged { Unchanged pages.old pages.new }
-        ensures agrees { Agreed D.Device pages.old device.old (Agrees pages.new (D.state device.new).disk) }
+        ensures unchanged { IsUnchanged pages.old pages.new }
+        ensures agrees { IfAgrees D.Device pages.old device.old (Agrees pages.new (D.state device.new).disk) }
         ensures open { IsOpen pages.new }
         ensures entry { AnswersEntry D.Device self.now pages.old device.old (λ entries. sought_in sought entries key.now) result }
         ensures damaged { OnNoTree D.Device self.now.layout self.now.root pages.old device.old (TellsDamaged result) }
         ensures spent { ExactlyIfSpentAt self.now.root pages.old result }
         ensures lengths { IfOk result (λ entry. IfSome entry (HasLengths self.now.layout)) }
-        ensures cause { IfErr result (IsRefusal self.now.layout) }
+        ensures cause { IfErr result (IsSearchRefusal self.now.layout) }
     {
         if self.root == 0 {
             return Ok(None);
@@ -262,16 +262,16 @@ impl Tree {
         requires open { IsOpen pages.old }
         requires sectors { sectors_of pages.old ≤ D.sectors device.old }
         ensures only { OnlyReads D.Device (result ≡ Err PagesError.Device) device.old device.new }
-        ensures unchanged { Unchanged pages.old pages.new }
-        ensures agrees { Agreed D.Device pages.old device.old (Agrees pages.new (D.state device.new).disk) }
+        ensures unchanged { IsUnchanged pages.old pages.new }
+        ensures agrees { IfAgrees D.Device pages.old device.old (Agrees pages.new (D.state device.new).disk) }
         ensures open { IsOpen pages.new }
         ensures entry { OnPages D.Device pages.old device.old
-            (λ before. (levels : List (List TreeNode)) → IsTree self.now.layout before self.now.root levels → (passed after : List (List ℕ)) → rows_in_order levels ≡ passed ++ after → right ≡ first_key self.now.layout after → IfOk result (λ entry. entry ≡ first_entry (listed self.now.layout after))) }
+            (λ before. (levels : List (List TreeNode)) → IsTree self.now.layout before self.now.root levels → (passed after : List (List ℕ)) → rows_in_order levels ≡ passed ++ after → right ≡ first_key self.now.layout after → IfOk result (λ entry. entry ≡ first_entry (entries_of_rows self.now.layout after))) }
         ensures damaged { OnPages D.Device pages.old device.old
             (λ before. result ≡ Err PagesError.Damaged → (levels : List (List TreeNode)) → IsTree self.now.layout before self.now.root levels → (passed after : List (List ℕ)) → rows_in_order levels ≡ passed ++ after → right ≡ first_key self.now.layout after → ⊥) }
         ensures spent { OnlyIfSpent pages.old result }
         ensures lengths { IfOk result (λ entry. IfSome entry (HasLengths self.now.layout)) }
-        ensures cause { IfErr result (IsRefusal self.now.layout) }
+        ensures cause { IfErr result (IsSearchRefusal self.now.layout) }
     {
         let right = match right {
             Some(right) => right,

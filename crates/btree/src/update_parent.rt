@@ -1,6 +1,6 @@
 //! A page learns what became of one of its children.
 ghost use Rattle.std.specs.Prelude.{◌≡◌, ◌<◌, ◌+◌, ◌⊎◌, None, length, IfOk, IfErr, IfSome, IsSome, MatchOption};
-ghost use Rattle.pages.specs.Pages.{IsOpen, IsPage, Keeps};
+ghost use Rattle.pages.specs.Pages.{IsOpen, IsPage, KeepsCommitted};
 ghost use Rattle.btree.specs.Tree.{row_of};
 ghost use Rattle.btree.specs.Propagates.{node_with};
 ghost use Rattle.btree.specs.Changes.{CanStand, IsSplit, HasKeys};
@@ -10,8 +10,8 @@ ghost use Rattle.btree.specs.Puts.{PutsWhere, PutsParent, HasInserted};
 
 use crate::put_row::put_row;
 use crate::split_result::{Right, SplitResult};
+use btree_pages::{Kind, TreePage};
 use pages::{PageMap, PagesError};
-use tree_pages::{Kind, TreePage};
 
 /// What the page above has to know of a page that a row came to at a place: nothing, where the page kept its least key and gave no
 /// row away.
@@ -37,7 +37,7 @@ pub(crate) fn put_back(
     ensures pages { IfOk result (PutsWhere CanStand pages.old pages.new page node) }
     ensures changed_pages { FewChanged 1 pages.old pages.new }
     ensures filled { FewFilled 1 pages.old pages.new }
-    ensures keeps { Keeps pages.old pages.new }
+    ensures keeps { KeepsCommitted pages.old pages.new }
     ensures cause { IfErr result IsPutRefusal }
     ensures spent { ExactlyIfSpent pages.old result }
 {
@@ -69,7 +69,7 @@ fn put_beside(
     ensures split { IfOk result (λ split. IsSplit page node split) }
     ensures changed_pages { FewChanged 2 pages.old pages.new }
     ensures filled { FewFilled 2 pages.old pages.new }
-    ensures keeps { Keeps pages.old pages.new }
+    ensures keeps { KeepsCommitted pages.old pages.new }
     ensures cause { IfErr result IsWriteRefusal }
     ensures full { FullIfUsed pages.new result }
     ensures spent { ExactlyIfSpent pages.old result }
@@ -99,7 +99,7 @@ pub(crate) fn update_parent(
     ensures keys { IfOk result (λ up. IfSome up (HasKeys node.layout)) }
     ensures changed_pages { FewChanged 2 pages.old pages.new }
     ensures filled { FewFilled 2 pages.old pages.new }
-    ensures keeps { Keeps pages.old pages.new }
+    ensures keeps { KeepsCommitted pages.old pages.new }
     ensures cause { IfErr result IsWriteRefusal }
     ensures full { FullIfUsed pages.new result }
     ensures spent { ExactlyIfSpent pages.old result }

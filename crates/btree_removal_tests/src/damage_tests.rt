@@ -1,11 +1,11 @@
 //! Rows of pages that are no tree: the check answers `Damaged`, and nothing is written. Removals and clears end, and answer `Damaged`
 //! where they meet the damage.
-use crate::planted::{Planted, plant_inner, plant_leaf, plant_on};
+use crate::built_tree::{BuiltTree, plant_inner, plant_leaf, plant_on};
 use crate::volume::{Volume, tree_of};
+use btree_pages::RowLayout;
 use pages::PagesError;
 use std::alloc::Global;
 use std::process::Abort;
-use tree_pages::RowLayout;
 
 /// Leaves with room for 582 rows, and inner pages for 510.
 const LAYOUT: RowLayout = RowLayout {
@@ -90,24 +90,24 @@ fn meets(
     clears(rt, alloc, &mut volume, root, clear);
 }
 
-fn leaf(rt: &impl Abort, volume: &mut Volume, numbers: &[u32]) -> Planted {
+fn leaf(rt: &impl Abort, volume: &mut Volume, numbers: &[u32]) -> BuiltTree {
     plant_leaf(rt, volume, LAYOUT, numbers)
 }
 
-fn inner(rt: &impl Abort, volume: &mut Volume, children: &[Planted]) -> Planted {
+fn inner(rt: &impl Abort, volume: &mut Volume, children: &[BuiltTree]) -> BuiltTree {
     plant_inner(rt, volume, LAYOUT, children)
 }
 
 // A child, by another key than its least one.
-fn named(least: u32, child: Planted) -> Planted {
-    Planted {
+fn named(least: u32, child: BuiltTree) -> BuiltTree {
+    BuiltTree {
         least,
         page: child.page,
     }
 }
 
 // An inner page with a leaf for each of two entries.
-fn pair(rt: &impl Abort, volume: &mut Volume, first: u32, second: u32) -> Planted {
+fn pair(rt: &impl Abort, volume: &mut Volume, first: u32, second: u32) -> BuiltTree {
     let left = leaf(rt, volume, &[first]);
     let right = leaf(rt, volume, &[second]);
     inner(rt, volume, &[left, right])
@@ -288,7 +288,7 @@ fn one_child(rt: HostRuntime) {
 fn a_neighbour_without_a_page(rt: HostRuntime) {
     for page in [0, 900, 1023, 1024, 4_294_967_295] {
         let mut volume = Volume::empty(&rt, rt.alloc());
-        let left = Planted { least: 10, page };
+        let left = BuiltTree { least: 10, page };
         let right = pair(&rt, &mut volume, 30, 40);
         let root = inner(&rt, &mut volume, &[left, right]);
         let removals = [(10, DAMAGED), (30, DAMAGED), (35, MISSING)];
@@ -322,7 +322,7 @@ fn a_neighbour_without_a_page(rt: HostRuntime) {
 fn children_of_themselves(rt: HostRuntime) {
     let mut volume = Volume::empty(&rt, rt.alloc());
     let page = volume.allocate(&rt);
-    let own = [Planted { least: 10, page }, Planted { least: 20, page }];
+    let own = [BuiltTree { least: 10, page }, BuiltTree { least: 20, page }];
     plant_on(&rt, &mut volume, LAYOUT, page, &own);
     meets(
         &rt,
@@ -334,7 +334,7 @@ fn children_of_themselves(rt: HostRuntime) {
     );
     let mut volume = Volume::empty(&rt, rt.alloc());
     let page = volume.allocate(&rt);
-    let own = [Planted { least: 10, page }, Planted { least: 20, page }];
+    let own = [BuiltTree { least: 10, page }, BuiltTree { least: 20, page }];
     let above = inner(&rt, &mut volume, &own);
     plant_on(&rt, &mut volume, LAYOUT, page, &[above, named(20, above)]);
     meets(

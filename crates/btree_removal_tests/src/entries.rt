@@ -1,7 +1,7 @@
 //! Entries by their number: its key, and its value. The entries of the trees of these rows are some of 10, 20, 30 and so on.
 use btree::Entry;
+use btree_pages::RowLayout;
 use std::process::Abort;
-use tree_pages::RowLayout;
 
 /// The bytes of the longest key and value of these rows.
 const LONGEST: usize = 1356;

@@ -1,8 +1,8 @@
 //! Rows of how full the leaves are once nine in ten of 5,000 entries went in a scattered order.
 use crate::sample::{Order, Sample};
+use btree_pages::RowLayout;
 use std::alloc::Global;
 use std::process::Abort;
-use tree_pages::RowLayout;
 
 /// Leaves of 39 rows of 104 bytes.
 const LAYOUT: RowLayout = RowLayout {

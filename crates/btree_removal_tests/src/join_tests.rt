@@ -1,9 +1,9 @@
 //! Rows of removals from trees that are drawn: which pages stay, how many rows each has then, and how many pages one removal changes.
-use crate::planted::pages_in;
+use crate::built_tree::pages_in;
 use crate::sample::Sample;
+use btree_pages::RowLayout;
 use std::alloc::Global;
 use std::process::Abort;
-use tree_pages::RowLayout;
 
 /// A drawing, the number of an entry that goes, the drawing then, and how many pages were changed.
 type Row = (&'static str, u32, &'static str, usize);

@@ -2,6 +2,8 @@
 #![tactic(auto)]
 
 #[cfg(test)]
+mod built_tree;
+#[cfg(test)]
 mod damage_tests;
 #[cfg(test)]
 mod entries;
@@ -9,8 +11,6 @@ mod entries;
 mod fill_tests;
 #[cfg(test)]
 mod join_tests;
-#[cfg(test)]
-mod planted;
 #[cfg(test)]
 mod refusal_tests;
 #[cfg(test)]

@@ -1,9 +1,9 @@
 //! Rows of a device that fails, and of a volume that a refused commit has spent: removals, checks and trees that are cleared are
 //! refused, and work once the volume is opened again.
 use crate::sample::Sample;
+use btree_pages::RowLayout;
 use pages::PagesError;
 use std::process::Abort;
-use tree_pages::RowLayout;
 
 /// The longest keys: leaves and inner pages of 3 rows.
 const THREE: RowLayout = RowLayout {

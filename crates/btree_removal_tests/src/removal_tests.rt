@@ -1,9 +1,9 @@
 //! Rows of removals: trees that lose half of their entries and then the others, in several orders, of short and of long entries; small
 //! trees after each removal; keys that aren't there.
 use crate::sample::{Order, Sample};
+use btree_pages::RowLayout;
 use std::alloc::Global;
 use std::process::Abort;
-use tree_pages::RowLayout;
 
 fn layout_of(key_length: usize, value_length: usize) -> RowLayout {
     RowLayout {

@@ -1,13 +1,13 @@
 //! A tree in a volume beside what it is to have: which of the entries 10, 20, 30 and so on are there. The volume's catalog is the
 //! tree's root.
+use crate::built_tree::{drawn, entries_in, leaves_in, plant};
 use crate::entries::{is_entry, number_of};
-use crate::planted::{drawn, entries_in, leaves_in, plant};
 use crate::volume::{Volume, marked, tree_of};
 use btree::Tree;
+use btree_pages::RowLayout;
 use pages::PagesError;
 use std::alloc::Global;
 use std::process::Abort;
-use tree_pages::RowLayout;
 
 /// A tree in a volume, what it is to have, and what it was to have at the last commit.
 #[derive(Drop)]

@@ -1,9 +1,9 @@
 //! Rows of removals through stops: the volume is opened again after commits, also where the power went in the midst of one. Then the
 //! pages are a tree, and the entries are those of the last commit, or of the one that was stopped.
 use crate::sample::{Order, Sample};
+use btree_pages::RowLayout;
 use pages::PagesError;
 use std::process::Abort;
-use tree_pages::RowLayout;
 
 /// Leaves of 39 rows.
 const LAYOUT: RowLayout = RowLayout {

@@ -2,13 +2,13 @@
 //! its caller. A call that no row wants refused asserts that it isn't.
 use crate::entries::{key_bytes, last, value_bytes};
 use btree::{Entry, Tree};
+use btree_check::check_tree;
+use btree_pages::{RowLayout, TreePage};
 use pages::{PageMap, PagesError, format};
 use station::{Device, MemoryStation};
 use std::alloc::Global;
 use std::marker::Model;
 use std::process::Abort;
-use tree_check::check_tree;
-use tree_pages::{RowLayout, TreePage};
 
 /// An opened volume on its station.
 #[derive(Drop)]

@@ -1,11 +1,11 @@
 //! Rows of trees that are checked and cleared: which pages are marked, and which are left.
-use crate::planted::{pages_in, plant};
+use crate::built_tree::{pages_in, plant};
 use crate::sample::{Order, Sample};
 use crate::volume::marked;
+use btree_pages::RowLayout;
 use pages::PagesError;
 use std::alloc::Global;
 use std::process::Abort;
-use tree_pages::RowLayout;
 
 const DAMAGED: Result<(), PagesError> = Err(PagesError::Damaged);
 

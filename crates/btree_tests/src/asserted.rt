@@ -4,11 +4,11 @@
 //! A call of an assertion is proved at once. A macro in a test makes a path of its own there, on which everything that the test holds has
 //! to be accounted for.
 ghost use Rattle.std.specs.Prelude.{◌≡◌};
-ghost use Rattle.tree_pages.specs.RowLayouts.{rest_length};
+ghost use Rattle.btree_pages.specs.RowLayouts.{rest_length};
 
+use btree_pages::{Kind, RowLayout, TreePage};
 use std::fmt::Debug;
 use std::process::Abort;
-use tree_pages::{Kind, RowLayout, TreePage};
 
 /// Asserts that this is so.
 pub fn holds(rt: &impl Abort, fact: bool) {

@@ -1,7 +1,7 @@
 //! Rows of pages that are no tree: each call that meets such a page answers `Damaged`, ends, and changes nothing.
 use crate::asserted::{laid_out, layout_of, same, same_in};
+use crate::built_tree::{BuiltTree, plant_inner, plant_leaves};
 use crate::entries::{key_bytes, last};
-use crate::planted::{Planted, plant_inner, plant_leaves};
 use crate::volume::{Volume, tree_of, works};
 use btree::Entry;
 use pages::PagesError;
@@ -65,8 +65,8 @@ fn no_page_of_a_tree(rt: HostRuntime) {
 }
 
 // An inner page of two children that are the same page.
-fn twice(rt: &impl Abort, volume: &mut Volume, page: u32) -> Planted {
-    let children = [Planted { least: 10, page }, Planted { least: 20, page }];
+fn twice(rt: &impl Abort, volume: &mut Volume, page: u32) -> BuiltTree {
+    let children = [BuiltTree { least: 10, page }, BuiltTree { least: 20, page }];
     plant_inner(rt, volume, layout_of(4, 3), &children)
 }
 

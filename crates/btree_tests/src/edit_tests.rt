@@ -3,8 +3,8 @@ use crate::asserted::{
     append, has_bytes, holds, insert, insert_child, layout_of, leaf_of, new_page, remove, same,
     same_in, set_key, set_rest, split_off,
 };
+use btree_pages::{Kind, RowLayout, TreePage};
 use std::process::Abort;
-use tree_pages::{Kind, RowLayout, TreePage};
 
 // Below, at, between and above the keys.
 #[test]

@@ -1,8 +1,8 @@
 //! Entries by their number: its key, and its value. The entries of a tree of these rows are 10, 20, 30 and so on.
 use crate::asserted::same_in;
 use btree::Entry;
+use btree_pages::RowLayout;
 use std::process::Abort;
-use tree_pages::RowLayout;
 
 /// The bytes of the longest key and value of these rows.
 const LONGEST: usize = 1060;

@@ -4,9 +4,9 @@ use crate::entries::{is_entry, key_bytes, last, value_bytes};
 use crate::reading_tests::{reads, walks};
 use crate::volume::{Volume, found, tree_of, works};
 use btree::Tree;
+use btree_pages::RowLayout;
 use std::alloc::Global;
 use std::process::Abort;
-use tree_pages::RowLayout;
 
 /// The order in which entries come.
 #[derive(Clone, Copy)]

@@ -1,6 +1,6 @@
 //! Rows of layouts: which are possible, how long their rows are, and how many fit.
 use crate::asserted::{layout_of, same, same_in};
-use tree_pages::{Kind, MOST_ROW_BYTES, ROW_BYTES};
+use btree_pages::{Kind, MOST_ROW_BYTES, ROW_BYTES};
 
 // Three rows of either kind fit into 4,080 bytes: a leaf's row has 1,360 at most, and so has a key with 4 bytes.
 #[test]

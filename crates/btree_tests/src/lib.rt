@@ -5,6 +5,8 @@
 #[cfg(test)]
 mod asserted;
 #[cfg(test)]
+mod built_tree;
+#[cfg(test)]
 mod damage_tests;
 #[cfg(test)]
 mod edit_tests;
@@ -16,8 +18,6 @@ mod insert_tests;
 mod layout_tests;
 #[cfg(test)]
 mod page_tests;
-#[cfg(test)]
-mod planted;
 #[cfg(test)]
 mod reading_tests;
 #[cfg(test)]

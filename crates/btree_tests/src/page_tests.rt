@@ -3,8 +3,8 @@ use crate::asserted::{
     child, has_bytes, has_row, insert, insert_child, laid_out, layout_of, leaf_of, new_page,
     read_page, same, same_in,
 };
+use btree_pages::{Kind, NodeView, RowLayout};
 use std::process::Abort;
-use tree_pages::{Kind, NodeView, RowLayout};
 
 // The page that these bytes are, seen where they stand.
 fn seen<'a>(rt: &impl Abort, bytes: &'a [u8; 4096], layout: RowLayout) -> NodeView<'a> {

@@ -1,13 +1,36 @@
 //! Rows of what is read of a tree: each number from 0 to behind the last entry, for each call, before a commit, after it, and with
 //! the volume opened again.
 use crate::asserted::{layout_of, same};
+use crate::built_tree::plant;
 use crate::entries::{is_entry, key_bytes, last};
-use crate::planted::plant;
 use crate::volume::{Volume, found, tree_of, works};
 use btree::Tree;
+use btree_pages::RowLayout;
 use std::alloc::Global;
 use std::process::Abort;
-use tree_pages::RowLayout;
+
+// The lengths of keys and values.
+const LAYOUTS: [(usize, usize); 6] = [(4, 3), (4, 0), (1, 0), (1, 1060), (100, 0), (100, 1060)];
+
+// Goes from the first entry to behind the last, each time by the key of the entry that was answered.
+pub fn walks(rt: &impl Abort, volume: &mut Volume, tree: &Tree, entries: u32) {
+    let mut entry = found(rt, volume.first(rt, tree));
+    for step in 0..entries {
+        let number = step.wrapping_add(1).wrapping_mul(10);
+        let Some(now) = entry else {
+            panic!(rt; "none in place of {number}");
+        };
+        entry = found(rt, volume.next(rt, tree, now.key()));
+        is_entry(rt, tree.layout(), Some(now), Some(number), "walk", number);
+    }
+    assert!(rt; entry.is_none(), "one behind the last");
+}
+
+pub fn reads(rt: &impl Abort, volume: &mut Volume, tree: &Tree, entries: u32) {
+    let end = entries.wrapping_mul(10).wrapping_add(15);
+    asks_each(rt, volume, tree, 0, end, entries);
+    walks(rt, volume, tree, entries);
+}
 
 // The first entry from a number on, of so many entries.
 fn from_on(number: u32, entries: u32) -> Option<u32> {
@@ -56,26 +79,6 @@ fn asks_each(
     }
 }
 
-// Goes from the first entry to behind the last, each time by the key of the entry that was answered.
-pub fn walks(rt: &impl Abort, volume: &mut Volume, tree: &Tree, entries: u32) {
-    let mut entry = found(rt, volume.first(rt, tree));
-    for step in 0..entries {
-        let number = step.wrapping_add(1).wrapping_mul(10);
-        let Some(now) = entry else {
-            panic!(rt; "none in place of {number}");
-        };
-        entry = found(rt, volume.next(rt, tree, now.key()));
-        is_entry(rt, tree.layout(), Some(now), Some(number), "walk", number);
-    }
-    assert!(rt; entry.is_none(), "one behind the last");
-}
-
-pub fn reads(rt: &impl Abort, volume: &mut Volume, tree: &Tree, entries: u32) {
-    let end = entries.wrapping_mul(10).wrapping_add(15);
-    asks_each(rt, volume, tree, 0, end, entries);
-    walks(rt, volume, tree, entries);
-}
-
 // Plants a tree and reads it, on its way to the disk and back.
 fn plants(
     rt: &impl Abort,
@@ -97,9 +100,6 @@ fn plants(
     volume.reopen(rt, alloc, 64);
     reads(rt, &mut volume, &tree, entries);
 }
-
-// The lengths of keys and values.
-const LAYOUTS: [(usize, usize); 6] = [(4, 3), (4, 0), (1, 0), (1, 1060), (100, 0), (100, 1060)];
 
 #[test]
 fn one_leaf(rt: HostRuntime) {

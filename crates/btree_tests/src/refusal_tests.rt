@@ -1,7 +1,7 @@
 //! Rows of a device that fails, and of a volume that a refused commit has spent.
 use crate::asserted::{layout_of, same, same_in};
+use crate::built_tree::plant;
 use crate::entries::{is_entry, key_bytes, last};
-use crate::planted::plant;
 use crate::volume::{Volume, found, tree_of, works};
 use btree::{Entry, Tree};
 use pages::PagesError;

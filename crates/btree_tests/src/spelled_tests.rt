@@ -2,7 +2,7 @@
 use crate::asserted::{
     holds, insert, laid_out, layout_of, leaf_of, new_page, spelled_insert, spelled_rest,
 };
-use tree_pages::Kind;
+use btree_pages::Kind;
 
 #[test]
 fn a_row_spelled_at_each_place(rt: HostRuntime) {

@@ -4,40 +4,12 @@
 //! No test has a `?`: what a row expects to work is asserted, since each `?` in a test is one more path on which everything has to be
 //! let go, and proved so.
 use btree::{Entry, Tree};
+use btree_pages::RowLayout;
 use pages::{PageMap, PagesError, format};
 use station::{Device, MemoryStation};
 use std::alloc::{AllocError, Global};
 use std::marker::Model;
 use std::process::Abort;
-use tree_pages::RowLayout;
-
-/// Asserts that a call wasn't refused.
-pub fn works(rt: &impl Abort, answer: Result<(), PagesError>) {
-    assert_eq!(rt; answer, Ok(()));
-}
-
-/// The entry that was answered, if there is one, by a call that wasn't refused.
-pub fn found(rt: &impl Abort, answer: Result<Option<Entry>, PagesError>) -> Option<Entry> {
-    match answer {
-        Ok(entry) => entry,
-        Err(error) => panic!(rt; "{error:?}"),
-    }
-}
-
-fn station_of_zeros(alloc: Global) -> Result<MemoryStation, AllocError> {
-    let bytes = vec![in alloc; [0; 4096]; 1024]?;
-    MemoryStation::new(alloc, bytes, Vec::new(alloc))
-}
-
-/// A station of 1,024 sectors with an empty volume.
-fn new_volume(rt: &impl Abort, alloc: Global) -> MemoryStation {
-    let Ok(mut station) = station_of_zeros(alloc) else {
-        panic!(rt; "no memory");
-    };
-    assert!(rt; station.count() == 1024);
-    assert!(rt; format(&mut station).is_ok());
-    station
-}
 
 /// An opened volume on its station.
 #[derive(Drop)]
@@ -170,8 +142,36 @@ impl Volume {
     }
 }
 
+/// Asserts that a call wasn't refused.
+pub fn works(rt: &impl Abort, answer: Result<(), PagesError>) {
+    assert_eq!(rt; answer, Ok(()));
+}
+
+/// The entry that was answered, if there is one, by a call that wasn't refused.
+pub fn found(rt: &impl Abort, answer: Result<Option<Entry>, PagesError>) -> Option<Entry> {
+    match answer {
+        Ok(entry) => entry,
+        Err(error) => panic!(rt; "{error:?}"),
+    }
+}
+
 /// The tree of this layout below a root.
 pub fn tree_of(rt: &impl Abort, alloc: Global, layout: RowLayout, root: u32) -> Tree {
     assert!(rt; layout.is_possible());
     Tree::new(alloc, layout, root)
+}
+
+fn station_of_zeros(alloc: Global) -> Result<MemoryStation, AllocError> {
+    let bytes = vec![in alloc; [0; 4096]; 1024]?;
+    MemoryStation::new(alloc, bytes, Vec::new(alloc))
+}
+
+/// A station of 1,024 sectors with an empty volume.
+fn new_volume(rt: &impl Abort, alloc: Global) -> MemoryStation {
+    let Ok(mut station) = station_of_zeros(alloc) else {
+        panic!(rt; "no memory");
+    };
+    assert!(rt; station.count() == 1024);
+    assert!(rt; format(&mut station).is_ok());
+    station
 }

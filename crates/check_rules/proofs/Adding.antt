@@ -5,10 +5,10 @@ use Rattle.std.proofs.lemmas.Result.{on_ok_weaker}
 use Rattle.std.proofs.Common.{inl, inr}
 use Rattle.std.proofs.lemmas.List.{append-nil, map-append, length-append, length-take-le, take_more, take_all}
 use Rattle.lexical.specs.declared.place.Place.{Place}
-use Rattle.perform_order.specs.declared.performed.PerformedRange.{PerformedRange}
-use Rattle.source_tree.specs.declared.moving.Moving.{Moving}
-use Rattle.source_tree.specs.declared.text.Text.{Text}
-use Rattle.source_tree.specs.declared.ending.Ending.{Ending}
+use Rattle.perform_graph.specs.declared.performed.PerformedRange.{PerformedRange}
+use Rattle.source_tree.specs.declared.data_statement.DataStatement.{DataStatement}
+use Rattle.source_tree.specs.declared.text_statement.TextStatement.{TextStatement}
+use Rattle.source_tree.specs.declared.control_statement.ControlStatement.{ControlStatement}
 use Rattle.source_tree.specs.declared.statement.Verb.{Verb}
 use Rattle.source_tree.specs.declared.statement.Verb.TheVariants as verb
 use Rattle.source_tree.specs.declared.statement.Statement.{Statement, out-Statement}
@@ -17,10 +17,10 @@ use Rattle.source_tree.specs.declared.program.Section.{Section}
 use Rattle.source_tree.specs.Procedures.{Procedure, paragraphs_or_one, paragraphs_in}
 use Rattle.source_tree.specs.Recursion.{Performance, by_paragraph, each_performs, phrase_performs, verb_performs, statement_performs, paragraph_performs, performs_from}
 use Rattle.check_rules.specs.declared.performs.Performs.{Performs}
-use Rattle.check_rules.specs.Performs.{Adds, AddsPhrase, in_paragraph}
+use Rattle.check_rules.specs.Performs.{AppendsPerforms, AddsPhrase, in_paragraph}
 use Rattle.declarations.proofs.PerformLayers.{statement_is}
 
-pub adds_nothing : (all : Performs) → Adds all all []
+pub adds_nothing : (all : Performs) → AppendsPerforms all all []
 adds_nothing all = record { places = sym (append-nil all.places.items); ranges = sym (append-nil all.ranges.items) }
 
 behind : {A : Type 0} (f : Place × PerformedRange → A) (old now new : List A) (xs ys : List (Place × PerformedRange))
@@ -28,7 +28,7 @@ behind : {A : Type 0} (f : Place × PerformedRange → A) (old now new : List A)
 behind f old now new xs ys first next =
     next ∙ ap (λ l. l ++ map f ys) first ∙ append_assoc old (map f xs) (map f ys) ∙ ap (λ l. old ++ l) (sym (map-append f xs ys))
 
-pub adds_both : {old now new : Performs} (xs ys : List (Place × PerformedRange)) → Adds old now xs → Adds now new ys → Adds old new (xs ++ ys)
+pub adds_both : {old now new : Performs} (xs ys : List (Place × PerformedRange)) → AppendsPerforms old now xs → AppendsPerforms now new ys → AppendsPerforms old new (xs ++ ys)
 adds_both {old} {now} {new} xs ys first next = record {
   places = behind (λ (one : Place × PerformedRange). one.0) old.places.items now.places.items new.places.items xs ys first.places next.places;
   ranges = behind (λ (one : Place × PerformedRange). one.1) old.ranges.items now.ranges.items new.ranges.items xs ys first.ranges next.ranges;
@@ -36,9 +36,9 @@ adds_both {old} {now} {new} xs ys first next = record {
 
 -- in one paragraph
 pub adds_within : {old now new : Performs} (number : ℕ) (xs ys : List Performance)
-    → Adds old now (in_paragraph number xs) → Adds now new (in_paragraph number ys) → Adds old new (in_paragraph number (xs ++ ys))
+    → AppendsPerforms old now (in_paragraph number xs) → AppendsPerforms now new (in_paragraph number ys) → AppendsPerforms old new (in_paragraph number (xs ++ ys))
 adds_within {old} {now} {new} number xs ys first next =
-    subst (Adds old new) (sym (map-append (by_paragraph number) xs ys)) (adds_both (in_paragraph number xs) (in_paragraph number ys) first next)
+    subst (AppendsPerforms old new) (sym (map-append (by_paragraph number) xs ys)) (adds_both (in_paragraph number xs) (in_paragraph number ys) first next)
 
 -- ---- one after another
 
@@ -56,15 +56,15 @@ module _ {A : Type 0} (performs : A → List Performance) where
       ∙ ap (λ l. each_performs performs (take i all) ++ l) (append-nil (performs (get_or all i one)) ∙ ap performs (sym is))
 
   pub adds_next : {old now new : Performs} (number : ℕ) (all : List A) (i : ℕ) (one : A) → i < length all → one ≡ get_or all i one
-      → Adds old now (in_paragraph number (each_performs performs (take i all))) → Adds now new (in_paragraph number (performs one))
-      → Adds old new (in_paragraph number (each_performs performs (take (i + 1) all)))
+      → AppendsPerforms old now (in_paragraph number (each_performs performs (take i all))) → AppendsPerforms now new (in_paragraph number (performs one))
+      → AppendsPerforms old new (in_paragraph number (each_performs performs (take (i + 1) all)))
   adds_next {old} {now} {new} number all i one lt is first next =
-      subst (λ (l : List Performance). Adds old new (in_paragraph number l)) (sym (each_more all i one lt is))
+      subst (λ (l : List Performance). AppendsPerforms old new (in_paragraph number l)) (sym (each_more all i one lt is))
       (adds_within number (each_performs performs (take i all)) (performs one) first next)
 
   pub adds_all : {old new : Performs} (number : ℕ) (all : List A) (i : ℕ) → length all ≤ i
-      → Adds old new (in_paragraph number (each_performs performs (take i all))) → Adds old new (in_paragraph number (each_performs performs all))
-  adds_all {old} {new} number all i past h = subst (λ (l : List A). Adds old new (in_paragraph number (each_performs performs l))) (take_all i all past) h
+      → AppendsPerforms old new (in_paragraph number (each_performs performs (take i all))) → AppendsPerforms old new (in_paragraph number (each_performs performs all))
+  adds_all {old} {new} number all i past h = subst (λ (l : List A). AppendsPerforms old new (in_paragraph number (each_performs performs l))) (take_all i all past) h
 
 -- ---- paragraphs
 
@@ -87,22 +87,22 @@ module _ (procedures : List Procedure) where
       (ap (λ (n : ℕ). performs_from procedures (first + n) (one ∷ [])) long ∙ append-nil (in_paragraph (first + i) (paragraph_performs procedures one)))
 
   pub paragraph_next : {old now new : Performs} (first : ℕ) (all : List Paragraph) (i : ℕ) (one : Paragraph) → i < length all → one ≡ get_or all i one
-      → Adds old now (performs_from procedures first (take i all)) → Adds now new (in_paragraph (first + i) (paragraph_performs procedures one))
-      → Adds old new (performs_from procedures first (take (i + 1) all))
+      → AppendsPerforms old now (performs_from procedures first (take i all)) → AppendsPerforms now new (in_paragraph (first + i) (paragraph_performs procedures one))
+      → AppendsPerforms old new (performs_from procedures first (take (i + 1) all))
   paragraph_next {old} {now} {new} first all i one lt is before next =
-      subst (Adds old new) (sym (from_more first all i one lt is))
+      subst (AppendsPerforms old new) (sym (from_more first all i one lt is))
       (adds_both (performs_from procedures first (take i all)) (in_paragraph (first + i) (paragraph_performs procedures one)) before next)
 
   pub paragraphs_all : {old new : Performs} (first : ℕ) (all : List Paragraph) (i : ℕ) → length all ≤ i
-      → Adds old new (performs_from procedures first (take i all)) → Adds old new (performs_from procedures first all)
-  paragraphs_all {old} {new} first all i past h = subst (λ (l : List Paragraph). Adds old new (performs_from procedures first l)) (take_all i all past) h
+      → AppendsPerforms old new (performs_from procedures first (take i all)) → AppendsPerforms old new (performs_from procedures first all)
+  paragraphs_all {old} {new} first all i past h = subst (λ (l : List Paragraph). AppendsPerforms old new (performs_from procedures first l)) (take_all i all past) h
 
   -- A section without paragraphs performs nothing.
   pub section_adds : {old new : Performs} (first : ℕ) (paragraphs given : List Paragraph) → given ≡ paragraphs
-      → Adds old new (performs_from procedures first given) → Adds old new (performs_from procedures first (paragraphs_or_one paragraphs))
-  section_adds {old} {new} first paragraphs given is h = or_one paragraphs (subst (λ (l : List Paragraph). Adds old new (performs_from procedures first l)) is h)
+      → AppendsPerforms old new (performs_from procedures first given) → AppendsPerforms old new (performs_from procedures first (paragraphs_or_one paragraphs))
+  section_adds {old} {new} first paragraphs given is h = or_one paragraphs (subst (λ (l : List Paragraph). AppendsPerforms old new (performs_from procedures first l)) is h)
     where
-      or_one : (all : List Paragraph) → Adds old new (performs_from procedures first all) → Adds old new (performs_from procedures first (paragraphs_or_one all))
+      or_one : (all : List Paragraph) → AppendsPerforms old new (performs_from procedures first all) → AppendsPerforms old new (performs_from procedures first (paragraphs_or_one all))
       or_one [] k = k
       or_one (one ∷ more) k = k
 
@@ -123,14 +123,14 @@ module _ (procedures : List Procedure) where
   -- the sections so far, and how many paragraphs are in them
   pub record AreWalked (old new : Performs) (sections : List Section) (number : ℕ) : Type 0 where
     pub count : number ≡ length (paragraphs_in sections)
-    pub added : Adds old new (performs_from procedures 0 (paragraphs_in sections))
+    pub added : AppendsPerforms old new (performs_from procedures 0 (paragraphs_in sections))
 
   pub walked_none : (all : Performs) → AreWalked all all [] 0
   walked_none all = record { count = refl; added = adds_nothing all }
 
   pub section_next : {old now new : Performs} (all : List Section) (i number next : ℕ) (one : Section) → i < length all → one ≡ get_or all i one
       → AreWalked old now (take i all) number → next ≡ number + length (paragraphs_or_one one.paragraphs)
-      → Adds now new (performs_from procedures number (paragraphs_or_one one.paragraphs)) → AreWalked old new (take (i + 1) all) next
+      → AppendsPerforms now new (performs_from procedures number (paragraphs_or_one one.paragraphs)) → AreWalked old new (take (i + 1) all) next
   section_next {old} {now} {new} all i number next one lt is before counted more =
       let front = paragraphs_in (take i all) in
       let back = paragraphs_or_one one.paragraphs in
@@ -140,10 +140,10 @@ module _ (procedures : List Procedure) where
       let count = before.count in
       record {
         count = omega (arith, sum, long, count, counted);
-        added = subst (λ (l : List Paragraph). Adds old new (performs_from procedures 0 l)) (sym same)
-            (subst (Adds old new) (sym (from_both 0 front back))
+        added = subst (λ (l : List Paragraph). AppendsPerforms old new (performs_from procedures 0 l)) (sym same)
+            (subst (AppendsPerforms old new) (sym (from_both 0 front back))
             (adds_both (performs_from procedures 0 front) (performs_from procedures (0 + length front) back) before.added
-            (let at : number ≡ 0 + length front = omega (arith, count) in subst (λ (n : ℕ). Adds now new (performs_from procedures n back)) at more)));
+            (let at : number ≡ 0 + length front = omega (arith, count) in subst (λ (n : ℕ). AppendsPerforms now new (performs_from procedures n back)) at more)));
       }
 
   pub walked_all : {old new : Performs} (all : List Section) (i number : ℕ) → length all ≤ i → AreWalked old new (take i all) number → AreWalked old new all number
@@ -152,42 +152,42 @@ module _ (procedures : List Procedure) where
 -- ---- a statement, by its verb
 
 pub adds_verb : {old new : Performs} (procedures : List Procedure) (number : ℕ) (one : Statement) (does : Verb Statement) → (out-Statement one).verb ≡ does
-    → Adds old new (in_paragraph number (verb_performs procedures (statement_performs procedures) does)) → Adds old new (in_paragraph number (statement_performs procedures one))
+    → AppendsPerforms old new (in_paragraph number (verb_performs procedures (statement_performs procedures) does)) → AppendsPerforms old new (in_paragraph number (statement_performs procedures one))
 adds_verb {old} {new} procedures number one does is h =
     let same = statement_is procedures one ∙ ap (verb_performs procedures (statement_performs procedures)) is in
-    subst (λ (l : List Performance). Adds old new (in_paragraph number l)) (sym same) h
+    subst (λ (l : List Performance). AppendsPerforms old new (in_paragraph number l)) (sym same) h
 
 -- A statement of another family performs nothing.
 pub nothing_performed : (procedures : List Procedure) (number : ℕ) (one : Statement) (all : Performs)
-    → ((x : Moving) × ((out-Statement one).verb ≡ verb.Moving x)) ⊎ (((x : Text) × ((out-Statement one).verb ≡ verb.Text x)) ⊎ ((x : Ending) × ((out-Statement one).verb ≡ verb.Ending x)))
-    → Adds all all (in_paragraph number (statement_performs procedures one))
-nothing_performed procedures number one all (inl h) = adds_verb procedures number one (verb.Moving h.0) h.1 (adds_nothing all)
+    → ((x : DataStatement) × ((out-Statement one).verb ≡ verb.DataStatement x)) ⊎ (((x : TextStatement) × ((out-Statement one).verb ≡ verb.Text x)) ⊎ ((x : ControlStatement) × ((out-Statement one).verb ≡ verb.ControlStatement x)))
+    → AppendsPerforms all all (in_paragraph number (statement_performs procedures one))
+nothing_performed procedures number one all (inl h) = adds_verb procedures number one (verb.DataStatement h.0) h.1 (adds_nothing all)
 nothing_performed procedures number one all (inr (inl h)) = adds_verb procedures number one (verb.Text h.0) h.1 (adds_nothing all)
-nothing_performed procedures number one all (inr (inr h)) = adds_verb procedures number one (verb.Ending h.0) h.1 (adds_nothing all)
+nothing_performed procedures number one all (inr (inr h)) = adds_verb procedures number one (verb.ControlStatement h.0) h.1 (adds_nothing all)
 
 -- ---- a statement with phrases; `rest` is what the last call answered
 
 module _ {T E : Type 0} (old now new : Performs) (procedures : List Procedure) (number : ℕ) (one : Statement) (rest : Result T E) (second : Option (List Statement)) where
-  pub adds_ways : (first : List Statement) → Adds old now (in_paragraph number (each_performs (statement_performs procedures) first)) → OnOk rest (AddsPhrase procedures number now new second)
+  pub adds_ways : (first : List Statement) → AppendsPerforms old now (in_paragraph number (each_performs (statement_performs procedures) first)) → OnOk rest (AddsPhrase procedures number now new second)
       → statement_performs procedures one ≡ each_performs (statement_performs procedures) first ++ phrase_performs (statement_performs procedures) second
-      → OnOk rest (Adds old new (in_paragraph number (statement_performs procedures one)))
+      → OnOk rest (AppendsPerforms old new (in_paragraph number (statement_performs procedures one)))
   adds_ways first before after same =
       on_ok_weaker rest
-      (λ (more : AddsPhrase procedures number now new second). subst (λ (l : List Performance). Adds old new (in_paragraph number l)) (sym same)
+      (λ (more : AddsPhrase procedures number now new second). subst (λ (l : List Performance). AppendsPerforms old new (in_paragraph number l)) (sym same)
       (adds_within number (each_performs (statement_performs procedures) first) (phrase_performs (statement_performs procedures) second) before more.added)) after
 
   pub adds_phrases : (first : Option (List Statement)) → AddsPhrase procedures number old now first → OnOk rest (AddsPhrase procedures number now new second)
       → statement_performs procedures one ≡ phrase_performs (statement_performs procedures) first ++ phrase_performs (statement_performs procedures) second
-      → OnOk rest (Adds old new (in_paragraph number (statement_performs procedures one)))
+      → OnOk rest (AppendsPerforms old new (in_paragraph number (statement_performs procedures one)))
   adds_phrases first before after same =
       on_ok_weaker rest
-      (λ (more : AddsPhrase procedures number now new second). subst (λ (l : List Performance). Adds old new (in_paragraph number l)) (sym same)
+      (λ (more : AddsPhrase procedures number now new second). subst (λ (l : List Performance). AppendsPerforms old new (in_paragraph number l)) (sym same)
       (adds_within number (phrase_performs (statement_performs procedures) first) (phrase_performs (statement_performs procedures) second) before.added more.added)) after
 
 -- a phrase behind others
 pub adds_behind : {T E : Type 0} (old now new : Performs) (procedures : List Procedure) (number : ℕ) (rest : Result T E) (first : List Performance) (second : Option (List Statement))
-    → Adds old now (in_paragraph number first) → OnOk rest (AddsPhrase procedures number now new second)
-    → OnOk rest (Adds old new (in_paragraph number (first ++ phrase_performs (statement_performs procedures) second)))
+    → AppendsPerforms old now (in_paragraph number first) → OnOk rest (AddsPhrase procedures number now new second)
+    → OnOk rest (AppendsPerforms old new (in_paragraph number (first ++ phrase_performs (statement_performs procedures) second)))
 adds_behind old now new procedures number rest first second before after =
     on_ok_weaker rest
     (λ (more : AddsPhrase procedures number now new second). adds_within number first (phrase_performs (statement_performs procedures) second) before more.added) after
@@ -197,9 +197,9 @@ pub phrase_none : (procedures : List Procedure) (number : ℕ) (all : Performs) 
 phrase_none procedures number all phrase is = subst (AddsPhrase procedures number all all) (sym is) (record { added = adds_nothing all })
 
 pub phrase_some : {T E : Type 0} (procedures : List Procedure) (number : ℕ) (old new : Performs) (rest : Result T E) (phrase : Option (List Statement)) (statements : List Statement)
-    → phrase ≡ Some statements → OnOk rest (Adds old new (in_paragraph number (each_performs (statement_performs procedures) statements)))
+    → phrase ≡ Some statements → OnOk rest (AppendsPerforms old new (in_paragraph number (each_performs (statement_performs procedures) statements)))
     → OnOk rest (AddsPhrase procedures number old new phrase)
 phrase_some procedures number old new rest phrase statements is added =
     on_ok_weaker rest
-    (λ (more : Adds old new (in_paragraph number (each_performs (statement_performs procedures) statements))).
+    (λ (more : AppendsPerforms old new (in_paragraph number (each_performs (statement_performs procedures) statements))).
     subst (AddsPhrase procedures number old new) (sym is) (let here : AddsPhrase procedures number old new (Some statements) = record { added = more } in here)) added

@@ -3,21 +3,21 @@ use Rattle.std.proofs.Common.{◌≡◌, ℕ, zero, suc, ◌+◌, ◌<◌, ◌�
 use Rattle.std.specs.Prelude.{All, map, slice_get}
 use Rattle.std.proofs.lemmas.Option.{get_or_from_slice_get, slice_get_within}
 use Rattle.lexical.specs.declared.place.Place.{Place}
-use Rattle.perform_order.specs.declared.performed.PerformedRange.{PerformedRange}
-use Rattle.perform_order.specs.declared.order.Order.{Order}
-use Rattle.perform_order.specs.declared.order.Order.TheVariants.{Recursive}
-use Rattle.perform_order.specs.Order.{marks, IsOrder, PerformOneAnother}
+use Rattle.perform_graph.specs.declared.performed.PerformedRange.{PerformedRange}
+use Rattle.perform_graph.specs.declared.order.Order.{Order}
+use Rattle.perform_graph.specs.declared.order.Order.TheVariants.{Recursive}
+use Rattle.perform_graph.specs.Order.{marks, IsOrder, PerformOneAnother}
 use Rattle.source_tree.specs.declared.program.Program.{Program}
-use Rattle.source_tree.specs.Recursion.{performs, LeadsBack}
-use Rattle.check_rules.specs.Performs.{Leads, StandsFirst}
+use Rattle.source_tree.specs.Recursion.{performs, IsRecursivePerform}
+use Rattle.check_rules.specs.Performs.{PerformsWithin, IsFirstWithin}
 
 -- Among paragraphs that perform one another some PERFORM leads back.
-pub some_leads : (among : ℕ → Bool) (ranges : List PerformedRange) → All (λ (one : PerformedRange). Leads among one → ⊥) ranges → PerformOneAnother among ranges → ⊥
+pub some_leads : (among : ℕ → Bool) (ranges : List PerformedRange) → All (λ (one : PerformedRange). PerformsWithin among one → ⊥) ranges → PerformOneAnother among ranges → ⊥
 some_leads among ranges none ring =
     let one = ring.each ring.some ring.marked in
     let is = get_or_from_slice_get ranges one.at one.one one.one one.stands in
     none one.at one.one (slice_get_within ranges one.at one.one one.stands)
-    (subst (Leads among) (sym is)
+    (subst (PerformsWithin among) (sym is)
     (record { performer = ap among one.performer ∙ ring.marked; other = one.other; within = one.within; marked = one.marked }))
 
 -- a place and what is named there, where both stand at one number
@@ -33,7 +33,7 @@ pair_at (first ∷ more) (suc number) place one at is = pair_at more number plac
 
 pub leads_back : (program : Program) (among : ℕ → Bool) (ranges : List PerformedRange) (places : List Place) (number : ℕ) (place : Place)
     → ranges ≡ map (λ (p : Place × PerformedRange). p.1) (performs program) → places ≡ map (λ (p : Place × PerformedRange). p.0) (performs program)
-    → PerformOneAnother among ranges → StandsFirst among ranges number → place ≡ get_or places number place → LeadsBack program place
+    → PerformOneAnother among ranges → IsFirstWithin among ranges number → place ≡ get_or places number place → IsRecursivePerform program place
 leads_back program among ranges places number place performed named ring found at = record {
   among = among;
   ring = subst (PerformOneAnother among) performed ring;
@@ -50,7 +50,7 @@ leads_back program among ranges places number place performed named ring found a
 pub unmarked_more : (among : ℕ → Bool) (low at : ℕ) → ((k : ℕ) → low ≤ k → k < at → among k ≡ false) → among at ≡ false → (k : ℕ) → low ≤ k → k < at + 1 → among k ≡ false
 unmarked_more among low at before here k le lt = below_more (λ (n : ℕ). low ≤ n → among n ≡ false) at (λ n less more. before n more less) (λ more. here) k lt le
 
-pub not_back : (among : ℕ → Bool) (one : PerformedRange) (end : ℕ) → (one.first ≤ one.last → one.last < end) → ((k : ℕ) → one.first ≤ k → k < end → among k ≡ false) → Leads among one → ⊥
+pub not_back : (among : ℕ → Bool) (one : PerformedRange) (end : ℕ) → (one.first ≤ one.last → one.last < end) → ((k : ℕ) → one.first ≤ k → k < end → among k ≡ false) → PerformsWithin among one → ⊥
 not_back among one end room none leads =
     let low = leads.within.first in
     let high = leads.within.last in

@@ -7,19 +7,19 @@ use Rattle.lexical.specs.declared.place.Place.{Place}
 use Rattle.source_tree.specs.declared.arithmetic.Operation.{Operation}
 use Rattle.source_tree.specs.declared.condition.Condition.{Condition}
 use Rattle.source_tree.specs.declared.reference.Reference.{Reference}
-use Rattle.source_tree.specs.declared.stringing.Sending.{Sending}
-use Rattle.source_tree.specs.declared.branching.Branching.TheVariants.{If, Evaluate}
-use Rattle.source_tree.specs.declared.evaluate.Subject.{Subject}
-use Rattle.source_tree.specs.declared.evaluate.Selected.{Selected}
-use Rattle.source_tree.specs.declared.ending.Ending.{Ending}
-use Rattle.source_tree.specs.declared.filing.Filing.{Filing}
-use Rattle.source_tree.specs.declared.moving.Moving.{Moving}
-use Rattle.source_tree.specs.declared.text.Text.{Text}
+use Rattle.source_tree.specs.declared.string_statement.Sending.{Sending}
+use Rattle.source_tree.specs.declared.conditional_statement.ConditionalStatement.TheVariants.{If, Evaluate}
+use Rattle.source_tree.specs.declared.evaluate_statement.Subject.{Subject}
+use Rattle.source_tree.specs.declared.evaluate_statement.Selected.{Selected}
+use Rattle.source_tree.specs.declared.control_statement.ControlStatement.{ControlStatement}
+use Rattle.source_tree.specs.declared.file_statement.FileStatement.{FileStatement}
+use Rattle.source_tree.specs.declared.data_statement.DataStatement.{DataStatement}
+use Rattle.source_tree.specs.declared.text_statement.TextStatement.{TextStatement}
 use Rattle.source_tree.specs.declared.phrases.FilePhrases.{FilePhrases}
 use Rattle.source_tree.specs.declared.phrases.FilePhrases.TheVariants.{Absent, AtEnd, InvalidKey}
-use Rattle.source_tree.specs.declared.performing.Performed.{Performed}
-use Rattle.source_tree.specs.declared.performing.Performed.TheVariants.{Procedures, Statements}
-use Rattle.source_tree.specs.declared.performing.Turns.{Turns}
+use Rattle.source_tree.specs.declared.perform_statement.Performed.{Performed}
+use Rattle.source_tree.specs.declared.perform_statement.Performed.TheVariants.{Procedures, Statements}
+use Rattle.source_tree.specs.declared.perform_statement.Repetition.{Repetition}
 use Rattle.source_tree.specs.declared.statement.Verb.{Verb}
 use Rattle.source_tree.specs.declared.statement.Verb.TheVariants as verb
 use Rattle.source_tree.specs.declared.statement.Statement.{Statement, out-Statement}
@@ -27,7 +27,7 @@ use Rattle.source_tree.specs.declared.statement.Statement.TheFolds.{map-Statemen
 use Rattle.source_tree.specs.Filing.{phrases_of}
 use Rattle.source_tree.specs.StatementCount.{in_phrase, in_file_phrases, in_selected, inside, each_place, places_layer, statement_places}
 use Rattle.check_rules.specs.declared.statement_count.Room.{Room}
-use Rattle.check_rules.specs.Counting.{room_for, after_one, after}
+use Rattle.check_rules.specs.Counting.{room_for, after_one, room_after}
 use Rattle.declarations.proofs.FilingLayers.{mapped_phrases, filing_mapped, phrases_mapped}
 
 -- ---- the statements in a statement, where they are mapped
@@ -59,38 +59,38 @@ module _ {A B : Type 0} (f : A → B) where
   phrases_inside place operation (Some some) (Some other) = sym (map-append f some other)
 
   strung_inside : (place : Place) (sendings : List Sending) (receiver : Reference) (pointer : Option Reference) (arose did_not : Option (List A))
-      → IsMapped place (verb.Stringing (record { sendings = sendings; receiver = receiver; pointer = pointer; phrases = record { arose = arose; did_not = did_not } }))
+      → IsMapped place (verb.StringStatement (record { sendings = sendings; receiver = receiver; pointer = pointer; phrases = record { arose = arose; did_not = did_not } }))
   strung_inside place sendings receiver pointer None None = refl
   strung_inside place sendings receiver pointer (Some some) None = sym (map-append f some [])
   strung_inside place sendings receiver pointer None (Some other) = refl
   strung_inside place sendings receiver pointer (Some some) (Some other) = sym (map-append f some other)
 
-  if_inside : (place : Place) (condition : Condition) (statements : List A) (otherwise : Option (List A)) → IsMapped place (verb.Branching (If condition statements otherwise))
+  if_inside : (place : Place) (condition : Condition) (statements : List A) (otherwise : Option (List A)) → IsMapped place (verb.ConditionalStatement (If condition statements otherwise))
   if_inside place condition statements None = sym (map-append f statements [])
   if_inside place condition statements (Some other) = sym (map-append f statements other)
 
   evaluate_inside : (place : Place) (subjects : List Subject) (selected : List (Selected A)) (other : Option (List A))
-      → IsMapped place (verb.Branching (Evaluate (record { subjects = subjects; selected = selected; other = other })))
+      → IsMapped place (verb.ConditionalStatement (Evaluate (record { subjects = subjects; selected = selected; other = other })))
   evaluate_inside place subjects selected None = ap (λ l. l ++ []) (selected_mapped selected) ∙ sym (map-append f (in_selected selected) [])
   evaluate_inside place subjects selected (Some some) = ap (λ l. l ++ map f some) (selected_mapped selected) ∙ sym (map-append f (in_selected selected) some)
 
-  performed_inside : (place : Place) (often : Turns) (what : Performed A) → IsMapped place (verb.Performing (record { performed = what; turns = often }))
+  performed_inside : (place : Place) (often : Repetition) (what : Performed A) → IsMapped place (verb.PerformStatement (record { performed = what; turns = often }))
   performed_inside place often (Procedures first last) = refl
   performed_inside place often (Statements some) = refl
 
-  filed_inside : (place : Place) (one : Filing A) → IsMapped place (verb.Filing one)
+  filed_inside : (place : Place) (one : FileStatement A) → IsMapped place (verb.FileStatement one)
   filed_inside place one = ap inside (filing_mapped f place one) ∙ ap in_file_phrases (phrases_mapped f one) ∙ file_phrases_mapped (phrases_of one)
 
   inside_mapped : (place : Place) (one : Verb A) → IsMapped place one
-  inside_mapped place (verb.Moving one) = refl
+  inside_mapped place (verb.DataStatement one) = refl
   inside_mapped place (verb.Arithmetic one) = phrases_inside place one.operation one.phrases.arose one.phrases.did_not
-  inside_mapped place (verb.Branching (If condition statements otherwise)) = if_inside place condition statements otherwise
-  inside_mapped place (verb.Branching (Evaluate one)) = evaluate_inside place one.subjects one.selected one.other
-  inside_mapped place (verb.Performing one) = performed_inside place one.turns one.performed
+  inside_mapped place (verb.ConditionalStatement (If condition statements otherwise)) = if_inside place condition statements otherwise
+  inside_mapped place (verb.ConditionalStatement (Evaluate one)) = evaluate_inside place one.subjects one.selected one.other
+  inside_mapped place (verb.PerformStatement one) = performed_inside place one.turns one.performed
   inside_mapped place (verb.Text one) = refl
-  inside_mapped place (verb.Stringing one) = strung_inside place one.sendings one.receiver one.pointer one.phrases.arose one.phrases.did_not
-  inside_mapped place (verb.Filing one) = filed_inside place one
-  inside_mapped place (verb.Ending one) = refl
+  inside_mapped place (verb.StringStatement one) = strung_inside place one.sendings one.receiver one.pointer one.phrases.arose one.phrases.did_not
+  inside_mapped place (verb.FileStatement one) = filed_inside place one
+  inside_mapped place (verb.ControlStatement one) = refl
 
   places_mapped : (places : B → List Place) (all : List A) → each_place places (map f all) ≡ each_place (λ a. places (f a)) all
   places_mapped places [] = refl
@@ -108,7 +108,7 @@ statement_is one =
 
 -- ---- counting lists of places
 
-pub after_append : (a b : List Place) (room : Room) → after room (a ++ b) ≡ after (after room a) b
+pub after_append : (a b : List Place) (room : Room) → room_after room (a ++ b) ≡ room_after (room_after room a) b
 after_append [] b room = refl
 after_append (one ∷ more) b room = after_append more b (after_one room one)
 
@@ -117,47 +117,47 @@ places_append places [] ys = refl
 places_append places (x ∷ xs) ys = ap (λ l. places x ++ l) (places_append places xs ys) ∙ sym (append_assoc (places x) (each_place places xs) (each_place places ys))
 
 -- some statements, and then others
-pub after_both : (room middle new : Room) (xs ys : List Statement) → middle ≡ after room (each_place statement_places xs) → new ≡ after middle (each_place statement_places ys)
-    → new ≡ after room (each_place statement_places (xs ++ ys))
+pub after_both : (room middle new : Room) (xs ys : List Statement) → middle ≡ room_after room (each_place statement_places xs) → new ≡ room_after middle (each_place statement_places ys)
+    → new ≡ room_after room (each_place statement_places (xs ++ ys))
 after_both room middle new xs ys first second =
-    second ∙ ap (λ r. after r (each_place statement_places ys)) first
+    second ∙ ap (λ r. room_after r (each_place statement_places ys)) first
     ∙ sym (after_append (each_place statement_places xs) (each_place statement_places ys) room)
-    ∙ sym (ap (after room) (places_append statement_places xs ys))
+    ∙ sym (ap (room_after room) (places_append statement_places xs ys))
 
 -- a statement, and those in it
 pub after_inside : (one : Statement) (what : Verb Statement) (room first new : Room) → (out-Statement one).verb ≡ what → first ≡ after_one room (out-Statement one).place
-    → new ≡ after first (each_place statement_places (inside what)) → new ≡ after room (statement_places one)
+    → new ≡ room_after first (each_place statement_places (inside what)) → new ≡ room_after room (statement_places one)
 after_inside one what room first new is before h =
     h
-    ∙ ap (λ (r : Room). after r (each_place statement_places (inside what))) before
-    ∙ ap (λ (v : Verb Statement). after (after_one room (out-Statement one).place) (each_place statement_places (inside v))) (sym is)
-    ∙ sym (ap (after room) (statement_is one))
+    ∙ ap (λ (r : Room). room_after r (each_place statement_places (inside what))) before
+    ∙ ap (λ (v : Verb Statement). room_after (after_one room (out-Statement one).place) (each_place statement_places (inside v))) (sym is)
+    ∙ sym (ap (room_after room) (statement_is one))
 
 -- one without others in it
 pub after_alone : (one : Statement) (room first : Room)
-    → ((x : Moving) × ((out-Statement one).verb ≡ verb.Moving x)) ⊎ (((x : Text) × ((out-Statement one).verb ≡ verb.Text x)) ⊎ ((x : Ending) × ((out-Statement one).verb ≡ verb.Ending x)))
-    → first ≡ after_one room (out-Statement one).place → first ≡ after room (statement_places one)
-after_alone one room first (inl h) before = after_inside one (verb.Moving h.0) room first first h.1 before refl
+    → ((x : DataStatement) × ((out-Statement one).verb ≡ verb.DataStatement x)) ⊎ (((x : TextStatement) × ((out-Statement one).verb ≡ verb.Text x)) ⊎ ((x : ControlStatement) × ((out-Statement one).verb ≡ verb.ControlStatement x)))
+    → first ≡ after_one room (out-Statement one).place → first ≡ room_after room (statement_places one)
+after_alone one room first (inl h) before = after_inside one (verb.DataStatement h.0) room first first h.1 before refl
 after_alone one room first (inr (inl h)) before = after_inside one (verb.Text h.0) room first first h.1 before refl
-after_alone one room first (inr (inr h)) before = after_inside one (verb.Ending h.0) room first first h.1 before refl
+after_alone one room first (inr (inr h)) before = after_inside one (verb.ControlStatement h.0) room first first h.1 before refl
 
 -- ---- one after another, by the places of each
 
 module _ {A : Type 0} (all_places : List A → List Place) (places : A → List Place) (step : (x : A) (xs : List A) → all_places (x ∷ xs) ≡ places x ++ all_places xs) where
   pub after_next : (all : List A) (i : ℕ) (one : A) (room so_far new : Room) → i < length all → one ≡ get_or all i one
-      → after room (all_places all) ≡ after so_far (all_places (drop i all)) → new ≡ after so_far (places one) → after room (all_places all) ≡ after new (all_places (drop (i + 1) all))
+      → room_after room (all_places all) ≡ room_after so_far (all_places (drop i all)) → new ≡ room_after so_far (places one) → room_after room (all_places all) ≡ room_after new (all_places (drop (i + 1) all))
   after_next all i one room so_far new lt is before here =
       let rest = drop (suc i) all in
       before
-      ∙ ap (λ l. after so_far (all_places l)) (drop-cons all i one lt ∙ ap (λ x. x ∷ rest) (sym is))
-      ∙ ap (after so_far) (step one rest)
+      ∙ ap (λ l. room_after so_far (all_places l)) (drop-cons all i one lt ∙ ap (λ x. x ∷ rest) (sym is))
+      ∙ ap (room_after so_far) (step one rest)
       ∙ after_append (places one) (all_places rest) so_far
-      ∙ ap (λ r. after r (all_places rest)) (sym here)
-      ∙ ap (λ k. after new (all_places (drop k all))) (sym (add-one i))
+      ∙ ap (λ r. room_after r (all_places rest)) (sym here)
+      ∙ ap (λ k. room_after new (all_places (drop k all))) (sym (add-one i))
 
   pub after_all : (all : List A) (i : ℕ) (room so_far : Room) → all_places [] ≡ [] → length all ≤ i
-      → after room (all_places all) ≡ after so_far (all_places (drop i all)) → so_far ≡ after room (all_places all)
-  after_all all i room so_far none past before = sym (before ∙ ap (λ l. after so_far (all_places l)) (drop_all i all past) ∙ ap (after so_far) none)
+      → room_after room (all_places all) ≡ room_after so_far (all_places (drop i all)) → so_far ≡ room_after room (all_places all)
+  after_all all i room so_far none past before = sym (before ∙ ap (λ l. room_after so_far (all_places l)) (drop_all i all past) ∙ ap (room_after so_far) none)
 
 abbrev pub selected_places : List (Selected Statement) → List Place
 selected_places all = each_place statement_places (in_selected all)
@@ -170,7 +170,7 @@ selected_step one more = places_append statement_places one.statements (in_selec
 
 -- ---- the first that may not come
 
-full : (left : ℕ) (first : Place) (places : List Place) → (after (record { left = left; excess = Some first }) places).excess ≡ Some first
+full : (left : ℕ) (first : Place) (places : List Place) → (room_after (record { left = left; excess = Some first }) places).excess ≡ Some first
 full left first [] = refl
 full left first (one ∷ more) = full left first more
 
@@ -182,7 +182,7 @@ one_less n place =
     let minus : suc n - 1 ≡ n = omega arith in
     rw (not_none n) (ap room_for minus)
 
-pub excess_is : (n : ℕ) (places : List Place) → (after (room_for n) places).excess ≡ slice_get places n
+pub excess_is : (n : ℕ) (places : List Place) → (room_after (room_for n) places).excess ≡ slice_get places n
 excess_is n [] = refl
 excess_is zero (one ∷ more) = full 0 one more
-excess_is (suc n) (one ∷ more) = ap (λ r. (after r more).excess) (one_less n one) ∙ excess_is n more
+excess_is (suc n) (one ∷ more) = ap (λ r. (room_after r more).excess) (one_less n one) ∙ excess_is n more

@@ -6,15 +6,15 @@ use Rattle.std.proofs.lemmas.Bool.{ltb-false}
 use Rattle.std.proofs.lemmas.List.{length-append, length-map}
 use Rattle.std.proofs.lemmas.List.Elements.{All-from_recursion}
 use Rattle.lexical.specs.declared.place.Place.{Place}
-use Rattle.perform_order.specs.declared.performed.PerformedRange.{PerformedRange}
-use Rattle.perform_order.specs.Order.{IsRange}
+use Rattle.perform_graph.specs.declared.performed.PerformedRange.{PerformedRange}
+use Rattle.perform_graph.specs.Order.{IsRange}
 use Rattle.source_tree.specs.declared.name.Name.{Name}
-use Rattle.source_tree.specs.declared.branching.Branching.{Branching}
-use Rattle.source_tree.specs.declared.branching.Branching.TheVariants.{If, Evaluate}
-use Rattle.source_tree.specs.declared.evaluate.Subject.{Subject}
-use Rattle.source_tree.specs.declared.evaluate.Selected.{Selected}
-use Rattle.source_tree.specs.declared.performing.Performed.{Performed}
-use Rattle.source_tree.specs.declared.performing.Performed.TheVariants.{Procedures, Statements}
+use Rattle.source_tree.specs.declared.conditional_statement.ConditionalStatement.{ConditionalStatement}
+use Rattle.source_tree.specs.declared.conditional_statement.ConditionalStatement.TheVariants.{If, Evaluate}
+use Rattle.source_tree.specs.declared.evaluate_statement.Subject.{Subject}
+use Rattle.source_tree.specs.declared.evaluate_statement.Selected.{Selected}
+use Rattle.source_tree.specs.declared.perform_statement.Performed.{Performed}
+use Rattle.source_tree.specs.declared.perform_statement.Performed.TheVariants.{Procedures, Statements}
 use Rattle.source_tree.specs.declared.phrases.Phrases.{Phrases}
 use Rattle.source_tree.specs.declared.phrases.FilePhrases.{FilePhrases}
 use Rattle.source_tree.specs.declared.phrases.FilePhrases.TheVariants.{Absent, AtEnd, InvalidKey}
@@ -28,21 +28,21 @@ use Rattle.source_tree.specs.declared.statement.Statement.{Statement, roll-State
 use Rattle.source_tree.specs.declared.statement.Statement.TheOpen.{Statement-F}
 use Rattle.source_tree.specs.declared.statement.Statement.TheFolds.{map-Statement, ind-Statement}
 use Rattle.source_tree.specs.ArithmeticRules.{operation_rules}
-use Rattle.source_tree.specs.Broken.{Broken, where_so, each}
+use Rattle.source_tree.specs.Broken.{RuleBreach, where_so, each}
 use Rattle.source_tree.specs.ConditionRules.{condition_rules}
 use Rattle.source_tree.specs.Filing.{phrases_of}
 use Rattle.source_tree.specs.FilingRules.{filing_rules}
 use Rattle.source_tree.specs.StringRules.{string_rules}
 use Rattle.source_tree.specs.EvaluateRules.{subject_rules, when_rules, selected_rules}
 use Rattle.source_tree.specs.PerformRules.{procedure_named, last_named, last_place, found_rules, range_rules}
-use Rattle.source_tree.specs.Procedures.{Range, Procedure, paragraphs_or_one, paragraphs_in, paragraph_procedures, procedures_from, procedures_of, is_procedure, procedures_named, only_range, range_named, to_end_of, through, range_of}
-use Rattle.source_tree.specs.Recursion.{Performance, each_performs, phrase_performs, file_phrases_performs, selected_performs, range_performs, performed_performs, branching_performs, verb_performs, statement_performs, paragraph_performs, performs_from, performs, performed}
+use Rattle.source_tree.specs.Procedures.{Range, Procedure, paragraphs_or_one, paragraphs_in, paragraph_procedures, procedures_from, procedures_of, is_procedure, procedures_named, only_range, range_named, to_end_of, range_through, range_of}
+use Rattle.source_tree.specs.Recursion.{Performance, each_performs, phrase_performs, file_phrases_performs, selected_performs, range_performs, performed_performs, branching_performs, verb_performs, statement_performs, paragraph_performs, performs_from, performs, performed_by_program}
 use Rattle.source_tree.specs.Rules.{phrase_rules, phrases_rules, file_phrases_rules, performed_rules, turns_rules, branching_rules, verb_rules, all_permitted, statement_rules, sentence_rules, paragraph_rules, sections_rules}
 use Rattle.source_tree.specs.Setting.{Scope, paragraphs}
 use Rattle.declarations.specs.declared.declarations.Declarations.{Declarations}
 use Rattle.check_rules.specs.declared.performs.Performs.{Performs}
 use Rattle.declarations.specs.Named.{Declares, procedures_in, scope_in}
-use Rattle.check_rules.specs.Performs.{Adds, HasNext, in_paragraph}
+use Rattle.check_rules.specs.Performs.{AppendsPerforms, HasNext, in_paragraph}
 use Rattle.declarations.proofs.RuleLayers.{mapped_rules}
 use Rattle.declarations.proofs.PerformLayers.{mapped_performs}
 
@@ -111,7 +111,7 @@ module _ (count : ℕ) where
     to_end_below first None h = tt
     to_end_below first (Some last) h = h
 
-    through_below : (last : Option Name) (first : Option Range) → EndsBelow first → EndsBelow (through procedures last first)
+    through_below : (last : Option Name) (first : Option Range) → EndsBelow first → EndsBelow (range_through procedures last first)
     through_below None None h = tt
     through_below (Some last) None h = tt
     through_below None (Some first) h = h
@@ -126,7 +126,7 @@ module _ (items_and : Scope) (count : ℕ) (below : AllByRecursion (LiesBelow co
   abbrev procedures : List Procedure
   procedures = items_and.procedures
 
-  abbrev rules_of : Statement → List Broken
+  abbrev rules_of : Statement → List RuleBreach
   rules_of = statement_rules items_and all_permitted
 
   -- in order, and below the count of paragraphs
@@ -137,7 +137,7 @@ module _ (items_and : Scope) (count : ℕ) (below : AllByRecursion (LiesBelow co
   abbrev AreInOrder : List Performance → Type 0
   AreInOrder = AllByRecursion IsInOrder
 
-  not_backwards : (b : Bool) (place : Place) (more : List Broken) → where_so b 55 place ++ more ≡ [] → b ≡ false
+  not_backwards : (b : Bool) (place : Place) (more : List RuleBreach) → where_so b 55 place ++ more ≡ [] → b ≡ false
   not_backwards true place more e = absurd cc
   not_backwards false place more e = refl
 
@@ -154,10 +154,10 @@ module _ (items_and : Scope) (count : ℕ) (below : AllByRecursion (LiesBelow co
       (right_none (procedure_named procedures first ++ last_named procedures last) (found_rules all_permitted first last (range_of procedures first last)) e)
 
   -- what performs in order, where it keeps its rules
-  record KeepOrder {S : Type 0} (rules : S → List Broken) (performs : S → List Performance) : Type 0 where
+  record KeepOrder {S : Type 0} (rules : S → List RuleBreach) (performs : S → List Performance) : Type 0 where
     by : (one : S) → rules one ≡ [] → AreInOrder (performs one)
 
-  module _ {S : Type 0} (rules : S → List Broken) (performs : S → List Performance) (keep : KeepOrder rules performs) where
+  module _ {S : Type 0} (rules : S → List RuleBreach) (performs : S → List Performance) (keep : KeepOrder rules performs) where
     each_in_order : (all : List S) → each rules all ≡ [] → AreInOrder (each_performs performs all)
     each_in_order [] e = tt
     each_in_order (one ∷ more) e =
@@ -191,7 +191,7 @@ module _ (items_and : Scope) (count : ℕ) (below : AllByRecursion (LiesBelow co
         (each_in_order one.statements (right_none (each (when_rules items_and.items subjects) one.whens) (each rules one.statements) front))
         (selected_in_order subjects more (right_none (selected_rules items_and.items rules subjects one) (each (selected_rules items_and.items rules subjects) more) e))
 
-    branching_in_order : (one : Branching S) → branching_rules items_and.items rules one ≡ [] → AreInOrder (branching_performs performs one)
+    branching_in_order : (one : ConditionalStatement S) → branching_rules items_and.items rules one ≡ [] → AreInOrder (branching_performs performs one)
     branching_in_order (If condition statements otherwise) e =
         let asks = condition_rules items_and.items condition in
         let front = left_none (asks ++ each rules statements) (phrase_rules rules otherwise) e in
@@ -206,16 +206,16 @@ module _ (items_and : Scope) (count : ℕ) (below : AllByRecursion (LiesBelow co
         (phrase_in_order one.other (right_none (asks ++ all) (phrase_rules rules one.other) e))
 
     verb_in_order : (one : Verb S) → verb_rules items_and all_permitted rules one ≡ [] → AreInOrder (verb_performs procedures performs one)
-    verb_in_order (verb.Moving one) e = tt
+    verb_in_order (verb.DataStatement one) e = tt
     verb_in_order (verb.Arithmetic one) e = phrases_in_order one.phrases (right_none (operation_rules items_and.items one.operation) (phrases_rules rules one.phrases) e)
-    verb_in_order (verb.Branching one) e = branching_in_order one e
-    verb_in_order (verb.Performing one) e =
+    verb_in_order (verb.ConditionalStatement one) e = branching_in_order one e
+    verb_in_order (verb.PerformStatement one) e =
         performed_in_order one.performed (right_none (turns_rules items_and.items one.turns) (performed_rules procedures all_permitted rules one.performed) e)
     verb_in_order (verb.Text one) e = tt
-    verb_in_order (verb.Stringing one) e = phrases_in_order one.phrases (right_none (string_rules items_and.items one) (phrases_rules rules one.phrases) e)
-    verb_in_order (verb.Filing one) e =
+    verb_in_order (verb.StringStatement one) e = phrases_in_order one.phrases (right_none (string_rules items_and.items one) (phrases_rules rules one.phrases) e)
+    verb_in_order (verb.FileStatement one) e =
         file_phrases_in_order (phrases_of one) (right_none (filing_rules items_and.items items_and.files one) (file_phrases_rules rules (phrases_of one)) e)
-    verb_in_order (verb.Ending one) e = tt
+    verb_in_order (verb.ControlStatement one) e = tt
 
   record KeepsOrder (one : Statement) : Type 0 where
     by : rules_of one ≡ [] → AreInOrder (statement_performs procedures one)
@@ -226,7 +226,7 @@ module _ (items_and : Scope) (count : ℕ) (below : AllByRecursion (LiesBelow co
   kept_inside : (l : Statement-F Kept) → KeepsOrder (roll-Statement (map-Statement Kept Statement (λ m. m.0) l))
   kept_inside l = record {
     by = λ e.
-        let rules : Kept → List Broken = λ m. rules_of m.0 in
+        let rules : Kept → List RuleBreach = λ m. rules_of m.0 in
         let performs : Kept → List Performance = λ m. statement_performs procedures m.0 in
         subst AreInOrder (sym (mapped_performs procedures (λ (m : Kept). m.0) l))
         (verb_in_order rules performs (record { by = λ m keep. m.1.by keep }) l.verb (sym (mapped_rules items_and all_permitted (λ (m : Kept). m.0) l) ∙ e));
@@ -266,7 +266,7 @@ module _ (items_and : Scope) (count : ℕ) (below : AllByRecursion (LiesBelow co
       (within_ranges number (paragraph_performs procedures one) (omega arith) (paragraph_kept one (left_none (rules one) (each rules more) e)))
       (ranges_from (number + 1) more (omega arith) (right_none (rules one) (each rules more) e)))
 
-  each_both : {A : Type 0} (rules : A → List Broken) (xs ys : List A) → each rules (xs ++ ys) ≡ each rules xs ++ each rules ys
+  each_both : {A : Type 0} (rules : A → List RuleBreach) (xs ys : List A) → each rules (xs ++ ys) ≡ each rules xs ++ each rules ys
   each_both rules [] ys = refl
   each_both rules (x ∷ xs) ys = ap (λ l. rules x ++ l) (each_both rules xs ys) ∙ sym (append_assoc (rules x) (each rules xs) (each rules ys))
 
@@ -296,11 +296,11 @@ performed_ranges scope sections is kept =
 pub record IsCollected (program : Program) (all : Performs) (paragraph_count : ℕ) : Type 0 where
   pub count : paragraph_count ≡ length (paragraphs program)
   pub places : all.places.items ≡ map (λ (one : Place × PerformedRange). one.0) (performs program)
-  pub ranges : all.ranges.items ≡ performed program
+  pub ranges : all.ranges.items ≡ performed_by_program program
 
 pub collected : (program : Program) (declared : Declarations) (sections : List Section) (old new : Performs) (count : ℕ) → Declares program declared
     → sections ≡ program.sections → old.places.items ≡ [] → old.ranges.items ≡ []
-    → count ≡ length (paragraphs_in sections) → Adds old new (performs_from (procedures_in declared) 0 (paragraphs_in sections)) → IsCollected program new count
+    → count ≡ length (paragraphs_in sections) → AppendsPerforms old new (performs_from (procedures_in declared) 0 (paragraphs_in sections)) → IsCollected program new count
 collected program declared sections old new count declares same places ranges counted added =
     let whole : performs_from (procedures_in declared) 0 (paragraphs_in sections) ≡ performs program =
     ap (λ (l : List Section). performs_from (procedures_in declared) 0 (paragraphs_in l)) same

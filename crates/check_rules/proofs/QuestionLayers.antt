@@ -9,19 +9,19 @@ use Rattle.source_tree.specs.declared.condition.Relation.TheVariants.{Equal, Gre
 use Rattle.source_tree.specs.declared.condition.Side.{Side}
 use Rattle.source_tree.specs.declared.condition.Condition.{Condition}
 use Rattle.source_tree.specs.declared.condition.Condition.TheVariants.{Name, Relation, Not, All}
-use Rattle.source_tree.specs.declared.evaluate.Subject.{Subject}
-use Rattle.source_tree.specs.Places.{Placed}
-use Rattle.source_tree.specs.Broken.{Broken}
+use Rattle.source_tree.specs.declared.evaluate_statement.Subject.{Subject}
+use Rattle.source_tree.specs.Places.{LocatedItem}
+use Rattle.source_tree.specs.Broken.{RuleBreach}
 use Rattle.source_tree.specs.LookUp.{first}
 use Rattle.source_tree.specs.ConditionRules.{condition_name_rules, relation_rules, condition_rules}
 use Rattle.source_tree.specs.Evaluate.{constant, told_as, alike, value_within}
 use Rattle.source_tree.specs.EvaluateRules.{at_object, objects_rules}
 use Rattle.entry_rules.specs.declared.rule.BrokenRule.{BrokenRule}
-use Rattle.entry_rules.specs.Checks.{Finds}
+use Rattle.entry_rules.specs.Checks.{IsFirstBreach}
 use Rattle.declarations.specs.Looking.{broken_in}
 use Rattle.check_rules.proofs.ConditionLayers.{name_is, relation_is, not_is, all_is, any_is}
 
-module _ (items : List Placed) where
+module _ (items : List LocatedItem) where
   -- what is always so, or never
   pub constant_is : (truth : Bool) → condition_rules items (constant truth) ≡ []
   constant_is true = all_is items []
@@ -67,12 +67,12 @@ module _ (items : List Placed) where
       ∙ ap (λ l. both ++ l) none
 
 -- A subject without an object breaks nothing by itself.
-pub none_left : (items : List Placed) (subjects : List Subject) → objects_rules items subjects [] ≡ []
+pub none_left : (items : List LocatedItem) (subjects : List Subject) → objects_rules items subjects [] ≡ []
 none_left items [] = refl
 none_left items (one ∷ more) = refl
 
 -- What twice the same rules tell is what they tell once.
-pub finds_twice : {A : Type 0} (found : Result A BrokenRule) (rules : List Broken) → Finds found rules → Finds found (rules ++ rules)
+pub finds_twice : {A : Type 0} (found : Result A BrokenRule) (rules : List RuleBreach) → IsFirstBreach found rules → IsFirstBreach found (rules ++ rules)
 finds_twice (Ok value) rules h = ap (λ l. l ++ rules) h ∙ h
 finds_twice (Err one) [] h = absurd cc
 finds_twice (Err one) (broken ∷ more) h = h
@@ -80,12 +80,12 @@ finds_twice (Err one) (broken ∷ more) h = h
 -- ---- a comparison is told at its object
 
 module _ (place : Place) where
-  first_map : (rules : List Broken) → first (map (at_object place) rules) ≡ option_map (at_object place) (first rules)
+  first_map : (rules : List RuleBreach) → first (map (at_object place) rules) ≡ option_map (at_object place) (first rules)
   first_map [] = refl
   first_map (one ∷ more) = refl
 
-  pub finds_at : {A B : Type 0} (found : Result A BrokenRule) (told : Result B BrokenRule) (rules : List Broken)
-      → broken_in told ≡ option_map (at_object place) (broken_in found) → Finds found rules → Finds told (map (at_object place) rules)
+  pub finds_at : {A B : Type 0} (found : Result A BrokenRule) (told : Result B BrokenRule) (rules : List RuleBreach)
+      → broken_in told ≡ option_map (at_object place) (broken_in found) → IsFirstBreach found rules → IsFirstBreach told (map (at_object place) rules)
   finds_at (Ok value) (Ok other) rules e h = ap (map (at_object place)) h
   finds_at (Ok value) (Err other) rules e h = absurd cc
   finds_at (Err one) (Ok other) rules e h = absurd cc

@@ -9,10 +9,10 @@ use Rattle.source_tree.specs.declared.expression.Expression.TheVariants as expre
 use Rattle.source_tree.specs.declared.expression.Expression.TheVariants.{rolls-Operand, rolls-Negated, rolls-Chain}
 use Rattle.source_tree.specs.declared.expression.Expression.TheOpen.{Expression-F}
 use Rattle.source_tree.specs.declared.expression.Expression.TheFolds.{map-Expression, fold-roll-Expression}
-use Rattle.source_tree.specs.Places.{Placed}
-use Rattle.source_tree.specs.Broken.{Broken}
+use Rattle.source_tree.specs.Places.{LocatedItem}
+use Rattle.source_tree.specs.Broken.{RuleBreach}
 use Rattle.source_tree.specs.LookUp.{first}
-use Rattle.source_tree.specs.NameRules.{named}
+use Rattle.source_tree.specs.NameRules.{unique_name_rules}
 use Rattle.source_tree.specs.ConditionRules.{Either, compared_only, operand_place, place_layer, expression_place}
 
 -- ---- where it begins
@@ -33,8 +33,8 @@ place_of_chain one more = ap expression_place (sym (rolls-Chain one more)) ∙ p
 -- ---- what it is beside another
 
 -- What doesn't name one item is either.
-pub either_unnamed : (place : Place) (found : List Placed) (broken : Broken) → ((rules : Placed → List Broken) → first (named place rules found) ≡ Some broken)
+pub either_unnamed : (place : Place) (found : List LocatedItem) (broken : RuleBreach) → ((rules : LocatedItem → List RuleBreach) → first (unique_name_rules place rules found) ≡ Some broken)
     → compared_only found ≡ Either
 either_unnamed place [] broken h = refl
-either_unnamed place (one ∷ []) broken h = let no : ◌≡◌ {A = Option Broken} None (Some broken) = h (λ found. []) in cc
+either_unnamed place (one ∷ []) broken h = let no : ◌≡◌ {A = Option RuleBreach} None (Some broken) = h (λ found. []) in cc
 either_unnamed place (one ∷ other ∷ more) broken h = refl

@@ -4,8 +4,8 @@ use Rattle.items.specs.declared.item.Kind.{Kind}
 use Rattle.items.specs.declared.taken.Taken.{Taken}
 use Rattle.edited_move.specs.Moves.{wants_number}
 use Rattle.lexical.specs.declared.place.Place.{Place}
-use Rattle.source_tree.specs.Places.{Placed}
-use Rattle.source_tree.specs.Broken.{Broken, where_so}
+use Rattle.source_tree.specs.Places.{LocatedItem}
+use Rattle.source_tree.specs.Broken.{RuleBreach, where_so}
 use Rattle.source_tree.specs.NameRules.{is_integer_kind}
 use Rattle.source_tree.specs.ArithmeticRules.{is_numeric_kind}
 use Rattle.source_tree.specs.InspectRules.{is_counter, may_be_inspected}
@@ -14,7 +14,7 @@ use Rattle.check_rules.specs.declared.asked.Asked.{Asked}
 use Rattle.check_rules.specs.declared.asked.Asked.TheVariants as asked
 use Rattle.check_rules.specs.Sending.{may_go, sent_of}
 
-abbrev pub asks_kind : Asked → Kind → Place → List Broken
+abbrev pub asks_kind : Asked → Kind → Place → List RuleBreach
 asks_kind asked.Nothing kind place = []
 asks_kind (asked.Receives sent) kind place = where_so (not (may_go sent kind)) 49 place
 asks_kind asked.Numeric kind place = where_so (not (is_numeric_kind kind)) 51 place
@@ -26,7 +26,7 @@ asks_kind asked.SendsText kind place = where_so (not (has_characters kind)) 65 p
 asks_kind asked.ReceivesText kind place = where_so (not (is_string_receiver kind)) 65 place
 asks_kind (asked.Points size) kind place = where_so (not (can_hold (size + 1) kind)) 65 place
 
-abbrev pub asks : Asked → Place → Placed → List Broken
+abbrev pub asks : Asked → Place → LocatedItem → List RuleBreach
 asks one place found = asks_kind one found.item.kind place
 
 -- what a sender asks of receivers; nothing, if there is no sender

@@ -13,6 +13,6 @@ after_one room place =
     else if room.left == 0 then record { left = 0; excess = Some place }
     else record { left = room.left - 1; excess = None }
 
-abbrev pub after : Room → List Place → Room
-after room [] = room
-after room (one ∷ more) = after (after_one room one) more
+abbrev pub room_after : Room → List Place → Room
+room_after room [] = room
+room_after room (one ∷ more) = room_after (after_one room one) more

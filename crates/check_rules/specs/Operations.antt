@@ -3,19 +3,19 @@ use Rattle.std.specs.Prelude.{List, [], ◌++◌}
 use Rattle.source_tree.specs.declared.arithmetic.Receiver.{Receiver}
 use Rattle.source_tree.specs.declared.arithmetic.Operation.{Operation}
 use Rattle.source_tree.specs.declared.arithmetic.Operation.TheVariants.{Add, AddGiving, Subtract, SubtractGiving, Multiply, MultiplyGiving, Divide, DivideGiving, DivideRemainder, Compute}
-use Rattle.source_tree.specs.Places.{Placed}
-use Rattle.source_tree.specs.Broken.{Broken, each}
-use Rattle.source_tree.specs.NameRules.{item_rules}
+use Rattle.source_tree.specs.Places.{LocatedItem}
+use Rattle.source_tree.specs.Broken.{RuleBreach, each}
+use Rattle.source_tree.specs.NameRules.{reference_rules}
 use Rattle.source_tree.specs.ArithmeticRules.{number_rules, number_receiver, updated_rules, given_rules, expression_rules}
 use Rattle.check_rules.specs.declared.asked.Asked.{Asked}
 use Rattle.check_rules.specs.Asking.{asks}
 
 -- a receiver of which that is asked
-abbrev pub receiver_rules : List Placed → Asked → Receiver → List Broken
-receiver_rules items asked one = item_rules items (asks asked) one.item
+abbrev pub receiver_rules : List LocatedItem → Asked → Receiver → List RuleBreach
+receiver_rules items asked one = reference_rules items (asks asked) one.item
 
 -- What stands in front of the receivers; in COMPUTE nothing.
-abbrev pub operands_rules : List Placed → Operation → List Broken
+abbrev pub operands_rules : List LocatedItem → Operation → List RuleBreach
 operands_rules items (Add operands receivers) = each (number_rules items) operands
 operands_rules items (AddGiving operands receivers) = each (number_rules items) operands
 operands_rules items (Subtract operands receivers) = each (number_rules items) operands
@@ -28,7 +28,7 @@ operands_rules items (DivideRemainder first order second quotient remainder) = n
 operands_rules items (Compute receivers value) = []
 
 -- The receivers, and what stands behind them.
-abbrev pub receivers_rules : List Placed → Operation → List Broken
+abbrev pub receivers_rules : List LocatedItem → Operation → List RuleBreach
 receivers_rules items (Add operands receivers) = updated_rules items receivers
 receivers_rules items (AddGiving operands receivers) = given_rules items receivers
 receivers_rules items (Subtract operands receivers) = updated_rules items receivers
@@ -38,5 +38,5 @@ receivers_rules items (MultiplyGiving factor by receivers) = given_rules items r
 receivers_rules items (Divide divisor receivers) = updated_rules items receivers
 receivers_rules items (DivideGiving first order second receivers) = given_rules items receivers
 receivers_rules items (DivideRemainder first order second quotient remainder) =
-    item_rules items number_receiver quotient.item ++ item_rules items number_receiver remainder
+    reference_rules items number_receiver quotient.item ++ reference_rules items number_receiver remainder
 receivers_rules items (Compute receivers value) = given_rules items receivers ++ expression_rules items value

@@ -2,7 +2,7 @@
 //! operands of INSPECT, and 65 of those of STRING.
 
 ghost use Rattle.std.specs.Prelude.{◌≡◌, ◌+◌, ◌^◌, nat_lt};
-ghost use Rattle.entry_rules.specs.Checks.{Finds};
+ghost use Rattle.entry_rules.specs.Checks.{IsFirstBreach};
 ghost use Rattle.source_tree.specs.NameRules.{is_integer_kind};
 ghost use Rattle.source_tree.specs.InspectRules.{is_counter, may_be_inspected};
 ghost use Rattle.source_tree.specs.StringRules.{is_plain_integer, has_characters, is_string_receiver, can_hold};
@@ -125,7 +125,7 @@ fn points(size: u32, kind: Kind) -> bool
 impl Asked {
     /// An item of that kind, whose name stands at that place.
     pub fn kind_rules(self, kind: Kind, place: Place) -> Result<(), BrokenRule>
-        ensures { Finds result (spec.asks_kind self kind place) }
+        ensures { IsFirstBreach result (spec.asks_kind self kind place) }
     {
         match self {
             Asked::Nothing => Ok(()),

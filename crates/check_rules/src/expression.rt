@@ -2,7 +2,7 @@
 //! Nucleus, "Arithmetic expressions").
 
 ghost use Rattle.std.specs.Prelude.{◌≡◌};
-ghost use Rattle.entry_rules.specs.Checks.{Finds};
+ghost use Rattle.entry_rules.specs.Checks.{IsFirstBreach};
 ghost use Rattle.source_tree.specs.Broken.{each};
 ghost use Rattle.source_tree.specs.ArithmeticRules as spec;
 ghost use Rattle.declarations.specs.Named.{IsDeclared, items_in};
@@ -16,7 +16,7 @@ use source_tree::{Expression, Figurative, LiteralValue, Operand, Operator};
 
 /// A numeric literal, or ZERO.
 fn is_number(value: &LiteralValue) -> bool
-    ensures { result ≡ spec.is_number value.now }
+    ensures { result ≡ spec.is_number_literal value.now }
 {
     matches!(
         value,
@@ -28,7 +28,7 @@ impl<'a> Checker<'a> {
     /// An operand that is a number: a numeric item, a numeric literal or ZERO.
     pub fn number_rules(&self, one: &Operand) -> Result<(), BrokenRule>
         requires { IsDeclared self.now.declarations.now }
-        ensures { Finds result (spec.number_rules (items_in self.now.declarations.now) one.now) }
+        ensures { IsFirstBreach result (spec.number_rules (items_in self.now.declarations.now) one.now) }
     {
         match one {
             Operand::Item(reference) => self.item_rules(Asked::Numeric, reference),
@@ -42,7 +42,7 @@ impl<'a> Checker<'a> {
     /// Operands that are numbers, in order.
     pub(crate) fn numbers_rules(&self, all: &[Operand]) -> Result<(), BrokenRule>
         requires { IsDeclared self.now.declarations.now }
-        ensures { Finds result (each (spec.number_rules (items_in self.now.declarations.now)) all.now) }
+        ensures { IsFirstBreach result (each (spec.number_rules (items_in self.now.declarations.now)) all.now) }
     {
         for one in all {
             self.number_rules(one)?;
@@ -55,7 +55,7 @@ impl<'a> Checker<'a> {
     #[tactic(auto, using(declarations::proofs::Layers::operand_is, declarations::proofs::Layers::negated_is, declarations::proofs::Layers::chain_is))]
     pub fn expression_rules(&self, one: &Expression) -> Result<(), BrokenRule>
         requires { IsDeclared self.now.declarations.now }
-        ensures { Finds result (spec.expression_rules (items_in self.now.declarations.now) one.now) }
+        ensures { IsFirstBreach result (spec.expression_rules (items_in self.now.declarations.now) one.now) }
     {
         match one {
             Expression::Operand(operand) => self.number_rules(operand),
@@ -71,7 +71,7 @@ impl<'a> Checker<'a> {
     #[cycle(expression)]
     fn further_rules(&self, all: &[(Operator, Expression)]) -> Result<(), BrokenRule>
         requires { IsDeclared self.now.declarations.now }
-        ensures { Finds result (each (further_rules (items_in self.now.declarations.now)) all.now) }
+        ensures { IsFirstBreach result (each (further_rules (items_in self.now.declarations.now)) all.now) }
     {
         for (_, one) in all {
             self.expression_rules(one)?;

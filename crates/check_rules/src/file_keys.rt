@@ -2,19 +2,47 @@
 
 ghost use Rattle.std.specs.Prelude.{◌≡◌, map, slice_get};
 ghost use Rattle.std.specs.List.{list_any};
-ghost use Rattle.names.specs.Table.{calls_in};
+ghost use Rattle.name_table.specs.Table.{calls_in};
 ghost use Rattle.source_tree.specs.FilingRules as spec;
 ghost use Rattle.check_rules.specs.Filed as filed;
 ghost use Rattle.check_rules.specs.FiledKeys as keys;
 
 use crate::file_phrases::is_relative;
 use declarations::is_plain;
+use file_descriptions::ProgramFile;
 use items::Kind;
 use layout::PlacedItem;
-use names::NameTable;
-use program_files::ProgramFile;
+use name_table::NameTable;
 use records::{AlternateKey, KeyPlace, Organization};
 use source_tree::{AlternateKeyClause, Reference, Select};
+
+/// The item of that number is a key of the file.
+pub(crate) fn is_key_item(
+    names: &NameTable<'_>,
+    file: &ProgramFile<'_>,
+    reference: &Reference,
+    one: &PlacedItem,
+    number: usize,
+) -> bool
+    ensures { result ≡ filed.is_key_item file.now reference.now one.now (slice_get (calls_in names.now) number) }
+{
+    is_plain(reference, one) && names_key(names, file.select, number)
+}
+
+/// The item of that number is a key of the file, begins one, or is RELATIVE KEY.
+pub(crate) fn is_start_item(
+    names: &NameTable<'_>,
+    file: &ProgramFile<'_>,
+    reference: &Reference,
+    one: &PlacedItem,
+    number: usize,
+) -> bool
+    ensures { result ≡ filed.is_start_item file.now reference.now one.now (slice_get (calls_in names.now) number) }
+{
+    is_key_item(names, file, reference, one, number)
+        || begins_key_item(file, reference, one)
+        || is_relative_key(names, file, reference, one, number)
+}
 
 /// A clause names the item of that number.
 fn clause_names(names: &NameTable<'_>, clause: &Option<Reference>, number: usize) -> bool
@@ -54,7 +82,7 @@ fn begins_key(key: KeyPlace, one: &PlacedItem) -> bool
 }
 
 fn begins_alternate_key(alternates: &[AlternateKey], one: &PlacedItem) -> bool
-    ensures { result ≡ list_any (spec.begins_key (keys.place_of one.now)) (map keys.place alternates.now) }
+    ensures { result ≡ list_any (spec.begins_key (keys.place_of one.now)) (map keys.key_place_of alternates.now) }
 {
     for key in alternates {
         if begins_key(key.place, one) {
@@ -78,7 +106,7 @@ fn begins_key_of(file: &ProgramFile<'_>, one: &PlacedItem) -> bool
 
 /// A group, or an alphanumeric item.
 fn is_text(kind: Kind) -> bool
-    ensures { result ≡ spec.is_text kind }
+    ensures { result ≡ spec.is_text_kind kind }
 {
     matches!(kind, Kind::Group | Kind::Alphanumeric { .. })
 }
@@ -88,19 +116,6 @@ fn is_in_record(file: &ProgramFile<'_>, reference: &Reference, one: &PlacedItem)
     ensures { result ≡ filed.is_in_record file.now reference.now one.now }
 {
     is_plain(reference, one) && one.area == file.area
-}
-
-/// The item of that number is a key of the file.
-pub(crate) fn is_key_item(
-    names: &NameTable<'_>,
-    file: &ProgramFile<'_>,
-    reference: &Reference,
-    one: &PlacedItem,
-    number: usize,
-) -> bool
-    ensures { result ≡ filed.is_key_item file.now reference.now one.now (slice_get (calls_in names.now) number) }
-{
-    is_plain(reference, one) && names_key(names, file.select, number)
 }
 
 /// The item is a text that begins a key of the file.
@@ -123,19 +138,4 @@ fn is_relative_key(
     is_relative(file.organization)
         && is_plain(reference, one)
         && clause_names(names, &file.select.relative_key, number)
-}
-
-/// The item of that number is a key of the file, begins one, or is RELATIVE KEY.
-pub(crate) fn is_start_item(
-    names: &NameTable<'_>,
-    file: &ProgramFile<'_>,
-    reference: &Reference,
-    one: &PlacedItem,
-    number: usize,
-) -> bool
-    ensures { result ≡ filed.is_start_item file.now reference.now one.now (slice_get (calls_in names.now) number) }
-{
-    is_key_item(names, file, reference, one, number)
-        || begins_key_item(file, reference, one)
-        || is_relative_key(names, file, reference, one, number)
 }

@@ -1,7 +1,7 @@
 //! What organization, access and phrases of a file statement are: rule 62 of AT END and INVALID KEY.
 
 ghost use Rattle.std.specs.Prelude.{◌≡◌, ◌||◌};
-ghost use Rattle.entry_rules.specs.Checks.{Finds};
+ghost use Rattle.entry_rules.specs.Checks.{IsFirstBreach};
 ghost use Rattle.records.specs.Steps as records;
 ghost use Rattle.records.specs.Tests as tests;
 ghost use Rattle.source_tree.specs.FilingRules as spec;
@@ -54,7 +54,7 @@ pub(crate) fn phrase_kind_rules(
     organization: Organization,
     phrases: &FilePhrases<Statement>,
 ) -> Result<(), BrokenRule>
-    ensures { Finds result (filed.phrase_kind_rules place organization phrases.now) }
+    ensures { IsFirstBreach result (filed.phrase_kind_rules place organization phrases.now) }
 {
     let is_wrong = has_at_end(phrases) || (has_invalid_key(phrases) && is_sequential(organization));
     Rule::FilePhrase.broken_if(is_wrong, place)
@@ -66,7 +66,7 @@ pub(crate) fn read_phrase_rules(
     in_sequence: bool,
     phrases: &FilePhrases<Statement>,
 ) -> Result<(), BrokenRule>
-    ensures { Finds result (filed.read_phrase_rules place in_sequence phrases.now) }
+    ensures { IsFirstBreach result (filed.read_phrase_rules place in_sequence phrases.now) }
 {
     let is_wrong = (has_at_end(phrases) && !in_sequence)
         || (has_invalid_key(phrases) && in_sequence);

@@ -6,13 +6,14 @@ ghost use Rattle.source_tree.specs.Recursion as spec;
 ghost use Rattle.source_tree.specs.Filing.{phrases_of};
 ghost use Rattle.source_tree.specs.Recursion.{each_performs, file_phrases_performs, performs_from, phrases_performs, selected_performs};
 ghost use Rattle.declarations.specs.Named.{IsDeclared, procedures_in};
-ghost use Rattle.check_rules.specs.Performs.{Adds, AddsPhrase, in_paragraph};
+ghost use Rattle.check_rules.specs.Performs.{AppendsPerforms, AddsPhrase, in_paragraph};
 
 use crate::checker::Checker;
-use perform_order::PerformedRange;
+use perform_graph::PerformedRange;
 use source_tree::{
-    Arithmetic, Branching, Evaluate, FilePhrases, Filing, Name, Paragraph, Performed, Performing,
-    Phrases, Place, Section, Selected, Sentence, Statement, Stringing, Verb,
+    Arithmetic, ConditionalStatement, Evaluate, FilePhrases, FileStatement, Name, Paragraph,
+    PerformStatement, Performed, Phrases, Place, Section, Selected, Sentence, Statement,
+    StringStatement, Verb,
 };
 use sqlite_items::Items;
 use std::alloc::{AllocError, Global};
@@ -37,7 +38,7 @@ impl Performs {
     }
 
     fn push(&mut self, place: Place, range: PerformedRange) -> Result<(), AllocError>
-        ensures { OnOk result (Adds self.old self.new ((place, range) ∷ [])) }
+        ensures { OnOk result (AppendsPerforms self.old self.new ((place, range) ∷ [])) }
     {
         self.places.push(place)?;
         self.ranges.push(range)?;
@@ -55,7 +56,7 @@ impl<'a> Checker<'a> {
         all: &mut Performs,
     ) -> Result<(), AllocError>
         requires { IsDeclared self.now.declarations.now }
-        ensures { OnOk result (Adds all.old all.new (in_paragraph number (spec.range_performs first.now.place (range_of (procedures_in self.now.declarations.now) first.now last.now)))) }
+        ensures { OnOk result (AppendsPerforms all.old all.new (in_paragraph number (spec.range_performs first.now.place (range_of (procedures_in self.now.declarations.now) first.now last.now)))) }
     {
         let Some(range) = self.declarations.procedures.range_of(first, last) else {
             return Ok(());
@@ -78,7 +79,7 @@ impl<'a> Checker<'a> {
         all: &mut Performs,
     ) -> Result<(), AllocError>
         requires { IsDeclared self.now.declarations.now }
-        ensures { OnOk result (Adds all.old all.new (in_paragraph number (spec.statement_performs (procedures_in self.now.declarations.now) one.now))) }
+        ensures { OnOk result (AppendsPerforms all.old all.new (in_paragraph number (spec.statement_performs (procedures_in self.now.declarations.now) one.now))) }
     {
         match &one.verb {
             Verb::Arithmetic(
@@ -90,8 +91,8 @@ impl<'a> Checker<'a> {
                 self.phrase_performs(number, arose, all)?;
                 self.phrase_performs(number, did_not, all)
             }
-            Verb::Branching(
-                Branching::If {
+            Verb::ConditionalStatement(
+                ConditionalStatement::If {
                     statements,
                     otherwise,
                     ..
@@ -100,12 +101,13 @@ impl<'a> Checker<'a> {
                 self.statements_performs(number, statements.as_slice(), all)?;
                 self.phrase_performs(number, otherwise, all)
             }
-            Verb::Branching(Branching::Evaluate(one)) => self.evaluate_performs(number, one, all),
-            Verb::Performing(Performing { performed, .. }) => {
+            Verb::ConditionalStatement(ConditionalStatement::Evaluate(one)) =>
+                self.evaluate_performs(number, one, all),
+            Verb::PerformStatement(PerformStatement { performed, .. }) => {
                 self.performed_performs(number, performed, all)
             }
-            Verb::Stringing(
-                Stringing {
+            Verb::StringStatement(
+                StringStatement {
                     phrases: Phrases { arose, did_not },
                     ..
                 },
@@ -113,8 +115,8 @@ impl<'a> Checker<'a> {
                 self.phrase_performs(number, arose, all)?;
                 self.phrase_performs(number, did_not, all)
             }
-            Verb::Filing(filing) => self.filing_performs(number, filing, all),
-            Verb::Moving(_) | Verb::Text(_) | Verb::Ending(_) => Ok(()),
+            Verb::FileStatement(filing) => self.filing_performs(number, filing, all),
+            Verb::DataStatement(_) | Verb::Text(_) | Verb::ControlStatement(_) => Ok(()),
         }
     }
 
@@ -127,7 +129,7 @@ impl<'a> Checker<'a> {
         all: &mut Performs,
     ) -> Result<(), AllocError>
         requires { IsDeclared self.now.declarations.now }
-        ensures { OnOk result (Adds all.old all.new (in_paragraph number (each_performs (spec.statement_performs (procedures_in self.now.declarations.now)) statements.now))) }
+        ensures { OnOk result (AppendsPerforms all.old all.new (in_paragraph number (each_performs (spec.statement_performs (procedures_in self.now.declarations.now)) statements.now))) }
     {
         for one in statements {
             self.statement_performs(number, one, all)?;
@@ -161,7 +163,7 @@ impl<'a> Checker<'a> {
         all: &mut Performs,
     ) -> Result<(), AllocError>
         requires { IsDeclared self.now.declarations.now }
-        ensures { OnOk result (Adds all.old all.new (in_paragraph number (phrases_performs (spec.statement_performs (procedures_in self.now.declarations.now)) pair.now))) }
+        ensures { OnOk result (AppendsPerforms all.old all.new (in_paragraph number (phrases_performs (spec.statement_performs (procedures_in self.now.declarations.now)) pair.now))) }
     {
         self.phrase_performs(number, &pair.arose, all)?;
         self.phrase_performs(number, &pair.did_not, all)
@@ -176,7 +178,7 @@ impl<'a> Checker<'a> {
         all: &mut Performs,
     ) -> Result<(), AllocError>
         requires { IsDeclared self.now.declarations.now }
-        ensures { OnOk result (Adds all.old all.new (in_paragraph number (file_phrases_performs (spec.statement_performs (procedures_in self.now.declarations.now)) phrases.now))) }
+        ensures { OnOk result (AppendsPerforms all.old all.new (in_paragraph number (file_phrases_performs (spec.statement_performs (procedures_in self.now.declarations.now)) phrases.now))) }
     {
         match phrases {
             FilePhrases::Absent => Ok(()),
@@ -190,20 +192,28 @@ impl<'a> Checker<'a> {
     fn filing_performs(
         &self,
         number: usize,
-        one: &Filing<Statement>,
+        one: &FileStatement<Statement>,
         all: &mut Performs,
     ) -> Result<(), AllocError>
         requires { IsDeclared self.now.declarations.now }
-        ensures { OnOk result (Adds all.old all.new (in_paragraph number (file_phrases_performs (spec.statement_performs (procedures_in self.now.declarations.now)) (phrases_of one.now)))) }
+        ensures { OnOk result (AppendsPerforms all.old all.new (in_paragraph number (file_phrases_performs (spec.statement_performs (procedures_in self.now.declarations.now)) (phrases_of one.now)))) }
     {
         match one {
-            Filing::Open { .. } => Ok(()),
-            Filing::Close { .. } => Ok(()),
-            Filing::Read { phrases, .. } => self.file_phrases_performs(number, phrases, all),
-            Filing::Write { phrases, .. } => self.file_phrases_performs(number, phrases, all),
-            Filing::Rewrite { phrases, .. } => self.file_phrases_performs(number, phrases, all),
-            Filing::Delete { phrases, .. } => self.file_phrases_performs(number, phrases, all),
-            Filing::Start { phrases, .. } => self.file_phrases_performs(number, phrases, all),
+            FileStatement::Open { .. } => Ok(()),
+            FileStatement::Close { .. } => Ok(()),
+            FileStatement::Read { phrases, .. } => self.file_phrases_performs(number, phrases, all),
+            FileStatement::Write { phrases, .. } => self.file_phrases_performs(
+                number, phrases, all,
+            ),
+            FileStatement::Rewrite { phrases, .. } => self.file_phrases_performs(
+                number, phrases, all,
+            ),
+            FileStatement::Delete { phrases, .. } => self.file_phrases_performs(
+                number, phrases, all,
+            ),
+            FileStatement::Start { phrases, .. } => self.file_phrases_performs(
+                number, phrases, all,
+            ),
         }
     }
 
@@ -216,7 +226,7 @@ impl<'a> Checker<'a> {
         all: &mut Performs,
     ) -> Result<(), AllocError>
         requires { IsDeclared self.now.declarations.now }
-        ensures { OnOk result (Adds all.old all.new (in_paragraph number (spec.performed_performs (procedures_in self.now.declarations.now) (spec.statement_performs (procedures_in self.now.declarations.now)) performed.now))) }
+        ensures { OnOk result (AppendsPerforms all.old all.new (in_paragraph number (spec.performed_performs (procedures_in self.now.declarations.now) (spec.statement_performs (procedures_in self.now.declarations.now)) performed.now))) }
     {
         match performed {
             Performed::Procedures { first, last } => self.range_performs(number, first, last, all),
@@ -235,7 +245,7 @@ impl<'a> Checker<'a> {
         all: &mut Performs,
     ) -> Result<(), AllocError>
         requires { IsDeclared self.now.declarations.now }
-        ensures { OnOk result (Adds all.old all.new (in_paragraph number (each_performs (selected_performs (spec.statement_performs (procedures_in self.now.declarations.now))) selections.now))) }
+        ensures { OnOk result (AppendsPerforms all.old all.new (in_paragraph number (each_performs (selected_performs (spec.statement_performs (procedures_in self.now.declarations.now))) selections.now))) }
     {
         for one in selections {
             self.statements_performs(number, one.statements.as_slice(), all)?;
@@ -252,7 +262,7 @@ impl<'a> Checker<'a> {
         all: &mut Performs,
     ) -> Result<(), AllocError>
         requires { IsDeclared self.now.declarations.now }
-        ensures { OnOk result (Adds all.old all.new (in_paragraph number (spec.evaluate_performs (spec.statement_performs (procedures_in self.now.declarations.now)) one.now))) }
+        ensures { OnOk result (AppendsPerforms all.old all.new (in_paragraph number (spec.evaluate_performs (spec.statement_performs (procedures_in self.now.declarations.now)) one.now))) }
     {
         self.selections_performs(number, one.selected.as_slice(), all)?;
         self.phrase_performs(number, &one.other, all)
@@ -266,7 +276,7 @@ impl<'a> Checker<'a> {
         all: &mut Performs,
     ) -> Result<(), AllocError>
         requires { IsDeclared self.now.declarations.now }
-        ensures { OnOk result (Adds all.old all.new (in_paragraph number (each_performs (spec.sentence_performs (procedures_in self.now.declarations.now)) sentences.now))) }
+        ensures { OnOk result (AppendsPerforms all.old all.new (in_paragraph number (each_performs (spec.sentence_performs (procedures_in self.now.declarations.now)) sentences.now))) }
     {
         for one in sentences {
             self.statements_performs(number, one.statements.as_slice(), all)?;
@@ -283,7 +293,7 @@ impl<'a> Checker<'a> {
     ) -> Result<(), AllocError>
         requires declared { IsDeclared self.now.declarations.now }
         requires numbers { first + length paragraphs.now < 2 ^ 64 }
-        ensures { OnOk result (Adds all.old all.new (performs_from (procedures_in self.now.declarations.now) first paragraphs.now)) }
+        ensures { OnOk result (AppendsPerforms all.old all.new (performs_from (procedures_in self.now.declarations.now) first paragraphs.now)) }
     {
         for (i, one) in paragraphs.iter().enumerate() {
             self.paragraph_performs(first + i, one.sentences.as_slice(), all)?;
@@ -300,7 +310,7 @@ impl<'a> Checker<'a> {
     ) -> Result<usize, AllocError>
         requires { IsDeclared self.now.declarations.now }
         ensures next { IfOk result (λ next. next ≡ first + length (paragraphs_or_one one.now.paragraphs)) }
-        ensures added { OnOk result (Adds all.old all.new (performs_from (procedures_in self.now.declarations.now) first (paragraphs_or_one one.now.paragraphs))) }
+        ensures added { OnOk result (AppendsPerforms all.old all.new (performs_from (procedures_in self.now.declarations.now) first (paragraphs_or_one one.now.paragraphs))) }
     {
         let paragraphs = one.paragraphs.as_slice();
         let Some(next) = first.checked_add(paragraphs.len().max(1)) else {
@@ -318,7 +328,7 @@ impl<'a> Checker<'a> {
     ) -> Result<usize, AllocError>
         requires { IsDeclared self.now.declarations.now }
         ensures count { IfOk result (λ count. count ≡ length (paragraphs_in sections.now)) }
-        ensures added { OnOk result (Adds all.old all.new (performs_from (procedures_in self.now.declarations.now) 0 (paragraphs_in sections.now))) }
+        ensures added { OnOk result (AppendsPerforms all.old all.new (performs_from (procedures_in self.now.declarations.now) 0 (paragraphs_in sections.now))) }
     {
         let mut number = 0;
         for one in sections {

@@ -2,12 +2,22 @@
 //! too many.
 
 ghost use Rattle.std.specs.Prelude.{◌≡◌};
-ghost use Rattle.entry_rules.specs.Checks.{Finds};
+ghost use Rattle.entry_rules.specs.Checks.{IsFirstBreach};
 ghost use Rattle.source_tree.specs.Rules as spec;
 
 use crate::statement_count::statement_count_rules;
 use entry_rules::{BrokenRule, Rule};
 use source_tree::{Place, Program, Section};
+
+/// There is a procedure, and it has no more statements than may be.
+pub(crate) fn procedure_rules(program: &Program) -> Result<(), BrokenRule>
+    ensures { IsFirstBreach result (spec.procedure_rules program.now) }
+{
+    let sections = program.sections.as_slice();
+    let place = procedures_place(program.name.place, sections);
+    Rule::NoProcedure.broken_if(are_empty(sections), place)?;
+    statement_count_rules(program)
+}
 
 /// No section has a paragraph.
 fn are_empty(sections: &[Section]) -> bool
@@ -32,14 +42,4 @@ fn procedures_place(other: Place, sections: &[Section]) -> Place
             Some(name) => name.place,
         },
     }
-}
-
-/// There is a procedure, and it has no more statements than may be.
-pub(crate) fn procedure_rules(program: &Program) -> Result<(), BrokenRule>
-    ensures { Finds result (spec.procedure_rules program.now) }
-{
-    let sections = program.sections.as_slice();
-    let place = procedures_place(program.name.place, sections);
-    Rule::NoProcedure.broken_if(are_empty(sections), place)?;
-    statement_count_rules(program)
 }

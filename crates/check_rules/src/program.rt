@@ -6,7 +6,7 @@ ghost use Rattle.source_tree.specs.Rules.{program_rules};
 ghost use Rattle.entry_rules.specs.Checks.{fault_of};
 ghost use Rattle.declarations.specs.Declaring.{declaration_rules};
 ghost use Rattle.declarations.specs.Named.{Declares, IsDeclared};
-ghost use Rattle.check_rules.specs.Told.{IsTold};
+ghost use Rattle.check_rules.specs.Told.{IsFirstFault};
 
 use crate::checker::Checker;
 use crate::procedure::procedure_rules;
@@ -25,7 +25,7 @@ pub fn check(alloc: Global, program: &Program) -> Result<Checked<'_>, CheckError
     ensures kept { OnOk result (program_rules program.now ≡ []) }
     ensures order { OnOk result (HasOrder program.now) }
     // A refusal tells the first rule that is broken, or a PERFORM that leads back where none is, unless memory runs out.
-    ensures exact { IfErr result (λ e. IsTold program.now (fault_of e)) }
+    ensures exact { IfErr result (λ e. IsFirstFault program.now (fault_of e)) }
 {
     let declarations = Declarations::of(alloc, program)?;
     let checker = Checker {
@@ -44,7 +44,7 @@ impl<'a> Checker<'a> {
         requires kept { declaration_rules program.now ≡ [] }
         ensures kept { OnOk result (program_rules program.now ≡ []) }
         ensures order { OnOk result (HasOrder program.now) }
-        ensures exact { IfErr result (λ e. IsTold program.now (fault_of e)) }
+        ensures exact { IfErr result (λ e. IsFirstFault program.now (fault_of e)) }
     {
         self.sections_rules(program.sections.as_slice())?;
         procedure_rules(program)?;

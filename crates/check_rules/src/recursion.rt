@@ -1,18 +1,18 @@
 //! Rule 54: no PERFORM leads back to the paragraph that it stands in (own choice; COBOL-85 leaves open what recursion does).
 
 ghost use Rattle.std.specs.Prelude.{◌≡◌, ◌+◌, ◌<◌, ◌^◌, [], All, IfErr, OnOk, MatchBool, MatchOption};
-ghost use Rattle.perform_order.specs.Order.{marks};
+ghost use Rattle.perform_graph.specs.Order.{marks};
 ghost use Rattle.source_tree.specs.Recursion.{HasOrder};
 ghost use Rattle.source_tree.specs.Rules.{sections_rules, all_permitted};
 ghost use Rattle.entry_rules.specs.Checks.{fault_of};
 ghost use Rattle.declarations.specs.Named.{Declares, IsDeclared, scope_in};
 ghost use Rattle.check_rules.specs.Told.{IsBack};
-ghost use Rattle.check_rules.specs.Performs.{Leads, HasNext, StandsFirst};
+ghost use Rattle.check_rules.specs.Performs.{PerformsWithin, HasNext, IsFirstWithin};
 
 use crate::checker::Checker;
 use crate::performs::Performs;
 use entry_rules::{BrokenRule, CheckError, Rule};
-use perform_order::{Order, PerformedRange, order_of};
+use perform_graph::{Order, PerformedRange, order_of};
 use source_tree::Program;
 use std::alloc::Global;
 
@@ -28,7 +28,7 @@ fn is_marked(marked: &[bool], paragraph: usize) -> bool
 /// A PERFORM stands in a marked paragraph, and performs one.
 fn leads_back(marked: &[bool], one: PerformedRange) -> bool
     requires { HasNext one }
-    ensures { MatchBool result (Leads (marks marked.now) one) (Leads (marks marked.now) one → ⊥) }
+    ensures { MatchBool result (PerformsWithin (marks marked.now) one) (PerformsWithin (marks marked.now) one → ⊥) }
 {
     if !is_marked(marked, one.performer) {
         return false;
@@ -44,7 +44,7 @@ fn leads_back(marked: &[bool], one: PerformedRange) -> bool
 /// The first PERFORM that does.
 fn first_back(marked: &[bool], ranges: &[PerformedRange]) -> Option<usize>
     requires { All HasNext ranges.now }
-    ensures { MatchOption result (All (λ one. Leads (marks marked.now) one → ⊥) ranges.now) (StandsFirst (marks marked.now) ranges.now) }
+    ensures { MatchOption result (All (λ one. PerformsWithin (marks marked.now) one → ⊥) ranges.now) (IsFirstWithin (marks marked.now) ranges.now) }
 {
     for (i, one) in ranges.iter().enumerate() {
         if leads_back(marked, *one) {
@@ -67,7 +67,7 @@ impl<'a> Checker<'a> {
         let mut all = Performs::new(alloc);
         let count = self.sections_performs(program.sections.as_slice(), &mut all)?;
         let marked = match order_of(alloc, count, &all.ranges)? {
-            Order::Heights(_) => return Ok(()),
+            Order::Ranks(_) => return Ok(()),
             Order::Recursive(marked) => marked,
         };
         match first_back(marked.as_slice(), &all.ranges) {

@@ -1,7 +1,7 @@
 //! The rules of references: 17, 40, 41, 50 and 51, and what is asked of their items (COBOL-85, Nucleus, "Uniqueness of reference").
 
 ghost use Rattle.std.specs.Prelude.{◌≡◌};
-ghost use Rattle.entry_rules.specs.Checks.{Finds};
+ghost use Rattle.entry_rules.specs.Checks.{IsFirstBreach};
 ghost use Rattle.source_tree.specs.Broken.{each};
 ghost use Rattle.source_tree.specs.NameRules as spec;
 ghost use Rattle.declarations.specs.Named.{IsDeclared, items_in};
@@ -18,7 +18,7 @@ impl<'a> Checker<'a> {
     /// The item of a subscript is an integer, and has no subscripts.
     fn subscript_item_rules(&self, item: &QualifiedName) -> Result<(), BrokenRule>
         requires { IsDeclared self.now.declarations.now }
-        ensures { Finds result (parts.subscript_rules_of (items_in self.now.declarations.now) item.now) }
+        ensures { IsFirstBreach result (parts.subscript_rules_of (items_in self.now.declarations.now) item.now) }
     {
         let place = item.name.place;
         let found = self.declarations.item_named(item)?;
@@ -29,7 +29,7 @@ impl<'a> Checker<'a> {
     /// A subscript.
     fn subscript_rules(&self, one: &Subscript) -> Result<(), BrokenRule>
         requires { IsDeclared self.now.declarations.now }
-        ensures { Finds result (spec.subscript_rules (items_in self.now.declarations.now) one.now) }
+        ensures { IsFirstBreach result (spec.subscript_rules (items_in self.now.declarations.now) one.now) }
     {
         match one {
             Subscript::Literal(integer) => integer_rules(integer),
@@ -43,7 +43,7 @@ impl<'a> Checker<'a> {
     /// Subscripts, in order.
     pub(crate) fn subscripts_rules(&self, all: &[Subscript]) -> Result<(), BrokenRule>
         requires { IsDeclared self.now.declarations.now }
-        ensures { Finds result (each (spec.subscript_rules (items_in self.now.declarations.now)) all.now) }
+        ensures { IsFirstBreach result (each (spec.subscript_rules (items_in self.now.declarations.now)) all.now) }
     {
         for one in all {
             self.subscript_rules(one)?;
@@ -54,7 +54,7 @@ impl<'a> Checker<'a> {
     /// The item of a reference, its number of subscripts, and what is asked of it.
     fn named_rules(&self, asked: Asked, one: &Reference) -> Result<(), BrokenRule>
         requires { IsDeclared self.now.declarations.now }
-        ensures { Finds result (parts.named_rules (items_in self.now.declarations.now) (asks asked) one.now) }
+        ensures { IsFirstBreach result (parts.named_rules (items_in self.now.declarations.now) (asks asked) one.now) }
     {
         let place = one.item.name.place;
         let found = self.declarations.item_named(&one.item)?;
@@ -66,7 +66,7 @@ impl<'a> Checker<'a> {
     /// A reference, and what is asked of its item.
     pub(crate) fn item_rules(&self, asked: Asked, one: &Reference) -> Result<(), BrokenRule>
         requires { IsDeclared self.now.declarations.now }
-        ensures { Finds result (spec.item_rules (items_in self.now.declarations.now) (asks asked) one.now) }
+        ensures { IsFirstBreach result (spec.reference_rules (items_in self.now.declarations.now) (asks asked) one.now) }
     {
         self.named_rules(asked, one)?;
         self.subscripts_rules(one.subscripts.as_slice())

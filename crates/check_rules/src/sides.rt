@@ -1,18 +1,27 @@
 //! The rules of relations: 52 besides those of their sides (COBOL-85, Nucleus, "Relation condition").
 
 ghost use Rattle.std.specs.Prelude.{◌≡◌, Some};
-ghost use Rattle.entry_rules.specs.Checks.{Finds};
+ghost use Rattle.entry_rules.specs.Checks.{IsFirstBreach};
 ghost use Rattle.source_tree.specs.Conditions as tree;
 ghost use Rattle.source_tree.specs.ConditionRules as spec;
 ghost use Rattle.declarations.specs.Named.{IsDeclared, items_in};
-ghost use Rattle.check_rules.specs.Comparing.{meant};
+ghost use Rattle.check_rules.specs.Comparing.{side_kind_of};
 
 use crate::checker::Checker;
-use crate::compared::Compared;
 use crate::forms::literal_rules;
+use crate::side_kind::SideKind;
 use declarations::operand_alone;
 use entry_rules::{BrokenRule, Rule};
 use source_tree::{Expression, Operand, Place, Side};
+
+pub(crate) fn operand_place(one: &Operand) -> Place
+    ensures { result ≡ spec.operand_place one.now }
+{
+    match one {
+        Operand::Item(reference) => reference.item.name.place,
+        Operand::Literal(literal) => literal.place,
+    }
+}
 
 /// The side is a literal.
 fn is_literal_alone(one: &Side) -> bool
@@ -23,15 +32,6 @@ fn is_literal_alone(one: &Side) -> bool
             matches!(operand_alone(expression), Some(Operand::Literal(_)))
         }
         Side::Literal(_) => true,
-    }
-}
-
-pub(crate) fn operand_place(one: &Operand) -> Place
-    ensures { result ≡ spec.operand_place one.now }
-{
-    match one {
-        Operand::Item(reference) => reference.item.name.place,
-        Operand::Literal(literal) => literal.place,
     }
 }
 
@@ -60,7 +60,7 @@ impl<'a> Checker<'a> {
     /// A side by itself: an operand alone of any kind, or numbers.
     pub(crate) fn side_rules(&self, one: &Side) -> Result<(), BrokenRule>
         requires { IsDeclared self.now.declarations.now }
-        ensures { Finds result (spec.side_rules (items_in self.now.declarations.now) one.now) }
+        ensures { IsFirstBreach result (spec.side_rules (items_in self.now.declarations.now) one.now) }
     {
         match one {
             Side::Expression(expression) => match operand_alone(expression) {
@@ -72,37 +72,37 @@ impl<'a> Checker<'a> {
     }
 
     /// What an operand is beside another.
-    fn operand_compared(&self, one: &Operand) -> Compared
+    fn operand_compared(&self, one: &Operand) -> SideKind
         requires { IsDeclared self.now.declarations.now }
-        ensures { meant result ≡ spec.compared_alone (items_in self.now.declarations.now) (Some one.now) }
+        ensures { side_kind_of result ≡ spec.compared_alone (items_in self.now.declarations.now) (Some one.now) }
     {
         match one {
             Operand::Item(reference) => match self.declarations.item_named(&reference.item) {
-                Ok(found) => Compared::of_kind(found.item.kind),
-                Err(_) => Compared::Either,
+                Ok(found) => SideKind::of_kind(found.item.kind),
+                Err(_) => SideKind::Either,
             },
-            Operand::Literal(literal) => Compared::of_literal(&literal.value),
+            Operand::Literal(literal) => SideKind::of_literal(&literal.value),
         }
     }
 
     /// What a side is beside another.
-    fn side_compared(&self, one: &Side) -> Compared
+    fn side_compared(&self, one: &Side) -> SideKind
         requires { IsDeclared self.now.declarations.now }
-        ensures { meant result ≡ spec.compared_alone (items_in self.now.declarations.now) (tree.alone_side one.now) }
+        ensures { side_kind_of result ≡ spec.compared_alone (items_in self.now.declarations.now) (tree.alone_side one.now) }
     {
         match one {
             Side::Expression(expression) => match operand_alone(expression) {
                 Some(operand) => self.operand_compared(operand),
-                None => Compared::Number,
+                None => SideKind::Number,
             },
-            Side::Literal(literal) => Compared::of_literal(&literal.value),
+            Side::Literal(literal) => SideKind::of_literal(&literal.value),
         }
     }
 
     /// Two sides, which can be compared: not two literals, not a number with decimals or in another usage beside characters.
     pub fn relation_rules(&self, left: &Side, right: &Side) -> Result<(), BrokenRule>
         requires { IsDeclared self.now.declarations.now }
-        ensures { Finds result (spec.relation_rules (items_in self.now.declarations.now) left.now right.now) }
+        ensures { IsFirstBreach result (spec.relation_rules (items_in self.now.declarations.now) left.now right.now) }
     {
         self.side_rules(left)?;
         self.side_rules(right)?;

@@ -1,7 +1,7 @@
 //! The rules of statements, one after another and those in one, and of what they stand in.
 
 ghost use Rattle.std.specs.Prelude.{◌≡◌, ◌++◌};
-ghost use Rattle.entry_rules.specs.Checks.{Finds};
+ghost use Rattle.entry_rules.specs.Checks.{IsFirstBreach};
 ghost use Rattle.source_tree.specs.Broken.{each};
 ghost use Rattle.source_tree.specs.EvaluateRules.{selected_rules};
 ghost use Rattle.source_tree.specs.Filing.{phrases_of};
@@ -13,32 +13,36 @@ ghost use Rattle.declarations.specs.Named.{IsDeclared, files_in, items_in, scope
 use crate::checker::Checker;
 use entry_rules::BrokenRule;
 use source_tree::{
-    Arithmetic, Branching, Evaluate, FilePhrases, Filing, Moving, Paragraph, Performed, Performing,
-    Phrases, Section, Selected, Sentence, Statement, Subject, Text, Verb,
+    Arithmetic, ConditionalStatement, DataStatement, Evaluate, FilePhrases, FileStatement,
+    Paragraph, PerformStatement, Performed, Phrases, Section, Selected, Sentence, Statement,
+    Subject, TextStatement, Verb,
 };
 use sqlite_items::Items;
 
 impl<'a> Checker<'a> {
-    fn moving_rules(&self, one: &Moving) -> Result<(), BrokenRule>
+    fn moving_rules(&self, one: &DataStatement) -> Result<(), BrokenRule>
         requires { IsDeclared self.now.declarations.now }
-        ensures { Finds result (spec.moving_rules (items_in self.now.declarations.now) one.now) }
+        ensures { IsFirstBreach result (spec.moving_rules (items_in self.now.declarations.now) one.now) }
     {
         match one {
-            Moving::Move { sender, receivers } => self.move_rules(sender, receivers.as_slice()),
-            Moving::Initialize { receivers } => self.initialize_rules(receivers.as_slice()),
-            Moving::Set { conditions } => self.set_rules(conditions.as_slice()),
+            DataStatement::Move { sender, receivers } => self.move_rules(
+                sender,
+                receivers.as_slice(),
+            ),
+            DataStatement::Initialize { receivers } => self.initialize_rules(receivers.as_slice()),
+            DataStatement::Set { conditions } => self.set_rules(conditions.as_slice()),
         }
     }
 
-    fn text_rules(&self, one: &Text) -> Result<(), BrokenRule>
+    fn text_rules(&self, one: &TextStatement) -> Result<(), BrokenRule>
         requires { IsDeclared self.now.declarations.now }
-        ensures { Finds result (spec.text_rules (items_in self.now.declarations.now) one.now) }
+        ensures { IsFirstBreach result (spec.text_rules (items_in self.now.declarations.now) one.now) }
     {
         match one {
-            Text::Display { operands, .. } => self.display_rules(operands.as_slice()),
-            Text::Accept { receiver } => self.accept_line_rules(receiver),
-            Text::AcceptDate { receiver } => self.accept_date_rules(receiver),
-            Text::Inspect(one) => self.inspect_rules(one),
+            TextStatement::Display { operands, .. } => self.display_rules(operands.as_slice()),
+            TextStatement::Accept { receiver } => self.accept_line_rules(receiver),
+            TextStatement::AcceptDate { receiver } => self.accept_date_rules(receiver),
+            TextStatement::Inspect(one) => self.inspect_rules(one),
         }
     }
 
@@ -47,10 +51,10 @@ impl<'a> Checker<'a> {
     #[tactic(auto, using(declarations::proofs::RuleLayers::statement_is))]
     pub fn statement_rules(&self, one: &Statement) -> Result<(), BrokenRule>
         requires { IsDeclared self.now.declarations.now }
-        ensures { Finds result (spec.statement_rules (scope_in self.now.declarations.now) all_permitted one.now) }
+        ensures { IsFirstBreach result (spec.statement_rules (scope_in self.now.declarations.now) all_permitted one.now) }
     {
         match &one.verb {
-            Verb::Moving(moving) => self.moving_rules(moving),
+            Verb::DataStatement(moving) => self.moving_rules(moving),
             Verb::Arithmetic(
                 Arithmetic {
                     operation,
@@ -61,8 +65,8 @@ impl<'a> Checker<'a> {
                 self.phrase_rules(arose)?;
                 self.phrase_rules(did_not)
             }
-            Verb::Branching(
-                Branching::If {
+            Verb::ConditionalStatement(
+                ConditionalStatement::If {
                     condition,
                     statements,
                     otherwise,
@@ -72,8 +76,10 @@ impl<'a> Checker<'a> {
                 self.statements_rules(statements.as_slice())?;
                 self.phrase_rules(otherwise)
             }
-            Verb::Branching(Branching::Evaluate(one)) => self.evaluate_rules(one),
-            Verb::Performing(Performing { performed, turns }) => {
+            Verb::ConditionalStatement(ConditionalStatement::Evaluate(one)) => self.evaluate_rules(
+                one,
+            ),
+            Verb::PerformStatement(PerformStatement { performed, turns }) => {
                 self.turns_rules(turns)?;
                 match performed {
                     Performed::Procedures { first, last } => self.range_rules(first, last),
@@ -81,13 +87,13 @@ impl<'a> Checker<'a> {
                 }
             }
             Verb::Text(text) => self.text_rules(text),
-            Verb::Stringing(stringing) => {
+            Verb::StringStatement(stringing) => {
                 self.string_rules(stringing)?;
                 self.phrase_rules(&stringing.phrases.arose)?;
                 self.phrase_rules(&stringing.phrases.did_not)
             }
-            Verb::Filing(filing) => self.file_statement_rules(filing),
-            Verb::Ending(_) => Ok(()),
+            Verb::FileStatement(filing) => self.file_statement_rules(filing),
+            Verb::ControlStatement(_) => Ok(()),
         }
     }
 
@@ -95,7 +101,7 @@ impl<'a> Checker<'a> {
     #[cycle(statement)]
     fn statements_rules(&self, all: &[Statement]) -> Result<(), BrokenRule>
         requires { IsDeclared self.now.declarations.now }
-        ensures { Finds result (each (spec.statement_rules (scope_in self.now.declarations.now) all_permitted) all.now) }
+        ensures { IsFirstBreach result (each (spec.statement_rules (scope_in self.now.declarations.now) all_permitted) all.now) }
     {
         for one in all {
             self.statement_rules(one)?;
@@ -107,7 +113,7 @@ impl<'a> Checker<'a> {
     #[cycle(statement)]
     fn phrase_rules(&self, phrase: &Option<Items<Statement>>) -> Result<(), BrokenRule>
         requires { IsDeclared self.now.declarations.now }
-        ensures { Finds result (spec.phrase_rules (spec.statement_rules (scope_in self.now.declarations.now) all_permitted) phrase.now) }
+        ensures { IsFirstBreach result (spec.phrase_rules (spec.statement_rules (scope_in self.now.declarations.now) all_permitted) phrase.now) }
     {
         match phrase {
             None => Ok(()),
@@ -119,7 +125,7 @@ impl<'a> Checker<'a> {
     #[cycle(statement)]
     fn opposite_rules(&self, pair: &Phrases<Statement>) -> Result<(), BrokenRule>
         requires { IsDeclared self.now.declarations.now }
-        ensures { Finds result (spec.phrases_rules (spec.statement_rules (scope_in self.now.declarations.now) all_permitted) pair.now) }
+        ensures { IsFirstBreach result (spec.phrases_rules (spec.statement_rules (scope_in self.now.declarations.now) all_permitted) pair.now) }
     {
         self.phrase_rules(&pair.arose)?;
         self.phrase_rules(&pair.did_not)
@@ -129,7 +135,7 @@ impl<'a> Checker<'a> {
     #[cycle(statement)]
     fn file_phrases_rules(&self, phrases: &FilePhrases<Statement>) -> Result<(), BrokenRule>
         requires { IsDeclared self.now.declarations.now }
-        ensures { Finds result (spec.file_phrases_rules (spec.statement_rules (scope_in self.now.declarations.now) all_permitted) phrases.now) }
+        ensures { IsFirstBreach result (spec.file_phrases_rules (spec.statement_rules (scope_in self.now.declarations.now) all_permitted) phrases.now) }
     {
         match phrases {
             FilePhrases::Absent => Ok(()),
@@ -140,26 +146,26 @@ impl<'a> Checker<'a> {
 
     /// The statements in a file statement.
     #[cycle(statement)]
-    fn filed_rules(&self, one: &Filing<Statement>) -> Result<(), BrokenRule>
+    fn filed_rules(&self, one: &FileStatement<Statement>) -> Result<(), BrokenRule>
         requires { IsDeclared self.now.declarations.now }
-        ensures { Finds result (spec.file_phrases_rules (spec.statement_rules (scope_in self.now.declarations.now) all_permitted) (phrases_of one.now)) }
+        ensures { IsFirstBreach result (spec.file_phrases_rules (spec.statement_rules (scope_in self.now.declarations.now) all_permitted) (phrases_of one.now)) }
     {
         match one {
-            Filing::Open { .. } => Ok(()),
-            Filing::Close { .. } => Ok(()),
-            Filing::Read { phrases, .. } => self.file_phrases_rules(phrases),
-            Filing::Write { phrases, .. } => self.file_phrases_rules(phrases),
-            Filing::Rewrite { phrases, .. } => self.file_phrases_rules(phrases),
-            Filing::Delete { phrases, .. } => self.file_phrases_rules(phrases),
-            Filing::Start { phrases, .. } => self.file_phrases_rules(phrases),
+            FileStatement::Open { .. } => Ok(()),
+            FileStatement::Close { .. } => Ok(()),
+            FileStatement::Read { phrases, .. } => self.file_phrases_rules(phrases),
+            FileStatement::Write { phrases, .. } => self.file_phrases_rules(phrases),
+            FileStatement::Rewrite { phrases, .. } => self.file_phrases_rules(phrases),
+            FileStatement::Delete { phrases, .. } => self.file_phrases_rules(phrases),
+            FileStatement::Start { phrases, .. } => self.file_phrases_rules(phrases),
         }
     }
 
     /// A file statement, with those in its phrases.
     #[cycle(statement)]
-    fn file_statement_rules(&self, one: &Filing<Statement>) -> Result<(), BrokenRule>
+    fn file_statement_rules(&self, one: &FileStatement<Statement>) -> Result<(), BrokenRule>
         requires { IsDeclared self.now.declarations.now }
-        ensures { Finds result (filing_rules (items_in self.now.declarations.now) (files_in self.now.declarations.now) one.now ++ spec.file_phrases_rules (spec.statement_rules (scope_in self.now.declarations.now) all_permitted) (phrases_of one.now)) }
+        ensures { IsFirstBreach result (filing_rules (items_in self.now.declarations.now) (files_in self.now.declarations.now) one.now ++ spec.file_phrases_rules (spec.statement_rules (scope_in self.now.declarations.now) all_permitted) (phrases_of one.now)) }
     {
         self.filing_rules(one)?;
         self.filed_rules(one)
@@ -173,7 +179,7 @@ impl<'a> Checker<'a> {
         one: &Selected<Statement>,
     ) -> Result<(), BrokenRule>
         requires { IsDeclared self.now.declarations.now }
-        ensures { Finds result (selected_rules (items_in self.now.declarations.now) (spec.statement_rules (scope_in self.now.declarations.now) all_permitted) subjects.now one.now) }
+        ensures { IsFirstBreach result (selected_rules (items_in self.now.declarations.now) (spec.statement_rules (scope_in self.now.declarations.now) all_permitted) subjects.now one.now) }
     {
         self.whens_rules(subjects, one.whens.as_slice())?;
         self.statements_rules(one.statements.as_slice())
@@ -187,7 +193,7 @@ impl<'a> Checker<'a> {
         all: &[Selected<Statement>],
     ) -> Result<(), BrokenRule>
         requires { IsDeclared self.now.declarations.now }
-        ensures { Finds result (each (selected_rules (items_in self.now.declarations.now) (spec.statement_rules (scope_in self.now.declarations.now) all_permitted) subjects.now) all.now) }
+        ensures { IsFirstBreach result (each (selected_rules (items_in self.now.declarations.now) (spec.statement_rules (scope_in self.now.declarations.now) all_permitted) subjects.now) all.now) }
     {
         for one in all {
             self.selected_rules(subjects, one)?;
@@ -199,7 +205,7 @@ impl<'a> Checker<'a> {
     #[cycle(statement)]
     fn evaluate_rules(&self, one: &Evaluate<Statement>) -> Result<(), BrokenRule>
         requires { IsDeclared self.now.declarations.now }
-        ensures { Finds result (spec.evaluate_rules (items_in self.now.declarations.now) (spec.statement_rules (scope_in self.now.declarations.now) all_permitted) one.now) }
+        ensures { IsFirstBreach result (spec.evaluate_rules (items_in self.now.declarations.now) (spec.statement_rules (scope_in self.now.declarations.now) all_permitted) one.now) }
     {
         let subjects = one.subjects.as_slice();
         self.subjects_rules(subjects)?;
@@ -209,14 +215,14 @@ impl<'a> Checker<'a> {
 
     fn sentence_rules(&self, one: &Sentence) -> Result<(), BrokenRule>
         requires { IsDeclared self.now.declarations.now }
-        ensures { Finds result (spec.sentence_rules (scope_in self.now.declarations.now) all_permitted one.now) }
+        ensures { IsFirstBreach result (spec.sentence_rules (scope_in self.now.declarations.now) all_permitted one.now) }
     {
         self.statements_rules(one.statements.as_slice())
     }
 
     fn sentences_rules(&self, all: &[Sentence]) -> Result<(), BrokenRule>
         requires { IsDeclared self.now.declarations.now }
-        ensures { Finds result (each (spec.sentence_rules (scope_in self.now.declarations.now) all_permitted) all.now) }
+        ensures { IsFirstBreach result (each (spec.sentence_rules (scope_in self.now.declarations.now) all_permitted) all.now) }
     {
         for one in all {
             self.sentence_rules(one)?;
@@ -226,14 +232,14 @@ impl<'a> Checker<'a> {
 
     fn paragraph_rules(&self, one: &Paragraph) -> Result<(), BrokenRule>
         requires { IsDeclared self.now.declarations.now }
-        ensures { Finds result (spec.paragraph_rules (scope_in self.now.declarations.now) all_permitted one.now) }
+        ensures { IsFirstBreach result (spec.paragraph_rules (scope_in self.now.declarations.now) all_permitted one.now) }
     {
         self.sentences_rules(one.sentences.as_slice())
     }
 
     fn paragraphs_rules(&self, all: &[Paragraph]) -> Result<(), BrokenRule>
         requires { IsDeclared self.now.declarations.now }
-        ensures { Finds result (each (spec.paragraph_rules (scope_in self.now.declarations.now) all_permitted) all.now) }
+        ensures { IsFirstBreach result (each (spec.paragraph_rules (scope_in self.now.declarations.now) all_permitted) all.now) }
     {
         for one in all {
             self.paragraph_rules(one)?;
@@ -243,7 +249,7 @@ impl<'a> Checker<'a> {
 
     fn section_rules(&self, one: &Section) -> Result<(), BrokenRule>
         requires { IsDeclared self.now.declarations.now }
-        ensures { Finds result (spec.section_rules (scope_in self.now.declarations.now) all_permitted one.now) }
+        ensures { IsFirstBreach result (spec.section_rules (scope_in self.now.declarations.now) all_permitted one.now) }
     {
         self.paragraphs_rules(one.paragraphs.as_slice())
     }
@@ -251,7 +257,7 @@ impl<'a> Checker<'a> {
     /// The statements of sections, in order.
     pub fn sections_rules(&self, all: &[Section]) -> Result<(), BrokenRule>
         requires { IsDeclared self.now.declarations.now }
-        ensures { Finds result (spec.sections_rules (scope_in self.now.declarations.now) all_permitted all.now) }
+        ensures { IsFirstBreach result (spec.sections_rules (scope_in self.now.declarations.now) all_permitted all.now) }
     {
         for one in all {
             self.section_rules(one)?;

@@ -2,7 +2,7 @@
 //! Nucleus, "The PERFORM statement").
 
 ghost use Rattle.std.specs.Prelude.{◌≡◌, Some};
-ghost use Rattle.entry_rules.specs.Checks.{Finds};
+ghost use Rattle.entry_rules.specs.Checks.{IsFirstBreach};
 ghost use Rattle.source_tree.specs.ConditionRules as spec;
 ghost use Rattle.source_tree.specs.Rules as rules;
 ghost use Rattle.declarations.specs.Named.{IsDeclared, items_in};
@@ -10,14 +10,14 @@ ghost use Rattle.declarations.specs.Named.{IsDeclared, items_in};
 use crate::asked::Asked;
 use crate::checker::Checker;
 use entry_rules::BrokenRule;
-use source_tree::{Turns, Until, Varying};
+use source_tree::{Repetition, Until, Varying};
 use std::slice;
 
 impl<'a> Checker<'a> {
     /// VARYING: FROM is a number that is moved, and BY one that is added.
     fn varying_rules(&self, one: &Varying) -> Result<(), BrokenRule>
         requires { IsDeclared self.now.declarations.now }
-        ensures { Finds result (spec.varying_rules (items_in self.now.declarations.now) (Some one.now)) }
+        ensures { IsFirstBreach result (spec.varying_rules (items_in self.now.declarations.now) (Some one.now)) }
     {
         self.move_rules(&one.from, slice::from_ref(&one.item))?;
         self.number_rules(&one.from)?;
@@ -28,7 +28,7 @@ impl<'a> Checker<'a> {
     /// UNTIL, with VARYING or without.
     pub fn until_rules(&self, one: &Until) -> Result<(), BrokenRule>
         requires { IsDeclared self.now.declarations.now }
-        ensures { Finds result (spec.until_rules (items_in self.now.declarations.now) one.now) }
+        ensures { IsFirstBreach result (spec.until_rules (items_in self.now.declarations.now) one.now) }
     {
         if let Some(varying) = &one.varying {
             self.varying_rules(varying)?;
@@ -37,15 +37,15 @@ impl<'a> Checker<'a> {
     }
 
     /// How often a PERFORM turns.
-    pub(crate) fn turns_rules(&self, one: &Turns) -> Result<(), BrokenRule>
+    pub(crate) fn turns_rules(&self, one: &Repetition) -> Result<(), BrokenRule>
         requires { IsDeclared self.now.declarations.now }
-        ensures { Finds result (rules.turns_rules (items_in self.now.declarations.now) one.now) }
+        ensures { IsFirstBreach result (rules.turns_rules (items_in self.now.declarations.now) one.now) }
     {
         match one {
-            Turns::Once => Ok(()),
-            Turns::Times(_) => Ok(()),
-            Turns::CountedBy(item) => self.item_rules(Asked::Integer, item),
-            Turns::Until(until) => self.until_rules(until),
+            Repetition::Once => Ok(()),
+            Repetition::Times(_) => Ok(()),
+            Repetition::CountedBy(item) => self.item_rules(Asked::Integer, item),
+            Repetition::Until(until) => self.until_rules(until),
         }
     }
 }

@@ -1,9 +1,9 @@
 //! The first rule that a program of one statement breaks, in a tree that no source text has.
 use check_rules::{CheckError, Rule, check};
 use source_tree::{
-    Arithmetic, Entry, Integer, ItemEntry, Literal, LiteralValue, Moving, Name, NumericLiteral,
-    Operand, Operation, Paragraph, Phrases, PictureText, Place, Program, QualifiedName, Receiver,
-    Reference, Section, Sentence, Sign, Statement, Verb,
+    Arithmetic, DataStatement, Entry, Integer, ItemEntry, Literal, LiteralValue, Name,
+    NumericLiteral, Operand, Operation, Paragraph, Phrases, PictureText, Place, Program,
+    QualifiedName, Receiver, Reference, Section, Sentence, Sign, Statement, Verb,
 };
 use sqlite_items::Items;
 use std::alloc::{AllocError, Global};
@@ -125,7 +125,7 @@ fn reference(alloc: Global) -> Result<Reference, AllocError> {
 /// MOVE of this operand TO M.
 fn moved(alloc: Global, sender: Operand) -> Result<Verb<Statement>, AllocError> {
     let receivers = list(alloc, reference(alloc)?)?;
-    Ok(Verb::Moving(Moving::Move { sender, receivers }))
+    Ok(Verb::DataStatement(DataStatement::Move { sender, receivers }))
 }
 
 /// ADD of this operand TO M.

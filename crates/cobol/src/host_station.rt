@@ -7,7 +7,7 @@ ghost use Rattle.std.specs.Io.Buffered.{writer_buffer, writer_contents};
 ghost use Rattle.std.specs.Io.KnownBytes.{Appends, Keeps};
 ghost use Rattle.station.specs.Disk.{sector_at};
 ghost use Rattle.station.specs.Failures.{CountsFailure};
-ghost use Rattle.station.specs.State.{wrote, synced};
+ghost use Rattle.station.specs.State.{wrote, state_after_sync};
 ghost use Rattle.cobol.specs.Host.{nothing_known};
 
 use crate::console::take_line;
@@ -119,7 +119,7 @@ impl<C: BufRead + Drop, O: Write + Drop, D: Device + Drop> Device for HostStatio
         ensures failures { CountsFailure result self.old.failures self.new.failures }
         ensures shown { OnOk result (writer_buffer self.new.out ≡ []) }
         ensures synced { D.is_honest self.old.volume →
-            OnOk result (D.state self.new.volume ≡ synced (D.state self.old.volume)) }
+            OnOk result (D.state self.new.volume ≡ state_after_sync (D.state self.old.volume)) }
     {
         self.flush()?;
         let done = self.volume.sync();

@@ -1,14 +1,14 @@
 -- What bytes spell is read from them.
 use Rattle.std.proofs.Common.{◌≡◌, ℕ, List, [], ◌++◌, Ok, sym, ap, ◌∙◌, append_assoc}
 use Rattle.std.proofs.lemmas.List.{append-nil}
-use Rattle.image_tables.specs.Spelling.{count_bytes, table_bytes}
-use Rattle.image_tables.specs.Reading.{◌>>=◌, table_at}
-use Rattle.image_tables.specs.Tables.{tables_bytes}
-use Rattle.image_tables.proofs.Forms.{bind_is, part_again}
-use Rattle.image_tables.proofs.DataTables.{tables_form}
-use Rattle.file_tables.specs.Spelling.{file_bytes}
+use Rattle.data_image.specs.Spelling.{count_bytes, table_bytes}
+use Rattle.data_image.specs.Reading.{◌>>=◌, table_at}
+use Rattle.data_image.specs.Tables.{tables_bytes}
+use Rattle.data_image.proofs.Forms.{bind_is, part_again}
+use Rattle.data_image.proofs.DataTables.{tables_form}
+use Rattle.file_image.specs.Spelling.{file_bytes}
 use Rattle.code_image.specs.declared.code.Code.{Code}
-use Rattle.code_image.specs.Spelling.{mark, instruction_bytes, spelling, HasSpelling}
+use Rattle.code_image.specs.Spelling.{mark, instruction_bytes, code_bytes, HasSpelling}
 use Rattle.code_image.specs.Reading.{after_mark, instruction_at, code_at}
 use Rattle.code_image.proofs.Forms.{mark_again}
 use Rattle.code_image.proofs.Images.{end_from, instructions_from, starts_from, files_from, tables_from, file_table, start_table, instruction_table}
@@ -16,7 +16,7 @@ use Rattle.code_image.proofs.Images.{end_from, instructions_from, starts_from, f
 regroup : (a b c d e : List ℕ) → a ++ b ++ c ++ d ++ e ≡ a ++ (b ++ (c ++ (d ++ e)))
 regroup a b c d e = simp append_assoc
 
-pub code_again : (code : Code) → HasSpelling code → code_at (spelling code) ≡ Ok code
+pub code_again : (code : Code) → HasSpelling code → code_at (code_bytes code) ≡ Ok code
 unfolding code_at
 code_again code fits =
     let t = tables_bytes code.tables in

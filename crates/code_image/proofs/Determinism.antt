@@ -4,22 +4,22 @@ use Rattle.std.specs.Prelude.{◌==◌, slice_get, slice_index, slice_set}
 use Rattle.std.proofs.lemmas.Bool.{cases_lt}
 use Rattle.decimal18.specs.Fraction.{Fraction}
 use Rattle.source_tree.specs.State.{State}
-use Rattle.source_tree.specs.Evaluated.{Evaluated, ◌>>=◌, needed}
+use Rattle.source_tree.specs.Evaluated.{Evaluation, ◌>>=◌, evaluation_of}
 use Rattle.source_tree.specs.Performing.{turns_by}
-use Rattle.source_tree.specs.Given.{Given}
+use Rattle.source_tree.specs.Given.{RunInput}
 use Rattle.source_tree.specs.Meaning.{Run}
 use Rattle.source_tree.specs.Accepting.{next_line}
 use Rattle.records.specs.declared.verb.Verb.{Verb}
 use Rattle.source_tree.specs.FileStatements.{step_on}
-use Rattle.file_tables.specs.declared.file.CodeFile.{CodeFile}
-use Rattle.file_tables.specs.Files.{places_of, entries_of}
+use Rattle.file_image.specs.declared.file.CodeFile.{CodeFile}
+use Rattle.file_image.specs.Files.{places_of, entries_of}
 use Rattle.code_image.specs.declared.code.Code.{Code}
 use Rattle.code_image.specs.declared.instruction.Instruction.{Instruction}
 use Rattle.code_image.specs.declared.instruction.Instruction.TheVariants.{Tick, Show, Stop, Count, CountNumber, Turn, Accept, Date, Branch, Jump, Join, Perform, Back, File, TestStatus, Unheard, Data}
-use Rattle.data_instructions.specs.Scratch.{Step, Went, Faulted, Stuck}
-use Rattle.data_instructions.specs.Table.{work, accepted, dated}
+use Rattle.data_instructions.specs.Scratch.{Step, Continues, Faulted, Stuck}
+use Rattle.data_instructions.specs.Table.{work, accept_step, date_step}
 use Rattle.code_image.specs.Points.{Return, Point, scratch_of, first_point}
-use Rattle.code_image.specs.Table.{Next, onward, tick_from, shown_point, worked_point, data_from, counted_turns, counted_by, counted_from, turn_from, branch_from, performing, perform_at, back_if, back_from, line_taken, received_point, filed_from, tested_point, act, exec_code, Runs}
+use Rattle.code_image.specs.Table.{Next, onward, tick_from, shown_point, worked_point, data_from, counted_turns, counted_by, counted_from, turn_from, branch_from, own_with_return, perform_at, back_if, back_from, line_taken, received_point, filed_from, tested_point, act, exec_code, Runs}
 
 -- where f is over, g is over with the same run
 abbrev Extends : Next → Next → Type 0
@@ -32,7 +32,7 @@ module _ (f g : Next) (h : Extends f g) where
   tick_extends (suc n) line p s run e = h (record p { address = p.address + 1; state = record s { budget = n; line = line } }) run e
 
   data_extends : (step : Step) (p : Point) (run : Run) → data_from step f p ≡ Some run → data_from step g p ≡ Some run
-  data_extends (Went s) p run e = h (worked_point s p) run e
+  data_extends (Continues s) p run e = h (worked_point s p) run e
   data_extends (Faulted fault) p run e = e
   data_extends Stuck p run e = absurd cc
 
@@ -42,7 +42,7 @@ module _ (f g : Next) (h : Extends f g) where
   counted_turns_extends (suc more) older counter p run e =
       h (record p { address = p.address + 1; own = record p.own { counters = slice_set p.own.counters counter more; numbers = older; truth = true } }) run e
 
-  counted_by_extends : (turns : Evaluated ℕ) (older : List (Option Fraction)) (counter : ℕ) (p : Point) (run : Run) → counted_by turns older counter f p ≡ Some run
+  counted_by_extends : (turns : Evaluation ℕ) (older : List (Option Fraction)) (counter : ℕ) (p : Point) (run : Run) → counted_by turns older counter f p ≡ Some run
       → counted_by turns older counter g p ≡ Some run
   counted_by_extends (Ok turns) older counter p run e = counted_turns_extends turns older counter p run e
   counted_by_extends (Err fault) older counter p run e = e
@@ -50,7 +50,7 @@ module _ (f g : Next) (h : Extends f g) where
   counted_extends : (numbers : List (Option Fraction)) (counter : ℕ) (p : Point) (run : Run) → counted_from numbers counter f p ≡ Some run
       → counted_from numbers counter g p ≡ Some run
   counted_extends [] counter p run e = absurd cc
-  counted_extends (newest ∷ older) counter p run e = counted_by_extends (needed newest >>= turns_by) older counter p run e
+  counted_extends (newest ∷ older) counter p run e = counted_by_extends (evaluation_of newest >>= turns_by) older counter p run e
 
   turn_extends : (left counter to : ℕ) (p : Point) (run : Run) → turn_from left counter to f p ≡ Some run → turn_from left counter to g p ≡ Some run
   turn_extends zero counter to p run e = h (record p { address = p.address + 1 }) run e
@@ -63,7 +63,7 @@ module _ (f g : Next) (h : Extends f g) where
   perform_extends : (left line start last : ℕ) (p : Point) (s : State) (run : Run) → tick_from left line (perform_at f start last p) s ≡ Some run
       → tick_from left line (perform_at g start last p) s ≡ Some run
   perform_extends zero line start last p s run e = e
-  perform_extends (suc n) line start last p s run e = h (record { address = start; state = record s { budget = n; line = line }; own = performing last p }) run e
+  perform_extends (suc n) line start last p s run e = h (record { address = start; state = record s { budget = n; line = line }; own = own_with_return last p }) run e
 
   back_if_extends : (comes : Bool) (newest : Return) (older : List Return) (p : Point) (run : Run) → back_if comes f newest older p ≡ Some run
       → back_if comes g newest older p ≡ Some run
@@ -91,8 +91,8 @@ module _ (f g : Next) (h : Extends f g) where
       h (record p { address = p.address + 1; own = record p.own { counters = slice_set p.own.counters counter.number turns } }) run e
   act_extends code (Some (CountNumber counter)) p run e = counted_extends p.own.numbers counter.number p run e
   act_extends code (Some (Turn counter to)) p run e = turn_extends (slice_index p.own.counters counter.number) counter.number to p run e
-  act_extends code (Some Accept) p run e = data_extends (accepted code.tables (next_line p.state.lines) (scratch_of p.state p.own)) (line_taken p) run e
-  act_extends code (Some Date) p run e = data_extends (dated code.tables p.state.day (scratch_of p.state p.own)) p run e
+  act_extends code (Some Accept) p run e = data_extends (accept_step code.tables (next_line p.state.lines) (scratch_of p.state p.own)) (line_taken p) run e
+  act_extends code (Some Date) p run e = data_extends (date_step code.tables p.state.day (scratch_of p.state p.own)) p run e
   act_extends code (Some (Branch to)) p run e = branch_extends p.own.truth to p run e
   act_extends code (Some (Jump to)) p run e = h (record p { address = to }) run e
   act_extends code (Some Join) p run e = h (record p { address = p.address + 1 }) run e
@@ -120,5 +120,5 @@ same_end code m n p run other r q =
     (λ le. some_same run other (sym r ∙ longer code n m le p other q))
     (cases_lt m n)
 
-pub one_run : (code : Code) (given : Given) (run other : Run) → Runs code given run → Runs code given other → run ≡ other
+pub one_run : (code : Code) (given : RunInput) (run other : Run) → Runs code given run → Runs code given other → run ≡ other
 one_run code given run other r q = same_end code r.0 q.0 (first_point code given) run other r.1 q.1

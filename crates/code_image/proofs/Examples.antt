@@ -8,7 +8,7 @@ use Rattle.items.specs.declared.usage.OperationalSign.TheVariants as operational
 use Rattle.items.specs.declared.usage.Usage.TheVariants as usage
 use Rattle.items.specs.Values.{bytes_of}
 use Rattle.decimal18.specs.Quotient.{quotient, greatest}
-use Rattle.decimal18.specs.Receiver.{fitted}
+use Rattle.decimal18.specs.Receiver.{fitted_decimal}
 use Rattle.station.specs.State.{Event, Shown, Noted}
 use Rattle.records.specs.declared.file_spec.Organization.TheVariants as organization
 use Rattle.records.specs.declared.key.KeyOfReference.TheVariants.{Alternate}
@@ -28,29 +28,29 @@ use Rattle.data_instructions.specs.declared.calculation.Calculation.TheVariants 
 use Rattle.data_instructions.specs.declared.instruction.DataInstruction.TheVariants as i
 use Rattle.data_instructions.specs.declared.test.Test.TheVariants as t
 use Rattle.data_instructions.specs.Shapes.{empty}
-use Rattle.image_tables.specs.declared.fault.ImageFault.TheVariants as faults
-use Rattle.image_tables.specs.Spelling.{count_bytes, short_bytes, small_bytes}
-use Rattle.image_tables.specs.Reading.{byte_at, told_at, flag_of, count_at, short_at, small_at, entries_at, table_at, text_at}
-use Rattle.image_tables.specs.Items as items
-use Rattle.image_tables.specs.Items.{kind_at, plain_kind_of}
-use Rattle.image_tables.specs.Tables.{data_item_at, tables_at}
-use Rattle.image_tables.specs.Instructions.{data_instruction_at, plain_instruction_of}
-use Rattle.perform_order.specs.declared.performed.PerformedRange.{PerformedRange}
-use Rattle.perform_order.specs.Order.{IsRange, Falls, heights}
-use Rattle.file_tables.specs.declared.class.StatusClass.TheVariants.{AtEnd}
-use Rattle.file_tables.specs.declared.file.CodeFile.{CodeFile}
-use Rattle.file_tables.specs.Classes.{has_class}
-use Rattle.file_tables.specs.Files.{spec_of, entries_of, NamesPlaces, IsCodeFile}
-use Rattle.file_tables.specs.Spelling.{file_at, spec_at, organization_at, access_of, item_at, verb_at, plain_verb_of}
+use Rattle.data_image.specs.declared.fault.ImageFault.TheVariants as faults
+use Rattle.data_image.specs.Spelling.{count_bytes, short_bytes, small_bytes}
+use Rattle.data_image.specs.Reading.{byte_at, told_at, flag_of, count_at, short_at, small_at, entries_at, table_at, text_at}
+use Rattle.data_image.specs.Items as items
+use Rattle.data_image.specs.Items.{kind_at, plain_kind_of}
+use Rattle.data_image.specs.Tables.{data_item_at, tables_at}
+use Rattle.data_image.specs.Instructions.{data_instruction_at, plain_instruction_of}
+use Rattle.perform_graph.specs.declared.performed.PerformedRange.{PerformedRange}
+use Rattle.perform_graph.specs.Order.{IsRange, Decreases, rank_in}
+use Rattle.file_image.specs.declared.class.StatusClass.TheVariants.{AtEnd}
+use Rattle.file_image.specs.declared.file.CodeFile.{CodeFile}
+use Rattle.file_image.specs.Classes.{has_class}
+use Rattle.file_image.specs.Files.{spec_of, entries_of, NamesPlaces, IsCodeFile}
+use Rattle.file_image.specs.Spelling.{file_at, spec_at, organization_at, access_of, item_at, verb_at, plain_verb_of}
 use Rattle.code_image.specs.declared.code.Code.{Code}
 use Rattle.code_image.specs.declared.counter.CounterIndex.{CounterIndex}
 use Rattle.code_image.specs.declared.paragraph.ParagraphIndex.{ParagraphIndex}
 use Rattle.code_image.specs.declared.instruction.Instruction.{Instruction}
 use Rattle.code_image.specs.declared.instruction.Instruction.TheVariants.{Tick, Show, Stop, Count, CountNumber, Turn, Accept, Date, Branch, Jump, Join, Perform, Back, File, TestStatus, Unheard, Data}
-use Rattle.code_image.specs.Spelling.{mark, instruction_bytes, spelling}
+use Rattle.code_image.specs.Spelling.{mark, instruction_bytes, code_bytes}
 use Rattle.code_image.specs.Reading.{after_mark, instruction_at, code_at}
 use Rattle.code_image.specs.Known.{known_along}
-use Rattle.code_image.specs.Demands.{NamesData, NamesCounter, NamesParagraph, NamesFile, SuitsFile, Leads, AllLead, StartsAt, AllStart, HasOrder, HasFiles, IsVerified}
+use Rattle.code_image.specs.Demands.{NamesData, NamesCounter, NamesParagraph, NamesFile, SuitsFile, HasValidTargets, AllLead, StartsAt, AllStart, HasOrder, HasFiles, IsVerified}
 use Rattle.code_image.specs.Points.{Point, first_point}
 use Rattle.code_image.specs.Table.{Next, act, exec_code}
 
@@ -198,7 +198,7 @@ dividing_by divisor = record {
 }
 
 computing : Unit {0}
-unfolding quotient greatest fitted bytes_of
+unfolding quotient greatest fitted_decimal bytes_of
 computing = tt
 
 size_error : exec_code (dividing_by 0) 99 (with_budget (dividing_by 0) 9) ≡ Some (record { events = map Shown (codes "AC"); end = Stopped; lines = []; files = [] ∷ [] })
@@ -227,7 +227,7 @@ until_true_with_2 = refl
 until_true_with_1 : exec_code (until_true 1) 99 (with_budget (until_true 1) 1) ≡ Some (record { events = []; end = Budget; lines = []; files = [] ∷ [] })
 until_true_with_1 = refl
 
-leads_back : (address : ℕ) → Leads (until_true 1).instructions address (slice_get (until_true 1).instructions address)
+leads_back : (address : ℕ) → HasValidTargets (until_true 1).instructions address (slice_get (until_true 1).instructions address)
 leads_back zero = tt
 leads_back (suc zero) = tt
 leads_back (suc (suc zero)) = tt
@@ -273,7 +273,7 @@ verified_back = record {
     order = record {
       ranges = All-nil (IsRange 1);
       heights = 0 ∷ [];
-      fall = record { one_each = refl; below = All-cons (λ k. k < 1) 0 [] (omega arith) (All-nil (λ k. k < 1)); fall = All-nil (Falls (heights (0 ∷ []))) };
+      fall = record { one_each = refl; below = All-cons (λ k. k < 1) 0 [] (omega arith) (All-nil (λ k. k < 1)); fall = All-nil (Decreases (rank_in (0 ∷ []))) };
     };
     stops = refl;
     finds = record { last = empty; along = refl };
@@ -376,7 +376,7 @@ all_below bound (one ∷ more) each = All-cons (λ k. k < bound) one more each.0
 -- both in one code paragraph, each `back` with its number
 ways_stay : AllLead (performing 2 11).instructions
 ways_stay =
-    each_address (Leads (performing 2 11).instructions) (performing 2 11).instructions
+    each_address (HasValidTargets (performing 2 11).instructions) (performing 2 11).instructions
     (tt, (tt, (tt, (tt, (tt, (refl, (tt, (tt, (tt, (inl (record { later = omega arith; join = tt; stays = refl }), (tt, (refl, (tt, (tt, (tt, (refl, (tt, tt)))))))))))))))))
 
 paragraphs_start : AllStart (performing 2 11)
@@ -386,7 +386,7 @@ paragraphs_start (suc (suc zero)) within = record { front = inr tt; in_it = refl
 paragraphs_start (suc (suc (suc more))) within = absurd (omega arith)
 
 -- MAIN is higher than A and B
-main_higher : (paragraph : ℕ) → 1 ≤ paragraph → heights (1 ∷ 0 ∷ 0 ∷ []) paragraph < 1
+main_higher : (paragraph : ℕ) → 1 ≤ paragraph → rank_in (1 ∷ 0 ∷ 0 ∷ []) paragraph < 1
 main_higher zero within = absurd (omega arith)
 main_higher (suc zero) within = omega arith
 main_higher (suc (suc zero)) within = omega arith
@@ -401,7 +401,7 @@ paragraphs_order =
       fall = record {
         one_each = refl;
         below = all_below 3 (1 ∷ 0 ∷ 0 ∷ []) (omega arith, (omega arith, (omega arith, tt)));
-        fall = All-cons (Falls (heights (1 ∷ 0 ∷ 0 ∷ []))) one [] (λ number in_it. main_higher number in_it.first) (All-nil (Falls (heights (1 ∷ 0 ∷ 0 ∷ []))));
+        fall = All-cons (Decreases (rank_in (1 ∷ 0 ∷ 0 ∷ []))) one [] (λ number in_it. main_higher number in_it.first) (All-nil (Decreases (rank_in (1 ∷ 0 ∷ 0 ∷ []))));
       };
     }
 
@@ -714,17 +714,17 @@ unfolding code_at after_mark tables_at table_at entries_at text_at instruction_a
 reading = tt
 
 -- the code is read again from its spelling, of 112 bytes
-read_again : code_at (spelling code) ≡ Ok code
+read_again : code_at (code_bytes code) ≡ Ok code
 unfolding reading
 read_again = refl
 
 -- not without the last one
-cut_short : code_at (take 111 (spelling code)) ≡ Err faults.Length
+cut_short : code_at (take 111 (code_bytes code)) ≡ Err faults.Length
 unfolding reading
 cut_short = refl
 
 -- and not with a byte after it
-byte_after : code_at (spelling code ++ 0 ∷ []) ≡ Err faults.Length
+byte_after : code_at (code_bytes code ++ 0 ∷ []) ≡ Err faults.Length
 unfolding reading
 byte_after = refl
 
@@ -732,6 +732,6 @@ byte_after = refl
 abbrev one_file : Code
 one_file = record { tables = with_texts []; files = f ∷ []; starts = []; instructions = on_f v.Close ∷ Unheard ∷ [] }
 
-file_again : code_at (spelling one_file) ≡ Ok one_file
+file_again : code_at (code_bytes one_file) ≡ Ok one_file
 unfolding reading file_at spec_at organization_at small_at small_bytes told_at access_of flag_of item_at verb_at plain_verb_of
 file_again = refl

@@ -9,17 +9,17 @@ use Rattle.data_instructions.specs.declared.test.Test.TheVariants as t
 use Rattle.data_instructions.specs.declared.gather.Gather.TheVariants as g
 use Rattle.data_instructions.specs.declared.instruction.DataInstruction.{DataInstruction}
 use Rattle.data_instructions.specs.declared.instruction.DataInstruction.TheVariants as i
-use Rattle.image_tables.specs.declared.fault.ImageFault.TheVariants as faults
-use Rattle.image_tables.specs.Spelling.{IsBytes, count_bytes, short_bytes}
-use Rattle.image_tables.specs.Reading.{Read, ◌>>=◌, count_at}
-use Rattle.image_tables.specs.Instructions.{data_instruction_bytes, HasShorts}
-use Rattle.image_tables.proofs.Forms.{IsBytes-drop, guard_passed, ok_is, failed, chosen, Takes, takes_then, takes_kind, IsForm, part, part_again, Took, form_of, byte_is, behind_took, alone_took}
-use Rattle.image_tables.proofs.Numbers.{byte_form, count_form, short_form}
-use Rattle.image_tables.proofs.Instructions.{data_instruction_form}
+use Rattle.data_image.specs.declared.fault.ImageFault.TheVariants as faults
+use Rattle.data_image.specs.Spelling.{IsBytes, count_bytes, short_bytes}
+use Rattle.data_image.specs.Reading.{ReadResult, ◌>>=◌, count_at}
+use Rattle.data_image.specs.Instructions.{data_instruction_bytes, HasShorts}
+use Rattle.data_image.proofs.Forms.{IsBytes-drop, guard_passed, ok_is, failed, chosen, Takes, takes_then, takes_kind, IsForm, part, part_again, Took, form_of, byte_is, behind_took, alone_took}
+use Rattle.data_image.proofs.Numbers.{byte_form, count_form, short_form}
+use Rattle.data_image.proofs.Instructions.{data_instruction_form}
 use Rattle.records.specs.declared.verb.Verb.{Verb}
-use Rattle.file_tables.specs.declared.class.StatusClass.{StatusClass}
-use Rattle.file_tables.specs.Spelling.{verb_bytes, verb_at}
-use Rattle.file_tables.proofs.Verbs.{class_form, verb_form}
+use Rattle.file_image.specs.declared.class.StatusClass.{StatusClass}
+use Rattle.file_image.specs.Spelling.{verb_bytes, verb_at}
+use Rattle.file_image.proofs.Verbs.{class_form, verb_form}
 use Rattle.code_image.specs.declared.instruction.Instruction.{Instruction}
 use Rattle.code_image.specs.declared.instruction.Instruction.TheVariants.{Tick, Show, Stop, Count, CountNumber, Turn, Accept, Date, Branch, Jump, Join, Perform, Back, File, TestStatus, Unheard, Data}
 use Rattle.code_image.specs.Spelling.{mark, instruction_bytes, HasNumbers}
@@ -47,10 +47,10 @@ mark_again rest = refl
 abbrev Reads : ℕ → List ℕ → Instruction × List ℕ → Type 0
 Reads n rest x = Took instruction_bytes HasNumbers (n ∷ rest) x
 
-abbrev count_from : ℕ × List ℕ → Read Instruction
+abbrev count_from : ℕ × List ℕ → ReadResult Instruction
 count_from counter = count_at counter.1 >>= λ turns. Ok (Count (record { number = counter.0 }) turns.0, turns.1)
 
-abbrev turn_to : ℕ × List ℕ → Read Instruction
+abbrev turn_to : ℕ × List ℕ → ReadResult Instruction
 turn_to counter = count_at counter.1 >>= λ to. Ok (Turn (record { number = counter.0 }) to.0, to.1)
 
 count_took : (rest : List ℕ) (x : Instruction × List ℕ) → IsBytes rest → count_instruction_at rest ≡ Ok x → Reads 4 rest x
@@ -69,10 +69,10 @@ turn_took rest x is e =
     let t = takes_kind 5 rest (count_bytes a.value ++ count_bytes b.value) b.rest both in
     subst (Reads 5 rest) (ok_is (Turn (record { number = a.value }) b.value, b.rest) x b.goes) (t, (a.sound, b.sound))
 
-abbrev last_from : ℕ → ℕ → ℕ × List ℕ → Read Instruction
+abbrev last_from : ℕ → ℕ → ℕ × List ℕ → ReadResult Instruction
 last_from line first last = Ok (Perform line (record { number = first }) (record { number = last.0 }), last.1)
 
-abbrev range_from : ℕ × List ℕ → Read Instruction
+abbrev range_from : ℕ × List ℕ → ReadResult Instruction
 range_from line = count_at line.1 >>= λ first. count_at first.1 >>= last_from line.0 first.0
 
 perform_took : (rest : List ℕ) (x : Instruction × List ℕ) → IsBytes rest → perform_at rest ≡ Ok x → Reads 11 rest x
@@ -99,10 +99,10 @@ count_number_took : (rest : List ℕ) (x : Instruction × List ℕ) → IsBytes 
 count_number_took rest x is e =
     behind_took instruction_bytes HasNumbers count_form 13 (λ a. CountNumber (record { number = a })) (λ a. refl) (λ a h. h) rest x is e
 
-abbrev file_verb : ℕ → Verb × List ℕ → Read Instruction
+abbrev file_verb : ℕ → Verb × List ℕ → ReadResult Instruction
 file_verb file verb = Ok (File (record { number = file }) verb.0, verb.1)
 
-abbrev file_from : ℕ × List ℕ → Read Instruction
+abbrev file_from : ℕ × List ℕ → ReadResult Instruction
 file_from file = verb_at file.1 >>= file_verb file.0
 
 file_took : (rest : List ℕ) (x : Instruction × List ℕ) → IsBytes rest → file_instruction_at rest ≡ Ok x → Reads 14 rest x
@@ -121,7 +121,7 @@ test_status_took : (rest : List ℕ) (x : Instruction × List ℕ) → IsBytes r
 test_status_took rest x is e = behind_took instruction_bytes HasNumbers class_form 15 test_status (λ a. refl) (λ a h. tt) rest x is e
 
 -- what is read where the first byte is none of the first thirteen
-abbrev filing_at : ℕ → List ℕ → Read Instruction
+abbrev filing_at : ℕ → List ℕ → ReadResult Instruction
 filing_at n rest =
     if n == 14 then file_instruction_at rest
     else if n == 15 then test_status_at rest
@@ -143,7 +143,7 @@ filing_took n rest x all e =
     ]
 
 -- what is read where the first byte is none of the first ten
-abbrev last_at : ℕ → List ℕ → Read Instruction
+abbrev last_at : ℕ → List ℕ → ReadResult Instruction
 last_at n rest =
     if n == 11 then perform_at rest
     else if n == 12 then back_at rest
@@ -165,7 +165,7 @@ last_took n rest x all e =
     ]
 
 -- what is read where the first byte is none of the first five
-abbrev later_at : ℕ → List ℕ → Read Instruction
+abbrev later_at : ℕ → List ℕ → ReadResult Instruction
 later_at n rest =
     if n == 6 then alone_at Accept rest
     else if n == 7 then alone_at Date rest

@@ -1,17 +1,17 @@
 -- The parts of an image, one after the other.
 use Rattle.std.proofs.Common.{ℕ, eqb, cond, List, length, Result, Ok, Err}
 use Rattle.data_instructions.specs.declared.tables.DataTables.{DataTables}
-use Rattle.image_tables.specs.declared.fault.ImageFault.{ImageFault}
-use Rattle.image_tables.specs.declared.fault.ImageFault.TheVariants as faults
-use Rattle.image_tables.specs.Spelling.{count_bytes, table_bytes, IsCount, AreSpelled}
-use Rattle.image_tables.specs.Reading.{◌>>=◌, count_at, table_at}
-use Rattle.image_tables.specs.Tables.{tables_at}
-use Rattle.image_tables.proofs.Forms.{IsForm}
-use Rattle.image_tables.proofs.Numbers.{count_form}
-use Rattle.image_tables.proofs.TableForms.{table_form}
-use Rattle.file_tables.specs.declared.file.CodeFile.{CodeFile}
-use Rattle.file_tables.specs.Spelling.{file_bytes, file_at, IsFileSpelled}
-use Rattle.file_tables.proofs.FileForms.{file_form}
+use Rattle.data_image.specs.declared.fault.ImageFault.{ImageFault}
+use Rattle.data_image.specs.declared.fault.ImageFault.TheVariants as faults
+use Rattle.data_image.specs.Spelling.{count_bytes, table_bytes, IsCount, AreSpelled}
+use Rattle.data_image.specs.Reading.{◌>>=◌, count_at, table_at}
+use Rattle.data_image.specs.Tables.{tables_at}
+use Rattle.data_image.proofs.Forms.{IsForm}
+use Rattle.data_image.proofs.Numbers.{count_form}
+use Rattle.data_image.proofs.TableForms.{table_form}
+use Rattle.file_image.specs.declared.file.CodeFile.{CodeFile}
+use Rattle.file_image.specs.Spelling.{file_bytes, file_at, IsFileSpelled}
+use Rattle.file_image.proofs.FileForms.{file_form}
 use Rattle.code_image.specs.declared.code.Code.{Code}
 use Rattle.code_image.specs.declared.instruction.Instruction.{Instruction}
 use Rattle.code_image.specs.Spelling.{instruction_bytes, HasNumbers}

@@ -3,23 +3,23 @@ use Rattle.std.proofs.Common.{◌≡◌, ℕ, zero, suc, ◌+◌, Bool, true, fa
 use Rattle.std.specs.Prelude.{◌==◌, map, slice_get, slice_index, slice_set}
 use Rattle.station.specs.State.{Event, Shown}
 use Rattle.decimal18.specs.Fraction.{Fraction}
-use Rattle.source_tree.specs.State.{State, End, showing}
-use Rattle.source_tree.specs.Evaluated.{Evaluated, ◌>>=◌, needed}
+use Rattle.source_tree.specs.State.{State, End, state_after_output}
+use Rattle.source_tree.specs.Evaluated.{Evaluation, ◌>>=◌, evaluation_of}
 use Rattle.source_tree.specs.Performing.{turns_by}
-use Rattle.source_tree.specs.Given.{Given}
+use Rattle.source_tree.specs.Given.{RunInput}
 use Rattle.source_tree.specs.Meaning.{Run}
 use Rattle.source_tree.specs.Accepting.{next_line}
 use Rattle.source_tree.specs.Told.{note_count}
 use Rattle.source_tree.proofs.Telling.{notes_append}
 use Rattle.records.specs.declared.verb.Verb.{Verb}
-use Rattle.file_tables.specs.declared.file.CodeFile.{CodeFile}
+use Rattle.file_image.specs.declared.file.CodeFile.{CodeFile}
 use Rattle.code_image.specs.declared.code.Code.{Code}
 use Rattle.code_image.specs.declared.instruction.Instruction.{Instruction}
 use Rattle.code_image.specs.declared.instruction.Instruction.TheVariants.{Tick, Show, Stop, Count, CountNumber, Turn, Accept, Date, Branch, Jump, Join, Perform, Back, File, TestStatus, Unheard, Data}
-use Rattle.data_instructions.specs.Scratch.{Step, Went, Faulted, Stuck}
-use Rattle.data_instructions.specs.Table.{work, accepted, dated}
+use Rattle.data_instructions.specs.Scratch.{Step, Continues, Faulted, Stuck}
+use Rattle.data_instructions.specs.Table.{work, accept_step, date_step}
 use Rattle.code_image.specs.Points.{Return, Point, scratch_of, first_point}
-use Rattle.code_image.specs.Table.{Next, over, onward, tick_from, shown_point, worked_point, data_from, counted_turns, counted_by, counted_from, turn_from, branch_from, performing, perform_at, back_if, back_from, line_taken, filed_from, tested_point, act, exec_code, Runs}
+use Rattle.code_image.specs.Table.{Next, over, onward, tick_from, shown_point, worked_point, data_from, counted_turns, counted_by, counted_from, turn_from, branch_from, own_with_return, perform_at, back_if, back_from, line_taken, filed_from, tested_point, act, exec_code, Runs}
 
 -- where f is over, no status was told since
 abbrev Quiet : Next → Type 0
@@ -38,9 +38,9 @@ shown_none (byte ∷ bytes) = shown_none bytes
 no_more : (all old shown : ℕ) → all ≡ old + shown → shown ≡ 0 → all ≡ old
 no_more all old shown sum none = omega arith
 
-shown_quiet : (bytes : List ℕ) (s : State) → note_count (showing bytes s).events ≡ note_count s.events
+shown_quiet : (bytes : List ℕ) (s : State) → note_count (state_after_output bytes s).events ≡ note_count s.events
 shown_quiet bytes s =
-    no_more (note_count (showing bytes s).events) (note_count s.events) (note_count (map Shown bytes)) (notes_append s.events (map Shown bytes)) (shown_none bytes)
+    no_more (note_count (state_after_output bytes s).events) (note_count s.events) (note_count (map Shown bytes)) (notes_append s.events (map Shown bytes)) (shown_none bytes)
 
 no_file : (files : List CodeFile) (number : ℕ) → files ≡ [] → slice_get files number ≡ None
 no_file [] zero is = refl
@@ -53,7 +53,7 @@ module _ (f : Next) (h : Quiet f) where
   tick_quiet (suc n) line p run e = h (record p { address = p.address + 1; state = record p.state { budget = n; line = line } }) run e
 
   data_quiet : (step : Step) (p : Point) (run : Run) → data_from step f p ≡ Some run → note_count run.events ≡ note_count p.state.events
-  data_quiet (Went s) p run e = h (worked_point s p) run e
+  data_quiet (Continues s) p run e = h (worked_point s p) run e
   data_quiet (Faulted fault) p run e = over_quiet _ p.state run e
   data_quiet Stuck p run e = absurd cc
 
@@ -63,7 +63,7 @@ module _ (f : Next) (h : Quiet f) where
   turns_quiet (suc more) older counter p run e =
       h (record p { address = p.address + 1; own = record p.own { counters = slice_set p.own.counters counter more; numbers = older; truth = true } }) run e
 
-  by_quiet : (turns : Evaluated ℕ) (older : List (Option Fraction)) (counter : ℕ) (p : Point) (run : Run) → counted_by turns older counter f p ≡ Some run
+  by_quiet : (turns : Evaluation ℕ) (older : List (Option Fraction)) (counter : ℕ) (p : Point) (run : Run) → counted_by turns older counter f p ≡ Some run
       → note_count run.events ≡ note_count p.state.events
   by_quiet (Ok turns) older counter p run e = turns_quiet turns older counter p run e
   by_quiet (Err fault) older counter p run e = over_quiet _ p.state run e
@@ -71,7 +71,7 @@ module _ (f : Next) (h : Quiet f) where
   counted_quiet : (numbers : List (Option Fraction)) (counter : ℕ) (p : Point) (run : Run) → counted_from numbers counter f p ≡ Some run
       → note_count run.events ≡ note_count p.state.events
   counted_quiet [] counter p run e = absurd cc
-  counted_quiet (newest ∷ older) counter p run e = by_quiet (needed newest >>= turns_by) older counter p run e
+  counted_quiet (newest ∷ older) counter p run e = by_quiet (evaluation_of newest >>= turns_by) older counter p run e
 
   turn_quiet : (left counter to : ℕ) (p : Point) (run : Run) → turn_from left counter to f p ≡ Some run → note_count run.events ≡ note_count p.state.events
   turn_quiet zero counter to p run e = h (record p { address = p.address + 1 }) run e
@@ -84,7 +84,7 @@ module _ (f : Next) (h : Quiet f) where
   perform_quiet : (left line start last : ℕ) (p : Point) (run : Run) → tick_from left line (perform_at f start last p) p.state ≡ Some run
       → note_count run.events ≡ note_count p.state.events
   perform_quiet zero line start last p run e = over_quiet _ p.state run e
-  perform_quiet (suc n) line start last p run e = h (record { address = start; state = record p.state { budget = n; line = line }; own = performing last p }) run e
+  perform_quiet (suc n) line start last p run e = h (record { address = start; state = record p.state { budget = n; line = line }; own = own_with_return last p }) run e
 
   back_if_quiet : (comes : Bool) (newest : Return) (older : List Return) (p : Point) (run : Run) → back_if comes f newest older p ≡ Some run
       → note_count run.events ≡ note_count p.state.events
@@ -112,8 +112,8 @@ module _ (f : Next) (h : Quiet f) where
       h (record p { address = p.address + 1; own = record p.own { counters = slice_set p.own.counters counter.number turns } }) run e
   act_quiet code (Some (CountNumber counter)) p run none e = counted_quiet p.own.numbers counter.number p run e
   act_quiet code (Some (Turn counter to)) p run none e = turn_quiet (slice_index p.own.counters counter.number) counter.number to p run e
-  act_quiet code (Some Accept) p run none e = data_quiet (accepted code.tables (next_line p.state.lines) (scratch_of p.state p.own)) (line_taken p) run e
-  act_quiet code (Some Date) p run none e = data_quiet (dated code.tables p.state.day (scratch_of p.state p.own)) p run e
+  act_quiet code (Some Accept) p run none e = data_quiet (accept_step code.tables (next_line p.state.lines) (scratch_of p.state p.own)) (line_taken p) run e
+  act_quiet code (Some Date) p run none e = data_quiet (date_step code.tables p.state.day (scratch_of p.state p.own)) p run e
   act_quiet code (Some (Branch to)) p run none e = branch_quiet p.own.truth to p run e
   act_quiet code (Some (Jump to)) p run none e = h (record p { address = to }) run e
   act_quiet code (Some Join) p run none e = h (record p { address = p.address + 1 }) run e
@@ -129,5 +129,5 @@ exec_quiet code zero none p run e = absurd cc
 exec_quiet code (suc m) none p run e =
     act_quiet (exec_code code m) (exec_quiet code m none) code (slice_get code.instructions p.address) p run none e
 
-pub no_notes : (code : Code) (given : Given) (run : Run) → code.files ≡ [] → Runs code given run → note_count run.events ≡ 0
+pub no_notes : (code : Code) (given : RunInput) (run : Run) → code.files ≡ [] → Runs code given run → note_count run.events ≡ 0
 no_notes code given run none runs = exec_quiet code runs.0 none (first_point code given) run runs.1

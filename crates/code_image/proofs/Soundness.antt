@@ -4,16 +4,16 @@ use Rattle.std.specs.Prelude.{IfOk}
 use Rattle.std.proofs.lemmas.Bool.{eqb-true}
 use Rattle.std.proofs.lemmas.List.{append-nil, nil_from_length}
 use Rattle.answers.specs.Answer.{Gives}
-use Rattle.image_tables.specs.declared.fault.ImageFault.TheVariants as faults
-use Rattle.image_tables.specs.declared.fault.ImageError.{ImageError}
-use Rattle.image_tables.specs.Faults.{fault_of}
-use Rattle.image_tables.specs.Spelling.{IsBytes, count_bytes, table_bytes}
-use Rattle.image_tables.specs.Tables.{tables_bytes}
-use Rattle.image_tables.proofs.Forms.{bind_ok, guard_passed, Takes, takes_then, part}
-use Rattle.image_tables.proofs.DataTables.{tables_form}
-use Rattle.file_tables.specs.Spelling.{file_bytes}
+use Rattle.data_image.specs.declared.fault.ImageFault.TheVariants as faults
+use Rattle.data_image.specs.declared.fault.ImageError.{ImageError}
+use Rattle.data_image.specs.Faults.{fault_of}
+use Rattle.data_image.specs.Spelling.{IsBytes, count_bytes, table_bytes}
+use Rattle.data_image.specs.Tables.{tables_bytes}
+use Rattle.data_image.proofs.Forms.{bind_ok, guard_passed, Takes, takes_then, part}
+use Rattle.data_image.proofs.DataTables.{tables_form}
+use Rattle.file_image.specs.Spelling.{file_bytes}
 use Rattle.code_image.specs.declared.code.Code.{Code}
-use Rattle.code_image.specs.Spelling.{mark, instruction_bytes, spelling, HasSpelling}
+use Rattle.code_image.specs.Spelling.{mark, instruction_bytes, code_bytes, HasSpelling}
 use Rattle.code_image.specs.Reading.{after_mark, code_at}
 use Rattle.code_image.proofs.Forms.{mark_takes}
 use Rattle.code_image.proofs.Images.{end_from, instructions_from, starts_from, files_from, tables_from, file_table, start_table, instruction_table}
@@ -22,7 +22,7 @@ use Rattle.code_image.proofs.Images.{end_from, instructions_from, starts_from, f
 whole : (bytes text rest : List ℕ) → Takes bytes text rest → rest ≡ [] → bytes ≡ text
 whole bytes text rest takes none = takes.parts ∙ ap (λ (t : List ℕ). text ++ t) none ∙ append-nil text
 
-pub code_takes : (bytes : List ℕ) (code : Code) → IsBytes bytes → code_at bytes ≡ Ok code → (bytes ≡ spelling code) × HasSpelling code
+pub code_takes : (bytes : List ℕ) (code : Code) → IsBytes bytes → code_at bytes ≡ Ok code → (bytes ≡ code_bytes code) × HasSpelling code
 unfolding code_at
 code_takes bytes code fits e =
     let a = bind_ok (after_mark bytes) tables_from code e in
@@ -42,9 +42,9 @@ code_takes bytes code fits e =
     let five = takes_then bytes (mark ++ tables ++ files ++ starts) s.rest (table_bytes instruction_bytes i.value) i.rest four i.takes in
     let nothing : i.rest ≡ [] = nil_from_length i.rest (eqb-true _ _ g.0) in
     let spelt : HasSpelling made = record { tables = t.sound; files = f.sound; starts = s.sound; instructions = i.sound } in
-    (whole bytes (spelling made) i.rest five nothing ∙ ap spelling g.1, subst HasSpelling g.1 spelt)
+    (whole bytes (code_bytes made) i.rest five nothing ∙ ap code_bytes g.1, subst HasSpelling g.1 spelt)
 
-pub is_found : (bytes : List ℕ) (r : Result Code ImageError) → IsBytes bytes → Gives (λ code. code) fault_of r (code_at bytes) → IfOk r (λ code. bytes ≡ spelling code)
+pub is_found : (bytes : List ℕ) (r : Result Code ImageError) → IsBytes bytes → Gives (λ code. code) fault_of r (code_at bytes) → IfOk r (λ code. bytes ≡ code_bytes code)
 is_found bytes (Ok code) fits given = (code_takes bytes code fits given).0
 is_found bytes (Err e) fits given = tt
 

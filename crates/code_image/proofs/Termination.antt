@@ -7,25 +7,25 @@ use Rattle.std.proofs.lemmas.List.Elements.{All-cons, All-head, All-tail}
 use Rattle.std.proofs.lemmas.Option.{slice_get-get_or, same_Some}
 use Rattle.decimal18.specs.Fraction.{Fraction}
 use Rattle.source_tree.specs.State.{Stopped, Budget, Faulted}
-use Rattle.source_tree.specs.Evaluated.{FileStatus, Evaluated, ◌>>=◌, needed}
+use Rattle.source_tree.specs.Evaluated.{FileStatus, Evaluation, ◌>>=◌, evaluation_of}
 use Rattle.source_tree.specs.Performing.{turns_by}
-use Rattle.source_tree.specs.Given.{Given}
+use Rattle.source_tree.specs.Given.{RunInput}
 use Rattle.source_tree.specs.Meaning.{Run}
 use Rattle.source_tree.specs.Accepting.{next_line}
 use Rattle.data_instructions.specs.declared.shape.Shape.{Shape}
 use Rattle.data_instructions.specs.Scratch as step
 use Rattle.data_instructions.specs.Scratch.{Step}
-use Rattle.data_instructions.specs.Fits.{Fits, Safe}
-use Rattle.data_instructions.specs.Table.{work, accepted, dated, after_showing}
-use Rattle.data_instructions.specs.Shapes.{empty, showing}
+use Rattle.data_instructions.specs.Fits.{FitsShape, Safe}
+use Rattle.data_instructions.specs.Table.{work, accept_step, date_step, after_showing}
+use Rattle.data_instructions.specs.Shapes.{empty, shape_after_show}
 use Rattle.data_instructions.proofs.Safety.{safe_accept, safe_date, safe_showing}
 use Rattle.data_instructions.proofs.EachSafety.{safe}
 use Rattle.records.specs.declared.verb.Verb.{Verb}
 use Rattle.source_tree.specs.FileStatements.{step_on}
-use Rattle.file_tables.specs.declared.class.StatusClass.{StatusClass}
-use Rattle.file_tables.specs.declared.file.CodeFile.{CodeFile}
-use Rattle.file_tables.specs.declared.file.FileIndex.{FileIndex}
-use Rattle.file_tables.specs.Files.{places_of, entries_of}
+use Rattle.file_image.specs.declared.class.StatusClass.{StatusClass}
+use Rattle.file_image.specs.declared.file.CodeFile.{CodeFile}
+use Rattle.file_image.specs.declared.file.FileIndex.{FileIndex}
+use Rattle.file_image.specs.Files.{places_of, entries_of}
 use Rattle.code_image.specs.declared.code.Code.{Code}
 use Rattle.code_image.specs.declared.counter.CounterIndex.{CounterIndex}
 use Rattle.code_image.specs.declared.paragraph.ParagraphIndex.{ParagraphIndex}
@@ -33,7 +33,7 @@ use Rattle.code_image.specs.declared.instruction.Instruction.{Instruction}
 use Rattle.code_image.specs.declared.instruction.Instruction.TheVariants.{Tick, Show, Stop, Count, CountNumber, Turn, Accept, Date, Branch, Jump, Join, Perform, Back, File, TestStatus, Unheard, Data}
 use Rattle.code_image.specs.Demands.{UsesBudget, IsVerified}
 use Rattle.code_image.specs.Points.{Return, Point, scratch_of, first_point}
-use Rattle.code_image.specs.Table.{onward, over, tick_from, shown_point, worked_point, data_from, counted_turns, counted_by, counted_from, turn_from, branch_from, performing, perform_at, back_if, back_from, line_taken, received_point, filed_from, tested_point, act, exec_code, Runs}
+use Rattle.code_image.specs.Table.{onward, over, tick_from, shown_point, worked_point, data_from, counted_turns, counted_by, counted_from, turn_from, branch_from, own_with_return, perform_at, back_if, back_from, line_taken, received_point, filed_from, tested_point, act, exec_code, Runs}
 use Rattle.code_image.proofs.WellFormed.{IsWellFormed, BudgetAt, LeadsWithin, GoesWithin, PerformsWithin, well_formed, begins}
 use Rattle.code_image.proofs.Standing.{Known, known_next, known_behind_rest, known_behind_join, known_at_start, known_behind_perform, ComesBack, Stands, StandsAtRest, stands_first, rests_here, stands_elsewhere, stands_after_count, number_here, stands_after_number}
 
@@ -81,7 +81,7 @@ module _ (code : Code) (verified : IsVerified code) where
       let newest : Return = record { last = last.number; next = p.address + 1 } in
       let start = slice_index code.starts first.number in
       let comes_back : ComesBack code newest = record { within = is.next; known = known_behind_perform code verified p.address line first last here } in
-      sooner.by (record { address = start; state = record p.state { budget = n; line = line }; own = performing last.number p }) is.starts.within (omega arith)
+      sooner.by (record { address = start; state = record p.state { budget = n; line = line }; own = own_with_return last.number p }) is.starts.within (omega arith)
       (record {
         shape = empty;
         known = known_at_start code verified first.number is.starts;
@@ -114,7 +114,7 @@ module _ (code : Code) (verified : IsVerified code) where
   data_ends : (one : Step) (after : Shape) (p : Point) → Safe code.tables one after → Known code (p.address + 1) after
       → All (ComesBack code) p.own.returns → p.address + 1 < length code.instructions
       → Onward p → (m : ℕ) × (run : Run) × (data_from one (exec_code code m) p ≡ Some run)
-  data_ends (step.Went s) after p is_safe known returns within ends =
+  data_ends (step.Continues s) after p is_safe known returns within ends =
       ends.by (worked_point s p) (omega arith) within (omega arith) (omega arith) (record { shape = after; known = known; fits = is_safe; returns = returns })
   data_ends (step.Faulted fault) after p is_safe known returns within ends = (0, over (Faulted fault p.state.line) p.state, refl)
   data_ends step.Stuck after p is_safe known returns within ends = absurd is_safe
@@ -144,7 +144,7 @@ module _ (code : Code) (verified : IsVerified code) where
         (omega arith) within (omega arith) (omega arith)
         (stands_after_number code verified p stands counter here newest older is counters true)
 
-    counted_by_ends : (turns : Evaluated ℕ) (newest : Option Fraction) (older : List (Option Fraction)) → p.own.numbers ≡ newest ∷ older
+    counted_by_ends : (turns : Evaluation ℕ) (newest : Option Fraction) (older : List (Option Fraction)) → p.own.numbers ≡ newest ∷ older
         → (m : ℕ) × (run : Run) × (counted_by turns older counter.number (exec_code code m) p ≡ Some run)
     counted_by_ends (Ok turns) newest older is = counted_ends turns newest older is
     counted_by_ends (Err fault) newest older is = (0, over (Faulted fault p.state.line) p.state, refl)
@@ -154,7 +154,7 @@ module _ (code : Code) (verified : IsVerified code) where
     number_ends [] none =
         let some = number_here code verified p stands counter here in
         absurd (omega (arith, some, ap length none))
-    number_ends (newest ∷ older) is = counted_by_ends (needed newest >>= turns_by) newest older is
+    number_ends (newest ∷ older) is = counted_by_ends (evaluation_of newest >>= turns_by) newest older is
 
   turn_ends : (left : ℕ) (counter : CounterIndex) (to : ℕ) (p : Point) → slice_get code.instructions p.address ≡ Some (Turn counter to)
       → Stands code p
@@ -248,7 +248,7 @@ module _ (code : Code) (verified : IsVerified code) where
       onward_ends.by (shown_point p) (omega arith) is (omega arith) (omega arith) (record {
         shape = next.0;
         known = next.2;
-        fits = subst (Fits code.tables (after_showing (scratch_of p.state p.own))) (same_Some (showing stands.shape) next.0 next.1)
+        fits = subst (FitsShape code.tables (after_showing (scratch_of p.state p.own))) (same_Some (shape_after_show stands.shape) next.0 next.1)
             (safe_showing code.tables (scratch_of p.state p.own) stands.shape stands.fits);
         returns = stands.returns;
       })
@@ -263,12 +263,12 @@ module _ (code : Code) (verified : IsVerified code) where
       turn_ends (slice_index p.own.counters counter.number) counter to p here stands is onward_ends sooner
   act_ends Accept p here stands is onward_ends shorter sooner =
       let next = known_next code p.address stands.shape Accept stands.known here in
-      data_ends (accepted code.tables (next_line p.state.lines) (scratch_of p.state p.own)) next.0 (line_taken p)
+      data_ends (accept_step code.tables (next_line p.state.lines) (scratch_of p.state p.own)) next.0 (line_taken p)
       (safe_accept code.tables (next_line p.state.lines) (scratch_of p.state p.own) stands.shape next.0 stands.fits next.1) next.2 stands.returns is
       (record { by = onward_ends.by })
   act_ends Date p here stands is onward_ends shorter sooner =
       let next = known_next code p.address stands.shape Date stands.known here in
-      data_ends (dated code.tables p.state.day (scratch_of p.state p.own)) next.0 p
+      data_ends (date_step code.tables p.state.day (scratch_of p.state p.own)) next.0 p
       (safe_date code.tables p.state.day (scratch_of p.state p.own) stands.shape next.0 stands.fits next.1) next.2 stands.returns is onward_ends
   act_ends (Branch to) p here stands is onward_ends shorter sooner = branch_ends p.own.truth to p here stands is onward_ends sooner
   act_ends (Jump to) p here stands is onward_ends shorter sooner =
@@ -323,7 +323,7 @@ module _ (code : Code) (verified : IsVerified code) where
       halts_within (suc budget) (record { by = λ q within less there. halts budget q there within (omega arith) })
       (length p.own.returns) p stands within le (omega arith)
 
-  pub has_run : (given : Given) → (run : Run) × Runs code given run
+  pub has_run : (given : RunInput) → (run : Run) × Runs code given run
   has_run given =
       let ended = halts given.budget (first_point code given) (stands_first code verified given) (begins code verified) (omega arith) in
       (ended.1, (ended.0, ended.2))

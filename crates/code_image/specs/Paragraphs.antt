@@ -1,7 +1,7 @@
 -- A table of the code paragraphs that addresses are in, and what is known of their order.
 use Rattle.std.specs.Prelude.{◌≡◌, ℕ, ◌+◌, ◌≤◌, List, length, slice_index}
-use Rattle.perform_order.specs.declared.order.Order.{Order}
-use Rattle.perform_order.specs.declared.order.Order.TheVariants.{Heights, Recursive}
+use Rattle.perform_graph.specs.declared.order.Order.{Order}
+use Rattle.perform_graph.specs.declared.order.Order.TheVariants.{Ranks, Recursive}
 use Rattle.code_image.specs.declared.instruction.Instruction.{Instruction}
 use Rattle.code_image.specs.Demands.{paragraph_at}
 
@@ -12,5 +12,5 @@ pub record ListsParagraphs (instructions : List Instruction) (paragraphs : List 
 
 -- Heights of paragraphs were found, and no paragraphs that perform one another.
 abbrev pub HasHeights : Order → Type 0
-HasHeights (Heights all) = Unit {0}
+HasHeights (Ranks all) = Unit {0}
 HasHeights (Recursive all) = ⊥

@@ -1,9 +1,9 @@
 -- The one spelling of code (own choice).
 use Rattle.std.specs.Prelude.{ℕ, List, [], ◌∷◌, ◌++◌}
-use Rattle.image_tables.specs.Spelling.{count_bytes, short_bytes, table_bytes, IsByte, IsCount, IsShort, AreSpelled}
-use Rattle.image_tables.specs.Tables.{tables_bytes, HasTables}
-use Rattle.image_tables.specs.Instructions.{data_instruction_bytes, HasShorts}
-use Rattle.file_tables.specs.Spelling.{class_byte, verb_bytes, IsVerbSpelled, file_bytes, IsFileSpelled}
+use Rattle.data_image.specs.Spelling.{count_bytes, short_bytes, table_bytes, IsByte, IsCount, FitsFourBytes, AreSpelled}
+use Rattle.data_image.specs.Tables.{tables_bytes, HasTables}
+use Rattle.data_image.specs.Instructions.{data_instruction_bytes, HasShorts}
+use Rattle.file_image.specs.Spelling.{class_byte, verb_bytes, IsVerbSpelled, file_bytes, IsFileSpelled}
 use Rattle.code_image.specs.declared.code.Code.{Code}
 use Rattle.code_image.specs.declared.instruction.Instruction.{Instruction}
 use Rattle.code_image.specs.declared.instruction.Instruction.TheVariants.{Tick, Show, Stop, Count, CountNumber, Turn, Accept, Date, Branch, Jump, Join, Perform, Back, File, TestStatus, Unheard, Data}
@@ -33,11 +33,11 @@ instruction_bytes Unheard = 47 ∷ []
 instruction_bytes (Data one) = data_instruction_bytes one
 
 -- The mark; the tables of data; the files; the starts of code paragraphs; the instructions.
-abbrev pub spelling : Code → List ℕ
-spelling code = mark ++ tables_bytes code.tables ++ table_bytes file_bytes code.files ++ table_bytes count_bytes code.starts ++ table_bytes instruction_bytes code.instructions
+abbrev pub code_bytes : Code → List ℕ
+code_bytes code = mark ++ tables_bytes code.tables ++ table_bytes file_bytes code.files ++ table_bytes count_bytes code.starts ++ table_bytes instruction_bytes code.instructions
 
 abbrev pub HasNumbers : Instruction → Type 0
-HasNumbers (Tick line) = IsShort line
+HasNumbers (Tick line) = FitsFourBytes line
 HasNumbers Show = Unit {0}
 HasNumbers Stop = Unit {0}
 HasNumbers (Count counter turns) = IsCount counter.number × IsCount turns
@@ -47,7 +47,7 @@ HasNumbers Date = Unit {0}
 HasNumbers (Branch to) = IsCount to
 HasNumbers (Jump to) = IsCount to
 HasNumbers Join = Unit {0}
-HasNumbers (Perform line first last) = IsShort line × IsCount first.number × IsCount last.number
+HasNumbers (Perform line first last) = FitsFourBytes line × IsCount first.number × IsCount last.number
 HasNumbers (Back paragraph) = IsCount paragraph.number
 HasNumbers (CountNumber counter) = IsCount counter.number
 HasNumbers (File file verb) = IsByte file.number × IsVerbSpelled verb

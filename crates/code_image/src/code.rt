@@ -2,7 +2,7 @@
 
 use crate::instruction::Instruction;
 use data_instructions::DataTables;
-use file_tables::CodeFile;
+use file_image::CodeFile;
 use sqlite_items::Items;
 
 /// The tables of a program, and its instructions, of which the first runs first.

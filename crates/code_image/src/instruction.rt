@@ -2,20 +2,20 @@
 
 ghost use Rattle.std.specs.Prelude.{◌≡◌, ◌↔◌, ◌++◌, ◌∷◌, [], IsTrue, OnOk};
 ghost use Rattle.answers.specs.Answer.{Gives};
-ghost use Rattle.image_tables.specs.Faults.{fault_of};
-ghost use Rattle.image_tables.specs.Spelling.{count_bytes, short_bytes, IsByte, IsCount, IsShort};
+ghost use Rattle.data_image.specs.Faults.{fault_of};
+ghost use Rattle.data_image.specs.Spelling.{count_bytes, short_bytes, IsByte, IsCount, FitsFourBytes};
 ghost use Rattle.code_image.specs.Demands.{NamesData, NamesCounter, NamesParagraph, NamesFile};
-ghost use Rattle.file_tables.specs.Spelling.{class_byte, verb_bytes, IsVerbSpelled};
+ghost use Rattle.file_image.specs.Spelling.{class_byte, verb_bytes, IsVerbSpelled};
 ghost use Rattle.code_image.specs.Spelling.{instruction_bytes, HasNumbers};
 ghost use Rattle.code_image.specs.Reading.{tick_at, count_instruction_at, turn_at, branch_at, jump_at, perform_at, back_at, count_number_at, file_instruction_at, test_status_at, instruction_at};
 
 use crate::counter::CounterIndex;
 use crate::paragraph::ParagraphIndex;
-use data_instructions::{DataInstruction, DataTables};
-use file_tables::{FileIndex, StatusClass, put_class, put_verb, read_class, read_verb};
-use image_tables::{
+use data_image::{
     ImageError, ImageFault, TableEntry, put_count, put_short, read_byte, read_count, read_short,
 };
+use data_instructions::{DataInstruction, DataTables};
+use file_image::{FileIndex, StatusClass, put_class, put_verb, read_class, read_verb};
 use records::Verb;
 use std::alloc::{AllocError, Global};
 
@@ -224,7 +224,7 @@ const UNHEARD: u8 = 47;
 
 fn put_tick(out: &mut Vec<u8>, line: u32) -> Result<(), AllocError>
     ensures bytes { OnOk result (out.new.items ≡ out.old.items ++ (1 ∷ short_bytes line)) }
-    ensures fits { IsShort line }
+    ensures fits { FitsFourBytes line }
 {
     out.push(TICK)?;
     put_short(out, line)
@@ -261,7 +261,7 @@ fn put_perform(
     last: ParagraphIndex,
 ) -> Result<(), AllocError>
     ensures bytes { OnOk result (out.new.items ≡ out.old.items ++ (11 ∷ (short_bytes line ++ count_bytes first.number ++ count_bytes last.number))) }
-    ensures fits { IsShort line × IsCount first.number × IsCount last.number }
+    ensures fits { FitsFourBytes line × IsCount first.number × IsCount last.number }
 {
     out.push(PERFORM)?;
     put_short(out, line)?;

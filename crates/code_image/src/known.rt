@@ -9,6 +9,20 @@ use crate::instruction::Instruction;
 use data_instructions::{DataTables, Shape, Stacks, accepting, dating, effect, showing};
 use std::alloc::{AllocError, Global};
 
+/// Each instruction finds what it needs.
+pub(crate) fn find_operands(alloc: Global, code: &Code) -> Result<bool, AllocError>
+    ensures { IfOk result (λ found. IsTrue found ↔ FindsOperands code.now) }
+{
+    let mut shape = Shape::empty(alloc);
+    for instruction in code.instructions.as_slice() {
+        match instruction.known_after(alloc, &code.tables, shape)? {
+            Some(after) => shape = after,
+            None => return Ok(false),
+        }
+    }
+    Ok(true)
+}
+
 /// What is known where a statement begins, if nothing is on the stacks or in the line.
 fn at_rest(alloc: Global, shape: &Shape) -> Option<Shape>
     ensures { result ≡ spec.at_rest shape.now }
@@ -74,18 +88,4 @@ impl Instruction {
             Instruction::Data(one) => effect(tables, one, shape),
         }
     }
-}
-
-/// Each instruction finds what it needs.
-pub(crate) fn find_operands(alloc: Global, code: &Code) -> Result<bool, AllocError>
-    ensures { IfOk result (λ found. IsTrue found ↔ FindsOperands code.now) }
-{
-    let mut shape = Shape::empty(alloc);
-    for instruction in code.instructions.as_slice() {
-        match instruction.known_after(alloc, &code.tables, shape)? {
-            Some(after) => shape = after,
-            None => return Ok(false),
-        }
-    }
-    Ok(true)
 }

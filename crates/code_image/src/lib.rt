@@ -14,7 +14,7 @@ mod writing;
 
 pub use code::Code;
 pub use counter::CounterIndex;
-pub use image_tables::{ImageError, ImageFault};
+pub use data_image::{ImageError, ImageFault};
 pub use instruction::Instruction;
 pub use laws::{run_law, spelling_law};
 pub use paragraph::ParagraphIndex;

@@ -1,13 +1,13 @@
 //! Code paragraphs: where they start, and which perform which.
 
 ghost use Rattle.std.specs.Prelude.{◌≡◌, ◌<◌, ◌↔◌, IsTrue, All, IfOk, length, slice_get};
-ghost use Rattle.perform_order.specs.Order.{IsRange};
-ghost use Rattle.code_image.specs.Demands.{ends, performed, IsBack, IsFront, StartsAt, AllStart, HasOrder};
+ghost use Rattle.perform_graph.specs.Order.{IsRange};
+ghost use Rattle.code_image.specs.Demands.{back_count, performed_by_code, IsBack, IsFront, StartsAt, AllStart, HasOrder};
 ghost use Rattle.code_image.specs.Paragraphs.{ListsParagraphs, HasHeights};
 
 use crate::code::Code;
 use crate::instruction::Instruction;
-use perform_order::{Order, PerformedRange, order_of};
+use perform_graph::{Order, PerformedRange, order_of};
 use std::alloc::{AllocError, Global};
 
 /// A code paragraph, by its number. It runs from its start to its `back`.
@@ -19,7 +19,7 @@ pub struct ParagraphIndex {
 
 /// How many code paragraphs end with an instruction.
 fn ended_by(instruction: &Instruction) -> usize
-    ensures { result ≡ ends instruction.now }
+    ensures { result ≡ back_count instruction.now }
 {
     match instruction {
         Instruction::Back { .. } => 1,
@@ -91,7 +91,7 @@ fn performed_by(
     paragraphs: &[usize],
 ) -> Result<Vec<PerformedRange>, AllocError>
     requires { ListsParagraphs instructions.now paragraphs.now }
-    ensures { IfOk result (λ ranges. ranges.items ≡ performed instructions.now) }
+    ensures { IfOk result (λ ranges. ranges.items ≡ performed_by_code instructions.now) }
 {
     let mut ranges = Vec::new(alloc);
     for (address, instruction) in instructions.iter().enumerate() {
@@ -128,7 +128,7 @@ fn has_heights(order: &Order) -> bool
     ensures { IsTrue result ↔ HasHeights order.now }
 {
     match order {
-        Order::Heights(_) => true,
+        Order::Ranks(_) => true,
         Order::Recursive(_) => false,
     }
 }

@@ -2,16 +2,30 @@
 
 ghost use Rattle.std.specs.Prelude.{◌≡◌, Ok, IfOk};
 ghost use Rattle.answers.specs.Answer.{Gives};
-ghost use Rattle.image_tables.specs.Faults.{fault_of};
+ghost use Rattle.data_image.specs.Faults.{fault_of};
 ghost use Rattle.code_image.specs.declared.code.Code.{Code};
-ghost use Rattle.code_image.specs.Spelling.{spelling, HasSpelling};
+ghost use Rattle.code_image.specs.Spelling.{code_bytes, HasSpelling};
 ghost use Rattle.code_image.specs.Reading.{after_mark, code_at};
 
 use crate::code::Code;
 use crate::writing::MARK;
 use answers::beside;
-use image_tables::{ImageError, ImageFault, read_table, read_tables};
+use data_image::{ImageError, ImageFault, read_table, read_tables};
 use std::alloc::Global;
+
+/// The code whose spelling the bytes are. The first fault from the left refuses them: 70 where the first eight bytes aren't the
+/// mark, 71 where the bytes end too soon or go on after the code, 72 at a value that isn't possible.
+pub fn from_bytes(alloc: Global, bytes: &[u8]) -> Result<Code, ImageError>
+    // The bytes are the spelling of what is read.
+    ensures found { IfOk result (λ code. bytes.now ≡ code_bytes code) }
+    ensures has_spelling { IfOk result HasSpelling }
+    // What the bytes spell is read, unless memory runs out.
+    ensures only { (code : Code) → HasSpelling code → bytes.now ≡ code_bytes code → Gives (λ code. code) fault_of result (Ok code) }
+    // Which fault comes first.
+    ensures exact { Gives (λ code. code) fault_of result (code_at bytes.now) }
+{
+    read_code(alloc, bytes)
+}
 
 #[tactic(auto, unfolding(crate::specs::Reading::after_mark))]
 fn skip_mark(bytes: &[u8]) -> Result<&[u8], ImageError>
@@ -44,18 +58,4 @@ fn read_code(alloc: Global, bytes: &[u8]) -> Result<Code, ImageError>
         return Err(ImageError::Refused(ImageFault::Length));
     }
     Ok(code)
-}
-
-/// The code whose spelling the bytes are. The first fault from the left refuses them: 70 where the first eight bytes aren't the
-/// mark, 71 where the bytes end too soon or go on after the code, 72 at a value that isn't possible.
-pub fn from_bytes(alloc: Global, bytes: &[u8]) -> Result<Code, ImageError>
-    // The bytes are the spelling of what is read.
-    ensures found { IfOk result (λ code. bytes.now ≡ spelling code) }
-    ensures has_spelling { IfOk result HasSpelling }
-    // What the bytes spell is read, unless memory runs out.
-    ensures only { (code : Code) → HasSpelling code → bytes.now ≡ spelling code → Gives (λ code. code) fault_of result (Ok code) }
-    // Which fault comes first.
-    ensures exact { Gives (λ code. code) fault_of result (code_at bytes.now) }
-{
-    read_code(alloc, bytes)
 }

@@ -2,18 +2,18 @@
 
 ghost use Rattle.std.specs.Prelude.{◌≡◌, ◌-◌, ◌<◌, ◌↔◌, IsTrue, All, length, slice_get, Some, IfOk, IfErr, OnOk};
 ghost use Rattle.code_image.specs.declared.instruction.Instruction.TheVariants.{Stop};
-ghost use Rattle.code_image.specs.Demands.{IsVerified, IsWithin, HasFiles, HasShape, Blames, NamesData, NamesCounter, NamesParagraph, NamesFile, SuitsFile, IsAddress, UsesBudget, IsJoin, LeadsOn, LeadsBack, Leads, AllLead};
+ghost use Rattle.code_image.specs.Demands.{IsVerified, IsWithinTables, HasFiles, HasShape, Blames, NamesData, NamesCounter, NamesParagraph, NamesFile, SuitsFile, IsAddress, UsesBudget, IsJoin, LeadsOn, JumpsBack, HasValidTargets, AllLead};
 ghost use Rattle.code_image.specs.Paragraphs.{ListsParagraphs};
-ghost use Rattle.file_tables.specs.Files.{entries_of, NamesPlaces, IsCodeFile};
-ghost use Rattle.image_tables.specs.Faults.{fault_of};
+ghost use Rattle.file_image.specs.Files.{entries_of, NamesPlaces, IsCodeFile};
+ghost use Rattle.data_image.specs.Faults.{fault_of};
 
 use crate::code::Code;
 use crate::instruction::Instruction;
 use crate::known::find_operands;
 use crate::paragraph::{all_start, has_order, paragraphs_of};
+use data_image::{ImageError, ImageFault};
 use data_instructions::DataTables;
-use file_tables::{CodeFile, is_code_file, names_places, suits};
-use image_tables::{ImageError, ImageFault};
+use file_image::{CodeFile, is_code_file, names_places, suits};
 use std::alloc::{AllocError, Global};
 use std::marker::Model;
 
@@ -137,7 +137,7 @@ fn leads_on(instructions: &[Instruction], paragraphs: &[usize], address: usize, 
 fn leads_back(instructions: &[Instruction], paragraphs: &[usize], address: usize, to: usize) -> bool
     requires listed { ListsParagraphs instructions.now paragraphs.now }
     requires within { address < length instructions.now }
-    ensures { IsTrue result ↔ LeadsBack instructions.now address to }
+    ensures { IsTrue result ↔ JumpsBack instructions.now address to }
 {
     to < address && uses_budget(instructions, to) && paragraphs[to] == paragraphs[address]
 }
@@ -146,7 +146,7 @@ fn leads_back(instructions: &[Instruction], paragraphs: &[usize], address: usize
 fn leads(instructions: &[Instruction], paragraphs: &[usize], address: usize) -> bool
     requires listed { ListsParagraphs instructions.now paragraphs.now }
     requires within { address < length instructions.now }
-    ensures { IsTrue result ↔ Leads instructions.now address (slice_get instructions.now address) }
+    ensures { IsTrue result ↔ HasValidTargets instructions.now address (slice_get instructions.now address) }
 {
     match instructions.get(address) {
         Some(Instruction::Turn { to, .. }) => leads_back(instructions, paragraphs, address, *to),
@@ -231,7 +231,7 @@ fn has_files(alloc: Global, code: &Code) -> Result<bool, AllocError>
 /// Each entry that instructions name, each counter, each code paragraph and each start of one is in its table, and so is each file, its
 /// area and its items.
 fn is_within(code: &Code) -> bool
-    ensures { IsTrue result ↔ IsWithin code.now }
+    ensures { IsTrue result ↔ IsWithinTables code.now }
 {
     let instructions = code.instructions.as_slice();
     name_data(instructions, &code.tables)
@@ -245,7 +245,7 @@ fn is_within(code: &Code) -> bool
 /// Each way leads where it may, each code paragraph starts where its start says, none performs itself, `stop` comes last, each
 /// instruction finds what it needs, and files are in order.
 fn has_shape(alloc: Global, code: &Code) -> Result<bool, AllocError>
-    requires { IsWithin code.now }
+    requires { IsWithinTables code.now }
     ensures { IfOk result (λ has. IsTrue has ↔ HasShape code.now) }
 {
     let instructions = code.instructions.as_slice();

@@ -14,53 +14,53 @@ use Rattle.source_tree.specs.declared.arithmetic.DivisionOrder.TheVariants.{Into
 use Rattle.source_tree.specs.declared.arithmetic.Operation.{Operation}
 use Rattle.source_tree.specs.declared.arithmetic.Operation.TheVariants.{Add, AddGiving, Subtract, SubtractGiving, Multiply, MultiplyGiving, Divide, DivideGiving, DivideRemainder, Compute}
 use Rattle.source_tree.specs.Computed.{number_of_literal}
-use Rattle.source_tree.specs.Places.{Placed}
+use Rattle.source_tree.specs.Places.{LocatedItem}
 use Rattle.data_instructions.specs.declared.calculation.Calculation.TheVariants as c
 use Rattle.data_instructions.specs.declared.instruction.DataInstruction.{DataInstruction}
 use Rattle.data_instructions.specs.declared.instruction.DataInstruction.TheVariants as i
 use Rattle.data_instructions.specs.ArithmeticCodes.{operator_code, duplicate, discard}
-use Rattle.codegen.specs.Pieces.{Piece, both, in_order}
-use Rattle.codegen.specs.DataCode.{work_piece, works_piece, taking_piece}
-use Rattle.codegen.specs.ArithmeticCode.{zero_number, or_zero, division_piece, void_code, value_piece, added_piece, total_piece, chain_piece, expression_layer_piece, expression_piece, quotient_scale, store_piece, update_piece, updates_piece, give_piece, gives_piece, remainder_piece, operation_piece, arithmetic_piece}
+use Rattle.codegen.specs.Pieces.{Fragment, sequence, in_order}
+use Rattle.codegen.specs.DataCode.{work_fragment, works_fragment, take_fragment}
+use Rattle.codegen.specs.ArithmeticCode.{zero_number, or_zero, division_fragment, void_code, value_fragment, added_fragment, total_fragment, chain_fragment, expression_layer_fragment, expression_fragment, quotient_scale, store_fragment, update_fragment, updates_fragment, give_fragment, gives_fragment, remainder_fragment, operation_fragment, arithmetic_fragment}
 use Rattle.codegen.proofs.ExpressionLayers.{mapped_piece}
 use Rattle.codegen.proofs.Straight.{AlwaysStraight, both_straight, in_order_straight, nothing_straight, works_straight, work_straight, number_straight, taking_straight}
 
-module _ (items : List Placed) where
-  pub value_straight : (one : Operand) → AlwaysStraight (value_piece items one)
+module _ (items : List LocatedItem) where
+  pub value_straight : (one : Operand) → AlwaysStraight (value_fragment items one)
   value_straight (operand.Item one) = taking_straight items i.Push one
   value_straight (operand.Literal one) = number_straight (or_zero (number_of_literal one.value))
 
-  added_straight : (one : Operand) → AlwaysStraight (added_piece items one)
-  added_straight one = both_straight (value_piece items one) (work_piece (i.Calculate c.Add)) (value_straight one) (work_straight (i.Calculate c.Add))
+  added_straight : (one : Operand) → AlwaysStraight (added_fragment items one)
+  added_straight one = both_straight (value_fragment items one) (work_fragment (i.Calculate c.Add)) (value_straight one) (work_straight (i.Calculate c.Add))
 
-  total_straight : (all : List Operand) → AlwaysStraight (total_piece items all)
+  total_straight : (all : List Operand) → AlwaysStraight (total_fragment items all)
   total_straight [] = number_straight zero_number
-  total_straight (one ∷ more) = both_straight (value_piece items one) (in_order (added_piece items) more) (value_straight one) (in_order_straight (added_piece items) added_straight more)
+  total_straight (one ∷ more) = both_straight (value_fragment items one) (in_order (added_fragment items) more) (value_straight one) (in_order_straight (added_fragment items) added_straight more)
 
   -- ---- expressions
 
   record IsStraightly (one : Expression) : Type 0 where
-    by : AlwaysStraight (expression_piece items one)
+    by : AlwaysStraight (expression_fragment items one)
 
   abbrev Known : Type 0
   Known = (one : Expression) × IsStraightly one
 
-  abbrev piece_of : Known → Piece
-  piece_of m = expression_piece items m.0
+  abbrev piece_of : Known → Fragment
+  piece_of m = expression_fragment items m.0
 
-  abbrev pair_of : Operator × Known → Operator × Piece
+  abbrev pair_of : Operator × Known → Operator × Fragment
   pair_of one = (one.0, piece_of one.1)
 
-  more_straight : (more : List (Operator × Known)) → AlwaysStraight (in_order (chain_piece items) (map pair_of more))
+  more_straight : (more : List (Operator × Known)) → AlwaysStraight (in_order (chain_fragment items) (map pair_of more))
   more_straight [] before = nothing_straight
   more_straight (one ∷ more) before =
-      both_straight (chain_piece items (pair_of one)) (in_order (chain_piece items) (map pair_of more))
-      (both_straight (piece_of one.1) (work_piece (operator_code one.0)) one.1.1.by (work_straight (operator_code one.0))) (more_straight more) before
+      both_straight (chain_fragment items (pair_of one)) (in_order (chain_fragment items) (map pair_of more))
+      (both_straight (piece_of one.1) (work_fragment (operator_code one.0)) one.1.1.by (work_straight (operator_code one.0))) (more_straight more) before
 
-  layer_straight : (l : Expression-F Known) → AlwaysStraight (expression_layer_piece items (map-Expression Known Piece piece_of l))
+  layer_straight : (l : Expression-F Known) → AlwaysStraight (expression_layer_fragment items (map-Expression Known Fragment piece_of l))
   layer_straight (Expression-F.Operand one) = value_straight one
-  layer_straight (Expression-F.Negated inner) = both_straight (piece_of inner) (work_piece (i.Calculate c.Negate)) inner.1.by (work_straight (i.Calculate c.Negate))
-  layer_straight (Expression-F.Chain first more) = both_straight (piece_of first) (in_order (chain_piece items) (map pair_of more)) first.1.by (more_straight more)
+  layer_straight (Expression-F.Negated inner) = both_straight (piece_of inner) (work_fragment (i.Calculate c.Negate)) inner.1.by (work_straight (i.Calculate c.Negate))
+  layer_straight (Expression-F.Chain first more) = both_straight (piece_of first) (in_order (chain_fragment items) (map pair_of more)) first.1.by (more_straight more)
 
   straight_inside : (l : Expression-F Known) → IsStraightly (roll-Expression (map-Expression Known Expression (λ m. m.0) l))
   straight_inside l = record { by = subst AlwaysStraight (sym (mapped_piece items (λ (m : Known). m.0) l)) (layer_straight l) }
@@ -68,82 +68,82 @@ module _ (items : List Placed) where
   straightly : (one : Expression) → IsStraightly one
   straightly = ind-Expression IsStraightly (λ one l is. subst (λ k. IsStraightly (roll-Expression k)) is (straight_inside l))
 
-  pub expression_straight : (one : Expression) → AlwaysStraight (expression_piece items one)
+  pub expression_straight : (one : Expression) → AlwaysStraight (expression_fragment items one)
   expression_straight one = (straightly one).by
 
   -- ---- receivers
 
   module _ (keep : Bool) where
-    store_straight : (one : Receiver) → AlwaysStraight (store_piece items keep one)
+    store_straight : (one : Receiver) → AlwaysStraight (store_fragment items keep one)
     store_straight one = taking_straight items (i.Store one.rounded keep) one.item
 
-    update_straight : (by : Operator) (one : Receiver) → AlwaysStraight (update_piece items keep by one)
+    update_straight : (by : Operator) (one : Receiver) → AlwaysStraight (update_fragment items keep by one)
     update_straight by one =
         let calculating = duplicate 1 ∷ operator_code by ∷ [] in
-        both_straight (taking_piece items i.Push one.item) (both (works_piece calculating) (store_piece items keep one)) (taking_straight items i.Push one.item)
-        (both_straight (works_piece calculating) (store_piece items keep one) (works_straight calculating) (store_straight one))
+        both_straight (take_fragment items i.Push one.item) (sequence (works_fragment calculating) (store_fragment items keep one)) (taking_straight items i.Push one.item)
+        (both_straight (works_fragment calculating) (store_fragment items keep one) (works_straight calculating) (store_straight one))
 
-    give_straight : (one : Receiver) → AlwaysStraight (give_piece items keep one)
-    give_straight one = both_straight (work_piece (duplicate 0)) (store_piece items keep one) (work_straight (duplicate 0)) (store_straight one)
+    give_straight : (one : Receiver) → AlwaysStraight (give_fragment items keep one)
+    give_straight one = both_straight (work_fragment (duplicate 0)) (store_fragment items keep one) (work_straight (duplicate 0)) (store_straight one)
 
-    gives_straight : (all : List Receiver) → AlwaysStraight (gives_piece items keep all)
-    gives_straight = in_order_straight (give_piece items keep) give_straight
+    gives_straight : (all : List Receiver) → AlwaysStraight (gives_fragment items keep all)
+    gives_straight = in_order_straight (give_fragment items keep) give_straight
 
     -- a piece between instructions
-    between_straight : (all : List DataInstruction) (piece : Piece) (last : List DataInstruction) → AlwaysStraight piece → AlwaysStraight (both (works_piece all) (both piece (works_piece last)))
-    between_straight all piece last straight = both_straight (works_piece all) (both piece (works_piece last)) (works_straight all) (both_straight piece (works_piece last) straight (works_straight last))
+    between_straight : (all : List DataInstruction) (piece : Fragment) (last : List DataInstruction) → AlwaysStraight piece → AlwaysStraight (sequence (works_fragment all) (sequence piece (works_fragment last)))
+    between_straight all piece last straight = both_straight (works_fragment all) (sequence piece (works_fragment last)) (works_straight all) (both_straight piece (works_fragment last) straight (works_straight last))
 
-    remainder_straight : (quotient : Receiver) (remainder : Reference) → AlwaysStraight (remainder_piece items keep quotient remainder)
+    remainder_straight : (quotient : Receiver) (remainder : Reference) → AlwaysStraight (remainder_fragment items keep quotient remainder)
     remainder_straight quotient remainder =
         let first = duplicate 1 ∷ duplicate 1 ∷ i.Calculate c.Divide ∷ [] in
         let second = i.Calculate (c.Truncate (quotient_scale items quotient.item)) ∷ i.Calculate c.Multiply ∷ i.Calculate c.Subtract ∷ void_code keep in
-        let last = taking_piece items (i.Store false keep) remainder in
-        both_straight (works_piece first) (both (give_piece items keep quotient) (both (works_piece second) last)) (works_straight first)
-        (both_straight (give_piece items keep quotient) (both (works_piece second) last) (give_straight quotient)
-        (both_straight (works_piece second) last (works_straight second) (taking_straight items (i.Store false keep) remainder)))
+        let last = take_fragment items (i.Store false keep) remainder in
+        both_straight (works_fragment first) (sequence (give_fragment items keep quotient) (sequence (works_fragment second) last)) (works_straight first)
+        (both_straight (give_fragment items keep quotient) (sequence (works_fragment second) last) (give_straight quotient)
+        (both_straight (works_fragment second) last (works_straight second) (taking_straight items (i.Store false keep) remainder)))
 
-    division_straight : (one : DivisionOrder) (piece : Piece) → AlwaysStraight piece → AlwaysStraight (division_piece one piece)
+    division_straight : (one : DivisionOrder) (piece : Fragment) → AlwaysStraight piece → AlwaysStraight (division_fragment one piece)
     division_straight By piece straight = straight
     division_straight Into piece straight = between_straight (duplicate 1 ∷ []) piece (discard ∷ []) straight
 
     -- ---- operations
 
     -- a value, what is done with it, and instructions
-    done_straight : (value piece : Piece) (last : List DataInstruction) → AlwaysStraight value → AlwaysStraight piece → AlwaysStraight (both value (both piece (works_piece last)))
-    done_straight value piece last first straight = both_straight value (both piece (works_piece last)) first (both_straight piece (works_piece last) straight (works_straight last))
+    done_straight : (value piece : Fragment) (last : List DataInstruction) → AlwaysStraight value → AlwaysStraight piece → AlwaysStraight (sequence value (sequence piece (works_fragment last)))
+    done_straight value piece last first straight = both_straight value (sequence piece (works_fragment last)) first (both_straight piece (works_fragment last) straight (works_straight last))
 
-    two_straight : (value other piece : Piece) → AlwaysStraight value → AlwaysStraight other → AlwaysStraight piece → AlwaysStraight (both value (both other piece))
-    two_straight value other piece first second straight = both_straight value (both other piece) first (both_straight other piece second straight)
+    two_straight : (value other piece : Fragment) → AlwaysStraight value → AlwaysStraight other → AlwaysStraight piece → AlwaysStraight (sequence value (sequence other piece))
+    two_straight value other piece first second straight = both_straight value (sequence other piece) first (both_straight other piece second straight)
 
-    updated_straight : (value : Piece) (by : Operator) (receivers : List Receiver) → AlwaysStraight value → AlwaysStraight (both value (both (updates_piece items keep by receivers) (works_piece (discard ∷ []))))
-    updated_straight value by receivers straight = done_straight value (updates_piece items keep by receivers) (discard ∷ []) straight (in_order_straight (update_piece items keep by) (update_straight by) receivers)
+    updated_straight : (value : Fragment) (by : Operator) (receivers : List Receiver) → AlwaysStraight value → AlwaysStraight (sequence value (sequence (updates_fragment items keep by receivers) (works_fragment (discard ∷ []))))
+    updated_straight value by receivers straight = done_straight value (updates_fragment items keep by receivers) (discard ∷ []) straight (in_order_straight (update_fragment items keep by) (update_straight by) receivers)
 
-    operation_straight : (one : Operation) → AlwaysStraight (operation_piece items keep one)
-    operation_straight (Add operands receivers) = updated_straight (total_piece items operands) operator.Add receivers (total_straight operands)
-    operation_straight (AddGiving operands receivers) = done_straight (total_piece items operands) (gives_piece items keep receivers) (discard ∷ []) (total_straight operands) (gives_straight receivers)
-    operation_straight (Subtract operands receivers) = updated_straight (total_piece items operands) operator.Subtract receivers (total_straight operands)
+    operation_straight : (one : Operation) → AlwaysStraight (operation_fragment items keep one)
+    operation_straight (Add operands receivers) = updated_straight (total_fragment items operands) operator.Add receivers (total_straight operands)
+    operation_straight (AddGiving operands receivers) = done_straight (total_fragment items operands) (gives_fragment items keep receivers) (discard ∷ []) (total_straight operands) (gives_straight receivers)
+    operation_straight (Subtract operands receivers) = updated_straight (total_fragment items operands) operator.Subtract receivers (total_straight operands)
     operation_straight (SubtractGiving operands minuend receivers) =
         let all = duplicate 1 ∷ i.Calculate c.Subtract ∷ [] in
         let last = discard ∷ discard ∷ [] in
-        two_straight (total_piece items operands) (value_piece items minuend) (both (works_piece all) (both (gives_piece items keep receivers) (works_piece last))) (total_straight operands) (value_straight minuend)
-        (between_straight all (gives_piece items keep receivers) last (gives_straight receivers))
-    operation_straight (Multiply factor receivers) = updated_straight (value_piece items factor) operator.Multiply receivers (value_straight factor)
+        two_straight (total_fragment items operands) (value_fragment items minuend) (sequence (works_fragment all) (sequence (gives_fragment items keep receivers) (works_fragment last))) (total_straight operands) (value_straight minuend)
+        (between_straight all (gives_fragment items keep receivers) last (gives_straight receivers))
+    operation_straight (Multiply factor receivers) = updated_straight (value_fragment items factor) operator.Multiply receivers (value_straight factor)
     operation_straight (MultiplyGiving factor by receivers) =
         let all = i.Calculate c.Multiply ∷ [] in
         let last = discard ∷ [] in
-        two_straight (value_piece items factor) (value_piece items by) (both (works_piece all) (both (gives_piece items keep receivers) (works_piece last))) (value_straight factor) (value_straight by)
-        (between_straight all (gives_piece items keep receivers) last (gives_straight receivers))
-    operation_straight (Divide divisor receivers) = updated_straight (value_piece items divisor) operator.Divide receivers (value_straight divisor)
+        two_straight (value_fragment items factor) (value_fragment items by) (sequence (works_fragment all) (sequence (gives_fragment items keep receivers) (works_fragment last))) (value_straight factor) (value_straight by)
+        (between_straight all (gives_fragment items keep receivers) last (gives_straight receivers))
+    operation_straight (Divide divisor receivers) = updated_straight (value_fragment items divisor) operator.Divide receivers (value_straight divisor)
     operation_straight (DivideGiving one way two receivers) =
         let all = i.Calculate c.Divide ∷ [] in
         let last = discard ∷ [] in
-        let inner = both (works_piece all) (both (gives_piece items keep receivers) (works_piece last)) in
-        two_straight (value_piece items one) (value_piece items two) (division_piece way inner) (value_straight one) (value_straight two)
-        (division_straight way inner (between_straight all (gives_piece items keep receivers) last (gives_straight receivers)))
+        let inner = sequence (works_fragment all) (sequence (gives_fragment items keep receivers) (works_fragment last)) in
+        two_straight (value_fragment items one) (value_fragment items two) (division_fragment way inner) (value_straight one) (value_straight two)
+        (division_straight way inner (between_straight all (gives_fragment items keep receivers) last (gives_straight receivers)))
     operation_straight (DivideRemainder one way two quotient remainder) =
-        let inner = remainder_piece items keep quotient remainder in
-        two_straight (value_piece items one) (value_piece items two) (division_piece way inner) (value_straight one) (value_straight two) (division_straight way inner (remainder_straight quotient remainder))
-    operation_straight (Compute receivers value) = done_straight (expression_piece items value) (gives_piece items keep receivers) (discard ∷ []) (expression_straight value) (gives_straight receivers)
+        let inner = remainder_fragment items keep quotient remainder in
+        two_straight (value_fragment items one) (value_fragment items two) (division_fragment way inner) (value_straight one) (value_straight two) (division_straight way inner (remainder_straight quotient remainder))
+    operation_straight (Compute receivers value) = done_straight (expression_fragment items value) (gives_fragment items keep receivers) (discard ∷ []) (expression_straight value) (gives_straight receivers)
 
-    pub arithmetic_straight : (one : Operation) → AlwaysStraight (arithmetic_piece items keep one)
-    arithmetic_straight one = both_straight (work_piece i.ClearTruth) (operation_piece items keep one) (work_straight i.ClearTruth) (operation_straight one)
+    pub arithmetic_straight : (one : Operation) → AlwaysStraight (arithmetic_fragment items keep one)
+    arithmetic_straight one = both_straight (work_fragment i.ClearTruth) (operation_fragment items keep one) (work_straight i.ClearTruth) (operation_straight one)

@@ -6,18 +6,18 @@ use Rattle.std.proofs.lemmas.Option.{same_Some, slice_get_within, slice_get-get_
 use Rattle.records.specs.Connector as connector
 use Rattle.source_tree.specs.declared.select.Select.{Select}
 use Rattle.source_tree.specs.declared.select.FileDescription.{FileDescription}
-use Rattle.source_tree.specs.Broken.{Broken, each}
+use Rattle.source_tree.specs.Broken.{RuleBreach, each}
 use Rattle.source_tree.specs.FileRules.{select_rules}
-use Rattle.source_tree.specs.Places.{Placed}
+use Rattle.source_tree.specs.Places.{LocatedItem}
 use Rattle.source_tree.specs.ProgramFiles.{FilePlaces, ProgramFile, digits_at, item_place, files_from, entries_of}
 use Rattle.source_tree.specs.References.{ItemPlace}
 use Rattle.source_tree.specs.SoundFiles.{IsRelativeKey, IsStatus, IsSound, HasRecordArea}
 use Rattle.source_tree.specs.Storage.{Storage}
 use Rattle.data_instructions.specs.declared.tables.DataTables.{DataTables}
 use Rattle.data_instructions.specs.Codes.{data_item}
-use Rattle.file_tables.specs.declared.file.CodeFile.{CodeFile}
-use Rattle.file_tables.specs.Files as table
-use Rattle.file_tables.specs.Files.{place_at, entry_of, places_of, NamesPlaces, IsTwoCharacters, IsCodeFile}
+use Rattle.file_image.specs.declared.file.CodeFile.{CodeFile}
+use Rattle.file_image.specs.Files as table
+use Rattle.file_image.specs.Files.{place_at, entry_of, places_of, NamesPlaces, IsTwoCharacters, IsCodeFile}
 use Rattle.codegen.specs.FileCode.{clause_index, code_file, code_files}
 use Rattle.codegen.proofs.Codes.{left_none, right_none}
 use Rattle.codegen.proofs.FileTable.{file_of, FileAt, file_at, NamesOne, clauses_named, place_is, index_there}
@@ -36,7 +36,7 @@ each_at P (y ∷ ys) all zero x here = subst P (same_Some y x here) all.0
 each_at P (y ∷ ys) all (suc k) x here = each_at P ys all.1 k x here
 
 -- one of a list that breaks no rule
-pub kept_at : {A : Type 0} (rules : A → List Broken) (all : List A) (n : ℕ) (one : A) → each rules all ≡ [] → slice_get all n ≡ Some one → rules one ≡ []
+pub kept_at : {A : Type 0} (rules : A → List RuleBreach) (all : List A) (n : ℕ) (one : A) → each rules all ≡ [] → slice_get all n ≡ Some one → rules one ≡ []
 kept_at rules [] n one e here = absurd cc
 kept_at rules (first ∷ more) zero one e here = subst (λ x. rules x ≡ []) (same_Some first one here) (left_none (rules first) (each rules more) e)
 kept_at rules (first ∷ more) (suc n) one e here = kept_at rules more n one (right_none (rules first) (each rules more) e) here
@@ -45,7 +45,7 @@ if_some : {A : Type 0} (P Q : A → Type 0) → ((x : A) → P x → Q x) → (o
 if_some P Q from None h = tt
 if_some P Q from (Some x) h = from x h
 
-module _ (items : List Placed) (areas : ℕ) (descriptions : List FileDescription) where
+module _ (items : List LocatedItem) (areas : ℕ) (descriptions : List FileDescription) where
   -- ---- the same number of files, and their numbers
 
   pub files_count : (number : ℕ) (selects : List Select) → length (files_from items areas descriptions number selects) ≡ length selects
@@ -77,7 +77,7 @@ module _ (items : List Placed) (areas : ℕ) (descriptions : List FileDescriptio
 
   -- ---- what the meaning has of a file
 
-  module _ (tables : DataTables) (entries : (n : ℕ) (one : Placed) → slice_get items n ≡ Some one → slice_get tables.items n ≡ Some (data_item one)) where
+  module _ (tables : DataTables) (entries : (n : ℕ) (one : LocatedItem) → slice_get items n ≡ Some one → slice_get tables.items n ≡ Some (data_item one)) where
     module _ (number : ℕ) (one : Select) (named : NamesOne items one.relative_key × NamesOne items one.status) where
       abbrev file : ProgramFile
       file = file_of items areas descriptions number one

@@ -23,15 +23,15 @@ use Rattle.source_tree.specs.declared.condition.SignTest.{SignTest}
 use Rattle.source_tree.specs.declared.condition.Class.{Class}
 use Rattle.source_tree.specs.declared.condition.Side.{Side}
 use Rattle.source_tree.specs.declared.condition.Side.TheVariants as side
-use Rattle.source_tree.specs.ArithmeticRules.{is_numeric_kind, numeric_item, is_number, number_rules, expression_layer_rules, expression_rules}
-use Rattle.source_tree.specs.Broken.{Broken, where_so, each}
+use Rattle.source_tree.specs.ArithmeticRules.{is_numeric_kind, numeric_item, is_number_literal, number_rules, expression_layer_rules, expression_rules}
+use Rattle.source_tree.specs.Broken.{RuleBreach, where_so, each}
 use Rattle.source_tree.specs.Computed.{expression_value}
-use Rattle.source_tree.specs.ConditionRules.{Compared, Number, Characters, compared_kind, compared_literal, compared_only, compared_alone, may_compare, is_literal_alone, side_place, condition_subscripts, condition_name_rules, side_from, side_rules, relation_rules}
-use Rattle.source_tree.specs.Conditions.{Truth, sign_relation, alone, alone_side, relation_holds, name_holds}
+use Rattle.source_tree.specs.ConditionRules.{SideKind, Number, Characters, compared_kind, compared_literal, compared_only, compared_alone, may_compare, is_literal_alone, side_place, condition_subscripts, condition_name_rules, side_from, side_rules, relation_rules}
+use Rattle.source_tree.specs.Conditions.{ConditionValue, sign_relation, alone, alone_side, relation_holds, name_holds}
 use Rattle.source_tree.specs.Literals.{literal_sender}
 use Rattle.source_tree.specs.LookUp.{NamedCondition, items_named, conditions_named, first}
-use Rattle.source_tree.specs.NameRules.{named, subscript_rules, literal_rules, item_rules, any_item, operand_rules}
-use Rattle.source_tree.specs.Places.{Placed}
+use Rattle.source_tree.specs.NameRules.{unique_name_rules, subscript_rules, literal_rules, reference_rules, any_item, operand_rules}
+use Rattle.source_tree.specs.Places.{LocatedItem}
 use Rattle.data_instructions.specs.declared.tables.DataTables.{DataTables}
 use Rattle.data_instructions.specs.declared.tables.LiteralSender.{LiteralSender}
 use Rattle.data_instructions.specs.declared.test.Test.TheVariants as t
@@ -40,16 +40,16 @@ use Rattle.data_instructions.specs.declared.instruction.DataInstruction.TheVaria
 use Rattle.data_instructions.specs.Tables.{IsTables}
 use Rattle.data_instructions.specs.Codes.{data_item, IsTakingCode, IsSenderCode, AreSubscriptsCode}
 use Rattle.data_instructions.specs.Chains.{LiesWhole}
-use Rattle.data_instructions.specs.ArithmeticCodes.{Computes, Adds, IsNumberCode, IsValueCode, LiesOperand}
+use Rattle.data_instructions.specs.ArithmeticCodes.{Computes, PushesNumber, IsNumberCode, IsValueCode, LiesOperand}
 use Rattle.data_instructions.specs.ConditionCodes.{Decides, KnowsTest, negation, IsComparedCode, IsSideCode, IsRelationCode, IsSignCode, IsClassCode, IsRangeTest, AreValuesCode, IsNameCode, LiesAlone, LiesCondition, sign_truth, class_truth}
 use Rattle.data_instructions.proofs.ConditionChains.{relation_known, sign_known, class_known, name_known}
 use Rattle.data_instructions.proofs.Conditions.{relation_works, sign_works, class_works, name_works}
 use Rattle.data_instructions.proofs.Expressions.{value_works, value_known}
 use Rattle.code_image.specs.declared.code.Code.{Code}
-use Rattle.codegen.specs.Pieces.{both}
-use Rattle.codegen.specs.DataCode.{dimensions_of, work_piece, works_piece, number_piece, literal_entry, subscripts_piece, taking_piece, sender_piece}
-use Rattle.codegen.specs.ArithmeticCode.{zero_number, value_piece, expression_piece}
-use Rattle.codegen.specs.ConditionCode.{condition_number, condition_item, values_of, values_named, range_piece, value_range_piece, values_piece, condition_name_piece, compared_piece, side_piece, relation_from, relation_piece}
+use Rattle.codegen.specs.Pieces.{sequence}
+use Rattle.codegen.specs.DataCode.{dimensions_of, work_fragment, works_fragment, number_fragment, literal_entry, subscripts_fragment, take_fragment, sender_fragment}
+use Rattle.codegen.specs.ArithmeticCode.{zero_number, value_fragment, expression_fragment}
+use Rattle.codegen.specs.ConditionCode.{condition_number, condition_item, values_of, values_named, range_fragment, value_range_fragment, values_fragment, condition_name_fragment, compared_fragment, side_fragment, relation_from, relation_fragment}
 use Rattle.codegen.proofs.Codes.{left_none, right_none, Coded, sender_coded, subscripts_coded}
 use Rattle.codegen.proofs.CodedPieces.{CodedBy, weaker_by, both_by, before_by, behind_by}
 use Rattle.codegen.proofs.ConditionItems.{condition_there, condition_item_there}
@@ -59,13 +59,13 @@ use Rattle.codegen.proofs.Lying.{lies_all, lies_operand}
 use Rattle.codegen.proofs.Standing.{Stands, at_seam, sender_stands}
 
 -- It decides this truth, and leaves all as it was but for the sender.
-abbrev pub Tested : DataTables → Truth → List DataInstruction → Type 0
+abbrev pub Tested : DataTables → ConditionValue → List DataInstruction → Type 0
 Tested tables value code = Decides tables value code × KnowsTest tables code
 
 -- ---- sides that are numbers
 
 -- what isn't compared by its characters is a number
-number_literal : (value : LiteralValue) → (compared_literal value ≡ Characters → ⊥) → is_number value ≡ true
+number_literal : (value : LiteralValue) → (compared_literal value ≡ Characters → ⊥) → is_number_literal value ≡ true
 number_literal (literal.Numeric one) h = refl
 number_literal (literal.Nonnumeric bytes) h = absurd (h refl)
 number_literal (literal.Figurative figurative.Zero) h = refl
@@ -84,24 +84,24 @@ number_kind kind.AlphanumericEdited h = absurd (h refl)
 number_kind (kind.NumericEdited blank) h = absurd (h refl)
 
 -- the only item that is named
-number_only : (place : Place) (rules : Placed → List Broken) (found : List Placed) (rest : List Broken) → named place (λ one. rules one ++ any_item place one) found ++ rest ≡ []
-    → (compared_only found ≡ Characters → ⊥) → named place (λ one. rules one ++ numeric_item place one) found ++ rest ≡ []
+number_only : (place : Place) (rules : LocatedItem → List RuleBreach) (found : List LocatedItem) (rest : List RuleBreach) → unique_name_rules place (λ one. rules one ++ any_item place one) found ++ rest ≡ []
+    → (compared_only found ≡ Characters → ⊥) → unique_name_rules place (λ one. rules one ++ numeric_item place one) found ++ rest ≡ []
 number_only place rules [] rest e h = absurd cc
 number_only place rules (one ∷ []) rest e h = ap (λ b. (rules one ++ where_so (not b) 51 place) ++ rest) (number_kind one.item.kind h) ∙ e
 number_only place rules (one ∷ other ∷ more) rest e h = absurd cc
 
 -- A number stands beside numbers alone.
-beside_left : (x : Compared) → may_compare x (Number false) ≡ true → x ≡ Characters → ⊥
+beside_left : (x : SideKind) → may_compare x (Number false) ≡ true → x ≡ Characters → ⊥
 beside_left x may is = let not : may_compare x (Number false) ≡ false = ap (λ y. may_compare y (Number false)) is in absurd cc
 
-beside_right : (x : Compared) → may_compare (Number false) x ≡ true → x ≡ Characters → ⊥
+beside_right : (x : SideKind) → may_compare (Number false) x ≡ true → x ≡ Characters → ⊥
 beside_right x may is = let not : may_compare (Number false) x ≡ false = ap (may_compare (Number false)) is in absurd cc
 
 second_false : (a b : Bool) → (a || b) ≡ false → b ≡ false
 second_false false b e = e
 second_false true b e = absurd cc
 
-module _ (items : List Placed) where
+module _ (items : List LocatedItem) where
   number_operand : (one : Operand) → operand_rules items one ≡ [] → (compared_alone items (Some one) ≡ Characters → ⊥) → number_rules items one ≡ []
   number_operand (operand.Item one) e h =
       number_only one.item.name.place (λ found. where_so (not (length one.subscripts == length found.dimensions)) 50 one.item.name.place) (items_named items one.item)
@@ -112,14 +112,14 @@ module _ (items : List Placed) where
       → (compared_alone items (alone l) ≡ Characters → ⊥) → expression_rules items one ≡ []
   unfolding expression_rules
   number_expression one (Expression-F.Operand a) is e h =
-      fold_out-Expression (List Broken) (expression_layer_rules items) one
-      ∙ ap (λ (l : Expression-F Expression). expression_layer_rules items (map-Expression Expression (List Broken) (expression_rules items) l)) is
+      fold_out-Expression (List RuleBreach) (expression_layer_rules items) one
+      ∙ ap (λ (l : Expression-F Expression). expression_layer_rules items (map-Expression Expression (List RuleBreach) (expression_rules items) l)) is
       ∙ number_operand a e h
   number_expression one (Expression-F.Negated inner) is e h = e
   number_expression one (Expression-F.Chain front more) is e h = e
 
   -- the rules of a side as a number
-  abbrev number_rules_of : Side → List Broken
+  abbrev number_rules_of : Side → List RuleBreach
   number_rules_of (side.Expression one) = expression_rules items one
   number_rules_of (side.Literal one) = number_rules items (operand.Literal one)
 
@@ -150,7 +150,7 @@ module _ (items : List Placed) where
   alone_keeps one a is e = sym (ap (λ (o : Option Operand). side_from items o one) is) ∙ e
 
 -- the only condition name that is named
-pub only_condition : (place : Place) (rules : NamedCondition → List Broken) (found : List NamedCondition) → named place rules found ≡ []
+pub only_condition : (place : Place) (rules : NamedCondition → List RuleBreach) (found : List NamedCondition) → unique_name_rules place rules found ≡ []
     → (one : NamedCondition) × (found ≡ one ∷ []) × (rules one ≡ [])
 only_condition place rules [] e = absurd cc
 only_condition place rules (one ∷ []) e = (one, refl, e)
@@ -174,36 +174,36 @@ second_sender_stands whole before part x y is st =
     ∙ sym (append_assoc pre (x ∷ []) (y ∷ rest)) in
     ap (slice_get whole.tables.senders) n ∙ ap (λ (l : List LiteralSender). slice_get l (length front)) same ∙ at_seam front y rest
 
-module _ (items : List Placed) (whole : Code) (entries : (n : ℕ) (one : Placed) → slice_get items n ≡ Some one → slice_get whole.tables.items n ≡ Some (data_item one)) where
+module _ (items : List LocatedItem) (whole : Code) (entries : (n : ℕ) (one : LocatedItem) → slice_get items n ≡ Some one → slice_get whole.tables.items n ≡ Some (data_item one)) where
   -- ---- operands alone
 
-  sender_codes : (one : Operand) → operand_rules items one ≡ [] → CodedBy whole (IsSenderCode items whole.tables one) (sender_piece items one)
+  sender_codes : (one : Operand) → operand_rules items one ≡ [] → CodedBy whole (IsSenderCode items whole.tables one) (sender_fragment items one)
   sender_codes one e = record { by = λ before st. sender_coded items whole entries one before e st }
 
-  compared_codes : (one : Relation) (other : Operand) → operand_rules items other ≡ [] → CodedBy whole (IsComparedCode items whole.tables one other) (compared_piece items one other)
+  compared_codes : (one : Relation) (other : Operand) → operand_rules items other ≡ [] → CodedBy whole (IsComparedCode items whole.tables one other) (compared_fragment items one other)
   compared_codes one (operand.Item reference) e = taking_codes items whole entries (i.Test (t.Compare one)) any_item reference e
   compared_codes one (operand.Literal literal) e = record {
     by = λ before st. record {
       code = i.Test (t.CompareLiteral one (record { number = length before.tables.senders })) ∷ [];
       is = refl;
-      holds = (_, (_, sender_stands whole before (compared_piece items one (operand.Literal literal) before) _ [] refl st, refl), refl);
+      holds = (_, (_, sender_stands whole before (compared_fragment items one (operand.Literal literal) before) _ [] refl st, refl), refl);
     };
   }
 
   alone_codes : (a b : Operand) (left : Side) (one : Relation) (right : Side) → operand_rules items a ≡ [] → operand_rules items b ≡ []
       → CodedBy whole (IsRelationCode items whole.tables (Some a) (Some b) left one right) (relation_from items (Some a) (Some b) left one right)
   alone_codes a b left one right e f =
-      both_by whole (IsSenderCode items whole.tables a) (IsComparedCode items whole.tables one b) (IsRelationCode items whole.tables (Some a) (Some b) left one right) (sender_piece items a)
-      (compared_piece items one b)
+      both_by whole (IsSenderCode items whole.tables a) (IsComparedCode items whole.tables one b) (IsRelationCode items whole.tables (Some a) (Some b) left one right) (sender_fragment items a)
+      (compared_fragment items one b)
       (sender_codes a e) (compared_codes one b f) (λ front back is other. (front, is, back, other, refl))
 
   -- ---- class conditions
 
-  class_codes : (reference : Reference) (negated : Bool) (one : Class) → item_rules items any_item reference ≡ []
-      → CodedBy whole (IsClassCode items whole.tables reference negated one) (both (taking_piece items (i.Test (t.Class one)) reference) (works_piece (negation negated)))
+  class_codes : (reference : Reference) (negated : Bool) (one : Class) → reference_rules items any_item reference ≡ []
+      → CodedBy whole (IsClassCode items whole.tables reference negated one) (sequence (take_fragment items (i.Test (t.Class one)) reference) (works_fragment (negation negated)))
   class_codes reference negated one e =
       behind_by whole (IsTakingCode items whole.tables (i.Test (t.Class one)) reference) (IsClassCode items whole.tables reference negated one)
-      (taking_piece items (i.Test (t.Class one)) reference) (negation negated)
+      (take_fragment items (i.Test (t.Class one)) reference) (negation negated)
       (taking_codes items whole entries (i.Test (t.Class one)) any_item reference e) (λ code is. (code, is, refl))
 
   -- ---- condition names
@@ -212,12 +212,12 @@ module _ (items : List Placed) (whole : Code) (entries : (n : ℕ) (one : Placed
   abbrev IsRangeCode : ValueRange → List DataInstruction → Type 0
   IsRangeCode one code = (test : DataInstruction) × IsRangeTest items whole.tables one.first one.last test × (code ≡ test ∷ [])
 
-  range_coded : (from : Literal) (last : Option Literal) (before : Code) → Stands whole before (range_piece from last before)
-      → Coded (λ code. (test : DataInstruction) × IsRangeTest items whole.tables from last test × (code ≡ test ∷ [])) (range_piece from last before)
+  range_coded : (from : Literal) (last : Option Literal) (before : Code) → Stands whole before (range_fragment from last before)
+      → Coded (λ code. (test : DataInstruction) × IsRangeTest items whole.tables from last test × (code ≡ test ∷ [])) (range_fragment from last before)
   range_coded from None before st = record {
     code = i.Test (t.OrEqual (record { number = length before.tables.senders })) ∷ [];
     is = refl;
-    holds = (_, (_, (_, sender_stands whole before (range_piece from None before) _ [] refl st, refl), refl), refl);
+    holds = (_, (_, (_, sender_stands whole before (range_fragment from None before) _ [] refl st, refl), refl), refl);
   }
   range_coded from (Some last) before st =
       let one = literal_entry (literal_sender from.value) in
@@ -229,18 +229,18 @@ module _ (items : List Placed) (whole : Code) (entries : (n : ℕ) (one : Placed
           _,
           (
             _,
-            (_, sender_stands whole before (range_piece from (Some last) before) one (other ∷ []) refl st, refl),
-            (_, second_sender_stands whole before (range_piece from (Some last) before) one other refl st, refl),
+            (_, sender_stands whole before (range_fragment from (Some last) before) one (other ∷ []) refl st, refl),
+            (_, second_sender_stands whole before (range_fragment from (Some last) before) one other refl st, refl),
             refl,
           ),
           refl,
         );
       }
 
-  values_codes : (all : List ValueRange) → CodedBy whole (AreValuesCode items whole.tables all) (values_piece all)
+  values_codes : (all : List ValueRange) → CodedBy whole (AreValuesCode items whole.tables all) (values_fragment all)
   values_codes [] = record { by = λ before st. record { code = []; is = refl; holds = refl } }
   values_codes (one ∷ more) =
-      both_by whole (IsRangeCode one) (AreValuesCode items whole.tables more) (AreValuesCode items whole.tables (one ∷ more)) (value_range_piece one) (values_piece more)
+      both_by whole (IsRangeCode one) (AreValuesCode items whole.tables more) (AreValuesCode items whole.tables (one ∷ more)) (value_range_fragment one) (values_fragment more)
       (record { by = λ before st. range_coded one.first one.last before st }) (values_codes more)
       (λ front back is others. (is.0, is.1, back, others, ap (λ l. l ++ back) is.2))
 
@@ -256,7 +256,7 @@ module _ (items : List Placed) (whole : Code) (entries : (n : ℕ) (one : Placed
   pub keeps_name : (one : Reference) → condition_name_rules items one ≡ [] → KeepsName one
   keeps_name one e =
       let place = one.item.name.place in
-      let all = named place (condition_subscripts one) (conditions_named items one.item) in
+      let all = unique_name_rules place (condition_subscripts one) (conditions_named items one.item) in
       let only = only_condition place (condition_subscripts one) (conditions_named items one.item) (left_none all (each (subscript_rules items) one.subscripts) e) in
       let there = condition_there items one.item only.0 only.1 in
       let test = length one.subscripts == length only.0.item.dimensions in
@@ -279,14 +279,14 @@ module _ (items : List Placed) (whole : Code) (entries : (n : ℕ) (one : Placed
       × (values : List DataInstruction) × AreValuesCode items whole.tables found.condition.values values
       × (code ≡ subscripts ++ (i.Take ∷ i.ClearTruth ∷ values))
 
-  name_codes : (one : Reference) → condition_name_rules items one ≡ [] → CodedBy whole (IsNameCode items whole.tables one) (condition_name_piece items one)
+  name_codes : (one : Reference) → condition_name_rules items one ≡ [] → CodedBy whole (IsNameCode items whole.tables one) (condition_name_fragment items one)
   name_codes one e =
       let k = keeps_name one e in
       let index = condition_item items one.item in
       let dimensions = dimensions_of (slice_get items index.number) in
       let same : dimensions ≡ k.found.item.dimensions = ap dimensions_of k.item in
-      let subscripts = subscripts_piece items dimensions one.subscripts in
-      let values = values_piece (values_named items one.item) in
+      let subscripts = subscripts_fragment items dimensions one.subscripts in
+      let values = values_fragment (values_named items one.item) in
       let taking = i.Take ∷ i.ClearTruth ∷ [] in
       let are_values : CodedBy whole (AreValuesCode items whole.tables k.found.condition.values) values =
       subst (λ (all : List ValueRange). CodedBy whole (AreValuesCode items whole.tables all) values) k.values (values_codes (values_named items one.item)) in
@@ -296,21 +296,21 @@ module _ (items : List Placed) (whole : Code) (entries : (n : ℕ) (one : Placed
             let c = subscripts_coded items whole entries dimensions one.subscripts before (k.count ∙ ap length (sym same)) k.subscripts st in
             record { code = c.code; is = c.is; holds = subst (λ ds. AreSubscriptsCode items whole.tables ds one.subscripts c.code) same c.holds };
       } in
-      before_by whole (i.Place index ∷ []) (IsFoundCode k.found one) (IsNameCode items whole.tables one) (both subscripts (both (works_piece taking) values))
+      before_by whole (i.Place index ∷ []) (IsFoundCode k.found one) (IsNameCode items whole.tables one) (sequence subscripts (sequence (works_fragment taking) values))
       (both_by whole (AreSubscriptsCode items whole.tables k.found.item.dimensions one.subscripts) (IsTakenCode k.found.condition.values) (IsFoundCode k.found one) subscripts
-      (both (works_piece taking) values) are_subscripts
+      (sequence (works_fragment taking) values) are_subscripts
       (before_by whole taking (AreValuesCode items whole.tables k.found.condition.values) (IsTakenCode k.found.condition.values) values are_values (λ code is. (code, is, refl)))
       (λ front back is taken. (front, is, taken.0, taken.1, ap (λ l. front ++ l) taken.2)))
       (λ code is. (k.found, ap first k.named, index, entries index.number k.found.item k.item, is.0, is.1, is.2, is.3, ap (λ l. i.Place index ∷ l) is.4))
 
-  module _ (order : IsTables whole.tables) (lie : (n : ℕ) (one : Placed) → slice_get items n ≡ Some one → LiesWhole whole.tables one) where
+  module _ (order : IsTables whole.tables) (lie : (n : ℕ) (one : LocatedItem) → slice_get items n ≡ Some one → LiesWhole whole.tables one) where
     -- ---- numbers
 
-    side_codes : (one : Side) → number_rules_of items one ≡ [] → CodedBy whole (IsSideCode items whole.tables one) (side_piece items one)
+    side_codes : (one : Side) → number_rules_of items one ≡ [] → CodedBy whole (IsSideCode items whole.tables one) (side_fragment items one)
     side_codes (side.Expression one) e = expression_codes items whole entries order lie one e
     side_codes (side.Literal one) e =
         let a = operand.Literal one in
-        weaker_by whole (IsValueCode items whole.tables a) (IsSideCode items whole.tables (side.Literal one)) (value_piece items a)
+        weaker_by whole (IsValueCode items whole.tables a) (IsSideCode items whole.tables (side.Literal one)) (value_fragment items a)
         (λ code is. (value_works items whole.tables order a code is, value_known items whole.tables a code is (lies_operand items whole entries lie a e))) (value_codes items whole entries a e)
 
     -- two sides as numbers
@@ -319,9 +319,9 @@ module _ (items : List Placed) (whole : Code) (entries : (n : ℕ) (one : Placed
     sides_codes left one right e f =
         let test = i.Test (t.CompareNumbers one) in
         let Back = λ (code : List DataInstruction). (back : List DataInstruction) × IsSideCode items whole.tables right back × (code ≡ back ++ (test ∷ [])) in
-        both_by whole (IsSideCode items whole.tables left) Back (IsRelationCode items whole.tables None None left one right) (side_piece items left)
-        (both (side_piece items right) (work_piece test)) (side_codes left e)
-        (behind_by whole (IsSideCode items whole.tables right) Back (side_piece items right) (test ∷ []) (side_codes right f) (λ code is. (code, is, refl)))
+        both_by whole (IsSideCode items whole.tables left) Back (IsRelationCode items whole.tables None None left one right) (side_fragment items left)
+        (sequence (side_fragment items right) (work_fragment test)) (side_codes left e)
+        (behind_by whole (IsSideCode items whole.tables right) Back (side_fragment items right) (test ∷ []) (side_codes right f) (λ code is. (code, is, refl)))
         (λ front back is other. (front, is, other.0, other.1, ap (λ l. front ++ l) other.2))
 
     relation_from_codes : (a b : Option Operand) (left : Side) (one : Relation) (right : Side) → alone_side left ≡ a → alone_side right ≡ b → KeepsRelation items left right
@@ -341,15 +341,15 @@ module _ (items : List Placed) (whole : Code) (entries : (n : ℕ) (one : Placed
 
     sign_codes : (value : Expression) (negated : Bool) (one : SignTest) → expression_rules items value ≡ []
         → CodedBy whole (IsSignCode items whole.tables value negated one)
-        (both (expression_piece items value) (both (number_piece zero_number) (work_piece (i.Test (t.CompareNumbers (sign_relation one negated))))))
+        (sequence (expression_fragment items value) (sequence (number_fragment zero_number) (work_fragment (i.Test (t.CompareNumbers (sign_relation one negated))))))
     sign_codes value negated one e =
         let test = i.Test (t.CompareNumbers (sign_relation one negated)) in
-        let Value = λ (code : List DataInstruction). Computes whole.tables (expression_value items value) code × Adds whole.tables code in
+        let Value = λ (code : List DataInstruction). Computes whole.tables (expression_value items value) code × PushesNumber whole.tables code in
         let Zero = IsNumberCode items whole.tables zero_number in
         let Back = λ (code : List DataInstruction). (back : List DataInstruction) × Zero back × (code ≡ back ++ (test ∷ [])) in
-        both_by whole Value Back (IsSignCode items whole.tables value negated one) (expression_piece items value) (both (number_piece zero_number) (work_piece test))
+        both_by whole Value Back (IsSignCode items whole.tables value negated one) (expression_fragment items value) (sequence (number_fragment zero_number) (work_fragment test))
         (expression_codes items whole entries order lie value e)
-        (behind_by whole Zero Back (number_piece zero_number) (test ∷ []) (number_codes items whole entries zero_number) (λ code is. (code, is, refl)))
+        (behind_by whole Zero Back (number_fragment zero_number) (test ∷ []) (number_codes items whole entries zero_number) (λ code is. (code, is, refl)))
         (λ front back is other. (front, is.0, is.1, other.0, other.1, ap (λ l. front ++ l) other.2))
 
     -- ---- what the code decides
@@ -365,28 +365,28 @@ module _ (items : List Placed) (whole : Code) (entries : (n : ℕ) (one : Placed
     lie_alone None None left right is other k = tt
 
     pub relation_tested : (left : Side) (one : Relation) (right : Side) → relation_rules items left right ≡ []
-        → CodedBy whole (Tested whole.tables (relation_holds items left one right)) (relation_piece items left one right)
+        → CodedBy whole (Tested whole.tables (relation_holds items left one right)) (relation_fragment items left one right)
     relation_tested left one right e =
         let a = alone_side left in
         let b = alone_side right in
         let k = keeps_relation items left right e in
-        weaker_by whole (IsRelationCode items whole.tables a b left one right) (Tested whole.tables (relation_holds items left one right)) (relation_piece items left one right)
+        weaker_by whole (IsRelationCode items whole.tables a b left one right) (Tested whole.tables (relation_holds items left one right)) (relation_fragment items left one right)
         (λ code is. (relation_works items whole.tables order a b left one right code is, relation_known items whole.tables a b left one right code is (lie_alone a b left right refl refl k)))
         (relation_from_codes a b left one right refl refl k)
 
     pub sign_tested : (value : Expression) (negated : Bool) (one : SignTest) → expression_rules items value ≡ []
         → CodedBy whole (Tested whole.tables (sign_truth items value negated one))
-        (both (expression_piece items value) (both (number_piece zero_number) (work_piece (i.Test (t.CompareNumbers (sign_relation one negated))))))
+        (sequence (expression_fragment items value) (sequence (number_fragment zero_number) (work_fragment (i.Test (t.CompareNumbers (sign_relation one negated))))))
     sign_tested value negated one e =
         weaker_by whole (IsSignCode items whole.tables value negated one) (Tested whole.tables (sign_truth items value negated one))
-        (both (expression_piece items value) (both (number_piece zero_number) (work_piece (i.Test (t.CompareNumbers (sign_relation one negated))))))
+        (sequence (expression_fragment items value) (sequence (number_fragment zero_number) (work_fragment (i.Test (t.CompareNumbers (sign_relation one negated))))))
         (λ code is. (sign_works items whole.tables value negated one code is, sign_known items whole.tables value negated one code is)) (sign_codes value negated one e)
 
-    pub class_tested : (reference : Reference) (negated : Bool) (one : Class) → item_rules items any_item reference ≡ []
-        → CodedBy whole (Tested whole.tables (class_truth items reference negated one)) (both (taking_piece items (i.Test (t.Class one)) reference) (works_piece (negation negated)))
+    pub class_tested : (reference : Reference) (negated : Bool) (one : Class) → reference_rules items any_item reference ≡ []
+        → CodedBy whole (Tested whole.tables (class_truth items reference negated one)) (sequence (take_fragment items (i.Test (t.Class one)) reference) (works_fragment (negation negated)))
     class_tested reference negated one e =
         weaker_by whole (IsClassCode items whole.tables reference negated one) (Tested whole.tables (class_truth items reference negated one))
-        (both (taking_piece items (i.Test (t.Class one)) reference) (works_piece (negation negated)))
+        (sequence (take_fragment items (i.Test (t.Class one)) reference) (works_fragment (negation negated)))
         (λ code is. (
           class_works items whole.tables order reference negated one code is,
           class_known items whole.tables reference negated one code is (lies_all items whole entries lie any_item reference e),
@@ -399,7 +399,7 @@ module _ (items : List Placed) (whole : Code) (entries : (n : ℕ) (one : Placed
         let same : k.found ≡ found = same_Some k.found found (sym (ap first k.named) ∙ is) in
         subst (λ (c : NamedCondition). LiesWhole whole.tables c.item) same (lie (condition_item items one.item).number k.found.item k.item)
 
-    pub name_tested : (one : Reference) → condition_name_rules items one ≡ [] → CodedBy whole (Tested whole.tables (name_holds items one)) (condition_name_piece items one)
+    pub name_tested : (one : Reference) → condition_name_rules items one ≡ [] → CodedBy whole (Tested whole.tables (name_holds items one)) (condition_name_fragment items one)
     name_tested one e =
-        weaker_by whole (IsNameCode items whole.tables one) (Tested whole.tables (name_holds items one)) (condition_name_piece items one)
+        weaker_by whole (IsNameCode items whole.tables one) (Tested whole.tables (name_holds items one)) (condition_name_fragment items one)
         (λ code is. (name_works items whole.tables order one code is, name_known items whole.tables one code is (lies_condition one e))) (name_codes one e)

@@ -3,12 +3,12 @@ use Rattle.std.proofs.Common.{◌≡◌, List, [], ◌∷◌, map, refl, ap, ◌
 use Rattle.source_tree.specs.declared.condition.Condition.{Condition, roll-Condition}
 use Rattle.source_tree.specs.declared.condition.Condition.TheOpen.{Condition-F}
 use Rattle.source_tree.specs.declared.condition.Condition.TheFolds.{map-Condition, fold-roll-Condition}
-use Rattle.source_tree.specs.Broken.{Broken}
+use Rattle.source_tree.specs.Broken.{RuleBreach}
 use Rattle.source_tree.specs.ConditionRules.{condition_layer_rules, condition_rules}
-use Rattle.source_tree.specs.Conditions.{Truth, condition_layer, holds}
-use Rattle.source_tree.specs.Places.{Placed}
-use Rattle.codegen.specs.Pieces.{Piece}
-use Rattle.codegen.specs.ConditionCode.{condition_layer_piece, condition_piece}
+use Rattle.source_tree.specs.Conditions.{ConditionValue, condition_layer, holds}
+use Rattle.source_tree.specs.Places.{LocatedItem}
+use Rattle.codegen.specs.Pieces.{Fragment}
+use Rattle.codegen.specs.ConditionCode.{condition_layer_fragment, condition_fragment}
 
 module _ {A B C : Type 0} (f : A → B) (g : B → C) where
   all_twice : (all : List A) → map g (map f all) ≡ map (λ a. g (f a)) all
@@ -24,21 +24,21 @@ module _ {A B C : Type 0} (f : A → B) (g : B → C) where
   map_twice (Condition-F.All parts) = ap (λ (l : List C). Condition-F.All l) (all_twice parts)
   map_twice (Condition-F.Any parts) = ap (λ (l : List C). Condition-F.Any l) (all_twice parts)
 
-module _ (items : List Placed) {A : Type 0} (f : A → Condition) (l : Condition-F A) where
-  pub mapped_piece : condition_piece items (roll-Condition (map-Condition A Condition f l)) ≡ condition_layer_piece items (map-Condition A Piece (λ a. condition_piece items (f a)) l)
-  unfolding condition_piece
+module _ (items : List LocatedItem) {A : Type 0} (f : A → Condition) (l : Condition-F A) where
+  pub mapped_piece : condition_fragment items (roll-Condition (map-Condition A Condition f l)) ≡ condition_layer_fragment items (map-Condition A Fragment (λ a. condition_fragment items (f a)) l)
+  unfolding condition_fragment
   mapped_piece =
-      fold-roll-Condition Piece (condition_layer_piece items) (map-Condition A Condition f l)
-      ∙ ap (condition_layer_piece items) (map_twice f (condition_piece items) l)
+      fold-roll-Condition Fragment (condition_layer_fragment items) (map-Condition A Condition f l)
+      ∙ ap (condition_layer_fragment items) (map_twice f (condition_fragment items) l)
 
-  pub mapped_rules : condition_rules items (roll-Condition (map-Condition A Condition f l)) ≡ condition_layer_rules items (map-Condition A (List Broken) (λ a. condition_rules items (f a)) l)
+  pub mapped_rules : condition_rules items (roll-Condition (map-Condition A Condition f l)) ≡ condition_layer_rules items (map-Condition A (List RuleBreach) (λ a. condition_rules items (f a)) l)
   unfolding condition_rules
   mapped_rules =
-      fold-roll-Condition (List Broken) (condition_layer_rules items) (map-Condition A Condition f l)
+      fold-roll-Condition (List RuleBreach) (condition_layer_rules items) (map-Condition A Condition f l)
       ∙ ap (condition_layer_rules items) (map_twice f (condition_rules items) l)
 
-  pub mapped_truth : holds items (roll-Condition (map-Condition A Condition f l)) ≡ condition_layer items (map-Condition A Truth (λ a. holds items (f a)) l)
+  pub mapped_truth : holds items (roll-Condition (map-Condition A Condition f l)) ≡ condition_layer items (map-Condition A ConditionValue (λ a. holds items (f a)) l)
   unfolding holds
   mapped_truth =
-      fold-roll-Condition Truth (condition_layer items) (map-Condition A Condition f l)
+      fold-roll-Condition ConditionValue (condition_layer items) (map-Condition A Condition f l)
       ∙ ap (condition_layer items) (map_twice f (holds items) l)

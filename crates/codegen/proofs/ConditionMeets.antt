@@ -3,18 +3,18 @@ use Rattle.std.proofs.Common.{◌≡◌, List, [], ◌∷◌, map, sym, subst, �
 use Rattle.source_tree.specs.declared.condition.Condition.{Condition, roll-Condition}
 use Rattle.source_tree.specs.declared.condition.Condition.TheOpen.{Condition-F}
 use Rattle.source_tree.specs.declared.condition.Condition.TheFolds.{map-Condition, ind-Condition}
-use Rattle.source_tree.specs.Broken.{Broken, each}
+use Rattle.source_tree.specs.Broken.{RuleBreach, each}
 use Rattle.source_tree.specs.ConditionRules.{broken_already, condition_layer_rules, condition_rules}
 use Rattle.source_tree.specs.Conditions.{sign_relation}
-use Rattle.source_tree.specs.Places.{Placed}
+use Rattle.source_tree.specs.Places.{LocatedItem}
 use Rattle.source_tree.specs.Procedures.{Range}
 use Rattle.data_instructions.specs.declared.test.Test.TheVariants as t
 use Rattle.data_instructions.specs.declared.instruction.DataInstruction.TheVariants as i
 use Rattle.code_image.specs.declared.code.Code.{Code}
-use Rattle.codegen.specs.Pieces.{Piece, joined, both, in_order}
-use Rattle.codegen.specs.Meeting.{nothing_piece}
-use Rattle.codegen.specs.DataCode.{work_piece, works_piece}
-use Rattle.codegen.specs.ConditionCode.{and_piece, or_piece, all_piece, any_piece, condition_layer_piece, condition_piece}
+use Rattle.codegen.specs.Pieces.{Fragment, append, sequence, in_order}
+use Rattle.codegen.specs.Meeting.{nothing_fragment}
+use Rattle.codegen.specs.DataCode.{work_fragment, works_fragment}
+use Rattle.codegen.specs.ConditionCode.{and_fragment, or_fragment, all_fragment, any_fragment, condition_layer_fragment, condition_fragment}
 use Rattle.codegen.proofs.Codes.{left_none, right_none}
 use Rattle.codegen.proofs.ConditionBlind.{nothing_blind, condition_blind}
 use Rattle.codegen.proofs.ConditionForms.{mapped_piece, mapped_rules}
@@ -24,71 +24,71 @@ use Rattle.codegen.proofs.Leading.{Asks, Meets, both_meet, nothing_meets, straig
 use Rattle.codegen.proofs.Straight.{AlwaysStraight, works_straight, work_straight}
 
 -- a piece, behind whatever code
-abbrev AlwaysMeets : Asks → Piece → Type 0
+abbrev AlwaysMeets : Asks → Fragment → Type 0
 AlwaysMeets Q piece = (before : Code) → Meets Q before (piece before)
 
-straight_always : (Q : Asks) (piece : Piece) → AlwaysStraight piece → AlwaysMeets Q piece
+straight_always : (Q : Asks) (piece : Fragment) → AlwaysStraight piece → AlwaysMeets Q piece
 straight_always Q piece straight before = straight_meets Q before (piece before) (straight before)
 
-both_always : (Q : Asks) (first second : Piece) → AlwaysMeets Q first → AlwaysMeets Q second → AlwaysMeets Q (both first second)
+both_always : (Q : Asks) (first second : Fragment) → AlwaysMeets Q first → AlwaysMeets Q second → AlwaysMeets Q (sequence first second)
 both_always Q first second f g before =
-    both_meet Q before (first before) (second (joined before (first before))) (f before) (g (joined before (first before)))
+    both_meet Q before (first before) (second (append before (first before))) (f before) (g (append before (first before)))
 
-module _ (Q : Asks) (items : List Placed) (formed : AreFormed items) where
+module _ (Q : Asks) (items : List LocatedItem) (formed : AreFormed items) where
   record IsMet (one : Condition) : Type 0 where
-    by : condition_rules items one ≡ [] → AlwaysMeets Q (condition_piece items one)
+    by : condition_rules items one ≡ [] → AlwaysMeets Q (condition_fragment items one)
 
   abbrev Known : Type 0
   Known = (one : Condition) × IsMet one
 
-  abbrev rules_of : Known → List Broken
+  abbrev rules_of : Known → List RuleBreach
   rules_of m = condition_rules items m.0
 
-  abbrev piece_of : Known → Piece
-  piece_of m = condition_piece items m.0
+  abbrev piece_of : Known → Fragment
+  piece_of m = condition_fragment items m.0
 
-  abbrev each_rules : List Known → List Broken
+  abbrev each_rules : List Known → List RuleBreach
   each_rules all = each broken_already (map rules_of all)
 
-  and_meets : (one : Known) → rules_of one ≡ [] → AlwaysMeets Q (and_piece (piece_of one))
-  and_meets one e = either_meets Q (piece_of one) nothing_piece (condition_blind items one.0) nothing_blind (one.1.by e) (nothing_meets Q)
+  and_meets : (one : Known) → rules_of one ≡ [] → AlwaysMeets Q (and_fragment (piece_of one))
+  and_meets one e = either_meets Q (piece_of one) nothing_fragment (condition_blind items one.0) nothing_blind (one.1.by e) (nothing_meets Q)
 
-  or_meets : (one : Known) → rules_of one ≡ [] → AlwaysMeets Q (or_piece (piece_of one))
-  or_meets one e = either_meets Q nothing_piece (piece_of one) nothing_blind (condition_blind items one.0) (nothing_meets Q) (one.1.by e)
+  or_meets : (one : Known) → rules_of one ≡ [] → AlwaysMeets Q (or_fragment (piece_of one))
+  or_meets one e = either_meets Q nothing_fragment (piece_of one) nothing_blind (condition_blind items one.0) (nothing_meets Q) (one.1.by e)
 
-  ands_meet : (more : List Known) → each_rules more ≡ [] → AlwaysMeets Q (in_order and_piece (map piece_of more))
+  ands_meet : (more : List Known) → each_rules more ≡ [] → AlwaysMeets Q (in_order and_fragment (map piece_of more))
   ands_meet [] e before = nothing_meets Q before
   ands_meet (one ∷ more) e before =
-      both_always Q (and_piece (piece_of one)) (in_order and_piece (map piece_of more)) (and_meets one (left_none (rules_of one) (each_rules more) e))
+      both_always Q (and_fragment (piece_of one)) (in_order and_fragment (map piece_of more)) (and_meets one (left_none (rules_of one) (each_rules more) e))
       (ands_meet more (right_none (rules_of one) (each_rules more) e)) before
 
-  ors_meet : (more : List Known) → each_rules more ≡ [] → AlwaysMeets Q (in_order or_piece (map piece_of more))
+  ors_meet : (more : List Known) → each_rules more ≡ [] → AlwaysMeets Q (in_order or_fragment (map piece_of more))
   ors_meet [] e before = nothing_meets Q before
   ors_meet (one ∷ more) e before =
-      both_always Q (or_piece (piece_of one)) (in_order or_piece (map piece_of more)) (or_meets one (left_none (rules_of one) (each_rules more) e))
+      both_always Q (or_fragment (piece_of one)) (in_order or_fragment (map piece_of more)) (or_meets one (left_none (rules_of one) (each_rules more) e))
       (ors_meet more (right_none (rules_of one) (each_rules more) e)) before
 
-  all_meet : (parts : List Known) → each_rules parts ≡ [] → AlwaysMeets Q (all_piece (map piece_of parts))
-  all_meet [] e = straight_always Q (works_piece (i.ClearTruth ∷ i.Test t.Invert ∷ [])) (works_straight (i.ClearTruth ∷ i.Test t.Invert ∷ []))
+  all_meet : (parts : List Known) → each_rules parts ≡ [] → AlwaysMeets Q (all_fragment (map piece_of parts))
+  all_meet [] e = straight_always Q (works_fragment (i.ClearTruth ∷ i.Test t.Invert ∷ [])) (works_straight (i.ClearTruth ∷ i.Test t.Invert ∷ []))
   all_meet (one ∷ more) e =
-      both_always Q (piece_of one) (in_order and_piece (map piece_of more)) (one.1.by (left_none (rules_of one) (each_rules more) e))
+      both_always Q (piece_of one) (in_order and_fragment (map piece_of more)) (one.1.by (left_none (rules_of one) (each_rules more) e))
       (ands_meet more (right_none (rules_of one) (each_rules more) e))
 
-  any_meets : (parts : List Known) → each_rules parts ≡ [] → AlwaysMeets Q (any_piece (map piece_of parts))
-  any_meets [] e = straight_always Q (works_piece (i.ClearTruth ∷ [])) (works_straight (i.ClearTruth ∷ []))
+  any_meets : (parts : List Known) → each_rules parts ≡ [] → AlwaysMeets Q (any_fragment (map piece_of parts))
+  any_meets [] e = straight_always Q (works_fragment (i.ClearTruth ∷ [])) (works_straight (i.ClearTruth ∷ []))
   any_meets (one ∷ more) e =
-      both_always Q (piece_of one) (in_order or_piece (map piece_of more)) (one.1.by (left_none (rules_of one) (each_rules more) e))
+      both_always Q (piece_of one) (in_order or_fragment (map piece_of more)) (one.1.by (left_none (rules_of one) (each_rules more) e))
       (ors_meet more (right_none (rules_of one) (each_rules more) e))
 
-  layer_meets : (l : Condition-F Known) → condition_layer_rules items (map-Condition Known (List Broken) rules_of l) ≡ []
-      → AlwaysMeets Q (condition_layer_piece items (map-Condition Known Piece piece_of l))
+  layer_meets : (l : Condition-F Known) → condition_layer_rules items (map-Condition Known (List RuleBreach) rules_of l) ≡ []
+      → AlwaysMeets Q (condition_layer_fragment items (map-Condition Known Fragment piece_of l))
   layer_meets (Condition-F.Name reference) e before = straight_meets Q before _ (name_straight items formed reference before)
   layer_meets (Condition-F.Relation left one right) e before = straight_meets Q before _ (relation_straight items left one right e before)
   layer_meets (Condition-F.Sign value negated one) e before = straight_meets Q before _ (sign_straight items value (sign_relation one negated) before)
   layer_meets (Condition-F.Class reference negated one) e before = straight_meets Q before _ (class_straight items reference negated one before)
   layer_meets (Condition-F.Not inner) e before =
-      both_always Q (piece_of inner) (work_piece (i.Test t.Invert)) (inner.1.by e)
-      (straight_always Q (work_piece (i.Test t.Invert)) (work_straight (i.Test t.Invert))) before
+      both_always Q (piece_of inner) (work_fragment (i.Test t.Invert)) (inner.1.by e)
+      (straight_always Q (work_fragment (i.Test t.Invert)) (work_straight (i.Test t.Invert))) before
   layer_meets (Condition-F.All parts) e before = all_meet parts e before
   layer_meets (Condition-F.Any parts) e before = any_meets parts e before
 
@@ -102,5 +102,5 @@ module _ (Q : Asks) (items : List Placed) (formed : AreFormed items) where
   met : (one : Condition) → IsMet one
   met = ind-Condition IsMet (λ one l is. subst (λ k. IsMet (roll-Condition k)) is (met_inside l))
 
-  pub condition_meets : (one : Condition) → condition_rules items one ≡ [] → (before : Code) → Meets Q before (condition_piece items one before)
+  pub condition_meets : (one : Condition) → condition_rules items one ≡ [] → (before : Code) → Meets Q before (condition_fragment items one before)
   condition_meets one e before = (met one).by e before

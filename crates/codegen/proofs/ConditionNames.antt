@@ -12,11 +12,11 @@ use Rattle.source_tree.specs.declared.reference.QualifiedName.{QualifiedName}
 use Rattle.source_tree.specs.EntryRules.{entry_rules}
 use Rattle.source_tree.specs.FileRules.{descriptions_rules}
 use Rattle.source_tree.specs.LookUp.{NamedCondition, all_conditions}
-use Rattle.source_tree.specs.Places.{Placed}
+use Rattle.source_tree.specs.Places.{LocatedItem}
 use Rattle.source_tree.specs.Records.{program_items}
 use Rattle.source_tree.specs.ValueRules.{has_form}
-use Rattle.names.specs.declared.conditions.DeclaredCondition.{DeclaredCondition}
-use Rattle.names.specs.Conditions.{found_at, item_numbers}
+use Rattle.name_table.specs.declared.conditions.DeclaredCondition.{DeclaredCondition}
+use Rattle.name_table.specs.Conditions.{found_at, item_numbers}
 use Rattle.codegen.specs.ConditionCode.{condition_number, values_of, values_named}
 use Rattle.codegen.specs.Values.{HasForms, AreFormedValues}
 use Rattle.codegen.proofs.ConditionValues.{conditions_formed}
@@ -68,7 +68,7 @@ some_at [] n = refl
 some_at (x ∷ xs) zero = refl
 some_at (x ∷ xs) (suc n) = some_at xs n
 
-module _ (items : List Placed) (all : List DeclaredCondition) where
+module _ (items : List LocatedItem) (all : List DeclaredCondition) where
   module _ (numbers : map (λ (one : DeclaredCondition). one.item) all ≡ item_numbers 0 items) where
     pub item_there : (n : ℕ) (one : DeclaredCondition) → n < length all → one ≡ get_or all n one → one.item ≡ get_or (item_numbers 0 items) n 0
     item_there n one lt e =
@@ -77,7 +77,7 @@ module _ (items : List Placed) (all : List DeclaredCondition) where
     pub no_item : (n : ℕ) → length all ≤ n → 0 ≡ get_or (item_numbers 0 items) n 0
     no_item n le = sym (beyond (item_numbers 0 items) n 0 (omega (arith, le, sym (ap length numbers) ∙ length-map all (λ (d : DeclaredCondition). d.item))))
 
-  values_found : (c : ConditionEntry) (o : Option Placed) (x : NamedCondition) → option_map (λ item. record { condition = c; item = item }) o ≡ Some x
+  values_found : (c : ConditionEntry) (o : Option LocatedItem) (x : NamedCondition) → option_map (λ item. record { condition = c; item = item }) o ≡ Some x
       → values_of (option_map (λ item. record { condition = c; item = item }) o) ≡ c.values
   values_found c None x e = absurd cc
   values_found c (Some item) x e = refl

@@ -14,11 +14,11 @@ use Rattle.source_tree.specs.Broken.{where_so, each}
 use Rattle.source_tree.specs.Clauses.{occurrences}
 use Rattle.source_tree.specs.EntryRules.{Position, most_entries, outermost, own_rules, below, level_rules, homeless, excess, forest_rules, entry_rules}
 use Rattle.source_tree.specs.FileRules.{most_record_bytes, select_names, description_names, file_name_rules, file_entries, description_rules, record_storage_rules, descriptions_rules, select_rules, program_file_rules}
-use Rattle.source_tree.specs.Levels.{Forest, End, Tree, leading, nested}
+use Rattle.source_tree.specs.Levels.{Forest, End, Tree, leading_conditions, forest_of}
 use Rattle.source_tree.specs.Literals.{literal_sender}
 use Rattle.source_tree.specs.LookUp.{NamedCondition, conditions_of, all_conditions}
-use Rattle.source_tree.specs.Places.{Placed, Surroundings, within, places, top, storage_places, items_of}
-use Rattle.source_tree.specs.RedefinitionRules.{Redefinable, remembered}
+use Rattle.source_tree.specs.Places.{LocatedItem, Surroundings, within, places, top, storage_places, items_of}
+use Rattle.source_tree.specs.RedefinitionRules.{Redefinable, redefinable_after}
 use Rattle.source_tree.specs.Records.{storage_areas, record_length, record_places, file_places, program_items}
 use Rattle.source_tree.specs.Rooms.{redefines, item_with, area_lengths}
 use Rattle.source_tree.specs.ValueRules.{are_some, has_form, wrong_class, wrong_value, literals_order, is_greater, last_rules, range_rules, condition_rules}
@@ -28,7 +28,7 @@ use Rattle.codegen.proofs.Codes.{left_none, right_none}
 use Rattle.codegen.proofs.Straight.{all_both}
 
 -- Each literal of a condition name of these items has the form of literals.
-abbrev pub AreFormed : List Placed → Type 0
+abbrev pub AreFormed : List LocatedItem → Type 0
 AreFormed items = AllByRecursion (λ (one : NamedCondition). AreFormedValues one.condition.values) (all_conditions items)
 
 -- ---- what the rules say
@@ -70,7 +70,7 @@ forest_formed : (at : Position) (last : Option Redefinable) (F : Forest) → for
 forest_formed at last End e = tt
 forest_formed at last (Tree one conditions inner next) e =
     let item : Item = item_with at.around one inner in
-    let after : Option Redefinable = remembered one (occurrences one * item.length) last in
+    let after : Option Redefinable = redefinable_after one (occurrences one * item.length) last in
     let own = own_rules at one item inner last in
     let all = each (condition_rules item) conditions in
     let rest = forest_rules at after next in
@@ -84,7 +84,7 @@ forest_formed at last (Tree one conditions inner next) e =
 -- ---- where the items stand
 
 -- the condition names of an item
-abbrev IsFormedItem : Placed → Type 0
+abbrev IsFormedItem : LocatedItem → Type 0
 IsFormedItem one = AreFormedEntries one.conditions
 
 places_formed : (around : Surroundings) (last here : ℕ) (F : Forest) → ForestFormed F → AllByRecursion IsFormedItem (places around last here F)
@@ -107,11 +107,11 @@ storage_formed areas (Tree one conditions inner next) h =
 
 -- ---- all condition names
 
-of_item : (item : Placed) (all : List ConditionEntry) → AreFormedEntries all → AllByRecursion (λ (one : NamedCondition). AreFormedValues one.condition.values) (conditions_of item all)
+of_item : (item : LocatedItem) (all : List ConditionEntry) → AreFormedEntries all → AllByRecursion (λ (one : NamedCondition). AreFormedValues one.condition.values) (conditions_of item all)
 of_item item [] h = tt
 of_item item (one ∷ more) h = (h.0, of_item item more h.1)
 
-of_items : (items : List Placed) → AllByRecursion IsFormedItem items → AreFormed items
+of_items : (items : List LocatedItem) → AllByRecursion IsFormedItem items → AreFormed items
 of_items [] h = tt
 of_items (one ∷ more) h =
     all_both (λ (c : NamedCondition). AreFormedValues c.condition.values) (conditions_of one one.conditions) (all_conditions more) (of_item one one.conditions h.0) (of_items more h.1)
@@ -123,25 +123,25 @@ records_formed area file (Tree one conditions inner next) h =
     all_both IsFormedItem (places (top area (file ∷ [])) 0 0 (Tree one conditions inner End)) (record_places area file next)
     (places_formed (top area (file ∷ [])) 0 0 (Tree one conditions inner End) (h.0, h.1, tt)) (records_formed area file next h.2)
 
-records_kept : (one : FileDescription) → description_rules one ≡ [] → forest_rules (outermost true) None (nested one.entries) ≡ []
+records_kept : (one : FileDescription) → description_rules one ≡ [] → forest_rules (outermost true) None (forest_of one.entries) ≡ []
 records_kept one e =
     let levels = each level_rules one.entries in
-    let lost = each homeless (leading one.entries) in
-    let forest = forest_rules (outermost true) None (nested one.entries) in
+    let lost = each homeless (leading_conditions one.entries) in
+    let forest = forest_rules (outermost true) None (forest_of one.entries) in
     let size = where_so (not (are_some most_record_bytes (record_length one.entries))) 69 one.name.place in
     right_none (levels ++ lost) forest (left_none (levels ++ lost ++ forest) size e)
 
 files_formed : (area : ℕ) (files : List FileDescription) → each description_rules files ≡ [] → AllByRecursion IsFormedItem (file_places area files)
 files_formed area [] e = tt
 files_formed area (one ∷ more) e =
-    let forest = nested one.entries in
+    let forest = forest_of one.entries in
     all_both IsFormedItem (record_places area one.name forest) (file_places (area + 1) more)
     (records_formed area one.name forest
     (forest_formed (outermost true) None forest (records_kept one (left_none (description_rules one) (each description_rules more) e))))
     (files_formed (area + 1) more (right_none (description_rules one) (each description_rules more) e))
 
 -- the rules of FDs
-pub descriptions_kept : (items : List Placed) (program : Program) → program_file_rules items program ≡ []
+pub descriptions_kept : (items : List LocatedItem) (program : Program) → program_file_rules items program ≡ []
     → descriptions_rules program.storage program.files ≡ []
 descriptions_kept items program e =
     let names = file_name_rules (select_names program.selects) (description_names program.files) in
@@ -154,14 +154,14 @@ pub each_description : (program : Program) → descriptions_rules program.storag
 each_description program e =
     let entries = each excess (drop (most_entries - length program.storage) (file_entries program.files)) in
     let own = each description_rules program.files in
-    let sizes = record_storage_rules (sum (area_lengths (nested program.storage))) program.files in
+    let sizes = record_storage_rules (sum (area_lengths (forest_of program.storage))) program.files in
     right_none entries own (left_none (entries ++ own) sizes e)
 
 pub conditions_formed : (program : Program) → entry_rules program.storage ≡ [] → descriptions_rules program.storage program.files ≡ []
     → AreFormed (program_items program)
 conditions_formed program e f =
     let parts = rule_parts program.storage e in
-    let storage = storage_formed 0 (nested program.storage) (forest_formed (outermost false) None (nested program.storage) parts.1) in
+    let storage = storage_formed 0 (forest_of program.storage) (forest_formed (outermost false) None (forest_of program.storage) parts.1) in
     let files = files_formed (storage_areas program.storage) program.files (each_description program f) in
     of_items (program_items program)
     (all_both IsFormedItem (items_of program.storage) (file_places (storage_areas program.storage) program.files) storage files)

@@ -2,40 +2,40 @@
 use Rattle.std.proofs.Common.{◌≡◌, ℕ, suc, ◌+◌, Bool, List, [], ◌∷◌, ◌++◌, length, map, Option, Some, None, Ok, Err, refl, ap, ◌∙◌, arith, length-append}
 use Rattle.std.specs.Prelude.{slice_get}
 use Rattle.std.proofs.lemmas.List.{length-map}
-use Rattle.items.specs.Texts.{padded}
-use Rattle.source_tree.specs.Evaluated.{Fault, Evaluated, ◌>>=◌}
-use Rattle.source_tree.specs.Arithmetic.{Stored}
+use Rattle.items.specs.Texts.{padded_text}
+use Rattle.source_tree.specs.Evaluated.{Fault, Evaluation, ◌>>=◌}
+use Rattle.source_tree.specs.Arithmetic.{StoreResult}
 use Rattle.source_tree.specs.Literals.{Sender}
-use Rattle.source_tree.specs.References.{ItemPlace, storing}
+use Rattle.source_tree.specs.References.{ItemPlace, storage_with}
 use Rattle.source_tree.specs.Storage.{Storage}
 use Rattle.source_tree.specs.State as state
-use Rattle.source_tree.specs.State.{State, Outcome, Done, showing, with_value}
+use Rattle.source_tree.specs.State.{State, Outcome, Done, state_after_output, with_value}
 use Rattle.data_instructions.specs.declared.place.Place.{Place}
 use Rattle.data_instructions.specs.declared.tables.DataItem.{DataItem}
 use Rattle.data_instructions.specs.declared.tables.DataTables.{DataTables}
 use Rattle.data_instructions.specs.declared.instruction.DataInstruction.{DataInstruction}
 use Rattle.data_instructions.specs.Scratch as step
 use Rattle.data_instructions.specs.Scratch.{Scratch}
-use Rattle.data_instructions.specs.Tables.{shortened, item_place}
-use Rattle.data_instructions.specs.Table.{at_newest, accepted}
+use Rattle.data_instructions.specs.Tables.{shortened_item, item_place}
+use Rattle.data_instructions.specs.Table.{at_newest, accept_step}
 use Rattle.data_instructions.specs.Codes.{go_on}
 use Rattle.code_image.specs.declared.code.Code.{Code}
 use Rattle.code_image.specs.declared.instruction.Instruction.TheVariants.{Show, Data}
 use Rattle.code_image.specs.Points.{Own, scratch_of, state_with, own_with}
 use Rattle.code_image.specs.Table.{over, data_from, exec_code}
-use Rattle.codegen.specs.Pieces.{joined}
+use Rattle.codegen.specs.Pieces.{append}
 use Rattle.codegen.proofs.Running.{at, one_step, WorksFrom}
 use Rattle.codegen.proofs.Doing.{end_of, keeps_all, Does, IsRoom, after}
 
 module _ (whole : Code) where
   -- the address behind a part that is code on data
-  pub behind_code : (before part : Code) (code : List DataInstruction) → part.instructions ≡ map Data code → end_of before + length code ≡ end_of (joined before part)
+  pub behind_code : (before part : Code) (code : List DataInstruction) → part.instructions ≡ map Data code → end_of before + length code ≡ end_of (append before part)
   behind_code before part code is = omega (arith, ap length is, length-append before.instructions part.instructions, length-map code Data)
 
   module _ (kept : ℕ → Type 0) (from to address next : ℕ) (cs : Own) (s : State) (count : ℕ) (behind_is : address + count ≡ next) where
     -- a MOVE from what was taken
-    pub stored_does : (sender : Sender) (e : Evaluated Storage)
-        → WorksFrom whole address cs s count (step.step_with e (λ after. step.Went (record (scratch_of s cs) { storage = after; sender = Some sender })))
+    pub stored_does : (sender : Sender) (e : Evaluation Storage)
+        → WorksFrom whole address cs s count (step.step_with e (λ after. step.Continues (record (scratch_of s cs) { storage = after; sender = Some sender })))
         → Does whole kept from to address cs s next (with_value e s (λ after. Done (record s { storage = after })))
     stored_does sender (Ok after) h = (
       record cs { sender = Some sender },
@@ -44,16 +44,16 @@ module _ (whole : Code) where
     )
     stored_does sender (Err fault) h = h
 
-    pub moved_does : (found : Evaluated Sender) (each_one : Sender → Evaluated Storage)
-        → WorksFrom whole address cs s count (step.step_with found (λ sender. step.step_with (each_one sender) (λ after. step.Went (record (scratch_of s cs) { storage = after; sender = Some sender }))))
+    pub moved_does : (found : Evaluation Sender) (each_one : Sender → Evaluation Storage)
+        → WorksFrom whole address cs s count (step.step_with found (λ sender. step.step_with (each_one sender) (λ after. step.Continues (record (scratch_of s cs) { storage = after; sender = Some sender }))))
         → Does whole kept from to address cs s next (with_value (found >>= each_one) s (λ after. Done (record s { storage = after })))
     moved_does (Ok sender) each_one h = stored_does sender (each_one sender) h
     moved_does (Err fault) each_one h = h
 
     -- what a DISPLAY makes up is shown
-    pub shown_does : (e : Evaluated (List ℕ)) → IsRoom whole cs → slice_get whole.instructions next ≡ Some Show
-        → WorksFrom whole address cs s count (step.step_with e (λ bytes. step.Went (record (scratch_of s cs) { line = cs.line ++ bytes })))
-        → Does whole kept from to address cs s (next + 1) (with_value e s (λ bytes. Done (showing bytes s)))
+    pub shown_does : (e : Evaluation (List ℕ)) → IsRoom whole cs → slice_get whole.instructions next ≡ Some Show
+        → WorksFrom whole address cs s count (step.step_with e (λ bytes. step.Continues (record (scratch_of s cs) { line = cs.line ++ bytes })))
+        → Does whole kept from to address cs s (next + 1) (with_value e s (λ bytes. Done (state_after_output bytes s)))
     shown_does (Ok bytes) room here h =
         let ds = record cs { line = cs.line ++ bytes } in (
           record cs { line = [] },
@@ -61,7 +61,7 @@ module _ (whole : Code) where
             by = λ k. (
               count + suc k,
               h (suc k) ∙ ap (λ n. exec_code whole (suc k) (at n ds s)) behind_is ∙ one_step whole next ds s Show here k
-                  ∙ ap (λ l. exec_code whole k (at (next + 1) (record cs { line = [] }) (showing (l ++ bytes) s))) room.line,
+                  ∙ ap (λ l. exec_code whole k (at (next + 1) (record cs { line = [] }) (state_after_output (l ++ bytes) s))) room.line,
             );
             falls = omega arith;
           },
@@ -70,9 +70,9 @@ module _ (whole : Code) where
     shown_does (Err fault) room here h = h
 
     -- an arithmetic statement, and what goes on from there by whether a size error arose
-    pub calculated_does : (last : ℕ) (e : Evaluated Stored) (go : Bool → State → Outcome)
-        → WorksFrom whole address cs s count (step.step_with e (λ after. step.Went (record (scratch_of s cs) { storage = after.storage; truth = after.size_error })))
-        → ((after : Stored) → Does whole kept from to next (record cs { truth = after.size_error }) (record s { storage = after.storage }) last (go after.size_error (record s { storage = after.storage })))
+    pub calculated_does : (last : ℕ) (e : Evaluation StoreResult) (go : Bool → State → Outcome)
+        → WorksFrom whole address cs s count (step.step_with e (λ after. step.Continues (record (scratch_of s cs) { storage = after.storage; truth = after.size_error })))
+        → ((after : StoreResult) → Does whole kept from to next (record cs { truth = after.size_error }) (record s { storage = after.storage }) last (go after.size_error (record s { storage = after.storage })))
         → Does whole kept from to address cs s last (with_value e s (λ after. go after.size_error (record s { storage = after.storage })))
     calculated_does last (Ok stored) go h goes_on =
         let ds = record cs { truth = stored.size_error } in
@@ -83,12 +83,12 @@ module _ (whole : Code) where
 
     -- The code of a place, and an instruction behind it that takes the place and leaves these console lines. Only where it leaves them all
     -- may it find a fault.
-    pub taken_does : (lines : List (List ℕ)) (taking : Scratch → step.Step) (made : step.Step) (e : Evaluated Storage) → WorksFrom whole address cs s count made
-        → go_on made taking ≡ step.step_with e (λ after. step.Went (record (scratch_of s cs) { storage = after }))
+    pub taken_does : (lines : List (List ℕ)) (taking : Scratch → step.Step) (made : step.Step) (e : Evaluation Storage) → WorksFrom whole address cs s count made
+        → go_on made taking ≡ step.step_with e (λ after. step.Continues (record (scratch_of s cs) { storage = after }))
         → ((t : Scratch) (k : ℕ) → exec_code whole (suc k) (at next (own_with t cs) (state_with t s)) ≡ data_from (taking t) (exec_code whole k) (at next (own_with t cs) (record (state_with t s) { lines = lines })))
         → ((t : Scratch) (fault : Fault) → taking t ≡ step.Faulted fault → lines ≡ s.lines)
         → Does whole kept from to address cs s (next + 1) (with_value e s (λ after. Done (record s { storage = after; lines = lines })))
-    taken_does lines taking (step.Went t) (Ok after) h is one_more none = (
+    taken_does lines taking (step.Continues t) (Ok after) h is one_more none = (
       cs,
       record {
         by = λ k. (
@@ -100,7 +100,7 @@ module _ (whole : Code) where
       },
       keeps_all kept from to cs,
     )
-    taken_does lines taking (step.Went t) (Err fault) h is one_more none = (
+    taken_does lines taking (step.Continues t) (Err fault) h is one_more none = (
       count + 1,
       h 1 ∙ ap (λ n. exec_code whole 1 (at n (own_with t cs) (state_with t s))) behind_is ∙ one_more t 0
           ∙ ap (λ made. data_from made (exec_code whole 0) (at next (own_with t cs) (record (state_with t s) { lines = lines }))) is
@@ -113,18 +113,18 @@ module _ (whole : Code) where
     taken_does lines taking step.Stuck (Err fault) h is one_more none = absurd cc
 
 -- An ACCEPT of a console line finds no fault once its place is found.
-no_fault : (entry : Option DataItem) (go : DataItem → Scratch) (fault : Fault) → step.step_at entry (λ one. step.Went (go one)) ≡ step.Faulted fault → ⊥
+no_fault : (entry : Option DataItem) (go : DataItem → Scratch) (fault : Fault) → step.step_at entry (λ one. step.Continues (go one)) ≡ step.Faulted fault → ⊥
 no_fault None go fault e = cc
 no_fault (Some one) go fault e = cc
 
 abbrev taking_line : List ℕ → ItemPlace → Scratch → step.Step
-taking_line line place t = step.Went (record t { storage = storing place (padded place.item.length line) t.storage })
+taking_line line place t = step.Continues (record t { storage = storage_with place (padded_text place.item.length line) t.storage })
 
 no_fault_at : (tables : DataTables) (line : List ℕ) (s : Scratch) (fault : Fault) (places : List Place) → at_newest tables places (taking_line line) s ≡ step.Faulted fault → ⊥
 no_fault_at tables line s fault [] e = cc
 no_fault_at tables line s fault (p ∷ ps) e =
     no_fault (slice_get tables.items p.item.number)
-    (λ one. record s { places = ps; storage = storing (item_place (shortened one p.length) p.offset) (padded p.length line) s.storage }) fault e
+    (λ one. record s { places = ps; storage = storage_with (item_place (shortened_item one p.length) p.offset) (padded_text p.length line) s.storage }) fault e
 
-pub accepted_faultless : (tables : DataTables) (line : List ℕ) (s : Scratch) (fault : Fault) → accepted tables line s ≡ step.Faulted fault → ⊥
+pub accepted_faultless : (tables : DataTables) (line : List ℕ) (s : Scratch) (fault : Fault) → accept_step tables line s ≡ step.Faulted fault → ⊥
 accepted_faultless tables line s fault is = no_fault_at tables line s fault s.places is

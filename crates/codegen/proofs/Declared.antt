@@ -14,8 +14,8 @@ use Rattle.code_image.specs.declared.code.Code.{Code}
 use Rattle.declarations.specs.declared.declarations.Declarations.{Declarations}
 use Rattle.declarations.specs.Named.{Declares, IsDeclared, data_in, files_in, items_in, scope_in}
 use Rattle.declarations.proofs.Declared.{same_scope}
-use Rattle.codegen.specs.Layout.{code_of, end_piece, section_piece, storage_code, storage_with}
-use Rattle.codegen.specs.Pieces.{in_order, joined}
+use Rattle.codegen.specs.Layout.{code_of, end_fragment, section_fragment, storage_code, storage_with}
+use Rattle.codegen.specs.Pieces.{in_order, append}
 use Rattle.codegen.proofs.ConditionValues.{descriptions_kept}
 
 module _ (program : Program) (all : Declarations) (h : Declares program all) where
@@ -43,13 +43,13 @@ module _ (program : Program) (all : Declarations) (h : Declares program all) whe
   -- the code of the sections behind that, and the end
   pub code_by : (given : Program) (sections : List Section) (storage behind whole : Code) → given ≡ program → sections ≡ given.sections
       → storage ≡ storage_with (program_areas given) (items_in all) all.selects.now (files_in all)
-      → behind ≡ joined storage (in_order (section_piece (scope_in all)) sections storage) → whole ≡ joined behind end_piece → whole ≡ code_of program
+      → behind ≡ append storage (in_order (section_fragment (scope_in all)) sections storage) → whole ≡ append behind end_fragment → whole ≡ code_of program
   code_by given sections storage behind whole same within is next last =
       let stored : storage ≡ storage_code program =
       is ∙ ap (λ (p : Program). storage_with (program_areas p) (items_in all) all.selects.now (files_in all)) same ∙ stored_by in
       last
-      ∙ ap (λ (code : Code). joined code end_piece)
+      ∙ ap (λ (code : Code). append code end_fragment)
       (next
-      ∙ ap (λ (l : List Section). joined storage (in_order (section_piece (scope_in all)) l storage)) (within ∙ ap (λ (p : Program). p.sections) same)
-      ∙ ap (λ (found : Scope). joined storage (in_order (section_piece found) program.sections storage)) (same_scope program all h)
-      ∙ ap (λ (code : Code). joined code (in_order (section_piece (scope program)) program.sections code)) stored)
+      ∙ ap (λ (l : List Section). append storage (in_order (section_fragment (scope_in all)) l storage)) (within ∙ ap (λ (p : Program). p.sections) same)
+      ∙ ap (λ (found : Scope). append storage (in_order (section_fragment found) program.sections storage)) (same_scope program all h)
+      ∙ ap (λ (code : Code). append code (in_order (section_fragment (scope program)) program.sections code)) stored)

@@ -2,9 +2,9 @@
 use Rattle.std.proofs.Common.{◌≡◌, ◌≢◌, ℕ, zero, suc, ◌+◌, ◌≤◌, ◌<◌, Bool, true, false, List, [], ◌∷◌, length, Some, refl, sym, ap, ◌∙◌, subst, ⊎_elim, inl, inr, arith, length-append, get_or-set_other}
 use Rattle.std.specs.Prelude.{◌⊎◌, slice_get, slice_index, slice_set}
 use Rattle.std.proofs.Math.ListN.{length-set}
-use Rattle.source_tree.specs.declared.ending.Ending.{Ending}
-use Rattle.source_tree.specs.declared.ending.Ending.TheVariants as ending
-use Rattle.source_tree.specs.Broken.{Broken, each}
+use Rattle.source_tree.specs.declared.control_statement.ControlStatement.{ControlStatement}
+use Rattle.source_tree.specs.declared.control_statement.ControlStatement.TheVariants as ending
+use Rattle.source_tree.specs.Broken.{RuleBreach, each}
 use Rattle.source_tree.specs.State.{State, Stopped, Outcome, Done, Over, then_do, in_turn, spend_from, spend}
 use Rattle.source_tree.specs.Meaning.{finish}
 use Rattle.source_tree.proofs.Runs.{Within, IsRun}
@@ -12,9 +12,9 @@ use Rattle.code_image.specs.declared.code.Code.{Code}
 use Rattle.code_image.specs.declared.instruction.Instruction.TheVariants.{Tick, Stop, Count, Turn, Branch, Jump, Join}
 use Rattle.code_image.specs.Points.{Own}
 use Rattle.code_image.specs.Table.{onward, over, tick_from, turn_from, branch_from, exec_code}
-use Rattle.codegen.specs.Pieces.{Piece, nothing, joined, in_order}
-use Rattle.codegen.specs.Layout.{stop_run_piece, ending_piece}
-use Rattle.codegen.specs.UntilCode.{tick_piece}
+use Rattle.codegen.specs.Pieces.{Fragment, empty_code, append, in_order}
+use Rattle.codegen.specs.Layout.{stop_run_fragment, control_fragment}
+use Rattle.codegen.specs.UntilCode.{tick_fragment}
 use Rattle.codegen.proofs.Pieces.{joined_assoc, joined_nothing}
 use Rattle.codegen.proofs.Standing.{Stands, front, back, first_stands, second_stands}
 use Rattle.codegen.proofs.Running.{at, one_step}
@@ -86,12 +86,12 @@ Does whole kept from to address cs s next (Over end t) = (j : ℕ) × (exec_code
 -- a part that stands after this code does so, and keeps the counters outside it
 abbrev pub PartDoes : Code → (ℕ → Type 0) → Code → Code → Own → State → Outcome → Type 0
 PartDoes whole kept before part cs s o =
-    Does whole kept (end_of before) (end_of (joined before part)) (end_of before) cs s (end_of (joined before part)) o
+    Does whole kept (end_of before) (end_of (append before part)) (end_of before) cs s (end_of (append before part)) o
 
 -- a part that stands after this code, of which each address is one that is kept
 pub record Sits (whole : Code) (kept : ℕ → Type 0) (before part : Code) : Type 0 where
   pub stands : Stands whole before part
-  pub keeps : (k : ℕ) → end_of before ≤ k → k < end_of (joined before part) → kept k
+  pub keeps : (k : ℕ) → end_of before ≤ k → k < end_of (append before part) → kept k
 
 module _ (whole : Code) where
   -- There is a counter for each address, and nothing in the line.
@@ -180,21 +180,21 @@ module _ (whole : Code) (kept : ℕ → Type 0) where
 
   -- one that stands within another
   pub within_sits : (before part inner code : Code) → Sits whole kept before part → Stands whole inner code → end_of before ≤ end_of inner
-      → end_of (joined inner code) ≤ end_of (joined before part) → Sits whole kept inner code
+      → end_of (append inner code) ≤ end_of (append before part) → Sits whole kept inner code
   within_sits before part inner code sits st low high = record { stands = st; keeps = λ k begins ends. sits.keeps k (omega arith) (omega arith) }
 
-  pub front_sits : (before a b : Code) → Sits whole kept before (joined a b) → Sits whole kept before a
+  pub front_sits : (before a b : Code) → Sits whole kept before (append a b) → Sits whole kept before a
   front_sits before a b sits =
       let l = length-append before.instructions a.instructions in
-      let m = length-append before.instructions (joined a b).instructions in
+      let m = length-append before.instructions (append a b).instructions in
       let n = length-append a.instructions b.instructions in
-      within_sits before (joined a b) before a sits (front whole before a b sits.stands) (omega arith) (omega (arith, l, m, n))
+      within_sits before (append a b) before a sits (front whole before a b sits.stands) (omega arith) (omega (arith, l, m, n))
 
-  pub back_sits : (before a b : Code) → Sits whole kept before (joined a b) → Sits whole kept (joined before a) b
+  pub back_sits : (before a b : Code) → Sits whole kept before (append a b) → Sits whole kept (append before a) b
   back_sits before a b sits =
       let l = length-append before.instructions a.instructions in
       let same = ap end_of (joined_assoc before a b) in
-      within_sits before (joined a b) (joined before a) b sits (back whole before a b sits.stands) (omega (arith, l)) (omega (arith, same))
+      within_sits before (append a b) (append before a) b sits (back whole before a b sits.stands) (omega (arith, l)) (omega (arith, same))
 
   -- ---- what is done
 
@@ -286,89 +286,89 @@ module _ (whole : Code) (kept : ℕ → Type 0) where
   -- ---- parts
 
   -- the last of two parts stands behind the first
-  pub behind : (before a b : Code) (cs : Own) (s : State) (o : Outcome) → PartDoes whole kept (joined before a) b cs s o
-      → Does whole kept (end_of before) (end_of (joined before (joined a b))) (end_of (joined before a)) cs s (end_of (joined before (joined a b))) o
+  pub behind : (before a b : Code) (cs : Own) (s : State) (o : Outcome) → PartDoes whole kept (append before a) b cs s o
+      → Does whole kept (end_of before) (end_of (append before (append a b))) (end_of (append before a)) cs s (end_of (append before (append a b))) o
   behind before a b cs s o d =
       let same = ap end_of (joined_assoc before a b) in
-      moved (end_of before) (end_of (joined before (joined a b))) (end_of (joined before a)) (end_of (joined (joined before a) b))
-      (end_of (joined before (joined a b))) cs s o same
-      (wider (end_of (joined before a)) (end_of (joined (joined before a) b)) (end_of before) (end_of (joined before (joined a b)))
-      (end_of (joined before a)) (end_of (joined (joined before a) b)) cs s o
+      moved (end_of before) (end_of (append before (append a b))) (end_of (append before a)) (end_of (append (append before a) b))
+      (end_of (append before (append a b))) cs s o same
+      (wider (end_of (append before a)) (end_of (append (append before a) b)) (end_of before) (end_of (append before (append a b)))
+      (end_of (append before a)) (end_of (append (append before a) b)) cs s o
       (omega (arith, length-append before.instructions a.instructions)) (omega (arith, same)) d)
 
   -- two parts, one after the other
   pub parts_do : (before a b : Code) (cs : Own) (s : State) (o : Outcome) (go : State → Outcome) → PartDoes whole kept before a cs s o
-      → ((t : State) (ds : Own) → t.budget ≤ s.budget → (IsRoom whole cs → IsRoom whole ds) → PartDoes whole kept (joined before a) b ds t (go t))
-      → PartDoes whole kept before (joined a b) cs s (then_do o go)
+      → ((t : State) (ds : Own) → t.budget ≤ s.budget → (IsRoom whole cs → IsRoom whole ds) → PartDoes whole kept (append before a) b ds t (go t))
+      → PartDoes whole kept before (append a b) cs s (then_do o go)
   parts_do before a b cs s o go d h =
       let l = length-append before.instructions a.instructions in
-      let m = length-append before.instructions (joined a b).instructions in
+      let m = length-append before.instructions (append a b).instructions in
       let n = length-append a.instructions b.instructions in
-      then_does (end_of before) (end_of (joined before a)) (end_of before) (end_of (joined before (joined a b))) (end_of before)
-      (end_of (joined before a)) (end_of (joined before (joined a b))) cs s o go
+      then_does (end_of before) (end_of (append before a)) (end_of before) (end_of (append before (append a b))) (end_of before)
+      (end_of (append before a)) (end_of (append before (append a b))) cs s o go
       (omega arith) (omega (arith, l, m, n)) d
-      (λ t ds falls keeps. behind before a b ds t (go t) (h t ds falls (still_room (end_of before) (end_of (joined before a)) cs ds keeps)))
+      (λ t ds falls keeps. behind before a b ds t (go t) (h t ds falls (still_room (end_of before) (end_of (append before a)) cs ds keeps)))
 
   -- one of the budget, and a part after that
-  pub tick_part : (line : ℕ) (before b : Code) (cs : Own) (s : State) (go : State → Outcome) → Stands whole before (joined (tick_piece line before) b)
-      → ((t : State) → t.budget < s.budget → PartDoes whole kept (joined before (tick_piece line before)) b cs t (go t))
-      → PartDoes whole kept before (joined (tick_piece line before) b) cs s (spend line s go)
+  pub tick_part : (line : ℕ) (before b : Code) (cs : Own) (s : State) (go : State → Outcome) → Stands whole before (append (tick_fragment line before) b)
+      → ((t : State) → t.budget < s.budget → PartDoes whole kept (append before (tick_fragment line before)) b cs t (go t))
+      → PartDoes whole kept before (append (tick_fragment line before) b) cs s (spend line s go)
   tick_part line before b cs s go st h =
-      let a = tick_piece line before in
-      let to = end_of (joined before (joined a b)) in
-      let same : end_of (joined before a) ≡ end_of before + 1 = length-append before.instructions (Tick line ∷ []) in
-      tick_does (end_of before) to line (end_of before) to cs s go (first_stands whole before (joined a b) (Tick line) b.instructions refl st)
+      let a = tick_fragment line before in
+      let to = end_of (append before (append a b)) in
+      let same : end_of (append before a) ≡ end_of before + 1 = length-append before.instructions (Tick line ∷ []) in
+      tick_does (end_of before) to line (end_of before) to cs s go (first_stands whole before (append a b) (Tick line) b.instructions refl st)
       (λ t lt.
-      moved_from (end_of before) to (end_of before + 1) (end_of (joined before a)) to cs t (go t) same (behind before a b cs t (go t) (h t lt)))
+      moved_from (end_of before) to (end_of before + 1) (end_of (append before a)) to cs t (go t) same (behind before a b cs t (go t) (h t lt)))
 
   module _ (line : ℕ) (before : Code) (cs : Own) (s : State) where
-    pub ticks_alone : Stands whole before (tick_piece line before) → PartDoes whole kept before (tick_piece line before) cs s (spend line s Done)
+    pub ticks_alone : Stands whole before (tick_fragment line before) → PartDoes whole kept before (tick_fragment line before) cs s (spend line s Done)
     ticks_alone st =
-        let part = tick_piece line before in
-        let to = end_of (joined before part) in
+        let part = tick_fragment line before in
+        let to = end_of (append before part) in
         let one : length (Tick line ∷ []) ≡ 1 = refl in
         tick_does (end_of before) to line (end_of before) to cs s Done (first_stands whole before part (Tick line) [] refl st) (λ t lt.
         stays (end_of before) to (end_of before + 1) to cs t (omega (arith, length-append before.instructions (Tick line ∷ []))))
 
-    pub ending_does : (one : Ending) → Stands whole before (ending_piece line one before)
-        → PartDoes whole kept before (ending_piece line one before) cs s (spend line s (finish one))
+    pub ending_does : (one : ControlStatement) → Stands whole before (control_fragment line one before)
+        → PartDoes whole kept before (control_fragment line one before) cs s (spend line s (finish one))
     ending_does ending.StopRun st =
-        let part = stop_run_piece line before in
-        let to = end_of (joined before part) in
+        let part = stop_run_fragment line before in
+        let to = end_of (append before part) in
         tick_does (end_of before) to line (end_of before) to cs s (finish ending.StopRun)
         (first_stands whole before part (Tick line) (Stop ∷ []) refl st) (λ t lt.
         stop_does (end_of before) to (end_of before + 1) to cs t (second_stands whole before part (Tick line) Stop [] refl st))
     ending_does ending.Continue st = ticks_alone st
     ending_does ending.Exit st = ticks_alone st
 
-  pub nothing_does : (before : Code) (cs : Own) (s : State) → PartDoes whole kept before nothing cs s (Done s)
+  pub nothing_does : (before : Code) (cs : Own) (s : State) → PartDoes whole kept before empty_code cs s (Done s)
   nothing_does before cs s =
-      stays (end_of before) (end_of (joined before nothing)) (end_of before) (end_of (joined before nothing)) cs s
+      stays (end_of before) (end_of (append before empty_code)) (end_of before) (end_of (append before empty_code)) cs s
       (ap end_of (sym (joined_nothing before)))
 
   -- What is known of the parts of a list that keep these rules, where less than so much of the budget is left.
-  pub record Follows {A : Type 0} (n : ℕ) (rules : A → List Broken) (run : A → State → Outcome) (piece : A → Piece) : Type 0 where
+  pub record Follows {A : Type 0} (n : ℕ) (rules : A → List RuleBreach) (run : A → State → Outcome) (piece : A → Fragment) : Type 0 where
     pub by : (one : A) (before : Code) (cs : Own) (s : State) → rules one ≡ [] → s.budget < n → IsRoom whole cs
         → Sits whole kept before (piece one before) → PartDoes whole kept before (piece one before) cs s (run one s)
 
-  pub in_order_does : {A : Type 0} (n : ℕ) (rules : A → List Broken) (run : A → State → Outcome) (piece : A → Piece) → Follows n rules run piece
+  pub in_order_does : {A : Type 0} (n : ℕ) (rules : A → List RuleBreach) (run : A → State → Outcome) (piece : A → Fragment) → Follows n rules run piece
       → (all : List A) (before : Code) (cs : Own) (s : State)
       → each rules all ≡ [] → s.budget < n → IsRoom whole cs → Sits whole kept before (in_order piece all before)
       → PartDoes whole kept before (in_order piece all before) cs s (in_turn run all s)
   in_order_does n rules run piece f [] before cs s keep below room st = nothing_does before cs s
   in_order_does n rules run piece f (one ∷ more) before cs s keep below room st =
       let a = piece one before in
-      let b = in_order piece more (joined before a) in
+      let b = in_order piece more (append before a) in
       parts_do before a b cs s (run one s) (in_turn run more)
       (f.by one before cs s (left_none (rules one) (each rules more) keep) below room (front_sits before a b st)) (λ t ds falls still.
-      in_order_does n rules run piece f more (joined before a) ds t (right_none (rules one) (each rules more) keep) (omega arith) (still room)
+      in_order_does n rules run piece f more (append before a) ds t (right_none (rules one) (each rules more) keep) (omega arith) (still room)
       (back_sits before a b st))
 
   -- a body, wherever it stands
-  pub record Repeats (depth : ℕ) (go : State → Outcome) (piece : Piece) : Type 0 where
+  pub record Repeats (depth : ℕ) (go : State → Outcome) (piece : Fragment) : Type 0 where
     pub by : (before : Code) (cs : Own) (s : State) → s.budget < depth → IsRoom whole cs → Sits whole kept before (piece before)
         → PartDoes whole kept before (piece before) cs s (go s)
 
   -- with less of the budget
-  pub fewer_does : (depth : ℕ) (go : State → Outcome) (piece : Piece) → Repeats (suc depth) go piece → Repeats depth go piece
+  pub fewer_does : (depth : ℕ) (go : State → Outcome) (piece : Fragment) → Repeats (suc depth) go piece → Repeats depth go piece
   fewer_does depth go piece each = record { by = λ before cs s below room sits. each.by before cs s (omega arith) room sits }

@@ -1,16 +1,16 @@
 -- What the objects of EVALUATE ask keeps the rules of conditions, where the statement keeps its own.
 use Rattle.std.proofs.Common.{◌≡◌, List, [], ◌∷◌, ◌++◌, length, map, refl, ◌∙◌}
 use Rattle.std.specs.Prelude.{not, ◌==◌}
-use Rattle.source_tree.specs.declared.evaluate.Subject.{Subject}
-use Rattle.source_tree.specs.declared.evaluate.Object.{Object}
-use Rattle.source_tree.specs.declared.evaluate.When.{When}
-use Rattle.source_tree.specs.declared.evaluate.Selected.{Selected}
-use Rattle.source_tree.specs.declared.evaluate.Evaluate.{Evaluate}
-use Rattle.source_tree.specs.Broken.{Broken, where_so, each}
+use Rattle.source_tree.specs.declared.evaluate_statement.Subject.{Subject}
+use Rattle.source_tree.specs.declared.evaluate_statement.Object.{Object}
+use Rattle.source_tree.specs.declared.evaluate_statement.When.{When}
+use Rattle.source_tree.specs.declared.evaluate_statement.Selected.{Selected}
+use Rattle.source_tree.specs.declared.evaluate_statement.Evaluate.{Evaluate}
+use Rattle.source_tree.specs.Broken.{RuleBreach, where_so, each}
 use Rattle.source_tree.specs.ConditionRules.{condition_rules}
-use Rattle.source_tree.specs.Evaluate.{fits, asked, asked_each, when_asked, whens_asked, selected_asked}
+use Rattle.source_tree.specs.Evaluate.{fits, selection_condition, asked_each, when_asked, whens_asked, selected_asked}
 use Rattle.source_tree.specs.EvaluateRules.{at_object, subject_rules, object_rules, objects_rules, when_rules, selected_rules}
-use Rattle.source_tree.specs.Places.{Placed}
+use Rattle.source_tree.specs.Places.{LocatedItem}
 use Rattle.source_tree.specs.Rules.{phrase_rules, evaluate_rules}
 use Rattle.codegen.proofs.Codes.{left_none, right_none}
 use Rattle.codegen.proofs.ConditionLayers.{all_rules, any_rules}
@@ -24,12 +24,12 @@ both_none : {A : Type 0} (xs ys : List A) → xs ≡ [] → ys ≡ [] → xs ++ 
 both_none [] ys e f = f
 both_none (x ∷ xs) ys e f = absurd cc
 
-module _ (items : List Placed) where
+module _ (items : List LocatedItem) where
   -- ---- what an object asks of its subject
 
-  pub asked_kept : (one : Subject) (object : Object) → object_rules items one object ≡ [] → condition_rules items (asked items one object.choice) ≡ []
+  pub asked_kept : (one : Subject) (object : Object) → object_rules items one object ≡ [] → condition_rules items (selection_condition items one object.choice) ≡ []
   asked_kept one object e =
-      let broken = condition_rules items (asked items one object.choice) in
+      let broken = condition_rules items (selection_condition items one object.choice) in
       none_mapped (at_object object.place) broken
       (right_none (where_so (not (fits items one object.choice)) 53 object.place) (map (at_object object.place) broken) e)
 
@@ -51,7 +51,7 @@ module _ (items : List Placed) where
   asked_each_kept [] objects e = refl
   asked_each_kept (one ∷ more) [] e = refl
   asked_each_kept (one ∷ more) (object ∷ others) e =
-      both_none (condition_rules items (asked items one object.choice)) (each (condition_rules items) (asked_each items more others))
+      both_none (condition_rules items (selection_condition items one object.choice)) (each (condition_rules items) (asked_each items more others))
       (asked_kept one object (first_object one more object others e)) (asked_each_kept more others (other_objects one more object others e))
 
   -- ---- WHENs
@@ -67,7 +67,7 @@ module _ (items : List Placed) where
       (when_kept subjects one (left_none (when_rules items subjects one) (each (when_rules items subjects) more) e))
       (whens_kept subjects more (right_none (when_rules items subjects one) (each (when_rules items subjects) more) e))
 
-  module _ {S : Type 0} (inside : S → List Broken) where
+  module _ {S : Type 0} (inside : S → List RuleBreach) where
     -- ---- a group of WHENs and its statements
 
     pub whens_of : (subjects : List Subject) (one : Selected S) → selected_rules items inside subjects one ≡ [] → each (when_rules items subjects) one.whens ≡ []

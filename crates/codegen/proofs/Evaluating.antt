@@ -1,6 +1,6 @@
 -- What the machine does where a condition is evaluated.
 use Rattle.std.proofs.Common.{◌≡◌, ℕ, ◌≤◌, Bool, Some, Ok, Err}
-use Rattle.source_tree.specs.Evaluated.{Evaluated}
+use Rattle.source_tree.specs.Evaluated.{Evaluation}
 use Rattle.source_tree.specs.State.{State, Faulted, Outcome, with_value}
 use Rattle.code_image.specs.declared.code.Code.{Code}
 use Rattle.code_image.specs.Points.{Own}
@@ -10,12 +10,12 @@ use Rattle.codegen.proofs.Doing.{Keeps, any, keeps_of_any, keeps_more, Comes, Do
 
 -- The machine comes to the address with what was evaluated as its truth, and the same state; or its run ends with the fault. Nothing is
 -- performed on the way.
-abbrev pub Evaluates : Code → ℕ → ℕ → ℕ → Own → State → ℕ → Evaluated Bool → Type 0
+abbrev pub Evaluates : Code → ℕ → ℕ → ℕ → Own → State → ℕ → Evaluation Bool → Type 0
 Evaluates whole from to address cs s next (Ok truth) = (ds : Own) × Comes whole address cs s next ds s × Keeps any from to cs ds × (ds.truth ≡ truth)
 Evaluates whole from to address cs s next (Err fault) = (j : ℕ) × (exec_code whole j (at address cs s) ≡ Some (over (Faulted fault s.line) s))
 
 -- what goes on from there, by the truth
-pub evaluated_does : (whole : Code) (kept : ℕ → Type 0) (low high from to address mid next : ℕ) (cs : Own) (s : State) (e : Evaluated Bool)
+pub evaluated_does : (whole : Code) (kept : ℕ → Type 0) (low high from to address mid next : ℕ) (cs : Own) (s : State) (e : Evaluation Bool)
     (go : Bool → Outcome) → from ≤ low → high ≤ to
     → Evaluates whole low high address cs s mid e
     → ((truth : Bool) (ds : Own) → Keeps kept low high cs ds → ds.truth ≡ truth → Does whole kept from to mid ds s next (go truth))

@@ -5,11 +5,11 @@ use Rattle.source_tree.specs.declared.expression.Expression.{Expression, roll-Ex
 use Rattle.source_tree.specs.declared.expression.Expression.TheOpen.{Expression-F}
 use Rattle.source_tree.specs.declared.expression.Expression.TheFolds.{map-Expression, fold-roll-Expression}
 use Rattle.source_tree.specs.ArithmeticRules.{expression_layer_rules, expression_rules}
-use Rattle.source_tree.specs.Broken.{Broken}
-use Rattle.source_tree.specs.Computed.{Reckoning, expression_layer, expression_value}
-use Rattle.source_tree.specs.Places.{Placed}
-use Rattle.codegen.specs.Pieces.{Piece}
-use Rattle.codegen.specs.ArithmeticCode.{expression_layer_piece, expression_piece}
+use Rattle.source_tree.specs.Broken.{RuleBreach}
+use Rattle.source_tree.specs.Computed.{ExpressionValue, expression_layer, expression_value}
+use Rattle.source_tree.specs.Places.{LocatedItem}
+use Rattle.codegen.specs.Pieces.{Fragment}
+use Rattle.codegen.specs.ArithmeticCode.{expression_layer_fragment, expression_fragment}
 
 module _ {A B C : Type 0} (f : A → B) (g : B → C) where
   -- Operands behind their operators; the first is any.
@@ -28,21 +28,21 @@ module _ {A B C : Type 0} (f : A → B) (g : B → C) where
   map_twice (Expression-F.Negated inner) = refl
   map_twice (Expression-F.Chain first more) = chain_twice first more
 
-module _ (items : List Placed) {A : Type 0} (f : A → Expression) (l : Expression-F A) where
-  pub mapped_piece : expression_piece items (roll-Expression (map-Expression A Expression f l)) ≡ expression_layer_piece items (map-Expression A Piece (λ a. expression_piece items (f a)) l)
-  unfolding expression_piece
+module _ (items : List LocatedItem) {A : Type 0} (f : A → Expression) (l : Expression-F A) where
+  pub mapped_piece : expression_fragment items (roll-Expression (map-Expression A Expression f l)) ≡ expression_layer_fragment items (map-Expression A Fragment (λ a. expression_fragment items (f a)) l)
+  unfolding expression_fragment
   mapped_piece =
-      fold-roll-Expression Piece (expression_layer_piece items) (map-Expression A Expression f l)
-      ∙ ap (expression_layer_piece items) (map_twice f (expression_piece items) l)
+      fold-roll-Expression Fragment (expression_layer_fragment items) (map-Expression A Expression f l)
+      ∙ ap (expression_layer_fragment items) (map_twice f (expression_fragment items) l)
 
-  pub mapped_rules : expression_rules items (roll-Expression (map-Expression A Expression f l)) ≡ expression_layer_rules items (map-Expression A (List Broken) (λ a. expression_rules items (f a)) l)
+  pub mapped_rules : expression_rules items (roll-Expression (map-Expression A Expression f l)) ≡ expression_layer_rules items (map-Expression A (List RuleBreach) (λ a. expression_rules items (f a)) l)
   unfolding expression_rules
   mapped_rules =
-      fold-roll-Expression (List Broken) (expression_layer_rules items) (map-Expression A Expression f l)
+      fold-roll-Expression (List RuleBreach) (expression_layer_rules items) (map-Expression A Expression f l)
       ∙ ap (expression_layer_rules items) (map_twice f (expression_rules items) l)
 
-  pub mapped_value : expression_value items (roll-Expression (map-Expression A Expression f l)) ≡ expression_layer items (map-Expression A Reckoning (λ a. expression_value items (f a)) l)
+  pub mapped_value : expression_value items (roll-Expression (map-Expression A Expression f l)) ≡ expression_layer items (map-Expression A ExpressionValue (λ a. expression_value items (f a)) l)
   unfolding expression_value
   mapped_value =
-      fold-roll-Expression Reckoning (expression_layer items) (map-Expression A Expression f l)
+      fold-roll-Expression ExpressionValue (expression_layer items) (map-Expression A Expression f l)
       ∙ ap (expression_layer items) (map_twice f (expression_value items) l)

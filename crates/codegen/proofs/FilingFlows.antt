@@ -11,17 +11,17 @@ use Rattle.source_tree.specs.declared.expression.Operand.{Operand}
 use Rattle.source_tree.specs.declared.expression.Operand.TheVariants as operand
 use Rattle.source_tree.specs.declared.phrases.FilePhrases.{FilePhrases}
 use Rattle.source_tree.specs.declared.phrases.FilePhrases.TheVariants.{Absent, AtEnd, InvalidKey}
-use Rattle.source_tree.specs.declared.filing.Opening.{Opening}
-use Rattle.source_tree.specs.declared.filing.Filing.{Filing}
-use Rattle.source_tree.specs.declared.filing.Filing.TheVariants.{Open, Close, Read, Write, Rewrite, Delete, Start}
-use Rattle.source_tree.specs.Broken.{Broken, each}
+use Rattle.source_tree.specs.declared.file_statement.Opening.{Opening}
+use Rattle.source_tree.specs.declared.file_statement.FileStatement.{FileStatement}
+use Rattle.source_tree.specs.declared.file_statement.FileStatement.TheVariants.{Open, Close, Read, Write, Rewrite, Delete, Start}
+use Rattle.source_tree.specs.Broken.{RuleBreach, each}
 use Rattle.source_tree.specs.Filing.{file_with_record, read_verb, start_verb, phrases_of}
 use Rattle.source_tree.specs.FilingRules.{file_named_rules, open_rules, close_rules, read_rules, into_rules, record_item, from_rules, record_rules, delete_rules, start_rules, filing_rules}
 use Rattle.source_tree.specs.LookUp.{items_named, first}
 use Rattle.source_tree.specs.MoveRules.{receives, move_rules}
-use Rattle.source_tree.specs.NameRules.{named, item_rules}
+use Rattle.source_tree.specs.NameRules.{unique_name_rules, reference_rules}
 use Rattle.source_tree.specs.Names.{same}
-use Rattle.source_tree.specs.Places.{Placed}
+use Rattle.source_tree.specs.Places.{LocatedItem}
 use Rattle.source_tree.specs.ProgramFiles.{ProgramFile, files_named}
 use Rattle.source_tree.specs.References.{ItemPlace}
 use Rattle.source_tree.specs.Rules.{phrase_rules, file_phrases_rules}
@@ -32,18 +32,18 @@ use Rattle.data_instructions.specs.declared.instruction.DataInstruction.{DataIns
 use Rattle.data_instructions.specs.declared.instruction.DataInstruction.TheVariants as i
 use Rattle.data_instructions.specs.Chains.{effects, LiesWhole, MayReceiveEach}
 use Rattle.data_instructions.specs.Codes.{data_item, AreReceiversCode}
-use Rattle.data_instructions.specs.Shapes.{and_then, moving_to, placing, shape_with}
+use Rattle.data_instructions.specs.Shapes.{and_then, moving_to, stacks_with_place, shape_with}
 use Rattle.data_instructions.specs.Tables.{IsTables}
 use Rattle.data_instructions.proofs.Chains.{effects_append, taking_known}
-use Rattle.file_tables.specs.declared.class.StatusClass.{StatusClass}
-use Rattle.file_tables.specs.declared.class.StatusClass.TheVariants as class
+use Rattle.file_image.specs.declared.class.StatusClass.{StatusClass}
+use Rattle.file_image.specs.declared.class.StatusClass.TheVariants as class
 use Rattle.code_image.specs.declared.code.Code.{Code}
 use Rattle.code_image.specs.Known.{known_along}
-use Rattle.codegen.specs.Pieces.{Piece, joined, both, in_order}
-use Rattle.codegen.specs.DataCode.{move_piece}
-use Rattle.codegen.specs.Meeting.{either_piece, nothing_piece}
-use Rattle.codegen.specs.FileCode.{sent_index, file_piece, test_piece, unheard_piece, on_file_piece, into_piece, from_piece, on_record_piece}
-use Rattle.codegen.specs.Layout.{phrase_piece, taken_piece, success_piece, class_piece, failure_piece, status_piece, statement_on_piece, alone_piece, open_piece, close_piece, record_piece, filing_piece}
+use Rattle.codegen.specs.Pieces.{Fragment, append, sequence, in_order}
+use Rattle.codegen.specs.DataCode.{move_fragment}
+use Rattle.codegen.specs.Meeting.{either_fragment, nothing_fragment}
+use Rattle.codegen.specs.FileCode.{sent_index, file_fragment, test_fragment, unheard_fragment, on_file_fragment, into_fragment, from_fragment, on_record_fragment}
+use Rattle.codegen.specs.Layout.{phrase_fragment, taken_fragment, success_fragment, class_fragment, failure_fragment, status_fragment, statement_on_fragment, alone_fragment, open_fragment, close_fragment, record_fragment, file_statement_fragment}
 use Rattle.codegen.proofs.Blind.{Blind, both_blind}
 use Rattle.codegen.proofs.BlindFiling.{unheard_blind, into_blind, taken_blind, success_blind, failure_blind}
 use Rattle.codegen.proofs.ConditionBlind.{nothing_blind}
@@ -57,10 +57,10 @@ use Rattle.codegen.proofs.MoveDoing.{into_coded}
 use Rattle.codegen.proofs.Standing.{Stands, front, back}
 
 module _ (scope : Scope) (whole : Code) (has : HasFiles whole scope)
-    (entries : (n : ℕ) (one : Placed) → slice_get scope.items n ≡ Some one → slice_get whole.tables.items n ≡ Some (data_item one))
-    (order : IsTables whole.tables) (lie : (n : ℕ) (one : Placed) → slice_get scope.items n ≡ Some one → LiesWhole whole.tables one)
+    (entries : (n : ℕ) (one : LocatedItem) → slice_get scope.items n ≡ Some one → slice_get whole.tables.items n ≡ Some (data_item one))
+    (order : IsTables whole.tables) (lie : (n : ℕ) (one : LocatedItem) → slice_get scope.items n ≡ Some one → LiesWhole whole.tables one)
     (moves : (sender : Operand) (receivers : List Reference) → move_rules scope.items sender receivers ≡ []
-    → BodyFlows whole (move_piece scope.items sender receivers)) where
+    → BodyFlows whole (move_fragment scope.items sender receivers)) where
   -- ---- the move of READ INTO
 
   receivers_known : (receivers : List Reference) (code : List DataInstruction) → AreReceiversCode scope.items whole.tables receivers code → (sent : Taken)
@@ -88,12 +88,12 @@ module _ (scope : Scope) (whole : Code) (has : HasFiles whole scope)
       let s = rest sender in
       let index = sent_index scope.items file in
       ap (λ (o : Option DataItem).
-      and_then (shape_with (and_then o (λ one. placing index one s.stacks)) (Some s.line) (Some s.sender)) (effects tables (i.Take ∷ more))) filed.sent
+      and_then (shape_with (and_then o (λ one. stacks_with_place index one s.stacks)) (Some s.line) (Some s.sender)) (effects tables (i.Take ∷ more))) filed.sent
       ∙ ap (λ (o : Option DataItem).
       and_then (shape_with (Some s.stacks) (Some s.line) (and_then o (λ one. Some (Some (taken.Item one.item))))) (effects tables more)) filed.sent
 
   into_flows : (file : ProgramFile) → IsFiled whole scope.items file → (into : Option Reference) → into_rules scope.items scope.files file into ≡ []
-      → BodyFlows whole (into_piece scope.items into file)
+      → BodyFlows whole (into_fragment scope.items into file)
   into_flows file filed None e = record { by = λ before st. nothing_flows whole.tables }
   into_flows file filed (Some into) e = record {
     by = λ before st.
@@ -113,43 +113,43 @@ module _ (scope : Scope) (whole : Code) (has : HasFiles whole scope)
 
   -- ---- pieces
 
-  pair_flows : (one two : Piece) → BodyFlows whole one → BodyFlows whole two → BodyFlows whole (both one two)
+  pair_flows : (one two : Fragment) → BodyFlows whole one → BodyFlows whole two → BodyFlows whole (sequence one two)
   pair_flows one two f g = record {
     by = λ before st.
         let a = one before in
-        let b = two (joined before a) in
-        both_flow whole.tables a b (f.by before (front whole before a b st)) (g.by (joined before a) (back whole before a b st));
+        let b = two (append before a) in
+        both_flow whole.tables a b (f.by before (front whole before a b st)) (g.by (append before a) (back whole before a b st));
   }
 
-  nothing_flow : BodyFlows whole nothing_piece
+  nothing_flow : BodyFlows whole nothing_fragment
   nothing_flow = record { by = λ before st. nothing_flows whole.tables }
 
-  test_flows : (one : StatusClass) → BodyFlows whole (test_piece one)
+  test_flows : (one : StatusClass) → BodyFlows whole (test_fragment one)
   test_flows one = record { by = λ before st. record { by = λ sender. (None, refl) } }
 
-  file_flows : (one : on_files.Verb) (file : ProgramFile) → BodyFlows whole (file_piece one file)
+  file_flows : (one : on_files.Verb) (file : ProgramFile) → BodyFlows whole (file_fragment one file)
   file_flows one file = record { by = λ before st. record { by = λ sender. (None, refl) } }
 
-  unheard_flows : (status : Option ItemPlace) → BodyFlows whole (unheard_piece status)
+  unheard_flows : (status : Option ItemPlace) → BodyFlows whole (unheard_fragment status)
   unheard_flows (Some item) = record { by = λ before st. nothing_flows whole.tables }
   unheard_flows None = record { by = λ before st. record { by = λ sender. (None, refl) } }
 
-  ways_flow : (one two : Piece) → Blind one → Blind two → BodyFlows whole one → BodyFlows whole two → BodyFlows whole (either_piece one two)
+  ways_flow : (one two : Fragment) → Blind one → Blind two → BodyFlows whole one → BodyFlows whole two → BodyFlows whole (either_fragment one two)
   ways_flow one two f g h k = record { by = λ before st. either_flows whole one two f g h k before st }
 
-  from_flows : (to : Reference) (from : Option Reference) → from_rules scope.items scope.files to from ≡ [] → BodyFlows whole (from_piece scope.items to from)
+  from_flows : (to : Reference) (from : Option Reference) → from_rules scope.items scope.files to from ≡ [] → BodyFlows whole (from_fragment scope.items to from)
   from_flows to None e = record { by = λ before st. nothing_flows whole.tables }
   from_flows to (Some from) e = let move = moves (operand.Item from) (to ∷ []) e in record { by = λ before st. move.by before st }
 
-  module _ {S : Type 0} (rules : S → List Broken) (inside : S → Piece)
-      (stated : (phrase : Option (List S)) → Blind (phrase_piece scope inside phrase))
-      (phrase_flows : (phrase : Option (List S)) → phrase_rules rules phrase ≡ [] → BodyFlows whole (phrase_piece scope inside phrase)) where
+  module _ {S : Type 0} (rules : S → List RuleBreach) (inside : S → Fragment)
+      (stated : (phrase : Option (List S)) → Blind (phrase_fragment scope inside phrase))
+      (phrase_flows : (phrase : Option (List S)) → phrase_rules rules phrase ≡ [] → BodyFlows whole (phrase_fragment scope inside phrase)) where
     taken_flows : (status : Option ItemPlace) (phrase : Option (List S)) → phrase_rules rules phrase ≡ []
-        → BodyFlows whole (taken_piece scope inside status phrase)
+        → BodyFlows whole (taken_fragment scope inside status phrase)
     taken_flows status None e = record { by = λ before st. (unheard_flows status).by before st }
     taken_flows status (Some statements) e = let stands = phrase_flows (Some statements) e in record { by = λ before st. stands.by before st }
 
-    success_flows : (phrases : FilePhrases S) → file_phrases_rules rules phrases ≡ [] → BodyFlows whole (success_piece scope inside phrases)
+    success_flows : (phrases : FilePhrases S) → file_phrases_rules rules phrases ≡ [] → BodyFlows whole (success_fragment scope inside phrases)
     success_flows Absent e = record { by = λ before st. nothing_flows whole.tables }
     success_flows (AtEnd pair) e =
         let other = phrase_flows pair.did_not (right_none (phrase_rules rules pair.arose) (phrase_rules rules pair.did_not) e) in
@@ -159,15 +159,15 @@ module _ (scope : Scope) (whole : Code) (has : HasFiles whole scope)
         record { by = λ before st. other.by before st }
 
     class_flows : (status : Option ItemPlace) (one : StatusClass) (arose : Option (List S)) → phrase_rules rules arose ≡ []
-        → BodyFlows whole (class_piece scope inside status one arose)
+        → BodyFlows whole (class_fragment scope inside status one arose)
     class_flows status one arose e =
-        let here = taken_piece scope inside status arose in
-        pair_flows (test_piece one) (either_piece here (unheard_piece status)) (test_flows one)
-        (ways_flow here (unheard_piece status) (taken_blind scope inside stated status arose) (unheard_blind status) (taken_flows status arose e)
+        let here = taken_fragment scope inside status arose in
+        pair_flows (test_fragment one) (either_fragment here (unheard_fragment status)) (test_flows one)
+        (ways_flow here (unheard_fragment status) (taken_blind scope inside stated status arose) (unheard_blind status) (taken_flows status arose e)
         (unheard_flows status))
 
     failure_flows : (status : Option ItemPlace) (phrases : FilePhrases S) → file_phrases_rules rules phrases ≡ []
-        → BodyFlows whole (failure_piece scope inside status phrases)
+        → BodyFlows whole (failure_fragment scope inside status phrases)
     failure_flows status Absent e = record { by = λ before st. (unheard_flows status).by before st }
     failure_flows status (AtEnd pair) e =
         let fits = class_flows status class.AtEnd pair.arose (left_none (phrase_rules rules pair.arose) (phrase_rules rules pair.did_not) e) in
@@ -176,72 +176,72 @@ module _ (scope : Scope) (whole : Code) (has : HasFiles whole scope)
         let fits = class_flows status class.InvalidKey pair.arose (left_none (phrase_rules rules pair.arose) (phrase_rules rules pair.did_not) e) in
         record { by = λ before st. fits.by before st }
 
-    status_flows : (status : Option ItemPlace) (phrases : FilePhrases S) (onward : Piece) → file_phrases_rules rules phrases ≡ [] → Blind onward
-        → BodyFlows whole onward → BodyFlows whole (status_piece scope inside status phrases onward)
+    status_flows : (status : Option ItemPlace) (phrases : FilePhrases S) (onward : Fragment) → file_phrases_rules rules phrases ≡ [] → Blind onward
+        → BodyFlows whole onward → BodyFlows whole (status_fragment scope inside status phrases onward)
     status_flows status phrases onward e blind f =
-        let success = success_piece scope inside phrases in
-        let failure = failure_piece scope inside status phrases in
-        pair_flows (test_piece class.Successful) (either_piece (both onward success) failure) (test_flows class.Successful)
-        (ways_flow (both onward success) failure (both_blind onward success blind (success_blind scope inside stated phrases))
+        let success = success_fragment scope inside phrases in
+        let failure = failure_fragment scope inside status phrases in
+        pair_flows (test_fragment class.Successful) (either_fragment (sequence onward success) failure) (test_flows class.Successful)
+        (ways_flow (sequence onward success) failure (both_blind onward success blind (success_blind scope inside stated phrases))
         (failure_blind scope inside stated status phrases) (pair_flows onward success f (success_flows phrases e)) (failure_flows status phrases e))
 
-    statement_flows : (phrases : FilePhrases S) (onward : ProgramFile → Piece) (one : ProgramFile → on_files.Verb) → file_phrases_rules rules phrases ≡ []
-        → (file : ProgramFile) → Blind (onward file) → BodyFlows whole (onward file) → BodyFlows whole (statement_on_piece scope inside phrases onward one file)
+    statement_flows : (phrases : FilePhrases S) (onward : ProgramFile → Fragment) (one : ProgramFile → on_files.Verb) → file_phrases_rules rules phrases ≡ []
+        → (file : ProgramFile) → Blind (onward file) → BodyFlows whole (onward file) → BodyFlows whole (statement_on_fragment scope inside phrases onward one file)
     statement_flows phrases onward one e file blind f =
-        pair_flows (file_piece (one file) file) (status_piece scope inside file.places.status phrases (onward file)) (file_flows (one file) file)
+        pair_flows (file_fragment (one file) file) (status_fragment scope inside file.places.status phrases (onward file)) (file_flows (one file) file)
         (status_flows file.places.status phrases (onward file) e blind f)
 
     alone_flows : (phrases : FilePhrases S) (one : ProgramFile → on_files.Verb) → file_phrases_rules rules phrases ≡ [] → (file : ProgramFile)
-        → BodyFlows whole (alone_piece scope inside phrases one file)
-    alone_flows phrases one e file = statement_flows phrases (λ file. nothing_piece) one e file nothing_blind nothing_flow
+        → BodyFlows whole (alone_fragment scope inside phrases one file)
+    alone_flows phrases one e file = statement_flows phrases (λ file. nothing_fragment) one e file nothing_blind nothing_flow
 
-    found_flows : (found : Option ProgramFile) (piece : ProgramFile → Piece) → ((file : ProgramFile) → found ≡ Some file → BodyFlows whole (piece file))
-        → BodyFlows whole (on_file_piece found piece)
+    found_flows : (found : Option ProgramFile) (piece : ProgramFile → Fragment) → ((file : ProgramFile) → found ≡ Some file → BodyFlows whole (piece file))
+        → BodyFlows whole (on_file_fragment found piece)
     found_flows None piece each_one = record { by = λ before st. nothing_flows whole.tables }
     found_flows (Some file) piece each_one = record { by = λ before st. (each_one file refl).by before st }
 
-    named_flows : (name : Name) (piece : ProgramFile → Piece) → ((file : ProgramFile) → BodyFlows whole (piece file))
-        → BodyFlows whole (on_file_piece (first (files_named scope.files name)) piece)
+    named_flows : (name : Name) (piece : ProgramFile → Fragment) → ((file : ProgramFile) → BodyFlows whole (piece file))
+        → BodyFlows whole (on_file_fragment (first (files_named scope.files name)) piece)
     named_flows name piece each_one = found_flows (first (files_named scope.files name)) piece (λ file is. each_one file)
 
     record_flows : (one : on_files.Verb) (to : Reference) (from : Option Reference) (phrases : FilePhrases S)
         → record_rules scope.items scope.files to from phrases ≡ [] → file_phrases_rules rules phrases ≡ []
-        → BodyFlows whole (record_piece scope inside one to from phrases)
+        → BodyFlows whole (record_fragment scope inside one to from phrases)
     record_flows one to from phrases e inner =
-        let statement = alone_piece scope inside phrases (λ file. one) in
-        let asked = item_rules scope.items (record_item scope.items scope.files phrases) to in
-        pair_flows (from_piece scope.items to from) (on_record_piece scope.items scope.files to statement)
+        let statement = alone_fragment scope inside phrases (λ file. one) in
+        let asked = reference_rules scope.items (record_item scope.items scope.files phrases) to in
+        pair_flows (from_fragment scope.items to from) (on_record_fragment scope.items scope.files to statement)
         (from_flows to from (right_none asked (from_rules scope.items scope.files to from) e))
         (found_flows (file_with_record scope.files (first (items_named scope.items to.item))) statement
         (λ file is. alone_flows phrases (λ file. one) inner file))
 
     -- each file of a list
-    all_flow : {A : Type 0} (piece : A → Piece) → ((one : A) → BodyFlows whole (piece one)) → (all : List A) (before : Code)
+    all_flow : {A : Type 0} (piece : A → Fragment) → ((one : A) → BodyFlows whole (piece one)) → (all : List A) (before : Code)
         → Stands whole before (in_order piece all before) → Flows whole.tables (in_order piece all before)
     all_flow piece f [] before st = nothing_flows whole.tables
     all_flow piece f (one ∷ more) before st =
         let a = piece one before in
-        let b = in_order piece more (joined before a) in
-        both_flow whole.tables a b ((f one).by before (front whole before a b st)) (all_flow piece f more (joined before a) (back whole before a b st))
+        let b = in_order piece more (append before a) in
+        both_flow whole.tables a b ((f one).by before (front whole before a b st)) (all_flow piece f more (append before a) (back whole before a b st))
 
-    open_flows : (one : Opening) → BodyFlows whole (open_piece scope inside one)
+    open_flows : (one : Opening) → BodyFlows whole (open_fragment scope inside one)
     open_flows one =
-        named_flows one.file (alone_piece scope inside Absent (λ file. verb.Open one.mode)) (alone_flows Absent (λ file. verb.Open one.mode) refl)
+        named_flows one.file (alone_fragment scope inside Absent (λ file. verb.Open one.mode)) (alone_flows Absent (λ file. verb.Open one.mode) refl)
 
-    close_flows : (one : Name) → BodyFlows whole (close_piece scope inside one)
-    close_flows one = named_flows one (alone_piece scope inside Absent (λ file. verb.Close)) (alone_flows Absent (λ file. verb.Close) refl)
+    close_flows : (one : Name) → BodyFlows whole (close_fragment scope inside one)
+    close_flows one = named_flows one (alone_fragment scope inside Absent (λ file. verb.Close)) (alone_flows Absent (λ file. verb.Close) refl)
 
-    pub filing_flows : (one : Filing S) → filing_rules scope.items scope.files one ≡ [] → file_phrases_rules rules (phrases_of one) ≡ []
-        → BodyFlows whole (filing_piece scope inside one)
-    filing_flows (Open all) e inner = record { by = λ before st. all_flow (open_piece scope inside) open_flows all before st }
-    filing_flows (Close all) e inner = record { by = λ before st. all_flow (close_piece scope inside) close_flows all before st }
+    pub filing_flows : (one : FileStatement S) → filing_rules scope.items scope.files one ≡ [] → file_phrases_rules rules (phrases_of one) ≡ []
+        → BodyFlows whole (file_statement_fragment scope inside one)
+    filing_flows (Open all) e inner = record { by = λ before st. all_flow (open_fragment scope inside) open_flows all before st }
+    filing_flows (Close all) e inner = record { by = λ before st. all_flow (close_fragment scope inside) close_flows all before st }
     filing_flows (Read file next into key phrases) e inner =
         let verb_of = λ (file : ProgramFile). read_verb scope.items file next key in
-        let flows = found_flows (first (files_named scope.files file)) (statement_on_piece scope inside phrases (into_piece scope.items into) verb_of)
+        let flows = found_flows (first (files_named scope.files file)) (statement_on_fragment scope inside phrases (into_fragment scope.items into) verb_of)
         (λ one is.
         let filed = first_so (IsFiled whole scope.items) (λ other. same file other.name) scope.files one has.each is in
         let asked = first_asked file.place (read_rules scope.items scope.files file.place next into key phrases) (files_named scope.files file) one e is in
-        statement_flows phrases (into_piece scope.items into) verb_of inner one (into_blind scope into one)
+        statement_flows phrases (into_fragment scope.items into) verb_of inner one (into_blind scope into one)
         (into_flows one filed into (into_kept scope file.place next into key phrases one asked))) in
         record { by = λ before st. flows.by before st }
     filing_flows (Write one from phrases) e inner =
@@ -249,9 +249,9 @@ module _ (scope : Scope) (whole : Code) (has : HasFiles whole scope)
     filing_flows (Rewrite one from phrases) e inner =
         let flows = record_flows verb.Rewrite one from phrases e inner in record { by = λ before st. flows.by before st }
     filing_flows (Delete file phrases) e inner =
-        let flows = named_flows file (alone_piece scope inside phrases (λ file. verb.Delete)) (alone_flows phrases (λ file. verb.Delete) inner) in
+        let flows = named_flows file (alone_fragment scope inside phrases (λ file. verb.Delete)) (alone_flows phrases (λ file. verb.Delete) inner) in
         record { by = λ before st. flows.by before st }
     filing_flows (Start file key phrases) e inner =
         let verb_of = λ (file : ProgramFile). start_verb scope.items file key in
-        let flows = named_flows file (alone_piece scope inside phrases verb_of) (alone_flows phrases verb_of inner) in
+        let flows = named_flows file (alone_fragment scope inside phrases verb_of) (alone_flows phrases verb_of inner) in
         record { by = λ before st. flows.by before st }

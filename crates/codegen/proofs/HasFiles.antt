@@ -7,17 +7,17 @@ use Rattle.records.specs.declared.verb.Verb.{Verb}
 use Rattle.records.specs.Connector.{Entry}
 use Rattle.records.specs.FileStep.{no_entry, entry_at, Suits}
 use Rattle.source_tree.specs.LookUp.{first}
-use Rattle.source_tree.specs.Places.{Placed}
+use Rattle.source_tree.specs.Places.{LocatedItem}
 use Rattle.source_tree.specs.ProgramFiles.{ProgramFile, entries_of}
 use Rattle.source_tree.specs.Setting.{Scope}
-use Rattle.file_tables.specs.declared.file.CodeFile.{CodeFile}
-use Rattle.file_tables.specs.Files as table
-use Rattle.file_tables.specs.Files.{places_of}
+use Rattle.file_image.specs.declared.file.CodeFile.{CodeFile}
+use Rattle.file_image.specs.Files as table
+use Rattle.file_image.specs.Files.{places_of}
 use Rattle.code_image.specs.declared.code.Code.{Code}
 use Rattle.codegen.specs.FileCode.{sent_entry}
 
 -- A file stands in the table, with its places, and behind the items stands what READ INTO sends of it.
-pub record IsFiled (whole : Code) (items : List Placed) (file : ProgramFile) : Type 0 where
+pub record IsFiled (whole : Code) (items : List LocatedItem) (file : ProgramFile) : Type 0 where
   pub code : CodeFile
   pub here : slice_get whole.files file.places.number ≡ Some code
   pub places : places_of whole.tables file.places.number code ≡ file.places

@@ -7,20 +7,20 @@ use Rattle.text_ops.specs.declared.entry.Fit.{Fit}
 use Rattle.text_ops.specs.declared.entry.Entry.{Entry}
 use Rattle.source_tree.specs.declared.reference.Reference.{Reference}
 use Rattle.source_tree.specs.declared.expression.Operand.{Operand}
-use Rattle.source_tree.specs.declared.inspecting.Limits.{Limits}
-use Rattle.source_tree.specs.declared.inspecting.Occurrences.{Occurrences}
-use Rattle.source_tree.specs.declared.inspecting.Tallying.{Tallying}
-use Rattle.source_tree.specs.declared.inspecting.ReplacedText.{ReplacedText}
-use Rattle.source_tree.specs.declared.inspecting.Inspecting.{Inspecting}
+use Rattle.source_tree.specs.declared.inspect_statement.Limits.{Limits}
+use Rattle.source_tree.specs.declared.inspect_statement.Occurrences.{Occurrences}
+use Rattle.source_tree.specs.declared.inspect_statement.Tallying.{Tallying}
+use Rattle.source_tree.specs.declared.inspect_statement.ReplacedText.{ReplacedText}
+use Rattle.source_tree.specs.declared.inspect_statement.InspectStatement.{InspectStatement}
 use Rattle.source_tree.specs.InspectRules.{inspected_item}
-use Rattle.source_tree.specs.NameRules.{item_rules}
-use Rattle.source_tree.specs.Places.{Placed}
-use Rattle.source_tree.specs.InspectLayout.{Source, Bytes, Characters, Taking, Counter, Text, Inspected, source, found_size, text_size, text_sizes, replacing_text, replaced_text, fit_of, span_at, what_texts, by_texts, limit_text, limit_texts, entry_texts, entries_texts, limit_span, before_at, after_at, what_fit, by_span, by_at, limits_at, entry_at, entries_at, counter_entries, tallying_takings, all_inspected, entry_counts, all_replaced, tallied_size, takings}
+use Rattle.source_tree.specs.NameRules.{reference_rules}
+use Rattle.source_tree.specs.Places.{LocatedItem}
+use Rattle.source_tree.specs.InspectLayout.{Source, Bytes, Characters, InspectArgument, Counter, Text, InspectEntry, source, found_size, text_size, text_sizes, replacing_text, replaced_text, fit_of, span_at, what_texts, by_texts, limit_text, limit_texts, entry_texts, entries_texts, limit_span, before_at, after_at, what_fit, by_span, by_at, limits_at, entry_at, entries_at, counter_entries, tallying_takings, all_inspected, entry_counts, all_replaced, tallied_size, takings}
 use Rattle.data_instructions.specs.declared.tables.Inspection.{Inspection}
 use Rattle.code_image.specs.declared.code.Code.{Code}
-use Rattle.codegen.specs.Pieces.{joined, both, in_order}
-use Rattle.codegen.specs.DataCode.{item_number, text_piece, reference_piece}
-use Rattle.codegen.specs.InspectCode.{inspection_piece, taken_piece, takings_piece, inspection_entry, inspect_piece, Takes, TakesTexts, TextMade, LimitMade, LimitsMade, Puts, Counts}
+use Rattle.codegen.specs.Pieces.{append, sequence, in_order}
+use Rattle.codegen.specs.DataCode.{item_number, text_fragment, reference_fragment}
+use Rattle.codegen.specs.InspectCode.{inspection_fragment, taken_fragment, takings_fragment, inspection_entry, inspect_fragment, Takes, TakesTexts, TextMade, LimitMade, LimitsMade, Puts, Counts}
 use Rattle.codegen.proofs.Codes.{map_both}
 use Rattle.codegen.proofs.InspectKept.{named_length}
 use Rattle.codegen.proofs.Pieces.{joined_assoc, joined_nothing, in_order-append}
@@ -35,22 +35,22 @@ made_inspection : (s t : ℕ) (a b : List ℕ) (c d e f : List Entry) → s ≡ 
     → (let one : Inspection = record { size = s; counters = a; tallying = c; replacing = e } in let other : Inspection = record { size = t; counters = b; tallying = d; replacing = f } in one ≡ other)
 made_inspection s t a b c d e f p q r u = cc
 
-module _ (items : List Placed) where
+module _ (items : List LocatedItem) where
   -- ---- code
 
   pub takes_none : (code : Code) → Takes items [] code code
   takes_none code = sym (joined_nothing code)
 
-  pub takes_one : (one : Taking) (before after : Code) → after ≡ joined before (taken_piece items one before) → Takes items (one ∷ []) before after
-  takes_one one before after e = e ∙ ap (joined before) (sym (joined_nothing (taken_piece items one before)))
+  pub takes_one : (one : InspectArgument) (before after : Code) → after ≡ append before (taken_fragment items one before) → Takes items (one ∷ []) before after
+  takes_one one before after e = e ∙ ap (append before) (sym (joined_nothing (taken_fragment items one before)))
 
-  takes_both : (xs ys : List Taking) (a b c : Code) → Takes items xs a b → Takes items ys b c → Takes items (xs ++ ys) a c
+  takes_both : (xs ys : List InspectArgument) (a b c : Code) → Takes items xs a b → Takes items ys b c → Takes items (xs ++ ys) a c
   takes_both xs ys a b c e f =
-      let piece = takings_piece items in
-      f ∙ ap (λ (z : Code). joined z (piece ys z)) e ∙ joined_assoc a (piece xs a) (piece ys (joined a (piece xs a))) ∙ sym (ap (joined a) (in_order-append (taken_piece items) xs ys a))
+      let piece = takings_fragment items in
+      f ∙ ap (λ (z : Code). append z (piece ys z)) e ∙ joined_assoc a (piece xs a) (piece ys (append a (piece xs a))) ∙ sym (ap (append a) (in_order-append (taken_fragment items) xs ys a))
 
-  takes_same : (xs ys : List Taking) (a b : Code) → xs ≡ ys → Takes items xs a b → Takes items ys a b
-  takes_same xs ys a b same e = e ∙ ap (λ l. joined a (takings_piece items l a)) same
+  takes_same : (xs ys : List InspectArgument) (a b : Code) → xs ≡ ys → Takes items xs a b → Takes items ys a b
+  takes_same xs ys a b same e = e ∙ ap (λ l. append a (takings_fragment items l a)) same
 
   texts_both : (xs ys : List Source) (a b c : Code) → TakesTexts items xs a b → TakesTexts items ys b c → TakesTexts items (xs ++ ys) a c
   texts_both xs ys a b c e f = takes_same (map Text xs ++ map Text ys) (map Text (xs ++ ys)) a c (sym (map_both Text xs ys)) (takes_both (map Text xs) (map Text ys) a b c e f)
@@ -60,7 +60,7 @@ module _ (items : List Placed) where
 
   -- ---- texts
 
-  pub bytes_made : (one : Reference) (old new : Code) (at size : ℕ) → item_rules items inspected_item one ≡ [] → new ≡ joined old (taken_piece items (Text (Bytes one)) old)
+  pub bytes_made : (one : Reference) (old new : Code) (at size : ℕ) → reference_rules items inspected_item one ≡ [] → new ≡ append old (taken_fragment items (Text (Bytes one)) old)
       → size ≡ found_size (slice_get items (item_number items one.item)) → TextMade items (Bytes one) old new at (record { start = at; length = size })
   bytes_made one old new at size keep e is = record {
     code = takes_one (Text (Bytes one)) old new e;
@@ -69,14 +69,14 @@ module _ (items : List Placed) where
 
   -- the same where a call may have failed
   module _ {E : Type 0} (result : Result Span E) where
-    pub characters_made : (text bytes : List ℕ) (old new : Code) (at : ℕ) → bytes ≡ text → OnOk result (new ≡ joined old (text_piece bytes old))
+    pub characters_made : (text bytes : List ℕ) (old new : Code) (at : ℕ) → bytes ≡ text → OnOk result (new ≡ append old (text_fragment bytes old))
         → IfOk result (λ span. span ≡ record { start = at; length = length bytes }) → IfOk result (λ span. TextMade items (Characters text) old new at span)
     characters_made text bytes old new at same code span = by_result result code span
       where
-        by_result : (r : Result Span E) → OnOk r (new ≡ joined old (text_piece bytes old)) → IfOk r (λ span. span ≡ record { start = at; length = length bytes })
+        by_result : (r : Result Span E) → OnOk r (new ≡ append old (text_fragment bytes old)) → IfOk r (λ span. span ≡ record { start = at; length = length bytes })
             → IfOk r (λ span. TextMade items (Characters text) old new at span)
         by_result (Ok x) e f = record {
-          code = takes_one (Text (Characters text)) old new (e ∙ ap (λ l. joined old (text_piece l old)) same);
+          code = takes_one (Text (Characters text)) old new (e ∙ ap (λ l. append old (text_fragment l old)) same);
           span_is = f ∙ ap (λ (l : List ℕ). record { start = at; length = length l }) same;
         }
         by_result (Err x) e f = e
@@ -121,7 +121,7 @@ module _ (items : List Placed) where
 
   -- ---- an entry
 
-  pub entry_put : (one : Inspected) (a b c d : Code) (n m k : ℕ) (fit : Fit) (by x y : Option Span) (old new : List Entry)
+  pub entry_put : (one : InspectEntry) (a b c d : Code) (n m k : ℕ) (fit : Fit) (by x y : Option Span) (old new : List Entry)
       → TakesTexts items (what_texts one.what) a b → fit ≡ what_fit items n one.what
       → TakesTexts items (by_texts one.by) b c → by ≡ by_span items (by_at items n one) one.by
       → m ≡ limits_at items n one → LimitsMade items one.limits c d m x y k
@@ -165,7 +165,7 @@ module _ (items : List Placed) where
   pub puts_none : (code : Code) (size : ℕ) (made : List Entry) → Puts items [] code code size made size made
   puts_none code size made = record { code = takes_none code; sizes = omega arith; entries = sym (append-nil made) }
 
-  pub puts_both : (xs ys : List Inspected) (a b c : Code) (n m k : ℕ) (o p q : List Entry) → Puts items xs a b n o m p → Puts items ys b c m p k q → Puts items (xs ++ ys) a c n o k q
+  pub puts_both : (xs ys : List InspectEntry) (a b c : Code) (n m k : ℕ) (o p q : List Entry) → Puts items xs a b n o m p → Puts items ys b c m p k q → Puts items (xs ++ ys) a c n o k q
   puts_both xs ys a b c n m k o p q first second = record {
     code = texts_same (entries_texts xs ++ entries_texts ys) (entries_texts (xs ++ ys)) a c (sym (texts_append xs ys))
         (texts_both (entries_texts xs) (entries_texts ys) a b c first.code second.code);
@@ -175,7 +175,7 @@ module _ (items : List Placed) where
   }
 
   -- the first of a list, one more of them, and all
-  module _ {A : Type 0} (f : A → List Inspected) (all : List A) (i : ℕ) where
+  module _ {A : Type 0} (f : A → List InspectEntry) (all : List A) (i : ℕ) where
     taken_more : (one : A) → i < length all → one ≡ get_or all i one → all_inspected f (take (i + 1) all) ≡ all_inspected f (take i all) ++ f one
     taken_more one within is =
         ap (all_inspected f) (take_more all i one within ∙ ap (λ x. take i all ++ x ∷ []) (sym is)) ∙ all_inspected_append f (take i all) (one ∷ [])
@@ -192,7 +192,7 @@ module _ (items : List Placed) where
   -- ---- counters
 
   -- a counter's place, and what it counts
-  pub counter_put : (one : Tallying) (a b c : Code) (n m : ℕ) (o p : List Entry) (old new : List ℕ) → b ≡ joined a (reference_piece items one.counter a)
+  pub counter_put : (one : Tallying) (a b c : Code) (n m : ℕ) (o p : List Entry) (old new : List ℕ) → b ≡ append a (reference_fragment items one.counter a)
       → Puts items (counter_entries one) b c n o m p → new ≡ old ++ length (counter_entries one) ∷ []
       → Counts items (one ∷ []) a c n o m p old new
   counter_put one a b c n m o p old new place made counted =
@@ -207,7 +207,7 @@ module _ (items : List Placed) where
       }
 
   -- how many entries it has
-  pub put_count : (all : List Inspected) (a b : Code) (n m : ℕ) (o p : List Entry) → Puts items all a b n o m p → length p - length o ≡ length all
+  pub put_count : (all : List InspectEntry) (a b : Code) (n m : ℕ) (o p : List Entry) → Puts items all a b n o m p → length p - length o ≡ length all
   put_count all a b n m o p made =
       let long = ap length made.entries in
       let sum = length-append o (entries_at items n all) in
@@ -247,13 +247,13 @@ module _ (items : List Placed) where
 
   -- ---- the whole
 
-  pub inspect_made : (one : Inspecting) (a b c d e : Code) (n k : ℕ) (counts others : List ℕ) (o p r q : List Entry) → b ≡ joined a (reference_piece items one.subject a)
+  pub inspect_made : (one : InspectStatement) (a b c d e : Code) (n k : ℕ) (counts others : List ℕ) (o p r q : List Entry) → b ≡ append a (reference_fragment items one.subject a)
       → others ≡ [] → o ≡ [] → r ≡ [] → Counts items one.tallying b c 0 o n p others counts → Puts items (all_replaced items one) c d n r k q
-      → e ≡ joined d (inspection_piece (record { size = k; counters = counts; tallying = p; replacing = q }) d) → e ≡ joined a (inspect_piece items one a)
+      → e ≡ append d (inspection_fragment (record { size = k; counters = counts; tallying = p; replacing = q }) d) → e ≡ append a (inspect_fragment items one a)
   inspect_made one a b c d e n k counts others o p r q subject none_counted none_tallied none_replaced tallying replacing last =
       let tallied = tallying_takings one.tallying in
       let texts = map Text (entries_texts (all_replaced items one)) in
-      let parts = takings_piece items (takings items one) in
+      let parts = takings_fragment items (takings items one) in
       let taken = takes_both tallied texts b c d tallying.code replacing.code in
       let behind : n ≡ tallied_size items one = omega (arith, tallying.sizes) in
       let whole = inspected_whole items one in
@@ -262,5 +262,5 @@ module _ (items : List Placed) where
       (tallying.counts ∙ ap (λ l. l ++ entry_counts one.tallying) none_counted)
       (tallying.entries ∙ ap (λ l. l ++ entry.tallying) none_tallied)
       (replacing.entries ∙ ap (λ l. l ++ entries_at items n (all_replaced items one)) none_replaced ∙ ap (λ s. entries_at items s (all_replaced items one)) behind) in
-      then_piece (reference_piece items one.subject) (both parts (inspection_piece entry)) a b e subject
-      (then_piece parts (inspection_piece entry) b d e taken (last ∙ ap (λ (i : Inspection). joined d (inspection_piece i d)) same))
+      then_piece (reference_fragment items one.subject) (sequence parts (inspection_fragment entry)) a b e subject
+      (then_piece parts (inspection_fragment entry) b d e taken (last ∙ ap (λ (i : Inspection). append d (inspection_fragment i d)) same))

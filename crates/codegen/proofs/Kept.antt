@@ -7,44 +7,44 @@ use Rattle.lexical.specs.declared.place.Place.{Place}
 use Rattle.source_tree.specs.declared.literal.Integer.{Integer}
 use Rattle.source_tree.specs.declared.reference.Reference.{Reference}
 use Rattle.source_tree.specs.declared.arithmetic.Receiver.{Receiver}
-use Rattle.source_tree.specs.Broken.{Broken, where_so, each}
-use Rattle.source_tree.specs.NameRules.{is_integer, integer_rules, subscript_rules, item_rules}
-use Rattle.source_tree.specs.Places.{Placed}
+use Rattle.source_tree.specs.Broken.{RuleBreach, where_so, each}
+use Rattle.source_tree.specs.NameRules.{is_integer, integer_rules, subscript_rules, reference_rules}
+use Rattle.source_tree.specs.Places.{LocatedItem}
 
-pub front_kept : (xs ys : List Broken) → xs ++ ys ≡ [] → xs ≡ []
+pub front_kept : (xs ys : List RuleBreach) → xs ++ ys ≡ [] → xs ≡ []
 front_kept [] ys e = refl
 front_kept (x ∷ xs) ys e = cc
 
-pub back_kept : (xs ys : List Broken) → xs ++ ys ≡ [] → ys ≡ []
+pub back_kept : (xs ys : List RuleBreach) → xs ++ ys ≡ [] → ys ≡ []
 back_kept [] ys e = e
 back_kept (x ∷ xs) ys e = cc
 
-pub both_kept : (xs ys : List Broken) → xs ≡ [] → ys ≡ [] → xs ++ ys ≡ []
+pub both_kept : (xs ys : List RuleBreach) → xs ≡ [] → ys ≡ [] → xs ++ ys ≡ []
 both_kept [] ys e f = f
 both_kept (x ∷ xs) ys e f = cc
 
-pub one_kept : {A : Type 0} (rules : A → List Broken) (all : List A) (i : ℕ) (d : A) → i < length all → each rules all ≡ [] → rules (get_or all i d) ≡ []
+pub one_kept : {A : Type 0} (rules : A → List RuleBreach) (all : List A) (i : ℕ) (d : A) → i < length all → each rules all ≡ [] → rules (get_or all i d) ≡ []
 one_kept rules [] i d lt e = absurd (omega arith)
 one_kept rules (one ∷ more) zero d lt e = front_kept (rules one) (each rules more) e
 one_kept rules (one ∷ more) (suc i) d lt e = one_kept rules more i d (omega arith) (back_kept (rules one) (each rules more) e)
 
 -- the subscripts of references whose items keep their rules
-pub subscripts_kept : (items : List Placed) (asked : Place → Placed → List Broken) (all : List Reference) → each (item_rules items asked) all ≡ []
+pub subscripts_kept : (items : List LocatedItem) (asked : Place → LocatedItem → List RuleBreach) (all : List Reference) → each (reference_rules items asked) all ≡ []
     → each (λ (one : Reference). each (subscript_rules items) one.subscripts) all ≡ []
 subscripts_kept items asked [] e = refl
 subscripts_kept items asked (one ∷ more) e =
     both_kept (each (subscript_rules items) one.subscripts) (each (λ (r : Reference). each (subscript_rules items) r.subscripts) more)
-    (back_kept _ _ (front_kept (item_rules items asked one) (each (item_rules items asked) more) e))
-    (subscripts_kept items asked more (back_kept (item_rules items asked one) (each (item_rules items asked) more) e))
+    (back_kept _ _ (front_kept (reference_rules items asked one) (each (reference_rules items asked) more) e))
+    (subscripts_kept items asked more (back_kept (reference_rules items asked one) (each (reference_rules items asked) more) e))
 
 -- the subscripts of a reference whose item keeps its rules
-pub item_kept : (items : List Placed) (asked : Place → Placed → List Broken) (one : Reference) → item_rules items asked one ≡ [] → each (subscript_rules items) one.subscripts ≡ []
+pub item_kept : (items : List LocatedItem) (asked : Place → LocatedItem → List RuleBreach) (one : Reference) → reference_rules items asked one ≡ [] → each (subscript_rules items) one.subscripts ≡ []
 item_kept items asked one e = back_kept _ _ e
 
 -- those of one of the receivers of an arithmetic statement
-pub receiver_kept : (items : List Placed) (asked : Place → Placed → List Broken) (all : List Receiver) (i : ℕ) (d : Receiver) → i < length all
-    → each (λ (one : Receiver). item_rules items asked one.item) all ≡ [] → each (subscript_rules items) (get_or all i d).item.subscripts ≡ []
-receiver_kept items asked all i d lt e = item_kept items asked (get_or all i d).item (one_kept (λ (one : Receiver). item_rules items asked one.item) all i d lt e)
+pub receiver_kept : (items : List LocatedItem) (asked : Place → LocatedItem → List RuleBreach) (all : List Receiver) (i : ℕ) (d : Receiver) → i < length all
+    → each (λ (one : Receiver). reference_rules items asked one.item) all ≡ [] → each (subscript_rules items) (get_or all i d).item.subscripts ≡ []
+receiver_kept items asked all i d lt e = item_kept items asked (get_or all i d).item (one_kept (λ (one : Receiver). reference_rules items asked one.item) all i d lt e)
 
 -- ---- integers
 

@@ -7,9 +7,9 @@ use Rattle.source_tree.specs.Procedures.{Range}
 use Rattle.code_image.specs.declared.code.Code.{Code}
 use Rattle.code_image.specs.declared.instruction.Instruction.{Instruction}
 use Rattle.code_image.specs.declared.instruction.Instruction.TheVariants.{Tick, Show, Stop, Count, CountNumber, Turn, Accept, Date, Branch, Jump, Join, Perform, Back, File, TestStatus, Unheard, Data}
-use Rattle.code_image.specs.Demands.{NamesCounter, UsesBudget, IsJoin, ends, ends_in, paragraph_at, Stays, LeadsOn, LeadsBack, Leads, AllLead}
-use Rattle.codegen.specs.Pieces.{Piece, nothing, joined, both, plain}
-use Rattle.codegen.specs.Meeting.{branch_code, jump_code, join_code, either_piece}
+use Rattle.code_image.specs.Demands.{NamesCounter, UsesBudget, IsJoin, back_count, ends_in, paragraph_at, Stays, LeadsOn, JumpsBack, HasValidTargets, AllLead}
+use Rattle.codegen.specs.Pieces.{Fragment, empty_code, append, sequence, plain_code}
+use Rattle.codegen.specs.Meeting.{branch_code, jump_code, join_code, either_fragment}
 use Rattle.codegen.proofs.Standing.{at_seam}
 use Rattle.codegen.proofs.Blind.{Blind}
 use Rattle.codegen.proofs.Either.{either_laid}
@@ -45,8 +45,8 @@ pub ends_append : (xs ys : List Instruction) → ends_in (xs ++ ys) ≡ ends_in 
 ends_append [] ys = let e : 0 + ends_in ys ≡ ends_in ys = omega arith in sym e
 ends_append (x ∷ xs) ys =
     let h = ends_append xs ys in
-    let e : ends x + (ends_in xs + ends_in ys) ≡ (ends x + ends_in xs) + ends_in ys = omega arith in
-    ap (λ n. ends x + n) h ∙ e
+    let e : back_count x + (ends_in xs + ends_in ys) ≡ (back_count x + ends_in xs) + ends_in ys = omega arith in
+    ap (λ n. back_count x + n) h ∙ e
 
 pub none_end : (xs ys : List Instruction) → ends_in xs ≡ 0 → ends_in ys ≡ 0 → ends_in (xs ++ ys) ≡ 0
 none_end xs ys e f = omega (arith, e, f, ends_append xs ys)
@@ -64,8 +64,8 @@ taken_behind [] ys k =
     ap (λ n. ends_in (take n ys)) e ∙ sym f
 taken_behind (x ∷ xs) ys k =
     let e : length (x ∷ xs) + k ≡ suc (length xs + k) = omega arith in
-    let f : ends x + (ends_in xs + ends_in (take k ys)) ≡ (ends x + ends_in xs) + ends_in (take k ys) = omega arith in
-    ap (λ n. ends_in (take n (x ∷ (xs ++ ys)))) e ∙ ap (λ n. ends x + n) (taken_behind xs ys k) ∙ f
+    let f : back_count x + (ends_in xs + ends_in (take k ys)) ≡ (back_count x + ends_in xs) + ends_in (take k ys) = omega arith in
+    ap (λ n. ends_in (take n (x ∷ (xs ++ ys)))) e ∙ ap (λ n. back_count x + n) (taken_behind xs ys k) ∙ f
 
 taken_front : (xs ys : List Instruction) (k : ℕ) → k ≤ length xs → take k (xs ++ ys) ≡ take k xs
 taken_front xs ys zero le = refl
@@ -95,7 +95,7 @@ stays_within whole xs ys address to is none from le =
 -- the ways of these instructions, which stand in the whole from this address on, lead where they may
 abbrev pub LeadsFrom : List Instruction → ℕ → List Instruction → Type 0
 LeadsFrom whole address [] = Unit {0}
-LeadsFrom whole address (i ∷ is) = Leads whole address (Some i) × LeadsFrom whole (address + 1) is
+LeadsFrom whole address (i ∷ is) = HasValidTargets whole address (Some i) × LeadsFrom whole (address + 1) is
 
 -- what stands at an address stays there, whatever comes behind
 pub found_stays : (P : Option Instruction → Type 0) → (P None → ⊥) → (xs ys : List Instruction) (k : ℕ) → P (slice_get xs k)
@@ -121,7 +121,7 @@ on_stays xs ys address to from h =
       stays = way_within xs ys address to from (omega (arith, le)) h.stays;
     }
 
-back_stays : (xs ys : List Instruction) (address to : ℕ) → address ≤ length xs → LeadsBack xs address to → LeadsBack (xs ++ ys) address to
+back_stays : (xs ys : List Instruction) (address to : ℕ) → address ≤ length xs → JumpsBack xs address to → JumpsBack (xs ++ ys) address to
 back_stays xs ys address to from h =
     let le = found_within UsesBudget (λ none. none) xs to h.budget in
     record {
@@ -130,12 +130,12 @@ back_stays xs ys address to from h =
       stays = way_within xs ys address to from (omega (arith, le)) h.stays;
     }
 
-way_stays : (xs ys : List Instruction) (address to : ℕ) → address ≤ length xs → LeadsOn xs address to ⊎ LeadsBack xs address to
-    → LeadsOn (xs ++ ys) address to ⊎ LeadsBack (xs ++ ys) address to
+way_stays : (xs ys : List Instruction) (address to : ℕ) → address ≤ length xs → LeadsOn xs address to ⊎ JumpsBack xs address to
+    → LeadsOn (xs ++ ys) address to ⊎ JumpsBack (xs ++ ys) address to
 way_stays xs ys address to from h = ⊎_elim (λ on. inl (on_stays xs ys address to from on)) (λ back. inr (back_stays xs ys address to from back)) h
 
-leads_stay : (xs ys : List Instruction) (address : ℕ) (i : Instruction) → address ≤ length xs → Leads xs address (Some i)
-    → Leads (xs ++ ys) address (Some i)
+leads_stay : (xs ys : List Instruction) (address : ℕ) (i : Instruction) → address ≤ length xs → HasValidTargets xs address (Some i)
+    → HasValidTargets (xs ++ ys) address (Some i)
 leads_stay xs ys address (Tick line) from h = tt
 leads_stay xs ys address Show from h = tt
 leads_stay xs ys address Stop from h = tt
@@ -167,15 +167,15 @@ both_lead whole address (x ∷ xs) ys a b =
     (a.0, both_lead whole (address + 1) xs ys a.1 (subst (λ p. LeadsFrom whole p ys) e b))
 
 leads_at : (whole : List Instruction) (address : ℕ) (is : List Instruction) → LeadsFrom whole address is → (k : ℕ)
-    → Leads whole (address + k) (slice_get is k)
+    → HasValidTargets whole (address + k) (slice_get is k)
 leads_at whole address [] h k = tt
-leads_at whole address (i ∷ is) h zero = let e : address ≡ address + 0 = omega arith in subst (λ p. Leads whole p (Some i)) e h.0
+leads_at whole address (i ∷ is) h zero = let e : address ≡ address + 0 = omega arith in subst (λ p. HasValidTargets whole p (Some i)) e h.0
 leads_at whole address (i ∷ is) h (suc k) =
-    let e : address + 1 + k ≡ address + suc k = omega arith in subst (λ p. Leads whole p (slice_get is k)) e (leads_at whole (address + 1) is h.1 k)
+    let e : address + 1 + k ≡ address + suc k = omega arith in subst (λ p. HasValidTargets whole p (slice_get is k)) e (leads_at whole (address + 1) is h.1 k)
 
 pub all_lead : (whole : List Instruction) → LeadsFrom whole 0 whole → AllLead whole
 all_lead whole h =
-    λ address within. let e : 0 + address ≡ address = omega arith in subst (λ p. Leads whole p (slice_get whole address)) e
+    λ address within. let e : 0 + address ≡ address = omega arith in subst (λ p. HasValidTargets whole p (slice_get whole address)) e
     (leads_at whole 0 whole h address)
 
 -- ---- parts
@@ -190,7 +190,7 @@ pub record Names (before part : Code) : Type 0 where
   pub senders : AllByRecursion IsSent part.tables.senders
   pub inspections : AllByRecursion IsInspection part.tables.inspections
 
-pub both_name : (before a b : Code) → Names before a → Names (joined before a) b → Names before (joined a b)
+pub both_name : (before a b : Code) → Names before a → Names (append before a) b → Names before (append a b)
 both_name before a b f s =
     let i1 = length-append before.instructions a.instructions in
     let i2 = length-append a.instructions b.instructions in
@@ -211,7 +211,7 @@ both_name before a b f s =
 
 -- instructions that name nothing new
 pub plain_names : (before : Code) (all : List Instruction) → AllByRecursion (NamesCounter (length before.instructions + length all)) all
-    → Names before (plain all)
+    → Names before (plain_code all)
 plain_names before all counters = record { counters = counters; areas = refl; items = refl; files = refl; senders = tt; inspections = tt }
 
 -- What is asked of ranges that are performed, and of the verbs of file statements, by the numbers of their files.
@@ -281,7 +281,7 @@ names_none n (File file verb) h = absurd h
 names_none n (TestStatus class) h = absurd h
 names_none n Unheard h = absurd h
 
-leads_nowhere : (whole : List Instruction) (address : ℕ) (one : Instruction) → IsStraight one → Leads whole address (Some one)
+leads_nowhere : (whole : List Instruction) (address : ℕ) (one : Instruction) → IsStraight one → HasValidTargets whole address (Some one)
 leads_nowhere whole address (Data one) h = tt
 leads_nowhere whole address Show h = tt
 leads_nowhere whole address Accept h = tt
@@ -300,7 +300,7 @@ leads_nowhere whole address (File file verb) h = absurd h
 leads_nowhere whole address (TestStatus class) h = absurd h
 leads_nowhere whole address Unheard h = absurd h
 
-ends_nowhere : (one : Instruction) → IsStraight one → ends one ≡ 0
+ends_nowhere : (one : Instruction) → IsStraight one → back_count one ≡ 0
 ends_nowhere (Data one) h = refl
 ends_nowhere Show h = refl
 ends_nowhere Accept h = refl
@@ -350,7 +350,7 @@ straight_none (one ∷ more) h =
     omega (arith, e, f)
 
 module _ (Q : Asks) where
-  pub both_meet : (before a b : Code) → Meets Q before a → Meets Q (joined before a) b → Meets Q before (joined a b)
+  pub both_meet : (before a b : Code) → Meets Q before a → Meets Q (append before a) b → Meets Q before (append a b)
   both_meet before a b f s = record {
     names = both_name before a b f.names s.names;
     leads = both_ways before a b f.leads s.leads;
@@ -359,7 +359,7 @@ module _ (Q : Asks) where
     performs = all_both (PerformsOnly Q) a.instructions b.instructions f.performs s.performs;
   }
 
-  pub nothing_meets : (before : Code) → Meets Q before nothing
+  pub nothing_meets : (before : Code) → Meets Q before empty_code
   nothing_meets before = record { names = plain_names before [] tt; leads = tt; starts = refl; none = refl; performs = tt }
 
   pub straight_meets : (before part : Code) → Straight part → Meets Q before part
@@ -382,24 +382,24 @@ module _ (Q : Asks) where
   -- ---- branches
 
   -- The branch leads behind the first `join`, and the jump behind the last one.
-  laid_meets : (first second : Piece) (before : Code) (other end : ℕ)
-      → (let inner = joined before (branch_code other) in let outer = joined (joined inner (first inner)) (jump_code end) in
+  laid_meets : (first second : Fragment) (before : Code) (other end : ℕ)
+      → (let inner = append before (branch_code other) in let outer = append (append inner (first inner)) (jump_code end) in
       Meets Q inner (first inner) → Meets Q outer (second outer) → other ≡ length outer.instructions
-      → end ≡ length (joined outer (second outer)).instructions + 1
-      → Meets Q before (both (λ now. branch_code other) (both first (both (λ now. jump_code end) (both second (λ now. join_code)))) before))
+      → end ≡ length (append outer (second outer)).instructions + 1
+      → Meets Q before (sequence (λ now. branch_code other) (sequence first (sequence (λ now. jump_code end) (sequence second (λ now. join_code)))) before))
   laid_meets first second before other end one two other_is end_is =
       let branch = branch_code other in
-      let inner = joined before branch in
+      let inner = append before branch in
       let x = first inner in
-      let middle = joined inner x in
+      let middle = append inner x in
       let jump = jump_code end in
-      let outer = joined middle jump in
+      let outer = append middle jump in
       let y = second outer in
-      let last = joined outer y in
-      let r3 = joined y join_code in
-      let r2 = joined jump r3 in
-      let r1 = joined x r2 in
-      let whole = (joined before (joined branch r1)).instructions in
+      let last = append outer y in
+      let r3 = append y join_code in
+      let r2 = append jump r3 in
+      let r1 = append x r2 in
+      let whole = (append before (append branch r1)).instructions in
       let w1 : inner.instructions ++ r1.instructions ≡ whole = append_assoc before.instructions branch.instructions r1.instructions in
       let w2 : middle.instructions ++ r2.instructions ≡ whole = append_assoc inner.instructions x.instructions r2.instructions ∙ w1 in
       let w3 : outer.instructions ++ r3.instructions ≡ whole = append_assoc middle.instructions jump.instructions r3.instructions ∙ w2 in
@@ -464,17 +464,17 @@ module _ (Q : Asks) where
       }
 
   -- The first way may rely on what stands before the branch.
-  pub branch_meets : (first second : Piece) → Blind first → Blind second → (before : Code)
+  pub branch_meets : (first second : Fragment) → Blind first → Blind second → (before : Code)
       → ((now : Code) → length before.instructions ≤ length now.instructions → Meets Q now (first now))
-      → ((now : Code) → Meets Q now (second now)) → Meets Q before (either_piece first second before)
+      → ((now : Code) → Meets Q now (second now)) → Meets Q before (either_fragment first second before)
   branch_meets first second f g before one_met two_met =
       let l = either_laid first second f g before in
-      let inner = joined before (branch_code l.other) in
-      let outer = joined (joined inner (first inner)) (jump_code l.end) in
+      let inner = append before (branch_code l.other) in
+      let outer = append (append inner (first inner)) (jump_code l.end) in
       let l1 = length-append before.instructions (branch_code l.other).instructions in
       subst (Meets Q before) (sym l.is)
       (laid_meets first second before l.other l.end (one_met inner (omega (arith, l1))) (two_met outer) l.other_is l.end_is)
 
-  pub either_meets : (first second : Piece) → Blind first → Blind second → ((now : Code) → Meets Q now (first now))
-      → ((now : Code) → Meets Q now (second now)) → (before : Code) → Meets Q before (either_piece first second before)
+  pub either_meets : (first second : Fragment) → Blind first → Blind second → ((now : Code) → Meets Q now (first now))
+      → ((now : Code) → Meets Q now (second now)) → (before : Code) → Meets Q before (either_fragment first second before)
   either_meets first second f g one_met two_met before = branch_meets first second f g before (λ now behind. one_met now) two_met

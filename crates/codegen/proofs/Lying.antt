@@ -11,12 +11,12 @@ use Rattle.source_tree.specs.declared.arithmetic.Receiver.{Receiver}
 use Rattle.source_tree.specs.declared.arithmetic.Operation.{Operation}
 use Rattle.source_tree.specs.declared.arithmetic.Operation.TheVariants.{Add, AddGiving, Subtract, SubtractGiving, Multiply, MultiplyGiving, Divide, DivideGiving, DivideRemainder, Compute}
 use Rattle.source_tree.specs.ArithmeticRules.{numeric_item, number_receiver, number_rules, updated_rules, given_rules, expression_rules, operation_rules}
-use Rattle.source_tree.specs.Broken.{Broken, each}
+use Rattle.source_tree.specs.Broken.{RuleBreach, each}
 use Rattle.source_tree.specs.Literals.{literal_sender}
 use Rattle.source_tree.specs.LookUp.{items_named, first}
 use Rattle.source_tree.specs.MoveRules.{may_move, only_item, sent_by, receives}
-use Rattle.source_tree.specs.NameRules.{item_rules, any_item, operand_rules}
-use Rattle.source_tree.specs.Places.{Placed}
+use Rattle.source_tree.specs.NameRules.{reference_rules, any_item, operand_rules}
+use Rattle.source_tree.specs.Places.{LocatedItem}
 use Rattle.source_tree.specs.TextRules.{shown_rules, display_rules}
 use Rattle.data_instructions.specs.Codes.{data_item}
 use Rattle.data_instructions.specs.Chains.{LiesWhole, LiesAll, ShowsAll, SendsAs, MayReceive, MayReceiveEach}
@@ -26,15 +26,15 @@ use Rattle.codegen.specs.DataCode.{item_number}
 use Rattle.codegen.proofs.Codes.{left_none, right_none, item_there, keeps}
 use Rattle.codegen.proofs.Integers.{kept, not_false}
 
-module _ (items : List Placed) (whole : Code) (entries : (n : ℕ) (one : Placed) → slice_get items n ≡ Some one → slice_get whole.tables.items n ≡ Some (data_item one))
-    (lie : (n : ℕ) (one : Placed) → slice_get items n ≡ Some one → LiesWhole whole.tables one) where
-  the_only : (one : Reference) (found other : Placed) → items_named items one.item ≡ found ∷ [] → first (items_named items one.item) ≡ Some other → found ≡ other
+module _ (items : List LocatedItem) (whole : Code) (entries : (n : ℕ) (one : LocatedItem) → slice_get items n ≡ Some one → slice_get whole.tables.items n ≡ Some (data_item one))
+    (lie : (n : ℕ) (one : LocatedItem) → slice_get items n ≡ Some one → LiesWhole whole.tables one) where
+  the_only : (one : Reference) (found other : LocatedItem) → items_named items one.item ≡ found ∷ [] → first (items_named items one.item) ≡ Some other → found ≡ other
   the_only one found other named is = same (sym (ap first named) ∙ is)
     where
       same : Some found ≡ Some other → found ≡ other
       same e = cc
 
-  pub lies_all : (asked : Place → Placed → List Broken) (one : Reference) → item_rules items asked one ≡ [] → LiesAll items whole.tables one
+  pub lies_all : (asked : Place → LocatedItem → List RuleBreach) (one : Reference) → reference_rules items asked one ≡ [] → LiesAll items whole.tables one
   lies_all asked one e = λ found is.
       let k = keeps items whole entries asked one e in
       subst (LiesWhole whole.tables) (the_only one k.found found k.named is) (lie (item_number items one.item) k.found (item_there items one.item k.found k.named))
@@ -42,7 +42,7 @@ module _ (items : List Placed) (whole : Code) (entries : (n : ℕ) (one : Placed
   pub shows_all : (all : List Operand) → display_rules items all ≡ [] → ShowsAll items whole.tables all
   shows_all [] e = tt
   shows_all (operand.Item one ∷ more) e =
-      let one_rules = item_rules items any_item one in
+      let one_rules = reference_rules items any_item one in
       (lies_all any_item one (left_none one_rules (each (shown_rules items) more) e), shows_all more (right_none one_rules (each (shown_rules items) more) e))
   shows_all (operand.Literal one ∷ more) e = shows_all more (right_none (shown_rules items (operand.Literal one)) (each (shown_rules items) more) e)
 
@@ -58,24 +58,24 @@ module _ (items : List Placed) (whole : Code) (entries : (n : ℕ) (one : Placed
       record {
         sent = t.Item k.found.item;
         is = ap only_item k.named;
-        sends_as = (lies_all any_item one e, λ found is. ap (λ (p : Placed). t.Item p.item) (sym (the_only one k.found found k.named is)));
+        sends_as = (lies_all any_item one e, λ found is. ap (λ (p : LocatedItem). t.Item p.item) (sym (the_only one k.found found k.named is)));
       }
   sends (operand.Literal one) e = record { sent = (literal_sender one.value).taken; is = refl; sends_as = refl }
 
-  pub receives_one : (sent : Taken) (one : Reference) → item_rules items (receives (Some sent)) one ≡ [] → MayReceive items whole.tables sent one
+  pub receives_one : (sent : Taken) (one : Reference) → reference_rules items (receives (Some sent)) one ≡ [] → MayReceive items whole.tables sent one
   receives_one sent one e =
       let k = keeps items whole entries (receives (Some sent)) one e in (
         lies_all (receives (Some sent)) one e,
         λ found is.
-            subst (λ (p : Placed). may_move sent p.item ≡ true) (the_only one k.found found k.named is)
+            subst (λ (p : LocatedItem). may_move sent p.item ≡ true) (the_only one k.found found k.named is)
             (not_false (may_move sent k.found.item) (kept (not (may_move sent k.found.item)) 49 one.item.name.place k.asks)),
       )
 
-  pub receive_each : (sent : Taken) (all : List Reference) → each (item_rules items (receives (Some sent))) all ≡ [] → MayReceiveEach items whole.tables sent all
+  pub receive_each : (sent : Taken) (all : List Reference) → each (reference_rules items (receives (Some sent))) all ≡ [] → MayReceiveEach items whole.tables sent all
   receive_each sent [] e = tt
   receive_each sent (one ∷ more) e =
-      let one_rules = item_rules items (receives (Some sent)) one in
-      (receives_one sent one (left_none one_rules (each (item_rules items (receives (Some sent))) more) e), receive_each sent more (right_none one_rules (each (item_rules items (receives (Some sent))) more) e))
+      let one_rules = reference_rules items (receives (Some sent)) one in
+      (receives_one sent one (left_none one_rules (each (reference_rules items (receives (Some sent))) more) e), receive_each sent more (right_none one_rules (each (reference_rules items (receives (Some sent))) more) e))
 
   -- ---- arithmetic statements
 
@@ -88,10 +88,10 @@ module _ (items : List Placed) (whole : Code) (entries : (n : ℕ) (one : Placed
   lie_operands (one ∷ more) e =
       (lies_operand one (left_none (number_rules items one) (each (number_rules items) more) e), lie_operands more (right_none (number_rules items one) (each (number_rules items) more) e))
 
-  lie_receivers : (asked : Place → Placed → List Broken) (all : List Receiver) → each (λ (one : Receiver). item_rules items asked one.item) all ≡ [] → LieReceivers items whole.tables all
+  lie_receivers : (asked : Place → LocatedItem → List RuleBreach) (all : List Receiver) → each (λ (one : Receiver). reference_rules items asked one.item) all ≡ [] → LieReceivers items whole.tables all
   lie_receivers asked [] e = tt
   lie_receivers asked (one ∷ more) e =
-      let rules = λ (one : Receiver). item_rules items asked one.item in
+      let rules = λ (one : Receiver). reference_rules items asked one.item in
       (lies_all asked one.item (left_none (rules one) (each rules more) e), lie_receivers asked more (right_none (rules one) (each rules more) e))
 
   pub lies_operation : (one : Operation) → operation_rules items one ≡ [] → LiesOperation items whole.tables one
@@ -136,8 +136,8 @@ module _ (items : List Placed) (whole : Code) (entries : (n : ℕ) (one : Placed
   lies_operation (DivideRemainder one order two quotient remainder) e =
       let a = number_rules items one in
       let b = number_rules items two in
-      let c = item_rules items number_receiver quotient.item in
-      let d = item_rules items number_receiver remainder in
+      let c = reference_rules items number_receiver quotient.item in
+      let d = reference_rules items number_receiver remainder in
       let f = left_none (a ++ b ++ c) d e in
       let g = left_none (a ++ b) c f in
       (lies_operand one (left_none a b g), lies_operand two (right_none a b g), lies_all number_receiver quotient.item (right_none (a ++ b) c f), lies_all number_receiver remainder (right_none (a ++ b ++ c) d e))

@@ -6,17 +6,17 @@ use Rattle.std.proofs.lemmas.List.{length-replicate}
 use Rattle.std.proofs.lemmas.List.Elements.{All-from_recursion, recursion_from_All}
 use Rattle.std.proofs.lemmas.Option.{same_Some}
 use Rattle.lexical.specs.declared.place.Place.{Place}
-use Rattle.perform_order.specs.declared.performed.PerformedRange.{PerformedRange}
-use Rattle.perform_order.specs.Order.{Falls, heights}
+use Rattle.perform_graph.specs.declared.performed.PerformedRange.{PerformedRange}
+use Rattle.perform_graph.specs.Order.{Decreases, rank_in}
 use Rattle.source_tree.specs.declared.name.Name.{Name}
 use Rattle.source_tree.specs.declared.program.Program.{Program}
 use Rattle.source_tree.specs.declared.program.Sentence.{Sentence}
 use Rattle.source_tree.specs.declared.program.Paragraph.{Paragraph}
-use Rattle.source_tree.specs.Broken.{Broken, each}
-use Rattle.source_tree.specs.Given.{Given}
+use Rattle.source_tree.specs.Broken.{RuleBreach, each}
+use Rattle.source_tree.specs.Given.{RunInput}
 use Rattle.source_tree.specs.PerformRules.{range_rules}
 use Rattle.source_tree.specs.Procedures.{Range, Procedure, range_of}
-use Rattle.source_tree.specs.Recursion.{Performance, each_performs, statement_performs, sentence_performs, paragraph_performs, performed_in, by_paragraph, performs_from, performs, performed, HasOrder}
+use Rattle.source_tree.specs.Recursion.{Performance, each_performs, statement_performs, sentence_performs, paragraph_performs, performed_in, by_paragraph, performs_from, performs, performed_by_program, HasOrder}
 use Rattle.source_tree.specs.Rules.{statement_rules, sentence_rules, paragraph_rules, all_permitted, program_rules}
 use Rattle.source_tree.specs.Setting.{Scope, scope, paragraphs}
 use Rattle.source_tree.specs.State.{State}
@@ -24,13 +24,13 @@ use Rattle.source_tree.specs.Storage.{Storage}
 use Rattle.source_tree.specs.Meaning.{closed_connectors, start, meaning}
 use Rattle.source_tree.specs.Records.{storage_areas}
 use Rattle.declarations.proofs.Permitted.{permitted_kept}
-use Rattle.records.specs.Connector.{Connector, closed}
-use Rattle.file_tables.specs.declared.file.CodeFile.{CodeFile}
+use Rattle.records.specs.Connector.{Connector, closed_connector}
+use Rattle.file_image.specs.declared.file.CodeFile.{CodeFile}
 use Rattle.code_image.specs.declared.code.Code.{Code}
 use Rattle.code_image.specs.Points.{nothing_own, all_closed, start_state}
 use Rattle.code_image.specs.Table.{exec_code, Runs}
-use Rattle.codegen.specs.Pieces.{nothing, joined, in_order}
-use Rattle.codegen.specs.Layout.{section_piece, paragraph_piece, end_piece, storage_code, code_of}
+use Rattle.codegen.specs.Pieces.{empty_code, append, in_order}
+use Rattle.codegen.specs.Layout.{section_fragment, paragraph_fragment, end_fragment, storage_code, code_of}
 use Rattle.codegen.proofs.Codes.{left_none, right_none}
 use Rattle.codegen.proofs.CodeFiles.{kept_at}
 use Rattle.codegen.proofs.Demands.{all_front, all_back, paragraph_meets}
@@ -49,7 +49,7 @@ module _ (found : Scope) (permits : Range → Bool) where
   abbrev MayBe : Performance → Type 0
   MayBe one = permits one.range ≡ true
 
-  each_permitted : {A : Type 0} (rules others : A → List Broken) (performing : A → List Performance)
+  each_permitted : {A : Type 0} (rules others : A → List RuleBreach) (performing : A → List Performance)
       → ((one : A) → others one ≡ [] → AllByRecursion MayBe (performing one) → rules one ≡ [])
       → (all : List A) → each others all ≡ [] → AllByRecursion MayBe (each_performs performing all) → each rules all ≡ []
   each_permitted rules others performing one_is [] e h = refl
@@ -80,26 +80,26 @@ mapped_all P f (x ∷ xs) h = (h.0, mapped_all P f xs h.1)
 
 module _ (height : ℕ → ℕ) where
   abbrev FallsAt : Place × PerformedRange → Type 0
-  FallsAt one = Falls height one.1
+  FallsAt one = Decreases height one.1
 
   falls_in : (procedures : List Procedure) (all : List Paragraph) (number n m : ℕ) (one : Paragraph)
       → AllByRecursion FallsAt (performs_from procedures number all) → slice_get all n ≡ Some one
-      → m ≡ number + n → AllByRecursion (λ (p : Performance). Falls height (performed_in m p)) (paragraph_performs procedures one)
+      → m ≡ number + n → AllByRecursion (λ (p : Performance). Decreases height (performed_in m p)) (paragraph_performs procedures one)
   falls_in procedures [] number n m one h here is = absurd cc
   falls_in procedures (first ∷ more) number zero m one h here is =
       let performing = paragraph_performs procedures first in
       let front = all_front FallsAt (map (by_paragraph number) performing) (performs_from procedures (number + 1) more) h in
       let same : number ≡ m = omega arith in
-      subst (λ (x : Paragraph). AllByRecursion (λ (p : Performance). Falls height (performed_in m p)) (paragraph_performs procedures x))
+      subst (λ (x : Paragraph). AllByRecursion (λ (p : Performance). Decreases height (performed_in m p)) (paragraph_performs procedures x))
       (same_Some first one here)
-      (subst (λ (k : ℕ). AllByRecursion (λ (p : Performance). Falls height (performed_in k p)) performing) same
+      (subst (λ (k : ℕ). AllByRecursion (λ (p : Performance). Decreases height (performed_in k p)) performing) same
       (mapped_all FallsAt (by_paragraph number) performing front))
   falls_in procedures (first ∷ more) number (suc n) m one h here is =
       falls_in procedures more (number + 1) n m one
       (all_back FallsAt (map (by_paragraph number) (paragraph_performs procedures first)) (performs_from procedures (number + 1) more) h) here
       (omega arith)
 
-  all_lower : (m : ℕ) (xs : List Performance) → AllByRecursion (λ (p : Performance). Falls height (performed_in m p)) xs
+  all_lower : (m : ℕ) (xs : List Performance) → AllByRecursion (λ (p : Performance). Decreases height (performed_in m p)) xs
       → AllByRecursion (λ (p : Performance). below height (height m) p.range ≡ true) xs
   all_lower m [] h = tt
   all_lower m (p ∷ ps) h = (
@@ -124,7 +124,7 @@ module _ (program : Program) (keep : program_rules program ≡ []) (ordered : Ha
   count = length all
 
   abbrev height : ℕ → ℕ
-  height = heights ordered.0
+  height = rank_in ordered.0
 
   abbrev code : Code
   code = code_of program
@@ -137,8 +137,8 @@ module _ (program : Program) (keep : program_rules program ≡ []) (ordered : Ha
 
   all_fall : AllByRecursion (FallsAt height) (performs program)
   all_fall =
-      mapped_all (Falls height) (λ (one : Place × PerformedRange). one.1) (performs program)
-      (recursion_from_All (Falls height) (performed program) ordered.1.fall)
+      mapped_all (Decreases height) (λ (one : Place × PerformedRange). one.1) (performs program)
+      (recursion_from_All (Decreases height) (performed_by_program program) ordered.1.fall)
 
   -- each paragraph performs lower ones alone
   lower_keep : (n : ℕ) (one : Paragraph) → slice_get all n ≡ Some one → paragraph_rules found (below height (height n)) one ≡ []
@@ -162,12 +162,12 @@ module _ (program : Program) (keep : program_rules program ≡ []) (ordered : Ha
         (nothing_asked (paragraph_performs found.procedures one)) code).starts;
   }
 
-  stands : Stands code storage (joined (in_order (paragraph_piece found) all storage) end_piece)
+  stands : Stands code storage (append (in_order (paragraph_fragment found) all storage) end_fragment)
   stands = record {
-    rest = nothing;
-    is = joined_assoc storage (in_order (section_piece found) program.sections storage) end_piece
-        ∙ ap (λ (c : Code). joined storage (joined c end_piece)) (flat found program.sections storage)
-        ∙ sym (joined_nothing (joined storage (joined (in_order (paragraph_piece found) all storage) end_piece)));
+    rest = empty_code;
+    is = joined_assoc storage (in_order (section_fragment found) program.sections storage) end_fragment
+        ∙ ap (λ (c : Code). append storage (append c end_fragment)) (flat found program.sections storage)
+        ∙ sym (joined_nothing (append storage (append (in_order (paragraph_fragment found) all storage) end_fragment)));
   }
 
   laid : Laid code found all
@@ -176,16 +176,16 @@ module _ (program : Program) (keep : program_rules program ≡ []) (ordered : Ha
   -- all files are closed
   connectors_are : all_closed code ≡ closed_connectors program.selects
   connectors_are =
-      ap (map (λ (one : CodeFile). closed)) (files_are program keep)
+      ap (map (λ (one : CodeFile). closed_connector)) (files_are program keep)
       ∙ as_many found.items (storage_areas program.storage) program.files 0 program.selects
 
   -- the code begins with what the program does
-  begins : (given : Given) → start_state code given ≡ start program given
+  begins : (given : RunInput) → start_state code given ≡ start program given
   begins given =
       ap (λ (storage : Storage). record (start_state code given) { storage = storage }) (areas_are program keep)
       ∙ ap (λ (connectors : List Connector). record (start program given) { connectors = connectors }) connectors_are
 
-  pub runs : (given : Given) → Runs code given (meaning program given)
+  pub runs : (given : RunInput) → Runs code given (meaning program given)
   runs given =
       let ended = range_ends code found (has_files program keep) (item_entries program keep) (order program keep) (lies program keep) all laid height lower_keep there
       (suc given.budget) 0 all (nothing_own code) (start program given)

@@ -5,14 +5,14 @@ use Rattle.std.proofs.lemmas.List.{append-nil}
 use Rattle.source_tree.specs.Arithmetic.{is_there}
 use Rattle.source_tree.specs.Setting.{Scope}
 use Rattle.data_instructions.specs.declared.tables.DataTables.{DataTables}
-use Rattle.file_tables.specs.declared.file.CodeFile.{CodeFile}
+use Rattle.file_image.specs.declared.file.CodeFile.{CodeFile}
 use Rattle.code_image.specs.declared.code.Code.{Code}
 use Rattle.code_image.specs.declared.instruction.Instruction.{Instruction}
 use Rattle.code_image.specs.declared.instruction.Instruction.TheVariants.{Branch, Jump, Join}
-use Rattle.codegen.specs.Pieces.{Piece, no_tables, joined_tables, joined}
-use Rattle.codegen.specs.Meeting.{branch_code, jump_code, either_piece}
-use Rattle.codegen.specs.Layout.{phrase_piece, phrases_from}
-use Rattle.codegen.specs.Phrases.{mended, met}
+use Rattle.codegen.specs.Pieces.{Fragment, no_tables, joined_tables, append}
+use Rattle.codegen.specs.Meeting.{branch_code, jump_code, either_fragment}
+use Rattle.codegen.specs.Layout.{phrase_fragment, phrases_from}
+use Rattle.codegen.specs.Phrases.{patched_instructions, patched_code}
 use Rattle.codegen.proofs.Pieces.{tables_assoc, tables_nothing, joined_assoc}
 
 -- an instruction behind others, in another's place
@@ -37,7 +37,7 @@ set_jump branch jump before one behind new at e =
     ∙ append_assoc before (branch ∷ one) (new ∷ Join ∷ behind)
 
 mended_ways : (before one two : List Instruction) → (let middle = before ++ (Branch 0 ∷ (one ++ (Jump 0 ∷ Join ∷ []))) in
-    mended (length before) (length middle) (middle ++ two) ≡ ways (Branch (length middle)) (Jump (length (middle ++ two) + 1)) before one (two ++ Join ∷ []))
+    patched_instructions (length before) (length middle) (middle ++ two) ≡ ways (Branch (length middle)) (Jump (length (middle ++ two) + 1)) before one (two ++ Join ∷ []))
 mended_ways before one two =
     let middle = before ++ (Branch 0 ∷ (one ++ (Jump 0 ∷ Join ∷ []))) in
     let end = length (middle ++ two) + 1 in
@@ -47,12 +47,12 @@ mended_ways before one two =
     ∙ ap (λ l. slice_set l (length middle - 2) (Jump end)) (set_branch (Branch 0) (Jump 0) before one (two ++ Join ∷ []) (Branch (length middle)))
     ∙ set_jump (Branch (length middle)) (Jump 0) before one (two ++ Join ∷ []) (Jump end) (length middle - 2) count
 
-module _ (first second : Piece) (before : Code) where
+module _ (first second : Fragment) (before : Code) where
   abbrev way_one : Code
-  way_one = first (joined before (branch_code 0))
+  way_one = first (append before (branch_code 0))
 
   abbrev middle_code : Code
-  middle_code = joined before (joined (branch_code 0) (joined way_one (jump_code 0)))
+  middle_code = append before (append (branch_code 0) (append way_one (jump_code 0)))
 
   abbrev way_two : Code
   way_two = second middle_code
@@ -75,29 +75,29 @@ module _ (first second : Piece) (before : Code) where
   same_code a b f g s t i j p q r u = cc
 
   -- the code of both, with the way of each
-  pub ways_meet : met (length before.instructions) (length middle_code.instructions) (joined middle_code way_two) ≡ joined before (either_piece first second before)
+  pub ways_meet : patched_code (length before.instructions) (length middle_code.instructions) (append middle_code way_two) ≡ append before (either_fragment first second before)
   ways_meet =
       same_code _ _ _ _ _ _ _ _ tables_meet (lists_meet before.files way_one.files way_two.files)
       (lists_meet before.starts way_one.starts way_two.starts) (mended_ways before.instructions way_one.instructions way_two.instructions)
 
 -- The same of code that was put together step by step.
-pub meeting : (first second : Piece) (before begun one middle two end : Code) (branch other : ℕ)
-    → begun ≡ joined before (branch_code 0) → branch ≡ length before.instructions → one ≡ joined begun (first begun) → middle ≡ joined one (jump_code 0)
-    → other ≡ length one.instructions + 2 → two ≡ joined middle (second middle) → end ≡ met branch other two → end ≡ joined before (either_piece first second before)
+pub meeting : (first second : Fragment) (before begun one middle two end : Code) (branch other : ℕ)
+    → begun ≡ append before (branch_code 0) → branch ≡ length before.instructions → one ≡ append begun (first begun) → middle ≡ append one (jump_code 0)
+    → other ≡ length one.instructions + 2 → two ≡ append middle (second middle) → end ≡ patched_code branch other two → end ≡ append before (either_fragment first second before)
 meeting first second before begun one middle two end branch other p q r s t u v =
-    let b = joined before (branch_code 0) in
+    let b = append before (branch_code 0) in
     let x = first b in
-    let one_is : one ≡ joined b x = r ∙ ap (λ (c : Code). joined c (first c)) p in
-    let middle_is : middle ≡ middle_code first second before = s ∙ ap (λ (c : Code). joined c (jump_code 0)) one_is ∙ joined_assoc b x (jump_code 0) ∙ joined_assoc before (branch_code 0) (joined x (jump_code 0)) in
-    let two_is : two ≡ joined (middle_code first second before) (way_two first second before) = u ∙ ap (λ (c : Code). joined c (second c)) middle_is in
+    let one_is : one ≡ append b x = r ∙ ap (λ (c : Code). append c (first c)) p in
+    let middle_is : middle ≡ middle_code first second before = s ∙ ap (λ (c : Code). append c (jump_code 0)) one_is ∙ joined_assoc b x (jump_code 0) ∙ joined_assoc before (branch_code 0) (append x (jump_code 0)) in
+    let two_is : two ≡ append (middle_code first second before) (way_two first second before) = u ∙ ap (λ (c : Code). append c (second c)) middle_is in
     let count : other ≡ length (middle_code first second before).instructions =
     t ∙ sym (ap (λ (c : Code). length c.instructions) s ∙ length-append one.instructions (Jump 0 ∷ Join ∷ [])) ∙ ap (λ (c : Code). length c.instructions) middle_is in
-    v ∙ ap (λ n. met n other two) q ∙ ap (λ n. met (length before.instructions) n two) count ∙ ap (met (length before.instructions) (length (middle_code first second before).instructions)) two_is
+    v ∙ ap (λ n. patched_code n other two) q ∙ ap (λ n. patched_code (length before.instructions) n two) count ∙ ap (patched_code (length before.instructions) (length (middle_code first second before).instructions)) two_is
     ∙ ways_meet first second before
 
 -- the phrases where one stands
-pub phrases_stand : (scope : Scope) {S : Type 0} (inside : S → Piece) (arose did_not : Option (List S)) (before : Code) → (is_there arose || is_there did_not) ≡ true
-    → either_piece (phrase_piece scope inside arose) (phrase_piece scope inside did_not) before ≡ phrases_from scope inside arose did_not before
+pub phrases_stand : (scope : Scope) {S : Type 0} (inside : S → Fragment) (arose did_not : Option (List S)) (before : Code) → (is_there arose || is_there did_not) ≡ true
+    → either_fragment (phrase_fragment scope inside arose) (phrase_fragment scope inside did_not) before ≡ phrases_from scope inside arose did_not before
 phrases_stand scope inside None None before e = cc
 phrases_stand scope inside None (Some other) before e = refl
 phrases_stand scope inside (Some one) other before e = refl

@@ -9,11 +9,11 @@ use Rattle.source_tree.specs.declared.entry.ValueRange.{ValueRange}
 use Rattle.source_tree.specs.declared.reference.Reference.{Reference}
 use Rattle.source_tree.specs.Broken.{each}
 use Rattle.source_tree.specs.ConditionRules.{condition_subscripts}
-use Rattle.source_tree.specs.Initializing.{whole, first_value}
+use Rattle.source_tree.specs.Initializing.{whole_pattern, first_value}
 use Rattle.source_tree.specs.Literals.{literal_sender}
 use Rattle.source_tree.specs.LookUp.{NamedCondition, all_conditions, conditions_named}
-use Rattle.source_tree.specs.NameRules.{named, subscript_rules}
-use Rattle.source_tree.specs.Places.{Placed}
+use Rattle.source_tree.specs.NameRules.{unique_name_rules, subscript_rules}
+use Rattle.source_tree.specs.Places.{LocatedItem}
 use Rattle.source_tree.specs.SettingRules.{set_one}
 use Rattle.source_tree.specs.Starts.{with_value}
 use Rattle.layout.specs.declared.placed.PlacedItem.{PlacedItem}
@@ -32,11 +32,11 @@ pub all_at : {A : Type 0} (P : A → Type 0) (xs : List A) → All P xs → (k :
 all_at P xs all k x here = subst P (get_or_from_slice_get xs k x x here) (all k x (slice_get_within xs k x here))
 
 -- all bytes are new
-pub whole_bytes : (bytes : List ℕ) → bytes ≡ map new_byte (whole bytes)
+pub whole_bytes : (bytes : List ℕ) → bytes ≡ map new_byte (whole_pattern bytes)
 whole_bytes [] = refl
 whole_bytes (byte ∷ more) = ap (λ (l : List ℕ). byte ∷ l) (whole_bytes more)
 
-pub whole_marks : (bytes : List ℕ) → replicate (length bytes) 1 ≡ map new_mark (whole bytes)
+pub whole_marks : (bytes : List ℕ) → replicate (length bytes) 1 ≡ map new_mark (whole_pattern bytes)
 whole_marks [] = refl
 whole_marks (byte ∷ more) = ap (λ (l : List ℕ). 1 ∷ l) (whole_marks more)
 
@@ -46,9 +46,9 @@ module _ (item : Item) where
   first_has [] one e h = absurd cc
   first_has (first ∷ more) one e h = subst (λ (r : ValueRange). HasValue item.kind (Some r.first)) (same_Some first one (sym e)) h
 
-  pub first_is : (values : List ValueRange) (one : ValueRange) → Some one ≡ slice_get values 0 → whole (with_value item (literal_sender one.first.value)) ≡ first_value item values
+  pub first_is : (values : List ValueRange) (one : ValueRange) → Some one ≡ slice_get values 0 → whole_pattern (with_value item (literal_sender one.first.value)) ≡ first_value item values
   first_is [] one e = absurd cc
-  first_is (first ∷ more) one e = ap (λ (r : ValueRange). whole (with_value item (literal_sender r.first.value))) (sym (same_Some first one (sym e)))
+  first_is (first ∷ more) one e = ap (λ (r : ValueRange). whole_pattern (with_value item (literal_sender r.first.value))) (sym (same_Some first one (sym e)))
 
   pub first_none : (values : List ValueRange) → None ≡ slice_get values 0 → [] ≡ first_value item values
   first_none [] e = refl
@@ -59,20 +59,20 @@ module _ (item : Item) where
 
   pub first_marks : (values : List ValueRange) (one : ValueRange) (bytes : List ℕ) → Some one ≡ slice_get values 0 → bytes ≡ with_value item (literal_sender one.first.value)
       → replicate (length bytes) 1 ≡ map new_mark (first_value item values)
-  first_marks values one bytes e is = whole_marks bytes ∙ ap (λ (l : List ℕ). map new_mark (whole l)) is ∙ ap (map new_mark) (first_is values one e)
+  first_marks values one bytes e is = whole_marks bytes ∙ ap (λ (l : List ℕ). map new_mark (whole_pattern l)) is ∙ ap (map new_mark) (first_is values one e)
 
 -- the condition name that SET names, and its item
-pub record IsSet (items : List Placed) (one : Reference) : Type 0 where
+pub record IsSet (items : List LocatedItem) (one : Reference) : Type 0 where
   pub found : NamedCondition
   pub here : slice_get (all_conditions items) (condition_number items one.item) ≡ Some found
   pub item : slice_get items (condition_item items one.item).number ≡ Some found.item
   pub values : values_named items one.item ≡ found.condition.values
   pub pattern : set_of (slice_get (all_conditions items) (condition_number items one.item)) ≡ first_value found.item.item found.condition.values
 
-pub is_set : (items : List Placed) (one : Reference) → set_one items one ≡ [] → IsSet items one
+pub is_set : (items : List LocatedItem) (one : Reference) → set_one items one ≡ [] → IsSet items one
 is_set items one e =
     let place = one.item.name.place in
-    let all = named place (condition_subscripts one) (conditions_named items one.item) in
+    let all = unique_name_rules place (condition_subscripts one) (conditions_named items one.item) in
     let only = only_condition place (condition_subscripts one) (conditions_named items one.item) (left_none all (each (subscript_rules items) one.subscripts) (set_kept items one e)) in
     let there = condition_there items one.item only.0 only.1 in
     record {
@@ -83,7 +83,7 @@ is_set items one e =
       pattern = ap set_of there;
     }
 
-module _ (items : List Placed) (one : Reference) (keeps : set_one items one ≡ []) where
+module _ (items : List LocatedItem) (one : Reference) (keeps : set_one items one ≡ []) where
   -- its item, where it is told by the layout
   item_is : (all : List PlacedItem) (n : ℕ) (placed : PlacedItem) → all ≡ map placed_item items → n ≡ (condition_item items one.item).number → Some placed ≡ slice_get all n
       → placed ≡ placed_item (is_set items one keeps).found.item

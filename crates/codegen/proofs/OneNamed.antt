@@ -6,17 +6,17 @@ use Rattle.std.proofs.lemmas.Option.{same_Some, slice_get-map}
 use Rattle.records.specs.declared.file_spec.KeyPlace.{KeyPlace}
 use Rattle.source_tree.specs.declared.reference.Reference.{Reference}
 use Rattle.source_tree.specs.LookUp.{first}
-use Rattle.source_tree.specs.Places.{Placed}
+use Rattle.source_tree.specs.Places.{LocatedItem}
 use Rattle.source_tree.specs.ProgramFiles.{plain_place, place_in_record, key_place}
 use Rattle.layout.specs.declared.placed.PlacedItem.{PlacedItem}
 use Rattle.layout.specs.Placing.{placed_item}
-use Rattle.program_files.specs.Clauses.{NamesOne}
+use Rattle.file_descriptions.specs.Clauses.{NamesOne}
 use Rattle.codegen.specs.DataCode.{item_number}
 use Rattle.codegen.proofs.Codes.{item_there}
 
-module _ (items : List Placed) (one : Reference) (names : NamesOne items one) where
+module _ (items : List LocatedItem) (one : Reference) (names : NamesOne items one) where
   place_is : key_place items one ≡ record { offset = names.one.offset; length = names.one.item.length }
-  place_is = ap (λ (l : List Placed). place_in_record (first l)) names.named
+  place_is = ap (λ (l : List LocatedItem). place_in_record (first l)) names.named
 
   module _ (all : List PlacedItem) (n : ℕ) (are : all ≡ map placed_item items) (at : n ≡ item_number items one.item) where
     there : slice_get all n ≡ Some (placed_item names.one)
@@ -42,10 +42,10 @@ module _ (items : List Placed) (one : Reference) (names : NamesOne items one) wh
     not_missing e = let no : ◌≡◌ {A = Option PlacedItem} None (Some (placed_item names.one)) = e ∙ there in cc
 
 -- an item of this number is there
-pub place_there : (items : List Placed) (all : List PlacedItem) (n : ℕ) → all ≡ map placed_item items → is_some (slice_get all n) ≡ is_some (plain_place (slice_get items n))
+pub place_there : (items : List LocatedItem) (all : List PlacedItem) (n : ℕ) → all ≡ map placed_item items → is_some (slice_get all n) ≡ is_some (plain_place (slice_get items n))
 place_there items all n are =
     ap (λ (l : List PlacedItem). is_some (slice_get l n)) are ∙ ap is_some (slice_get-map placed_item items n) ∙ same_there (slice_get items n)
   where
-    same_there : (found : Option Placed) → is_some (option_map placed_item found) ≡ is_some (plain_place found)
+    same_there : (found : Option LocatedItem) → is_some (option_map placed_item found) ≡ is_some (plain_place found)
     same_there None = refl
     same_there (Some x) = refl

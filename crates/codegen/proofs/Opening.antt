@@ -3,18 +3,18 @@ use Rattle.std.proofs.Common.{◌≡◌, ℕ, ◌+◌, ◌-◌, ◌<◌, ◌≤�
 use Rattle.std.specs.Prelude.{slice_set}
 use Rattle.std.specs.List.{AllByRecursion}
 use Rattle.std.proofs.lemmas.List.{length-set, drop_more, drop_all}
-use Rattle.source_tree.specs.declared.evaluate.Subject.{Subject}
-use Rattle.source_tree.specs.declared.evaluate.Selected.{Selected}
+use Rattle.source_tree.specs.declared.evaluate_statement.Subject.{Subject}
+use Rattle.source_tree.specs.declared.evaluate_statement.Selected.{Selected}
 use Rattle.source_tree.specs.Evaluate.{selected_asked}
 use Rattle.source_tree.specs.Setting.{Scope}
 use Rattle.code_image.specs.declared.code.Code.{Code}
 use Rattle.code_image.specs.declared.instruction.Instruction.TheVariants.{Branch, Jump, Join}
 use Rattle.codegen.specs.declared.phrases.Way.{Way}
-use Rattle.codegen.specs.Pieces.{Piece, joined, both, in_order}
-use Rattle.codegen.specs.Meeting.{branch_code, jump_code, either_piece}
-use Rattle.codegen.specs.ConditionCode.{condition_piece}
-use Rattle.codegen.specs.Layout.{phrase_piece, selecting_piece}
-use Rattle.codegen.specs.Phrases.{met, IsWay, met_all, opened_piece, Opens}
+use Rattle.codegen.specs.Pieces.{Fragment, append, sequence, in_order}
+use Rattle.codegen.specs.Meeting.{branch_code, jump_code, either_fragment}
+use Rattle.codegen.specs.ConditionCode.{condition_fragment}
+use Rattle.codegen.specs.Layout.{phrase_fragment, selection_fragment}
+use Rattle.codegen.specs.Phrases.{patched_code, IsWay, met_all, opened_fragment, Opens}
 use Rattle.codegen.proofs.Pieces.{both_joined}
 use Rattle.codegen.proofs.Sequences.{then_piece}
 use Rattle.codegen.proofs.Meeting.{meeting}
@@ -22,36 +22,36 @@ use Rattle.codegen.proofs.Meeting.{meeting}
 -- ---- one way
 
 -- What stands in front of the branch, up to it, up to the jump, and up to where the other way begins.
-module _ (test first : Piece) (before : Code) where
+module _ (test first : Fragment) (before : Code) where
   abbrev tested : Code
-  tested = joined before (test before)
+  tested = append before (test before)
 
   abbrev begun : Code
-  begun = joined tested (branch_code 0)
+  begun = append tested (branch_code 0)
 
   abbrev way_code : Code
-  way_code = joined begun (first begun)
+  way_code = append begun (first begun)
 
   abbrev middle : Code
-  middle = joined way_code (jump_code 0)
+  middle = append way_code (jump_code 0)
 
-  opened_is : joined before (opened_piece test first before) ≡ middle
+  opened_is : append before (opened_fragment test first before) ≡ middle
   opened_is =
-      both_joined test (both (λ now. branch_code 0) (both first (λ now. jump_code 0))) before
-      ∙ both_joined (λ now. branch_code 0) (both first (λ now. jump_code 0)) tested
+      both_joined test (sequence (λ now. branch_code 0) (sequence first (λ now. jump_code 0))) before
+      ∙ both_joined (λ now. branch_code 0) (sequence first (λ now. jump_code 0)) tested
       ∙ both_joined first (λ now. jump_code 0) begun
 
   -- With what comes behind it, and both ends met, it is the test and either way.
-  pub opened : (second : Piece) (after : Code) (one : Way) → Opens test first before after one
-      → met one.branch one.other (joined after (second after)) ≡ joined before (both test (either_piece first second) before)
+  pub opened : (second : Fragment) (after : Code) (one : Way) → Opens test first before after one
+      → patched_code one.branch one.other (append after (second after)) ≡ append before (sequence test (either_fragment first second) before)
   opened second after one o =
       let is : after ≡ middle = o.code ∙ opened_is in
-      let end = met one.branch one.other (joined after (second after)) in
+      let end = patched_code one.branch one.other (append after (second after)) in
       let count : one.other ≡ length way_code.instructions + 2 =
       o.other ∙ ap (λ (c : Code). length c.instructions) is ∙ length-append way_code.instructions (Jump 0 ∷ Join ∷ []) in
-      then_piece test (either_piece first second) before tested end refl
-      (meeting first second tested begun way_code middle (joined after (second after)) end one.branch one.other refl o.branch refl refl count
-      (ap (λ (c : Code). joined c (second c)) is) refl)
+      then_piece test (either_fragment first second) before tested end refl
+      (meeting first second tested begun way_code middle (append after (second after)) end one.branch one.other refl o.branch refl refl count
+      (ap (λ (c : Code). append c (second c)) is) refl)
 
   pub opened_way : (after : Code) (one : Way) → Opens test first before after one → IsWay (length after.instructions) one
   opened_way after one o =
@@ -94,37 +94,37 @@ still_ways (one ∷ others) count more le h = (
   still_ways others count more le h.1,
 )
 
-pub met_longer : (branch other : ℕ) (code : Code) → length (met branch other code).instructions ≡ length code.instructions + 1
+pub met_longer : (branch other : ℕ) (code : Code) → length (patched_code branch other code).instructions ≡ length code.instructions + 1
 met_longer branch other code =
     let all = code.instructions ++ Join ∷ [] in
     length-set (slice_set all branch (Branch other)) (other - 2) (Jump (length code.instructions + 1)) ∙ length-set all branch (Branch other)
     ∙ length-append code.instructions (Join ∷ [])
 
-pub last_met : (ways : List Way) (one : Way) (code : Code) → met_all (ways ++ one ∷ []) code ≡ met_all ways (met one.branch one.other code)
+pub last_met : (ways : List Way) (one : Way) (code : Code) → met_all (ways ++ one ∷ []) code ≡ met_all ways (patched_code one.branch one.other code)
 last_met [] one code = refl
-last_met (first ∷ more) one code = ap (met first.branch first.other) (last_met more one code)
+last_met (first ∷ more) one code = ap (patched_code first.branch first.other) (last_met more one code)
 
 -- ---- the groups of an EVALUATE
 
-module _ (scope : Scope) {S : Type 0} (inside : S → Piece) (subjects : List Subject) (other : Option (List S)) where
+module _ (scope : Scope) {S : Type 0} (inside : S → Fragment) (subjects : List Subject) (other : Option (List S)) where
   -- what is there, and what is still to come, are the whole once all ways meet
   pub groups_go_on : (ways : List Way) (groups : List (Selected S)) (i : ℕ) (d : Selected S) (one : Selected S) (code next total : Code) (way : Way) → i < length groups
       → one ≡ get_or groups i d
-      → Opens (condition_piece scope.items (selected_asked scope.items subjects one)) (in_order inside one.statements) code next way
-      → met_all ways (joined code (selecting_piece scope inside subjects (drop i groups) other code)) ≡ total
-      → met_all (ways ++ way ∷ []) (joined next (selecting_piece scope inside subjects (drop (i + 1) groups) other next)) ≡ total
+      → Opens (condition_fragment scope.items (selected_asked scope.items subjects one)) (in_order inside one.statements) code next way
+      → met_all ways (append code (selection_fragment scope inside subjects (drop i groups) other code)) ≡ total
+      → met_all (ways ++ way ∷ []) (append next (selection_fragment scope inside subjects (drop (i + 1) groups) other next)) ≡ total
   groups_go_on ways groups i d one code next total way lt is o so_far =
       let rest = drop (i + 1) groups in
-      let test = condition_piece scope.items (selected_asked scope.items subjects one) in
+      let test = condition_fragment scope.items (selected_asked scope.items subjects one) in
       let list : one ∷ rest ≡ drop i groups = ap (λ (g : Selected S). g ∷ rest) is ∙ sym (drop_more groups i d lt) in
-      last_met ways way (joined next (selecting_piece scope inside subjects rest other next))
-      ∙ ap (met_all ways) (opened test (in_order inside one.statements) code (selecting_piece scope inside subjects rest other) next way o
-      ∙ ap (λ (l : List (Selected S)). joined code (selecting_piece scope inside subjects l other code)) list)
+      last_met ways way (append next (selection_fragment scope inside subjects rest other next))
+      ∙ ap (met_all ways) (opened test (in_order inside one.statements) code (selection_fragment scope inside subjects rest other) next way o
+      ∙ ap (λ (l : List (Selected S)). append code (selection_fragment scope inside subjects l other code)) list)
       ∙ so_far
 
   pub groups_done : (ways : List Way) (groups : List (Selected S)) (i : ℕ) (code done total : Code) → length groups ≤ i
-      → done ≡ joined code (phrase_piece scope inside other code)
-      → met_all ways (joined code (selecting_piece scope inside subjects (drop i groups) other code)) ≡ total → met_all ways done ≡ total
+      → done ≡ append code (phrase_fragment scope inside other code)
+      → met_all ways (append code (selection_fragment scope inside subjects (drop i groups) other code)) ≡ total → met_all ways done ≡ total
   groups_done ways groups i code done total le is so_far =
-      ap (met_all ways) (is ∙ sym (ap (λ (l : List (Selected S)). joined code (selecting_piece scope inside subjects l other code)) (drop_all i groups le)))
+      ap (met_all ways) (is ∙ sym (ap (λ (l : List (Selected S)). append code (selection_fragment scope inside subjects l other code)) (drop_all i groups le)))
       ∙ so_far

@@ -2,43 +2,43 @@
 use Rattle.std.proofs.Common.{◌≡◌, Bool, List, [], ◌++◌, refl, sym, ap, ◌∙◌}
 use Rattle.source_tree.specs.declared.arithmetic.Operation.{Operation}
 use Rattle.source_tree.specs.declared.arithmetic.Operation.TheVariants.{Add, AddGiving, Subtract, SubtractGiving, Multiply, MultiplyGiving, Divide, DivideGiving, DivideRemainder, Compute}
-use Rattle.source_tree.specs.Places.{Placed}
-use Rattle.source_tree.specs.NameRules.{item_rules}
+use Rattle.source_tree.specs.Places.{LocatedItem}
+use Rattle.source_tree.specs.NameRules.{reference_rules}
 use Rattle.source_tree.specs.ArithmeticRules.{number_rules, number_receiver, operation_rules}
 use Rattle.code_image.specs.declared.code.Code.{Code}
-use Rattle.codegen.specs.Pieces.{Piece, joined, both}
-use Rattle.codegen.specs.ArithmeticCode.{value_piece, total_piece, operation_piece}
-use Rattle.codegen.specs.Operations.{values_rules, results_rules, values_piece, results_piece}
+use Rattle.codegen.specs.Pieces.{Fragment, append, sequence}
+use Rattle.codegen.specs.ArithmeticCode.{value_fragment, total_fragment, operation_fragment}
+use Rattle.codegen.specs.Operations.{values_rules, results_rules, values_fragment, results_fragment}
 use Rattle.codegen.proofs.Kept.{front_kept, back_kept, both_kept}
 use Rattle.codegen.proofs.Pieces.{joined_assoc}
 
-regrouped : (first second third : Piece) (before : Code) → both first (both second third) before ≡ both (both first second) third before
+regrouped : (first second third : Fragment) (before : Code) → sequence first (sequence second third) before ≡ sequence (sequence first second) third before
 regrouped first second third before =
     let one = first before in
-    let two = second (joined before one) in
-    assoc one two (joined before one) (joined_assoc before one two)
+    let two = second (append before one) in
+    assoc one two (append before one) (joined_assoc before one two)
   where
-    assoc : (one two now : Code) → joined now two ≡ joined before (joined one two) → joined one (joined two (third (joined now two))) ≡ joined (joined one two) (third (joined before (joined one two)))
-    assoc one two now e = ap (λ (c : Code). joined one (joined two (third c))) e ∙ sym (joined_assoc one two (third (joined before (joined one two))))
+    assoc : (one two now : Code) → append now two ≡ append before (append one two) → append one (append two (third (append now two))) ≡ append (append one two) (third (append before (append one two)))
+    assoc one two now e = ap (λ (c : Code). append one (append two (third c))) e ∙ sym (joined_assoc one two (third (append before (append one two))))
 
-module _ (items : List Placed) (keep : Bool) where
-  pub operation_parts : (one : Operation) (before : Code) → operation_piece items keep one before ≡ both (values_piece items one) (results_piece items keep one) before
+module _ (items : List LocatedItem) (keep : Bool) where
+  pub operation_parts : (one : Operation) (before : Code) → operation_fragment items keep one before ≡ sequence (values_fragment items one) (results_fragment items keep one) before
   operation_parts (Add operands receivers) before = refl
   operation_parts (AddGiving operands receivers) before = refl
   operation_parts (Subtract operands receivers) before = refl
   operation_parts (SubtractGiving operands minuend receivers) before =
-      regrouped (total_piece items operands) (value_piece items minuend) (results_piece items keep (SubtractGiving operands minuend receivers)) before
+      regrouped (total_fragment items operands) (value_fragment items minuend) (results_fragment items keep (SubtractGiving operands minuend receivers)) before
   operation_parts (Multiply factor receivers) before = refl
   operation_parts (MultiplyGiving factor by receivers) before =
-      regrouped (value_piece items factor) (value_piece items by) (results_piece items keep (MultiplyGiving factor by receivers)) before
+      regrouped (value_fragment items factor) (value_fragment items by) (results_fragment items keep (MultiplyGiving factor by receivers)) before
   operation_parts (Divide divisor receivers) before = refl
   operation_parts (DivideGiving first order second receivers) before =
-      regrouped (value_piece items first) (value_piece items second) (results_piece items keep (DivideGiving first order second receivers)) before
+      regrouped (value_fragment items first) (value_fragment items second) (results_fragment items keep (DivideGiving first order second receivers)) before
   operation_parts (DivideRemainder first order second quotient remainder) before =
-      regrouped (value_piece items first) (value_piece items second) (results_piece items keep (DivideRemainder first order second quotient remainder)) before
+      regrouped (value_fragment items first) (value_fragment items second) (results_fragment items keep (DivideRemainder first order second quotient remainder)) before
   operation_parts (Compute receivers value) before = refl
 
-module _ (items : List Placed) where
+module _ (items : List LocatedItem) where
   pub values_kept : (one : Operation) → operation_rules items one ≡ [] → values_rules items one ≡ []
   values_kept (Add operands receivers) e = front_kept _ _ e
   values_kept (AddGiving operands receivers) e = front_kept _ _ e
@@ -62,7 +62,7 @@ module _ (items : List Placed) where
   results_kept (DivideGiving first order second receivers) e = back_kept _ _ e
   results_kept (DivideRemainder first order second quotient remainder) e =
       let values = number_rules items first ++ number_rules items second in
-      let one = item_rules items number_receiver quotient.item in
-      let other = item_rules items number_receiver remainder in
+      let one = reference_rules items number_receiver quotient.item in
+      let other = reference_rules items number_receiver remainder in
       both_kept one other (back_kept values one (front_kept (values ++ one) other e)) (back_kept (values ++ one) other e)
   results_kept (Compute receivers value) e = front_kept _ _ e

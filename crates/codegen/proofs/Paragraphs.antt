@@ -4,8 +4,8 @@ use Rattle.std.specs.Prelude.{Bool, slice_get, slice_index}
 use Rattle.std.specs.List.{AllByRecursion}
 use Rattle.std.proofs.lemmas.List.{append-nil}
 use Rattle.lexical.specs.declared.place.Place.{Place}
-use Rattle.perform_order.specs.declared.performed.PerformedRange.{PerformedRange}
-use Rattle.perform_order.specs.Order.{IsRange}
+use Rattle.perform_graph.specs.declared.performed.PerformedRange.{PerformedRange}
+use Rattle.perform_graph.specs.Order.{IsRange}
 use Rattle.source_tree.specs.declared.program.Paragraph.{Paragraph}
 use Rattle.source_tree.specs.Broken.{each}
 use Rattle.source_tree.specs.Procedures.{Range}
@@ -16,9 +16,9 @@ use Rattle.source_tree.specs.Setting.{Scope}
 use Rattle.code_image.specs.declared.code.Code.{Code}
 use Rattle.code_image.specs.declared.instruction.Instruction.{Instruction}
 use Rattle.code_image.specs.declared.instruction.Instruction.TheVariants.{Tick, Show, Stop, Count, CountNumber, Turn, Accept, Date, Branch, Jump, Join, Perform, Back, File, TestStatus, Unheard, Data}
-use Rattle.code_image.specs.Demands.{NamesParagraph, IsBack, ends, ends_in, paragraph_at, IsFront, StartsAt, performs, performed_from}
-use Rattle.codegen.specs.Pieces.{nothing, joined, in_order}
-use Rattle.codegen.specs.Layout.{sentence_piece, start_piece, back_piece, paragraph_piece}
+use Rattle.code_image.specs.Demands.{NamesParagraph, IsBack, back_count, ends_in, paragraph_at, IsFront, StartsAt, performs, performed_from}
+use Rattle.codegen.specs.Pieces.{empty_code, append, in_order}
+use Rattle.codegen.specs.Layout.{sentence_fragment, start_fragment, back_fragment, paragraph_fragment}
 use Rattle.codegen.proofs.Codes.{left_none, right_none}
 use Rattle.codegen.proofs.ConditionValues.{AreFormed}
 use Rattle.codegen.proofs.Inspections.{AreSized}
@@ -35,10 +35,10 @@ pub performed_append : (number : ℕ) (xs ys : List Instruction)
     → performed_from number (xs ++ ys) ≡ performed_from number xs ++ performed_from (number + ends_in xs) ys
 performed_append number [] ys = let e : number ≡ number + 0 = omega arith in ap (λ n. performed_from n ys) e
 performed_append number (x ∷ xs) ys =
-    let e : number + ends x + ends_in xs ≡ number + (ends x + ends_in xs) = omega arith in
+    let e : number + back_count x + ends_in xs ≡ number + (back_count x + ends_in xs) = omega arith in
     ap (λ l. performs number x ++ l)
-    (performed_append (number + ends x) xs ys ∙ ap (λ n. performed_from (number + ends x) xs ++ performed_from n ys) e)
-    ∙ sym (append_assoc (performs number x) (performed_from (number + ends x) xs) (performed_from (number + (ends x + ends_in xs)) ys))
+    (performed_append (number + back_count x) xs ys ∙ ap (λ n. performed_from (number + back_count x) xs ++ performed_from n ys) e)
+    ∙ sym (append_assoc (performs number x) (performed_from (number + back_count x) xs) (performed_from (number + (back_count x + ends_in xs)) ys))
 
 -- `Q`: of ranges that code paragraph `number` performs
 module _ (number : ℕ) (Q : Asks) (R : PerformedRange → Type 0)
@@ -65,8 +65,8 @@ module _ (number : ℕ) (Q : Asks) (R : PerformedRange → Type 0)
   all_performed : (all : List Instruction) → ends_in all ≡ 0 → AllByRecursion (PerformsOnly Q) all → AllByRecursion R (performed_from number all)
   all_performed [] none h = tt
   all_performed (one ∷ more) none h =
-      let e : number ≡ number + ends one = omega (arith, none) in
-      all_both R (performs number one) (performed_from (number + ends one) more) (one_performed one h.0)
+      let e : number ≡ number + back_count one = omega (arith, none) in
+      all_both R (performs number one) (performed_from (number + back_count one) more) (one_performed one h.0)
       (subst (λ n. AllByRecursion R (performed_from n more)) e (all_performed more (omega (arith, none)) h.1))
 
 -- The verb of a file statement suits its file.
@@ -94,7 +94,7 @@ module _ (files : List ProgramFile) (count : ℕ) (asked : Range → Type 0) whe
   suited_at Unheard h = tt
   suited_at (Data one) h = tt
 
-  names_paragraph : (one : Instruction) → ends one ≡ 0 → PerformsOnly (asks_of files count asked) one → NamesParagraph count one
+  names_paragraph : (one : Instruction) → back_count one ≡ 0 → PerformsOnly (asks_of files count asked) one → NamesParagraph count one
   names_paragraph (Perform line first last) none h = let le = h.within.first in let lt = h.within.last in (omega (arith, le, lt), lt)
   names_paragraph (Tick line) none h = tt
   names_paragraph Show none h = tt
@@ -178,7 +178,7 @@ pub record AreParagraphs (files : List ProgramFile) (count : ℕ) (P : Performed
   pub performed : AllByRecursion P (performed_from (length before.starts) part.instructions)
 
 module _ (files : List ProgramFile) (count : ℕ) (P : PerformedRange → Type 0) where
-  no_paragraphs : (before : Code) → IsReady before → AreParagraphs files count P 0 before nothing
+  no_paragraphs : (before : Code) → IsReady before → AreParagraphs files count P 0 before empty_code
   no_paragraphs before is = record {
     names = plain_names before [] tt;
     leads = tt;
@@ -193,7 +193,7 @@ module _ (files : List ProgramFile) (count : ℕ) (P : PerformedRange → Type 0
   }
 
   -- code behind which another code paragraph may start
-  ready_behind : (many : ℕ) (before part : Code) → IsReady before → AreParagraphs files count P many before part → IsReady (joined before part)
+  ready_behind : (many : ℕ) (before part : Code) → IsReady before → AreParagraphs files count P many before part → IsReady (append before part)
   ready_behind many before part is h =
       let n = length-append before.starts part.starts in
       let m = ends_append before.instructions part.instructions in
@@ -202,8 +202,8 @@ module _ (files : List ProgramFile) (count : ℕ) (P : PerformedRange → Type 0
       let c = h.many_are in
       record { ends = omega (arith, n, m, a, b, c); front = h.ready }
 
-  both_paragraphs : (m n : ℕ) (before a b : Code) → AreParagraphs files count P m before a → AreParagraphs files count P n (joined before a) b
-      → AreParagraphs files count P (m + n) before (joined a b)
+  both_paragraphs : (m n : ℕ) (before a b : Code) → AreParagraphs files count P m before a → AreParagraphs files count P n (append before a) b
+      → AreParagraphs files count P (m + n) before (append a b)
   both_paragraphs m n before a b f s =
       let is = append_assoc before.instructions a.instructions b.instructions in
       let so_many = length-append a.starts b.starts in
@@ -242,16 +242,16 @@ module _ (files : List ProgramFile) (count : ℕ) (P : PerformedRange → Type 0
 
   -- A code paragraph starts, statements stand in it, and it ends.
   one_paragraph : (before body : Code) → IsReady before → length before.starts < count
-      → Meets (asks_of files count (asked_of (length before.starts))) (joined before (start_piece before)) body
-      → AreParagraphs files count P 1 before (joined (start_piece before) (joined body (back_piece (length before.starts) before)))
+      → Meets (asks_of files count (asked_of (length before.starts))) (append before (start_fragment before)) body
+      → AreParagraphs files count P 1 before (append (start_fragment before) (append body (back_fragment (length before.starts) before)))
   one_paragraph before body is lt met =
       let number : ℕ = length before.starts in
       let Q = asks_of files count (asked_of number) in
-      let start = start_piece before in
-      let front = joined before start in
-      let last = back_piece number before in
-      let middle = joined front body in
-      let part = joined start (joined body last) in
+      let start = start_fragment before in
+      let front = append before start in
+      let last = back_fragment number before in
+      let middle = append front body in
+      let part = append start (append body last) in
       let whole = before.instructions ++ (body.instructions ++ last.instructions) in
       let same_front : front.instructions ≡ before.instructions = append-nil before.instructions in
       let front_ends : ends_in front.instructions ≡ number = ap ends_in same_front ∙ is.ends in
@@ -287,9 +287,9 @@ module _ (files : List ProgramFile) (count : ℕ) (P : PerformedRange → Type 0
       let asked : AllByRecursion P (performed_from number body.instructions) =
       all_performed number Q P (λ range h. h.asked) body.instructions none given in
       record {
-        names = both_name before start (joined body last) (record { counters = tt; areas = refl; items = refl; files = refl; senders = tt; inspections = tt })
+        names = both_name before start (append body last) (record { counters = tt; areas = refl; items = refl; files = refl; senders = tt; inspections = tt })
             (both_name front body last met.names (plain_names middle last.instructions (tt, tt)));
-        leads = both_ways before start (joined body last) tt (both_ways front body last met.leads back_leads);
+        leads = both_ways before start (append body last) tt (both_ways front body last met.leads back_leads);
         many_are = ap length starts_is;
         ends = omega (arith, ends_is, none, one_end);
         starts = subst (StartFrom whole number) (sym starts_is) (
@@ -329,17 +329,17 @@ module _ (scope : Scope) (count : ℕ) (P : PerformedRange → Type 0) where
     pub paragraphs_lie : (all : List Paragraph) (before : Code) → IsReady before → length before.starts + length all ≤ count
         → each (paragraph_rules scope permits) all ≡ []
         → AllByRecursion P (map (λ one. one.1) (performs_from scope.procedures (length before.starts) all))
-        → AreParagraphs scope.files count P (length all) before (in_order (paragraph_piece scope) all before)
+        → AreParagraphs scope.files count P (length all) before (in_order (paragraph_fragment scope) all before)
     paragraphs_lie [] before is le e q = no_paragraphs scope.files count P before is
     paragraphs_lie (one ∷ more) before is le e q =
         let number : ℕ = length before.starts in
-        let start = start_piece before in
-        let body = in_order (sentence_piece scope) one.sentences (joined before start) in
-        let part = paragraph_piece scope one before in
-        let next = joined before part in
+        let start = start_fragment before in
+        let body = in_order (sentence_fragment scope) one.sentences (append before start) in
+        let part = paragraph_fragment scope one before in
+        let next = append before part in
         let split = first_asked scope.files count P number (paragraph_performs scope.procedures one) (performs_from scope.procedures (number + 1) more) q in
         let met = paragraph_meets scope permits formed sized count within numbered (asked_of scope.files count P number) one.sentences
-        (left_none (paragraph_rules scope permits one) (each (paragraph_rules scope permits) more) e) split.0 (joined before start) in
+        (left_none (paragraph_rules scope permits one) (each (paragraph_rules scope permits) more) e) split.0 (append before start) in
         let first = one_paragraph scope.files count P before body is (omega (arith, le)) met in
         let in_all = length-append before.starts part.starts in
         let many = first.many_are in
@@ -348,5 +348,5 @@ module _ (scope : Scope) (count : ℕ) (P : PerformedRange → Type 0) where
         (right_none (paragraph_rules scope permits one) (each (paragraph_rules scope permits) more) e)
         (subst (λ n. AllByRecursion P (map (λ one. one.1) (performs_from scope.procedures n more))) so_far split.1) in
         let sum : 1 + length more ≡ length (one ∷ more) = omega arith in
-        subst (λ n. AreParagraphs scope.files count P n before (joined part (in_order (paragraph_piece scope) more next))) sum
-        (both_paragraphs scope.files count P 1 (length more) before part (in_order (paragraph_piece scope) more next) first rest)
+        subst (λ n. AreParagraphs scope.files count P n before (append part (in_order (paragraph_fragment scope) more next))) sum
+        (both_paragraphs scope.files count P 1 (length more) before part (in_order (paragraph_fragment scope) more next) first rest)

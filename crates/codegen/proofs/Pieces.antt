@@ -9,11 +9,11 @@ use Rattle.data_instructions.specs.declared.tables.DataItem.{DataItem}
 use Rattle.data_instructions.specs.declared.tables.LiteralSender.{LiteralSender}
 use Rattle.data_instructions.specs.declared.tables.Inspection.{Inspection}
 use Rattle.data_instructions.specs.declared.tables.DataTables.{DataTables}
-use Rattle.file_tables.specs.declared.file.CodeFile.{CodeFile}
+use Rattle.file_image.specs.declared.file.CodeFile.{CodeFile}
 use Rattle.code_image.specs.declared.code.Code.{Code}
 use Rattle.code_image.specs.declared.instruction.Instruction.{Instruction}
-use Rattle.codegen.specs.Pieces.{Piece, no_tables, nothing, joined_tables, joined, both, in_order}
-use Rattle.codegen.specs.Layout.{paragraph_piece, section_piece}
+use Rattle.codegen.specs.Pieces.{Fragment, no_tables, empty_code, joined_tables, append, sequence, in_order}
+use Rattle.codegen.specs.Layout.{paragraph_fragment, section_fragment}
 
 made_tables : (a b : List (List ℕ)) (c d : List DataItem) (e f : List Fraction) (g h : List LiteralSender) (i j : List (List ℕ)) (k l : List Inspection) → a ≡ b → c ≡ d → e ≡ f → g ≡ h → i ≡ j → k ≡ l
     → (let x : DataTables = record { areas = a; items = c; numbers = e; senders = g; texts = i; inspections = k } in let y : DataTables = record { areas = b; items = d; numbers = f; senders = h; texts = j; inspections = l } in x ≡ y)
@@ -32,44 +32,44 @@ tables_assoc a b c =
 pub tables_nothing : (a : DataTables) → joined_tables a no_tables ≡ a
 tables_nothing a = made_tables _ _ _ _ _ _ _ _ _ _ _ _ (append-nil a.areas) (append-nil a.items) (append-nil a.numbers) (append-nil a.senders) (append-nil a.texts) (append-nil a.inspections)
 
-pub joined_assoc : (a b c : Code) → joined (joined a b) c ≡ joined a (joined b c)
+pub joined_assoc : (a b c : Code) → append (append a b) c ≡ append a (append b c)
 joined_assoc a b c =
     made_code _ _ _ _ _ _ _ _ (tables_assoc a.tables b.tables c.tables) (append_assoc a.files b.files c.files) (append_assoc a.starts b.starts c.starts) (append_assoc a.instructions b.instructions c.instructions)
 
-pub joined_nothing : (a : Code) → joined a nothing ≡ a
+pub joined_nothing : (a : Code) → append a empty_code ≡ a
 joined_nothing a = made_code _ _ _ _ _ _ _ _ (tables_nothing a.tables) (append-nil a.files) (append-nil a.starts) (append-nil a.instructions)
 
 -- what is there, with what is still to come, is the whole
-module _ {A : Type 0} (piece : A → Piece) where
-  pub goes_on : (xs : List A) (i : ℕ) (d : A) (code next total : Code) → i < length xs → next ≡ joined code (piece (get_or xs i d) code)
-      → joined code (in_order piece (drop i xs) code) ≡ total → joined next (in_order piece (drop (i + 1) xs) next) ≡ total
+module _ {A : Type 0} (piece : A → Fragment) where
+  pub goes_on : (xs : List A) (i : ℕ) (d : A) (code next total : Code) → i < length xs → next ≡ append code (piece (get_or xs i d) code)
+      → append code (in_order piece (drop i xs) code) ≡ total → append next (in_order piece (drop (i + 1) xs) next) ≡ total
   goes_on xs i d code next total lt is so_far =
       let one = piece (get_or xs i d) code in
       let rest = drop (i + 1) xs in
-      ap (λ (c : Code). joined c (in_order piece rest c)) is
-      ∙ joined_assoc code one (in_order piece rest (joined code one))
-      ∙ sym (ap (λ (l : List A). joined code (in_order piece l code)) (drop_more xs i d lt))
+      ap (λ (c : Code). append c (in_order piece rest c)) is
+      ∙ joined_assoc code one (in_order piece rest (append code one))
+      ∙ sym (ap (λ (l : List A). append code (in_order piece l code)) (drop_more xs i d lt))
       ∙ so_far
 
-  pub is_done : (xs : List A) (i : ℕ) (code total : Code) → length xs ≤ i → joined code (in_order piece (drop i xs) code) ≡ total → code ≡ total
+  pub is_done : (xs : List A) (i : ℕ) (code total : Code) → length xs ≤ i → append code (in_order piece (drop i xs) code) ≡ total → code ≡ total
   is_done xs i code total le so_far =
-      sym (joined_nothing code) ∙ sym (ap (λ (l : List A). joined code (in_order piece l code)) (drop_all i xs le)) ∙ so_far
+      sym (joined_nothing code) ∙ sym (ap (λ (l : List A). append code (in_order piece l code)) (drop_all i xs le)) ∙ so_far
 
-  pub in_order-append : (xs ys : List A) (before : Code) → in_order piece (xs ++ ys) before ≡ joined (in_order piece xs before) (in_order piece ys (joined before (in_order piece xs before)))
+  pub in_order-append : (xs ys : List A) (before : Code) → in_order piece (xs ++ ys) before ≡ append (in_order piece xs before) (in_order piece ys (append before (in_order piece xs before)))
   in_order-append [] ys before = ap (in_order piece ys) (sym (joined_nothing before))
   in_order-append (x ∷ xs) ys before =
       let one = piece x before in
-      let more = in_order piece xs (joined before one) in
-      ap (joined one) (in_order-append xs ys (joined before one) ∙ ap (λ (c : Code). joined more (in_order piece ys c)) (joined_assoc before one more))
-      ∙ sym (joined_assoc one more (in_order piece ys (joined before (joined one more))))
+      let more = in_order piece xs (append before one) in
+      ap (append one) (in_order-append xs ys (append before one) ∙ ap (λ (c : Code). append more (in_order piece ys c)) (joined_assoc before one more))
+      ∙ sym (joined_assoc one more (in_order piece ys (append before (append one more))))
 
 -- one piece after another, behind code that has the first already
-pub both_joined : (first second : Piece) (before : Code) → joined before (both first second before) ≡ joined (joined before (first before)) (second (joined before (first before)))
-both_joined first second before = sym (joined_assoc before (first before) (second (joined before (first before))))
+pub both_joined : (first second : Fragment) (before : Code) → append before (sequence first second before) ≡ append (append before (first before)) (second (append before (first before)))
+both_joined first second before = sym (joined_assoc before (first before) (second (append before (first before))))
 
 -- sections one after the other are their paragraphs
-pub flat : (scope : Scope) (sections : List Section) (before : Code) → in_order (section_piece scope) sections before ≡ in_order (paragraph_piece scope) (paragraphs_in sections) before
+pub flat : (scope : Scope) (sections : List Section) (before : Code) → in_order (section_fragment scope) sections before ≡ in_order (paragraph_fragment scope) (paragraphs_in sections) before
 flat scope [] before = refl
 flat scope (one ∷ more) before =
-    let first = section_piece scope one before in
-    ap (joined first) (flat scope more (joined before first)) ∙ sym (in_order-append (paragraph_piece scope) (paragraphs_or_one one.paragraphs) (paragraphs_in more) before)
+    let first = section_fragment scope one before in
+    ap (append first) (flat scope more (append before first)) ∙ sym (in_order-append (paragraph_fragment scope) (paragraphs_or_one one.paragraphs) (paragraphs_in more) before)

@@ -10,38 +10,38 @@ use Rattle.source_tree.specs.Setting.{Scope}
 use Rattle.code_image.specs.declared.code.Code.{Code}
 use Rattle.code_image.specs.declared.instruction.Instruction.{Instruction}
 use Rattle.code_image.specs.declared.instruction.Instruction.TheVariants.{Stop}
-use Rattle.codegen.specs.Pieces.{Piece, nothing, joined, in_order}
-use Rattle.codegen.specs.Layout.{start_piece, sentence_piece, paragraph_piece, end_piece}
+use Rattle.codegen.specs.Pieces.{Fragment, empty_code, append, in_order}
+use Rattle.codegen.specs.Layout.{start_fragment, sentence_fragment, paragraph_fragment, end_fragment}
 use Rattle.codegen.proofs.Doing.{end_of}
 use Rattle.codegen.proofs.Pieces.{joined_assoc}
 use Rattle.codegen.proofs.Standing.{Stands, front, back, first_stands, start_stands}
 
 -- ---- pieces in order, by their numbers
 
-module _ {A : Type 0} (piece : A → Piece) where
+module _ {A : Type 0} (piece : A → Fragment) where
   -- the code before the piece of this number
   abbrev pub code_before : ℕ → List A → Code → Code
   code_before zero all start = start
   code_before (suc n) [] start = start
-  code_before (suc n) (one ∷ more) start = code_before n more (joined start (piece one start))
+  code_before (suc n) (one ∷ more) start = code_before n more (append start (piece one start))
 
   next_code : (n : ℕ) (all : List A) (start : Code) (one : A) → slice_get all n ≡ Some one
-      → code_before (suc n) all start ≡ joined (code_before n all start) (piece one (code_before n all start))
+      → code_before (suc n) all start ≡ append (code_before n all start) (piece one (code_before n all start))
   next_code n [] start one here = absurd cc
-  next_code zero (first ∷ more) start one here = ap (λ (x : A). joined start (piece x start)) (same_Some first one here)
-  next_code (suc n) (first ∷ more) start one here = next_code n more (joined start (piece first start)) one here
+  next_code zero (first ∷ more) start one here = ap (λ (x : A). append start (piece x start)) (same_Some first one here)
+  next_code (suc n) (first ∷ more) start one here = next_code n more (append start (piece first start)) one here
 
   grows : (n : ℕ) (all : List A) (start : Code) → end_of start ≤ end_of (code_before n all start)
   grows zero all start = omega arith
   grows (suc n) [] start = omega arith
   grows (suc n) (one ∷ more) start =
-      omega (arith, length-append start.instructions (piece one start).instructions, grows n more (joined start (piece one start)))
+      omega (arith, length-append start.instructions (piece one start).instructions, grows n more (append start (piece one start)))
 
   rises : (i j : ℕ) (all : List A) (start : Code) → i ≤ j → end_of (code_before i all start) ≤ end_of (code_before j all start)
   rises zero j all start le = grows j all start
   rises (suc i) zero all start le = absurd (omega arith)
   rises (suc i) (suc j) [] start le = omega arith
-  rises (suc i) (suc j) (one ∷ more) start le = rises i j more (joined start (piece one start)) (omega arith)
+  rises (suc i) (suc j) (one ∷ more) start le = rises i j more (append start (piece one start)) (omega arith)
 
   -- one code paragraph starts in each
   numbered : (n : ℕ) (all : List A) (start : Code)
@@ -51,33 +51,33 @@ module _ {A : Type 0} (piece : A → Piece) where
   numbered (suc n) [] start each le = let none : length {A = A} [] ≡ 0 = refl in absurd (omega (arith, none))
   numbered (suc n) (one ∷ more) start each le =
       let more_are : length (one ∷ more) ≡ suc (length more) = refl in
-      let rest = numbered n more (joined start (piece one start)) (λ k other here. each (suc k) other here) (omega (arith, more_are)) in
+      let rest = numbered n more (append start (piece one start)) (λ k other here. each (suc k) other here) (omega (arith, more_are)) in
       omega (arith, rest, length-append start.starts (piece one start).starts, each zero one refl start)
 
   module _ (whole end : Code) where
     stands_at : (n : ℕ) (all : List A) (start : Code) (one : A) → slice_get all n ≡ Some one
-        → Stands whole start (joined (in_order piece all start) end)
+        → Stands whole start (append (in_order piece all start) end)
         → Stands whole (code_before n all start) (piece one (code_before n all start))
     stands_at n [] start one here st = absurd cc
     stands_at zero (first ∷ more) start one here st =
         let a = piece first start in
-        let b = in_order piece more (joined start a) in
+        let b = in_order piece more (append start a) in
         subst (λ (x : A). Stands whole start (piece x start)) (same_Some first one here)
-        (front whole start a (joined b end) (subst (Stands whole start) (joined_assoc a b end) st))
+        (front whole start a (append b end) (subst (Stands whole start) (joined_assoc a b end) st))
     stands_at (suc n) (first ∷ more) start one here st =
         let a = piece first start in
-        let b = in_order piece more (joined start a) in
-        stands_at n more (joined start a) one here (back whole start a (joined b end) (subst (Stands whole start) (joined_assoc a b end) st))
+        let b = in_order piece more (append start a) in
+        stands_at n more (append start a) one here (back whole start a (append b end) (subst (Stands whole start) (joined_assoc a b end) st))
 
     -- what stands behind all
     end_stands : (all : List A) (start : Code) (one : Instruction) (others : List Instruction) → end.instructions ≡ one ∷ others
-        → Stands whole start (joined (in_order piece all start) end)
+        → Stands whole start (append (in_order piece all start) end)
         → slice_get whole.instructions (end_of (code_before (length all) all start)) ≡ Some one
-    end_stands [] start one others is st = first_stands whole start (joined nothing end) one others is st
+    end_stands [] start one others is st = first_stands whole start (append empty_code end) one others is st
     end_stands (first ∷ more) start one others is st =
         let a = piece first start in
-        let b = in_order piece more (joined start a) in
-        end_stands more (joined start a) one others is (back whole start a (joined b end) (subst (Stands whole start) (joined_assoc a b end) st))
+        let b = in_order piece more (append start a) in
+        end_stands more (append start a) one others is (back whole start a (append b end) (subst (Stands whole start) (joined_assoc a b end) st))
 
 -- ---- paragraphs
 
@@ -86,8 +86,8 @@ pub record Laid (whole : Code) (scope : Scope) (all : List Paragraph) : Type 0 w
   -- the code before a paragraph
   pub before : ℕ → Code
   pub begins : end_of (before zero) ≡ 0
-  pub stands : (n : ℕ) (one : Paragraph) → slice_get all n ≡ Some one → Stands whole (before n) (paragraph_piece scope one (before n))
-  pub next : (n : ℕ) (one : Paragraph) → slice_get all n ≡ Some one → before (suc n) ≡ joined (before n) (paragraph_piece scope one (before n))
+  pub stands : (n : ℕ) (one : Paragraph) → slice_get all n ≡ Some one → Stands whole (before n) (paragraph_fragment scope one (before n))
+  pub next : (n : ℕ) (one : Paragraph) → slice_get all n ≡ Some one → before (suc n) ≡ append (before n) (paragraph_fragment scope one (before n))
   pub rises : (i j : ℕ) → i ≤ j → end_of (before i) ≤ end_of (before j)
   pub numbered : (n : ℕ) → n ≤ length all → length (before n).starts ≡ n
   pub starts : (n : ℕ) (one : Paragraph) → slice_get all n ≡ Some one → slice_get whole.starts n ≡ Some (end_of (before n))
@@ -95,16 +95,16 @@ pub record Laid (whole : Code) (scope : Scope) (all : List Paragraph) : Type 0 w
 
 -- No code paragraph starts in the sentences of these paragraphs.
 pub record AreBare (scope : Scope) (all : List Paragraph) : Type 0 where
-  pub by : (n : ℕ) (one : Paragraph) → slice_get all n ≡ Some one → (code : Code) → (in_order (sentence_piece scope) one.sentences code).starts ≡ []
+  pub by : (n : ℕ) (one : Paragraph) → slice_get all n ≡ Some one → (code : Code) → (in_order (sentence_fragment scope) one.sentences code).starts ≡ []
 
 pub laid_out : (whole : Code) (scope : Scope) (all : List Paragraph) (start : Code) → start.starts ≡ [] → end_of start ≡ 0 → AreBare scope all
-    → Stands whole start (joined (in_order (paragraph_piece scope) all start) end_piece) → Laid whole scope all
+    → Stands whole start (append (in_order (paragraph_fragment scope) all start) end_fragment) → Laid whole scope all
 laid_out whole scope all start none first bare st =
-    let piece = paragraph_piece scope in
+    let piece = paragraph_fragment scope in
     let single = λ (k : ℕ) (one : Paragraph) (here : slice_get all k ≡ Some one) (code : Code).
-    ap (λ (l : List ℕ). length (end_of code ∷ (l ++ []))) (bare.by k one here (joined code (start_piece code))) in
+    ap (λ (l : List ℕ). length (end_of code ∷ (l ++ []))) (bare.by k one here (append code (start_fragment code))) in
     let before = λ (n : ℕ). code_before piece n all start in
-    let stands = λ (n : ℕ) (one : Paragraph) (here : slice_get all n ≡ Some one). stands_at piece whole end_piece n all start one here st in
+    let stands = λ (n : ℕ) (one : Paragraph) (here : slice_get all n ≡ Some one). stands_at piece whole end_fragment n all start one here st in
     let count = λ (n : ℕ) (le : n ≤ length all). numbered piece n all start single le in
     let nothing_before : length start.starts ≡ 0 = ap length none in
     record {
@@ -117,10 +117,10 @@ laid_out whole scope all start none first bare st =
       starts = λ n one here.
           let within : n < length all = slice_get_within all n one here in
           let is : length (before n).starts ≡ n = omega (arith, count n (omega (arith, within)), nothing_before) in
-          let sentences = in_order (sentence_piece scope) one.sentences (joined (before n) (start_piece (before n))) in
+          let sentences = in_order (sentence_fragment scope) one.sentences (append (before n) (start_fragment (before n))) in
           subst (λ (k : ℕ). slice_get whole.starts k ≡ Some (end_of (before n))) is
           (start_stands whole (before n) (piece one (before n)) (end_of (before n)) (sentences.starts ++ []) refl (stands n one here));
-      stops = end_stands piece whole end_piece all start Stop [] refl st;
+      stops = end_stands piece whole end_fragment all start Stop [] refl st;
     }
 
 -- ---- heights

@@ -9,12 +9,12 @@ use Rattle.source_tree.specs.declared.name.Name.{Name}
 use Rattle.source_tree.specs.declared.statement.Statement.{Statement, out-Statement}
 use Rattle.source_tree.specs.declared.program.Paragraph.{Paragraph}
 use Rattle.source_tree.specs.PerformRules.{range_rules}
-use Rattle.source_tree.specs.Places.{Placed}
+use Rattle.source_tree.specs.Places.{LocatedItem}
 use Rattle.source_tree.specs.Procedures.{Range, range_of}
-use Rattle.source_tree.specs.Setting.{Scope, Setting}
+use Rattle.source_tree.specs.Setting.{Scope, ProgramContext}
 use Rattle.source_tree.specs.State.{State, Outcome, Done, Over, then_do, in_turn, spend_from, spend}
 use Rattle.source_tree.specs.Rules.{statement_rules, sentence_rules, paragraph_rules}
-use Rattle.source_tree.specs.Meaning.{told, exec, sentence, paragraph, ranged, range}
+use Rattle.source_tree.specs.Meaning.{run_of, exec, sentence, paragraph, range_outcome, range}
 use Rattle.source_tree.proofs.StatementRuns.{exec_runs, ranged_runs}
 use Rattle.data_instructions.specs.Tables.{IsTables}
 use Rattle.data_instructions.specs.Chains.{LiesWhole}
@@ -24,8 +24,8 @@ use Rattle.code_image.specs.declared.code.Code.{Code}
 use Rattle.code_image.specs.declared.instruction.Instruction.TheVariants.{Stop, Perform, Back}
 use Rattle.code_image.specs.Points.{Return, Own}
 use Rattle.code_image.specs.Table.{over, tick_from, perform_at, back_if, back_from, exec_code}
-use Rattle.codegen.specs.Pieces.{joined, in_order}
-use Rattle.codegen.specs.Layout.{range_piece, statement_piece, sentence_piece, start_piece, back_piece}
+use Rattle.codegen.specs.Pieces.{append, in_order}
+use Rattle.codegen.specs.Layout.{range_fragment, statement_fragment, sentence_fragment, start_fragment, back_fragment}
 use Rattle.codegen.proofs.Pieces.{joined_assoc}
 use Rattle.codegen.proofs.Layers.{statement_is}
 use Rattle.codegen.proofs.BlindStatements.{statement_blind}
@@ -78,14 +78,14 @@ module _ (whole : Code) where
 
 -- Paragraphs whose PERFORMs perform lower ones.
 module _ (whole : Code) (scope : Scope) (has : HasFiles whole scope)
-    (entries : (n : ℕ) (one : Placed) → slice_get scope.items n ≡ Some one → slice_get whole.tables.items n ≡ Some (data_item one))
+    (entries : (n : ℕ) (one : LocatedItem) → slice_get scope.items n ≡ Some one → slice_get whole.tables.items n ≡ Some (data_item one))
     (order : IsTables whole.tables)
-    (lie : (n : ℕ) (one : Placed) → slice_get scope.items n ≡ Some one → LiesWhole whole.tables one) (all : List Paragraph)
+    (lie : (n : ℕ) (one : LocatedItem) → slice_get scope.items n ≡ Some one → LiesWhole whole.tables one) (all : List Paragraph)
     (laid : Laid whole scope all) (height : ℕ → ℕ)
     (keep : (n : ℕ) (one : Paragraph) → slice_get all n ≡ Some one → paragraph_rules scope (below height (height n)) one ≡ [])
     (there : (permits : Range → Bool) (first : Name) (last : Option Name) (one : Range) → range_rules permits scope.procedures first last ≡ []
     → range_of scope.procedures first last ≡ Some one → one.last < length all) where
-  abbrev around : Setting
+  abbrev around : ProgramContext
   around = record { scope = scope; paragraphs = all }
 
   -- An address of a paragraph that is as high, or higher.
@@ -123,22 +123,22 @@ module _ (whole : Code) (scope : Scope) (has : HasFiles whole scope)
     first = laid.before n
 
     abbrev inner : Code
-    inner = joined first (start_piece first)
+    inner = append first (start_fragment first)
 
     abbrev sentences : Code
-    sentences = in_order (sentence_piece scope) one.sentences inner
+    sentences = in_order (sentence_fragment scope) one.sentences inner
 
     abbrev last_back : Code
-    last_back = back_piece (length first.starts) (joined inner sentences)
+    last_back = back_fragment (length first.starts) (append inner sentences)
 
     -- the address of its end
     abbrev back_address : ℕ
-    back_address = end_of (joined inner sentences)
+    back_address = end_of (append inner sentences)
 
     inner_begins : end_of inner ≡ end_of first
     inner_begins =
-        let none : length (start_piece first).instructions ≡ 0 = refl in
-        omega (arith, none, length-append first.instructions (start_piece first).instructions)
+        let none : length (start_fragment first).instructions ≡ 0 = refl in
+        omega (arith, none, length-append first.instructions (start_fragment first).instructions)
 
     inner_ends : back_address + 1 ≡ end_of (laid.before (suc n))
     inner_ends =
@@ -147,26 +147,26 @@ module _ (whole : Code) (scope : Scope) (has : HasFiles whole scope)
           arith,
           single,
           ap end_of (laid.next n one here),
-          ap end_of (joined_assoc first (start_piece first) (joined sentences last_back)),
+          ap end_of (joined_assoc first (start_fragment first) (append sentences last_back)),
           ap end_of (joined_assoc inner sentences last_back),
-          length-append (joined inner sentences).instructions last_back.instructions,
+          length-append (append inner sentences).instructions last_back.instructions,
         )
 
     end_stands : slice_get whole.instructions back_address ≡ Some (Back (record { number = n }))
     end_stands =
         let within = slice_get_within all n one here in
-        let st = back whole inner sentences last_back (back whole first (start_piece first) (joined sentences last_back) (laid.stands n one here)) in
-        first_stands whole (joined inner sentences) last_back (Back (record { number = length first.starts })) [] refl st
+        let st = back whole inner sentences last_back (back whole first (start_fragment first) (append sentences last_back) (laid.stands n one here)) in
+        first_stands whole (append inner sentences) last_back (Back (record { number = length first.starts })) [] refl st
         ∙ ap (λ (k : ℕ). Some (Back (record { number = k }))) (laid.numbered n (omega arith))
 
     sentences_sit : Sits whole (Relies (height n)) inner sentences
     sentences_sit = record {
-      stands = front whole inner sentences last_back (back whole first (start_piece first) (joined sentences last_back) (laid.stands n one here));
+      stands = front whole inner sentences last_back (back whole first (start_fragment first) (append sentences last_back) (laid.stands n one here));
       keeps = λ k from to. record { number = n; higher = omega arith; begins = omega (arith, inner_begins); ends = omega (arith, inner_ends) };
     }
 
   abbrev Follow : ℕ → ℕ → Type 0
-  Follow depth high = Follows whole (Relies high) depth (statement_rules scope (below height high)) (exec around depth) (statement_piece scope)
+  Follow depth high = Follows whole (Relies high) depth (statement_rules scope (below height high)) (exec around depth) (statement_fragment scope)
 
   -- ---- paragraphs, where so much is known of their statements
 
@@ -174,10 +174,10 @@ module _ (whole : Code) (scope : Scope) (has : HasFiles whole scope)
     abbrev run : Statement → State → Outcome
     run = exec around depth
 
-    sentences_follow : (high : ℕ) → Follows whole (Relies high) depth (sentence_rules scope (below height high)) (sentence run) (sentence_piece scope)
+    sentences_follow : (high : ℕ) → Follows whole (Relies high) depth (sentence_rules scope (below height high)) (sentence run) (sentence_fragment scope)
     sentences_follow high = record {
       by = λ one before cs s kept less room sits.
-          in_order_does whole (Relies high) depth (statement_rules scope (below height high)) run (statement_piece scope)
+          in_order_does whole (Relies high) depth (statement_rules scope (below height high)) run (statement_fragment scope)
           (follows high) one.statements before cs s kept less room sits;
     }
 
@@ -194,7 +194,7 @@ module _ (whole : Code) (scope : Scope) (has : HasFiles whole scope)
         moved_from whole kept from to from low high cs s (paragraph run one s) (inner_begins n one here)
         (wider whole kept low high from to low high cs s (paragraph run one s) (omega (arith, inner_begins n one here))
         (omega (arith, inner_ends n one here))
-        (in_order_does whole kept depth (sentence_rules scope (below height (height n))) (sentence run) (sentence_piece scope)
+        (in_order_does whole kept depth (sentence_rules scope (below height (height n))) (sentence run) (sentence_fragment scope)
         (sentences_follow (height n)) one.sentences (inner n one here) cs s
         (keep n one here) less room (sentences_sit n one here)))
 
@@ -286,7 +286,7 @@ module _ (whole : Code) (scope : Scope) (has : HasFiles whole scope)
 
       perform_from : (left : ℕ) → left ≤ s.budget
           → ((k : ℕ) → exec_code whole (suc k) (at address cs s) ≡ tick_from left line (perform_at (exec_code whole k) (slice_index whole.starts one.first) one.last (at address cs s)) s)
-          → Does whole kept address (address + 1) address cs s (address + 1) (spend_from left line s (ranged run all one))
+          → Does whole kept address (address + 1) address cs s (address + 1) (spend_from left line s (range_outcome run all one))
       perform_from zero fewer st = (1, st 0)
       perform_from (suc n) fewer st =
           let t : State = record s { budget = n; line = line } in
@@ -296,24 +296,24 @@ module _ (whole : Code) (scope : Scope) (has : HasFiles whole scope)
           let walked = range_walks more one.first one.last (address + 1) high (drop one.first all) cs.returns entered t refl (omega arith) within
           (λ q low up. is_below height high one.first (one.last + 1 - one.first) q permitted low (omega arith)) refl (omega arith)
           (record { counters = room.counters; line = room.line }) in
-          came_back t (ranged run all one t)
+          came_back t (range_outcome run all one t)
           (steps_to whole address begin cs entered s t (omega arith) (λ k. st k ∙ ap (λ (p : ℕ). exec_code whole k (at p entered t)) starts))
           (subst (λ (k : ℕ). Walks high begin entered t (address + 1) cs.returns
           (in_turn (paragraph run) (take k (drop one.first all)) t)) count walked)
 
       perform_does : slice_get whole.instructions address ≡ Some (Perform line (record { number = one.first }) (record { number = one.last }))
-          → Does whole kept address (address + 1) address cs s (address + 1) (spend line s (ranged run all one))
+          → Does whole kept address (address + 1) address cs s (address + 1) (spend line s (range_outcome run all one))
       perform_does here =
           perform_from s.budget (omega arith)
           (λ k. one_step whole address cs s (Perform line (record { number = one.first }) (record { number = one.last })) here k)
 
     -- those that are lower
-    performs : (high : ℕ) → Performs whole (Relies high) (λ (one : Range). one.last < length all) depth (below height high) (ranged run all)
+    performs : (high : ℕ) → Performs whole (Relies high) (λ (one : Range). one.last < length all) depth (below height high) (range_outcome run all)
     performs high = record {
       by = λ line one permitted forwards within before cs s le room st.
-          let part = range_piece line (Some one) before in
-          let next : end_of before + 1 ≡ end_of (joined before part) = sym (length-append before.instructions part.instructions) in
-          subst (λ (p : ℕ). Does whole (Relies high) (end_of before) p (end_of before) cs s p (spend line s (ranged run all one))) next
+          let part = range_fragment line (Some one) before in
+          let next : end_of before + 1 ≡ end_of (append before part) = sym (length-append before.instructions part.instructions) in
+          subst (λ (p : ℕ). Does whole (Relies high) (end_of before) p (end_of before) cs s p (spend line s (range_outcome run all one))) next
           (perform_does high line one permitted forwards within (end_of before) cs s le room
           (first_stands whole before part (Perform line (record { number = one.first }) (record { number = one.last })) [] refl st));
     }
@@ -329,7 +329,7 @@ module _ (whole : Code) (scope : Scope) (has : HasFiles whole scope)
         subst (λ (c : Code). PartDoes whole (Relies high) before c cs s (exec around (suc depth) one s)) (sym is)
         (verb_does whole (Relies high) scope has entries order lie (λ (found : Range). found.last < length all) there depth (below height high)
         (statement_rules scope (below height high)) (exec around depth)
-        (ranged (exec around depth) all) (statement_piece scope) (statement_does depth high) (performs depth (statement_does depth) high)
+        (range_outcome (exec around depth) all) (statement_fragment scope) (statement_does depth high) (performs depth (statement_does depth) high)
         (statement_blind scope) (exec_runs around depth)
         (ranged_runs (exec around depth) (exec_runs around depth) all) now.place.line now.verb before cs s
         (sym (rules.statement_is scope (below height high) one) ∙ kept) (omega arith) room
@@ -340,7 +340,7 @@ module _ (whole : Code) (scope : Scope) (has : HasFiles whole scope)
 
   -- the machine's run is over as an outcome is told
   abbrev pub Ends : ℕ → Own → State → Outcome → Type 0
-  Ends address cs s o = (j : ℕ) × (exec_code whole j (at address cs s) ≡ Some (told o))
+  Ends address cs s o = (j : ℕ) × (exec_code whole j (at address cs s) ≡ Some (run_of o))
 
   then_ends : (kept : ℕ → Type 0) (from to address mid : ℕ) (cs : Own) (s : State) (o : Outcome) (go : State → Outcome)
       → Does whole kept from to address cs s mid o

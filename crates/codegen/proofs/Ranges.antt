@@ -7,7 +7,7 @@ use Rattle.source_tree.specs.declared.program.Paragraph.{Paragraph}
 use Rattle.source_tree.specs.declared.program.Section.{Section}
 use Rattle.source_tree.specs.Broken.{where_so}
 use Rattle.source_tree.specs.PerformRules.{procedure_named, last_named, last_place, found_rules, range_rules}
-use Rattle.source_tree.specs.Procedures.{Range, Procedure, paragraphs_or_one, paragraphs_in, paragraph_procedures, procedures_from, is_procedure, procedures_named, only_range, range_named, to_end_of, through, range_of}
+use Rattle.source_tree.specs.Procedures.{Range, Procedure, paragraphs_or_one, paragraphs_in, paragraph_procedures, procedures_from, is_procedure, procedures_named, only_range, range_named, to_end_of, range_through, range_of}
 use Rattle.codegen.proofs.Codes.{left_none, right_none}
 use Rattle.codegen.proofs.Integers.{kept}
 
@@ -54,7 +54,7 @@ module _ (count : ℕ) where
     named_within : (name : Name) → LastWithin count (range_named procedures name)
     named_within name = only_within (procedures_named procedures name) (filtered (is_procedure name) procedures all)
 
-    through_within : (last : Option Name) (first : Option Range) → LastWithin count first → LastWithin count (through procedures last first)
+    through_within : (last : Option Name) (first : Option Range) → LastWithin count first → LastWithin count (range_through procedures last first)
     through_within last None h = tt
     through_within None (Some first) h = h
     through_within (Some last) (Some first) h = to_end_within first (range_named procedures last) (named_within last)

@@ -14,16 +14,16 @@ use Rattle.source_tree.specs.declared.name.Name.{Name}
 use Rattle.source_tree.specs.declared.entry.ItemEntry.{ItemEntry}
 use Rattle.source_tree.specs.declared.entry.ConditionEntry.{ConditionEntry}
 use Rattle.source_tree.specs.declared.select.FileDescription.{FileDescription}
-use Rattle.source_tree.specs.Broken.{Broken, each, where_so}
+use Rattle.source_tree.specs.Broken.{RuleBreach, each, where_so}
 use Rattle.source_tree.specs.Clauses.{nothing_around, editing_of, group}
 use Rattle.source_tree.specs.EntryRules.{outermost, level_rules, homeless, forest_rules}
 use Rattle.source_tree.specs.FileRules.{description_names, description_rules, most_record_bytes}
-use Rattle.source_tree.specs.Levels.{Forest, End, Tree, leading, nested}
+use Rattle.source_tree.specs.Levels.{Forest, End, Tree, leading_conditions, forest_of}
 use Rattle.source_tree.specs.LookUp.{first}
 use Rattle.source_tree.specs.Names.{same}
 use Rattle.source_tree.specs.PerformRules.{is_among}
-use Rattle.source_tree.specs.Places.{Placed}
-use Rattle.source_tree.specs.ProgramFiles.{Described, described, ProgramFile, sent_of}
+use Rattle.source_tree.specs.Places.{LocatedItem}
+use Rattle.source_tree.specs.ProgramFiles.{DescribedFile, described_file, ProgramFile, sent_of}
 use Rattle.source_tree.specs.Records.{record_length, record_places, file_places}
 use Rattle.source_tree.specs.Rooms.{redefines, item_with}
 use Rattle.source_tree.specs.ValueRules.{are_some}
@@ -84,7 +84,7 @@ abbrev pub only_record : ℕ → ItemEntry → Forest → DataItem
 only_record area one inner = record { item = item_with nothing_around one inner; editing = editing_of nothing_around one; area = area; offset = 0 }
 
 module _ (P : DataItem → Type 0) where
-  abbrev OfPlaced : Placed → Type 0
+  abbrev OfPlaced : LocatedItem → Type 0
   OfPlaced one = P (data_item one)
 
   record_at : (area : ℕ) (file : Name) (records : Forest) (one : ItemEntry) (conditions : List ConditionEntry) (inner : Forest)
@@ -96,21 +96,21 @@ module _ (P : DataItem → Type 0) where
   -- the FD of a name, or a later one
   by_name : (test : Bool) (area : ℕ) (name : Name) (file : FileDescription) (more : List FileDescription) (one : ItemEntry)
       (conditions : List ConditionEntry) (inner : Forest)
-      → (let there : Described = if test then record { area = area; entries = file.entries } else described (area + 1) name more in
-      (test || is_among name (description_names more)) ≡ true → nested there.entries ≡ Tree one conditions inner End
-      → AllByRecursion OfPlaced (record_places area file.name (nested file.entries))
-      → (is_among name (description_names more) ≡ true → nested (described (area + 1) name more).entries ≡ Tree one conditions inner End
-      → P (only_record (described (area + 1) name more).area one inner))
+      → (let there : DescribedFile = if test then record { area = area; entries = file.entries } else described_file (area + 1) name more in
+      (test || is_among name (description_names more)) ≡ true → forest_of there.entries ≡ Tree one conditions inner End
+      → AllByRecursion OfPlaced (record_places area file.name (forest_of file.entries))
+      → (is_among name (description_names more) ≡ true → forest_of (described_file (area + 1) name more).entries ≡ Tree one conditions inner End
+      → P (only_record (described_file (area + 1) name more).area one inner))
       → P (only_record there.area one inner))
-  by_name true area name file more one conditions inner among is here rest = record_at area file.name (nested file.entries) one conditions inner is here
+  by_name true area name file more one conditions inner among is here rest = record_at area file.name (forest_of file.entries) one conditions inner is here
   by_name false area name file more one conditions inner among is here rest = rest among is
 
   record_so : (area : ℕ) (name : Name) (files : List FileDescription) (one : ItemEntry) (conditions : List ConditionEntry) (inner : Forest)
-      → is_among name (description_names files) ≡ true → nested (described area name files).entries ≡ Tree one conditions inner End
-      → AllByRecursion OfPlaced (file_places area files) → P (only_record (described area name files).area one inner)
+      → is_among name (description_names files) ≡ true → forest_of (described_file area name files).entries ≡ Tree one conditions inner End
+      → AllByRecursion OfPlaced (file_places area files) → P (only_record (described_file area name files).area one inner)
   record_so area name [] one conditions inner among is all = absurd cc
   record_so area name (file ∷ more) one conditions inner among is all =
-      let records = record_places area file.name (nested file.entries) in
+      let records = record_places area file.name (forest_of file.entries) in
       by_name (same name file.name) area name file more one conditions inner among is (all_front OfPlaced records (file_places (area + 1) more) all)
       (λ among is. record_so (area + 1) name more one conditions inner among is (all_back OfPlaced records (file_places (area + 1) more) all))
 
@@ -119,22 +119,22 @@ module _ (P : DataItem → Type 0) where
 length_kept : (one : FileDescription) → description_rules one ≡ [] → are_some most_record_bytes (record_length one.entries) ≡ true
 length_kept one e =
     let levels = each level_rules one.entries in
-    let lost = each homeless (leading one.entries) in
-    let forest = forest_rules (outermost true) None (nested one.entries) in
+    let lost = each homeless (leading_conditions one.entries) in
+    let forest = forest_rules (outermost true) None (forest_of one.entries) in
     let size = where_so (not (are_some most_record_bytes (record_length one.entries))) 69 one.name.place in
     not_false (are_some most_record_bytes (record_length one.entries))
     (kept (not (are_some most_record_bytes (record_length one.entries))) 69 one.name.place (right_none (levels ++ lost ++ forest) size e))
 
 length_by : (test : Bool) (area : ℕ) (name : Name) (file : FileDescription) (more : List FileDescription)
-    → (let there : Described = if test then record { area = area; entries = file.entries } else described (area + 1) name more in
+    → (let there : DescribedFile = if test then record { area = area; entries = file.entries } else described_file (area + 1) name more in
     (test || is_among name (description_names more)) ≡ true → description_rules file ≡ []
-    → (is_among name (description_names more) ≡ true → are_some most_record_bytes (record_length (described (area + 1) name more).entries) ≡ true)
+    → (is_among name (description_names more) ≡ true → are_some most_record_bytes (record_length (described_file (area + 1) name more).entries) ≡ true)
     → are_some most_record_bytes (record_length there.entries) ≡ true)
 length_by true area name file more among e rest = length_kept file e
 length_by false area name file more among e rest = rest among
 
 described_length : (area : ℕ) (name : Name) (files : List FileDescription) → is_among name (description_names files) ≡ true
-    → each description_rules files ≡ [] → are_some most_record_bytes (record_length (described area name files).entries) ≡ true
+    → each description_rules files ≡ [] → are_some most_record_bytes (record_length (described_file area name files).entries) ≡ true
 described_length area name [] among e = absurd cc
 described_length area name (file ∷ more) among e =
     length_by (same name file.name) area name file more among (left_none (description_rules file) (each description_rules more) e)
@@ -168,9 +168,9 @@ equal_is n m e = grind (arith, nat_tests)
 is_equal : (n m : ℕ) → n ≡ m → (n == m) ≡ true
 is_equal n m e = grind (arith, nat_tests)
 
-module _ (areas : List (List ℕ)) (items : List Placed) where
+module _ (areas : List (List ℕ)) (items : List LocatedItem) where
   -- an item of the table that is in order
-  abbrev pub IsInOrder : Placed → Type 0
+  abbrev pub IsInOrder : LocatedItem → Type 0
   IsInOrder one = IsDataItem areas (data_item one)
 
   -- not one that edits the record
@@ -178,7 +178,7 @@ module _ (areas : List (List ℕ)) (items : List Placed) where
   DoesNotEdit file one =
       ((one.area == file.places.area) && edited_alike one.item.kind file.sent.kind && (one.item.length == file.sent.length)) ≡ false
 
-  editing_found : (file : ProgramFile) (one : Placed) → IsInOrder one → edits file one ≡ true → IsEditing file.sent one.editing
+  editing_found : (file : ProgramFile) (one : LocatedItem) → IsInOrder one → edits file one ≡ true → IsEditing file.sent one.editing
   editing_found file one h e =
       let front = and_front ((one.area == file.places.area) && edited_alike one.item.kind file.sent.kind) (one.item.length == file.sent.length) e in
       let size = and_back ((one.area == file.places.area) && edited_alike one.item.kind file.sent.kind) (one.item.length == file.sent.length) e in
@@ -188,14 +188,14 @@ module _ (areas : List (List ℕ)) (items : List Placed) where
 
   -- by what edits the record, or where nothing does
   editing_so : (file : ProgramFile) → AllByRecursion IsInOrder items
-      → (AllByRecursion (λ (one : Placed). edits file one ≡ false) items → IsPlainKind file.sent.kind) → (found : Option Placed)
+      → (AllByRecursion (λ (one : LocatedItem). edits file one ≡ false) items → IsPlainKind file.sent.kind) → (found : Option LocatedItem)
       → first (filter (edits file) items) ≡ found → IsEditing file.sent (editing_in found)
-  editing_so file all none None is = none (none_pass (λ (one : Placed). edits file one ≡ false) (edits file) items is)
+  editing_so file all none None is = none (none_pass (λ (one : LocatedItem). edits file one ≡ false) (edits file) items is)
   editing_so file all none (Some one) is = editing_found file one (first_so IsInOrder (edits file) items one all is) (first_passes (edits file) items one is)
 
   -- where the sent item has its form and lies in the area
   sent_so : (file : ProgramFile) → AllByRecursion IsInOrder items
-      → (AllByRecursion (λ (one : Placed). edits file one ≡ false) items → IsPlainKind file.sent.kind)
+      → (AllByRecursion (λ (one : LocatedItem). edits file one ≡ false) items → IsPlainKind file.sent.kind)
       → IsItem file.sent → Lies areas (sent_entry items file) 0 → IsDataItem areas (sent_entry items file)
   sent_so file all none form lies =
       record { form = form; editing = editing_so file all none (first (filter (edits file) items)) refl; lies = lies }
@@ -204,13 +204,13 @@ module _ (areas : List (List ℕ)) (items : List Placed) where
   area_there : (n size : ℕ) → n < length areas → length (slice_index_or areas n []) ≡ size → (area : List ℕ) × (slice_get areas n ≡ Some area) × (length area ≡ size)
   area_there n size within e = (slice_index_or areas n [], slice_get-get_or areas n [] within, e)
 
-  module _ (storage : List Placed) (first_area : ℕ) (files : List FileDescription) (name : Name) (file : ProgramFile)
+  module _ (storage : List LocatedItem) (first_area : ℕ) (files : List FileDescription) (name : Name) (file : ProgramFile)
       (split : items ≡ storage ++ file_places first_area files) (among : is_among name (description_names files) ≡ true)
       (rules : each description_rules files ≡ []) (all : AllByRecursion IsInOrder items) where
-    abbrev there : Described
-    there = described first_area name files
+    abbrev there : DescribedFile
+    there = described_file first_area name files
 
-    of_records : (P : Placed → Type 0) → AllByRecursion P items → AllByRecursion P (file_places first_area files)
+    of_records : (P : LocatedItem → Type 0) → AllByRecursion P items → AllByRecursion P (file_places first_area files)
     of_records P h = all_back P storage (file_places first_area files) (subst (AllByRecursion P) split h)
 
     -- several records, or none
@@ -231,13 +231,13 @@ module _ (areas : List (List ℕ)) (items : List Placed) where
         bounds_of n e = (grind (arith, nat_tests), grind (arith, nat_tests))
 
     -- the only record
-    record_is : (one : ItemEntry) (conditions : List ConditionEntry) (inner : Forest) → nested there.entries ≡ Tree one conditions inner End
+    record_is : (one : ItemEntry) (conditions : List ConditionEntry) (inner : Forest) → forest_of there.entries ≡ Tree one conditions inner End
         → file.sent ≡ item_with nothing_around one inner → file.places.area ≡ there.area → IsDataItem areas (sent_entry items file)
     record_is one conditions inner is sent area =
         let here = record_so (IsDataItem areas) first_area name files one conditions inner among is (of_records IsInOrder all) in
-        let none = λ (none : AllByRecursion (λ (one : Placed). edits file one ≡ false) items).
+        let none = λ (none : AllByRecursion (λ (one : LocatedItem). edits file one ≡ false) items).
         let not_it = record_so (DoesNotEdit file) first_area name files one conditions inner among is
-        (of_records (λ (one : Placed). edits file one ≡ false) none) in
+        (of_records (λ (one : LocatedItem). edits file one ≡ false) none) in
         let item : Item = item_with nothing_around one inner in
         let not_alike : edited_alike item.kind file.sent.kind ≡ false =
         and_false (there.area == file.places.area) (edited_alike item.kind file.sent.kind) (item.length == file.sent.length) not_it
@@ -250,14 +250,14 @@ module _ (areas : List (List ℕ)) (items : List Placed) where
         (record { area = lies.area; here = subst (λ n. slice_get areas n ≡ Some lies.area) (sym area) lies.here; within = omega arith })
 
     -- by the records
-    sent_by : (records : Forest) → nested there.entries ≡ records → file.sent ≡ sent_of (record_length there.entries) records
+    sent_by : (records : Forest) → forest_of there.entries ≡ records → file.sent ≡ sent_of (record_length there.entries) records
         → file.places.area ≡ there.area → file.places.area < length areas
         → length (slice_index_or areas file.places.area []) ≡ record_length there.entries → IsDataItem areas (sent_entry items file)
     sent_by End is sent area within long = group_so sent within long
     sent_by (Tree one conditions inner End) is sent area within long = record_is one conditions inner is sent area
     sent_by (Tree one conditions inner (Tree other more deeper next)) is sent area within long = group_so sent within long
 
-    pub sent_is_item : file.sent ≡ sent_of (record_length there.entries) (nested there.entries) → file.places.area ≡ there.area
+    pub sent_is_item : file.sent ≡ sent_of (record_length there.entries) (forest_of there.entries) → file.places.area ≡ there.area
         → file.places.area < length areas → length (slice_index_or areas file.places.area []) ≡ record_length there.entries
         → IsDataItem areas (sent_entry items file)
-    sent_is_item = sent_by (nested there.entries) refl
+    sent_is_item = sent_by (forest_of there.entries) refl

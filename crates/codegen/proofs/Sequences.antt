@@ -2,11 +2,11 @@
 use Rattle.std.proofs.Common.{◌≡◌, ap, ◌∙◌}
 use Rattle.std.specs.Prelude.{Result, Ok, Err, OnOk}
 use Rattle.code_image.specs.declared.code.Code.{Code}
-use Rattle.codegen.specs.Pieces.{Piece, joined, both}
+use Rattle.codegen.specs.Pieces.{Fragment, append, sequence}
 use Rattle.codegen.proofs.Pieces.{joined_assoc}
 
-pub then_piece : (first second : Piece) (before now after : Code) → now ≡ joined before (first before) → after ≡ joined now (second now) → after ≡ joined before (both first second before)
-then_piece first second before now after e f = f ∙ ap (λ (c : Code). joined c (second c)) e ∙ joined_assoc before (first before) (second (joined before (first before)))
+pub then_piece : (first second : Fragment) (before now after : Code) → now ≡ append before (first before) → after ≡ append now (second now) → after ≡ append before (sequence first second before)
+then_piece first second before now after e f = f ∙ ap (λ (c : Code). append c (second c)) e ∙ joined_assoc before (first before) (second (append before (first before)))
 
 -- the same where a call may have failed
 module _ {T E : Type 0} where
@@ -14,8 +14,8 @@ module _ {T E : Type 0} where
   is_so (Ok x) made total wanted e f = e ∙ f
   is_so (Err x) made total wanted e f = e
 
-  pub ends_so : (result : Result T E) (first second : Piece) (before now after : Code) → now ≡ joined before (first before) → OnOk result (after ≡ joined now (second now))
-      → OnOk result (after ≡ joined before (both first second before))
+  pub ends_so : (result : Result T E) (first second : Fragment) (before now after : Code) → now ≡ append before (first before) → OnOk result (after ≡ append now (second now))
+      → OnOk result (after ≡ append before (sequence first second before))
   ends_so (Ok x) first second before now after e f = then_piece first second before now after e f
   ends_so (Err x) first second before now after e f = f
 

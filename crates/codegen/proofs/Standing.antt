@@ -10,19 +10,19 @@ use Rattle.data_instructions.specs.declared.instruction.DataInstruction.{DataIns
 use Rattle.code_image.specs.declared.code.Code.{Code}
 use Rattle.code_image.specs.declared.instruction.Instruction.{Instruction}
 use Rattle.code_image.specs.declared.instruction.Instruction.TheVariants.{Data}
-use Rattle.codegen.specs.Pieces.{joined}
+use Rattle.codegen.specs.Pieces.{append}
 use Rattle.codegen.proofs.Pieces.{joined_assoc}
 
 -- The part stands in the whole right after the code before it.
 pub record Stands (whole before part : Code) : Type 0 where
   pub rest : Code
-  pub is : whole ≡ joined (joined before part) rest
+  pub is : whole ≡ append (append before part) rest
 
-pub front : (whole before a b : Code) → Stands whole before (joined a b) → Stands whole before a
-front whole before a b st = record { rest = joined b st.rest; is = st.is ∙ ap (λ (c : Code). joined c st.rest) (sym (joined_assoc before a b)) ∙ joined_assoc (joined before a) b st.rest }
+pub front : (whole before a b : Code) → Stands whole before (append a b) → Stands whole before a
+front whole before a b st = record { rest = append b st.rest; is = st.is ∙ ap (λ (c : Code). append c st.rest) (sym (joined_assoc before a b)) ∙ joined_assoc (append before a) b st.rest }
 
-pub back : (whole before a b : Code) → Stands whole before (joined a b) → Stands whole (joined before a) b
-back whole before a b st = record { rest = st.rest; is = st.is ∙ ap (λ (c : Code). joined c st.rest) (sym (joined_assoc before a b)) }
+pub back : (whole before a b : Code) → Stands whole before (append a b) → Stands whole (append before a) b
+back whole before a b st = record { rest = st.rest; is = st.is ∙ ap (λ (c : Code). append c st.rest) (sym (joined_assoc before a b)) }
 
 pub at_seam : {A : Type 0} (pre : List A) (x : A) (post : List A) → slice_get (pre ++ x ∷ post) (length pre) ≡ Some x
 at_seam pre x post = slice_get-get_or (pre ++ x ∷ post) (length pre) x (omega (arith, length-append pre (x ∷ post))) ∙ ap Some (get_or-append_seam pre x post x)

@@ -7,15 +7,15 @@ use Rattle.picture.specs.declared.picture.Picture.{Picture}
 use Rattle.items.specs.declared.item.Item.{Item}
 use Rattle.source_tree.specs.declared.select.Select.{Select}
 use Rattle.source_tree.specs.LookUp.{first}
-use Rattle.source_tree.specs.Places.{Placed}
+use Rattle.source_tree.specs.Places.{LocatedItem}
 use Rattle.source_tree.specs.ProgramFiles as meaning
 use Rattle.layout.specs.declared.placed.PlacedItem.{PlacedItem}
 use Rattle.layout.specs.Placing.{placed_item}
 use Rattle.data_instructions.specs.declared.tables.DataItem.{DataItem}
 use Rattle.data_instructions.specs.Codes.{data_item}
-use Rattle.program_files.specs.declared.file.ProgramFile.{ProgramFile}
-use Rattle.program_files.specs.Files.{file_in, numbers_in, clause_numbers}
-use Rattle.file_tables.specs.declared.file.CodeFile.{CodeFile}
+use Rattle.file_descriptions.specs.declared.file.ProgramFile.{ProgramFile}
+use Rattle.file_descriptions.specs.Files.{file_in, numbers_in, clause_numbers}
+use Rattle.file_image.specs.declared.file.CodeFile.{CodeFile}
 use Rattle.codegen.specs.FileCode as files
 use Rattle.codegen.specs.FileCode.{edited_alike, editing_in}
 use Rattle.codegen.specs.Sent.{edits, first_editing, code_in}
@@ -28,12 +28,12 @@ mapped_length : {A B : Type 0} (f : A → B) (xs : List A) → length (map f xs)
 mapped_length f [] = refl
 mapped_length f (x ∷ xs) = ap suc (mapped_length f xs)
 
-entry_at : (items : List Placed) (i : ℕ) (one : PlacedItem) → i < length (map placed_item items) → one ≡ get_or (map placed_item items) i one → get_or (map data_item items) i (entry one) ≡ entry one
+entry_at : (items : List LocatedItem) (i : ℕ) (one : PlacedItem) → i < length (map placed_item items) → one ≡ get_or (map placed_item items) i one → get_or (map data_item items) i (entry one) ≡ entry one
 entry_at [] i one lt e = absurd (omega arith)
 entry_at (x ∷ xs) zero one lt e = ap entry (sym e)
 entry_at (x ∷ xs) (suc i) one lt e = entry_at xs i one (omega arith) e
 
-pub items_more : (items : List Placed) (placed : List PlacedItem) (i : ℕ) (one : PlacedItem) (made : DataItem) (old new : List DataItem)
+pub items_more : (items : List LocatedItem) (placed : List PlacedItem) (i : ℕ) (one : PlacedItem) (made : DataItem) (old new : List DataItem)
     → placed ≡ map placed_item items → i < length placed → one ≡ get_or placed i one → made ≡ entry one → old ≡ map data_item (take i items) → new ≡ old ++ made ∷ []
     → new ≡ map data_item (take (i + 1) items)
 items_more items placed i one made old new is lt at made_is before after =
@@ -49,19 +49,19 @@ items_more items placed i one made old new is lt at made_is before after =
 
 -- ---- what READ INTO sends of each file
 
-by_test : (test : Bool) (x : Placed) (other : Option Picture) (rest : List Placed) → other ≡ editing_in (first rest)
+by_test : (test : Bool) (x : LocatedItem) (other : Option Picture) (rest : List LocatedItem) → other ≡ editing_in (first rest)
     → (if test then x.editing else other) ≡ editing_in (first (if test then x ∷ rest else rest))
 by_test true x other rest e = refl
 by_test false x other rest e = e
 
-same_test : (file : ProgramFile) (known : meaning.ProgramFile) (x : Placed) → known.places.area ≡ file.area → known.sent ≡ file.sent
+same_test : (file : ProgramFile) (known : meaning.ProgramFile) (x : LocatedItem) → known.places.area ≡ file.area → known.sent ≡ file.sent
     → edits file (placed_item x) ≡ files.edits known x
 same_test file known x a b =
     ap (λ (n : ℕ). (x.area == n) && edited_alike x.item.kind file.sent.kind && (x.item.length == file.sent.length)) (sym a)
     ∙ ap (λ (item : Item). (x.area == known.places.area) && edited_alike x.item.kind item.kind && (x.item.length == item.length)) (sym b)
 
 -- the picture that edits the record, among items as they are placed
-pub first_is : (file : ProgramFile) (known : meaning.ProgramFile) (items : List Placed) → known.places.area ≡ file.area → known.sent ≡ file.sent
+pub first_is : (file : ProgramFile) (known : meaning.ProgramFile) (items : List LocatedItem) → known.places.area ≡ file.area → known.sent ≡ file.sent
     → first_editing (edits file) (map placed_item items) ≡ editing_in (first (filter (files.edits known) items))
 first_is file known [] a b = refl
 first_is file known (x ∷ xs) a b =
@@ -83,7 +83,7 @@ mapped_more {A} {B} f all i one front old new made lt is made_is before after =
     ∙ ap (map f) (sym (take_more all i one lt)))
 
 -- the entries of files are those of the meaning
-pub codes_are : (items : List Placed) (selects : List Select) (all : List ProgramFile)
+pub codes_are : (items : List LocatedItem) (selects : List Select) (all : List ProgramFile)
     → map numbers_in all ≡ map (clause_numbers items) selects → map code_in all ≡ files.code_files items selects (map (file_in items) all)
 codes_are items [] [] e = refl
 codes_are items [] (one ∷ more) e = absurd cc
@@ -112,7 +112,7 @@ map_twice f g [] = refl
 map_twice {C = C} f g (x ∷ xs) = ap (λ (l : List C). g (f x) ∷ l) (map_twice f g xs)
 
 -- all entries of files
-pub sent_all : (items : List Placed) (all : List ProgramFile) (known : List meaning.ProgramFile) (i : ℕ) (made : List DataItem) → length all ≤ i
+pub sent_all : (items : List LocatedItem) (all : List ProgramFile) (known : List meaning.ProgramFile) (i : ℕ) (made : List DataItem) → length all ≤ i
     → made ≡ map data_item items ++ map (λ file. files.sent_entry items (file_in items file)) (take i all) → map (file_in items) all ≡ known
     → made ≡ map data_item items ++ map (files.sent_entry items) known
 sent_all items all known i made le so_far is =
@@ -121,7 +121,7 @@ sent_all items all known i made le so_far is =
     ∙ ap (λ (l : List DataItem). map data_item items ++ l) (map_twice (file_in items) (files.sent_entry items) all)
     ∙ ap (λ (l : List meaning.ProgramFile). map data_item items ++ map (files.sent_entry items) l) is
 
-pub codes_all : (items : List Placed) (selects : List Select) (all : List ProgramFile) (known : List meaning.ProgramFile) (i : ℕ) (made : List CodeFile)
+pub codes_all : (items : List LocatedItem) (selects : List Select) (all : List ProgramFile) (known : List meaning.ProgramFile) (i : ℕ) (made : List CodeFile)
     → length all ≤ i → made ≡ map code_in (take i all) → map numbers_in all ≡ map (clause_numbers items) selects → map (file_in items) all ≡ known
     → made ≡ files.code_files items selects known
 codes_all items selects all known i made le so_far numbers is =

@@ -12,16 +12,16 @@ use Rattle.source_tree.specs.declared.reference.Subscript as written
 use Rattle.source_tree.specs.declared.reference.Subscript.TheVariants as subscript
 use Rattle.source_tree.specs.declared.reference.Reference.{Reference}
 use Rattle.source_tree.specs.declared.table.Dimension.{Dimension}
-use Rattle.source_tree.specs.declared.moving.Moving.{Moving}
-use Rattle.source_tree.specs.declared.moving.Moving.TheVariants.{Move, Initialize, Set}
-use Rattle.source_tree.specs.declared.text.Text.{Text}
-use Rattle.source_tree.specs.declared.text.Text.TheVariants.{Display, Accept, AcceptDate}
+use Rattle.source_tree.specs.declared.data_statement.DataStatement.{DataStatement}
+use Rattle.source_tree.specs.declared.data_statement.DataStatement.TheVariants.{Move, Initialize, Set}
+use Rattle.source_tree.specs.declared.text_statement.TextStatement.{TextStatement}
+use Rattle.source_tree.specs.declared.text_statement.TextStatement.TheVariants.{Display, Accept, AcceptDate}
 use Rattle.source_tree.specs.Broken.{each}
 use Rattle.source_tree.specs.Display.{shown_literal, line_end}
 use Rattle.source_tree.specs.Integers.{number_of}
 use Rattle.source_tree.specs.MoveRules.{sent_by, receives}
-use Rattle.source_tree.specs.NameRules.{item_rules, operand_rules, form_rule}
-use Rattle.source_tree.specs.Places.{Placed}
+use Rattle.source_tree.specs.NameRules.{reference_rules, operand_rules, form_rule}
+use Rattle.source_tree.specs.Places.{LocatedItem}
 use Rattle.source_tree.specs.Initializing.{Pattern}
 use Rattle.source_tree.specs.LookUp.{all_conditions}
 use Rattle.source_tree.specs.Rules.{moving_rules}
@@ -37,11 +37,11 @@ use Rattle.data_instructions.specs.TextCodes.{new_byte, new_mark}
 use Rattle.code_image.specs.declared.code.Code.{Code}
 use Rattle.code_image.specs.declared.instruction.Instruction.{Instruction}
 use Rattle.code_image.specs.declared.instruction.Instruction.TheVariants as instruction
-use Rattle.codegen.specs.Pieces.{Piece, nothing, joined, both, in_order, plain}
-use Rattle.codegen.specs.DataCode.{item_index, item_number, dimensions_of, work_piece, works_piece, number_piece, integer_piece, adjustment_piece, text_piece, line_end_piece, show_piece, subscript_piece, subscripts_piece, reference_piece, taking_piece, sender_piece, receivers_piece, operand_piece, operands_piece}
+use Rattle.codegen.specs.Pieces.{Fragment, empty_code, append, sequence, in_order, plain_code}
+use Rattle.codegen.specs.DataCode.{item_index, item_number, dimensions_of, work_fragment, works_fragment, number_fragment, integer_fragment, adjustment_fragment, text_fragment, line_end_fragment, show_fragment, subscript_fragment, subscripts_fragment, reference_fragment, take_fragment, sender_fragment, receivers_fragment, operand_fragment, operands_fragment}
 use Rattle.codegen.specs.ConditionCode.{condition_number, condition_item}
-use Rattle.codegen.specs.PatternCode.{pattern_piece, pattern_of, set_of, initialize_piece, set_piece}
-use Rattle.codegen.specs.Layout.{moving_piece, texts_piece}
+use Rattle.codegen.specs.PatternCode.{pattern_fragment, pattern_of, set_of, initialize_fragment, set_fragment}
+use Rattle.codegen.specs.Layout.{data_fragment, texts_fragment}
 use Rattle.codegen.proofs.Codes.{left_none}
 use Rattle.codegen.proofs.Integers.{kept, not_false}
 
@@ -83,10 +83,10 @@ pub record Straight (part : Code) : Type 0 where
   pub inspections : AllByRecursion IsInspection part.tables.inspections
 
 -- a piece, behind whatever code
-abbrev pub AlwaysStraight : Piece → Type 0
+abbrev pub AlwaysStraight : Fragment → Type 0
 AlwaysStraight piece = (before : Code) → Straight (piece before)
 
-pub joined_straight : (a b : Code) → Straight a → Straight b → Straight (joined a b)
+pub joined_straight : (a b : Code) → Straight a → Straight b → Straight (append a b)
 joined_straight a b f s = record {
   instructions = all_both IsStraight a.instructions b.instructions f.instructions s.instructions;
   starts = ap (λ l. l ++ b.starts) f.starts ∙ s.starts;
@@ -97,74 +97,74 @@ joined_straight a b f s = record {
   inspections = all_both IsInspection a.tables.inspections b.tables.inspections f.inspections s.inspections;
 }
 
-pub both_straight : (first second : Piece) → AlwaysStraight first → AlwaysStraight second → AlwaysStraight (both first second)
-both_straight first second f s before = joined_straight (first before) (second (joined before (first before))) (f before) (s (joined before (first before)))
+pub both_straight : (first second : Fragment) → AlwaysStraight first → AlwaysStraight second → AlwaysStraight (sequence first second)
+both_straight first second f s before = joined_straight (first before) (second (append before (first before))) (f before) (s (append before (first before)))
 
-pub nothing_straight : Straight nothing
+pub nothing_straight : Straight empty_code
 nothing_straight = record { instructions = tt; starts = refl; files = refl; areas = refl; items = refl; senders = tt; inspections = tt }
 
-pub in_order_straight : {A : Type 0} (piece : A → Piece) → ((one : A) → AlwaysStraight (piece one)) → (all : List A) → AlwaysStraight (in_order piece all)
+pub in_order_straight : {A : Type 0} (piece : A → Fragment) → ((one : A) → AlwaysStraight (piece one)) → (all : List A) → AlwaysStraight (in_order piece all)
 in_order_straight piece straight [] before = nothing_straight
 in_order_straight piece straight (one ∷ more) before =
-    joined_straight (piece one before) (in_order piece more (joined before (piece one before))) (straight one before) (in_order_straight piece straight more (joined before (piece one before)))
+    joined_straight (piece one before) (in_order piece more (append before (piece one before))) (straight one before) (in_order_straight piece straight more (append before (piece one before)))
 
 data_straight : (all : List DataInstruction) → AllByRecursion IsStraight (map instruction.Data all)
 data_straight [] = tt
 data_straight (one ∷ more) = (tt, data_straight more)
 
-pub works_straight : (all : List DataInstruction) → AlwaysStraight (works_piece all)
+pub works_straight : (all : List DataInstruction) → AlwaysStraight (works_fragment all)
 works_straight all before = record { instructions = data_straight all; starts = refl; files = refl; areas = refl; items = refl; senders = tt; inspections = tt }
 
-pub work_straight : (one : DataInstruction) → AlwaysStraight (work_piece one)
+pub work_straight : (one : DataInstruction) → AlwaysStraight (work_fragment one)
 work_straight one = works_straight (one ∷ [])
 
-pub number_straight : (x : Fraction) → AlwaysStraight (number_piece x)
+pub number_straight : (x : Fraction) → AlwaysStraight (number_fragment x)
 number_straight x before = record { instructions = (tt, tt); starts = refl; files = refl; areas = refl; items = refl; senders = tt; inspections = tt }
 
-adjustment_straight : (one : Adjustment) → AlwaysStraight (adjustment_piece one)
+adjustment_straight : (one : Adjustment) → AlwaysStraight (adjustment_fragment one)
 adjustment_straight adjustment.Nothing before = nothing_straight
-adjustment_straight (adjustment.Plus n) before = both_straight (integer_piece (number_of n)) (work_piece (i.Calculate c.Add)) (number_straight (integer (pos (number_of n)))) (work_straight (i.Calculate c.Add)) before
-adjustment_straight (adjustment.Minus n) before = both_straight (integer_piece (number_of n)) (work_piece (i.Calculate c.Subtract)) (number_straight (integer (pos (number_of n)))) (work_straight (i.Calculate c.Subtract)) before
+adjustment_straight (adjustment.Plus n) before = both_straight (integer_fragment (number_of n)) (work_fragment (i.Calculate c.Add)) (number_straight (integer (pos (number_of n)))) (work_straight (i.Calculate c.Add)) before
+adjustment_straight (adjustment.Minus n) before = both_straight (integer_fragment (number_of n)) (work_fragment (i.Calculate c.Subtract)) (number_straight (integer (pos (number_of n)))) (work_straight (i.Calculate c.Subtract)) before
 
-pub text_straight : (bytes : List ℕ) → AlwaysStraight (text_piece bytes)
+pub text_straight : (bytes : List ℕ) → AlwaysStraight (text_fragment bytes)
 text_straight bytes before = record { instructions = (tt, tt); starts = refl; files = refl; areas = refl; items = refl; senders = tt; inspections = tt }
 
-pattern_straight : (pattern : Pattern) → AlwaysStraight (pattern_piece pattern)
+pattern_straight : (pattern : Pattern) → AlwaysStraight (pattern_fragment pattern)
 pattern_straight pattern before = record { instructions = (tt, tt); starts = refl; files = refl; areas = refl; items = refl; senders = tt; inspections = tt }
 
-pub line_end_straight : (advancing : Bool) → AlwaysStraight (line_end_piece advancing)
+pub line_end_straight : (advancing : Bool) → AlwaysStraight (line_end_fragment advancing)
 line_end_straight true before = text_straight (line_end true) before
 line_end_straight false before = nothing_straight
 
 -- one instruction
-pub one_straight : (one : Instruction) → IsStraight one → AlwaysStraight (λ before. plain (one ∷ []))
+pub one_straight : (one : Instruction) → IsStraight one → AlwaysStraight (λ before. plain_code (one ∷ []))
 one_straight one h before = record { instructions = (h, tt); starts = refl; files = refl; areas = refl; items = refl; senders = tt; inspections = tt }
 
-module _ (items : List Placed) where
-  subscript_straight : (one : written.Subscript) → AlwaysStraight (subscript_piece items one)
+module _ (items : List LocatedItem) where
+  subscript_straight : (one : written.Subscript) → AlwaysStraight (subscript_fragment items one)
   subscript_straight (subscript.Literal n) = number_straight (integer (pos (number_of n)))
   subscript_straight (subscript.Item name adjusting) =
-      both_straight (work_piece (i.Place (item_index items name))) (both (work_piece i.Push) (adjustment_piece adjusting)) (work_straight (i.Place (item_index items name)))
-      (both_straight (work_piece i.Push) (adjustment_piece adjusting) (work_straight i.Push) (adjustment_straight adjusting))
+      both_straight (work_fragment (i.Place (item_index items name))) (sequence (work_fragment i.Push) (adjustment_fragment adjusting)) (work_straight (i.Place (item_index items name)))
+      (both_straight (work_fragment i.Push) (adjustment_fragment adjusting) (work_straight i.Push) (adjustment_straight adjusting))
 
-  pub subscripts_straight : (dimensions : List Dimension) (all : List written.Subscript) → AlwaysStraight (subscripts_piece items dimensions all)
+  pub subscripts_straight : (dimensions : List Dimension) (all : List written.Subscript) → AlwaysStraight (subscripts_fragment items dimensions all)
   subscripts_straight [] all before = nothing_straight
   subscripts_straight (one ∷ more) [] before = nothing_straight
   subscripts_straight (one ∷ more) (written ∷ others) before =
-      both_straight (both (subscript_piece items written) (work_piece (index_code one))) (subscripts_piece items more others)
-      (both_straight (subscript_piece items written) (work_piece (index_code one)) (subscript_straight written) (work_straight (index_code one))) (subscripts_straight more others) before
+      both_straight (sequence (subscript_fragment items written) (work_fragment (index_code one))) (subscripts_fragment items more others)
+      (both_straight (subscript_fragment items written) (work_fragment (index_code one)) (subscript_straight written) (work_straight (index_code one))) (subscripts_straight more others) before
 
-  pub reference_straight : (one : Reference) → AlwaysStraight (reference_piece items one)
+  pub reference_straight : (one : Reference) → AlwaysStraight (reference_fragment items one)
   reference_straight one =
       let dimensions = dimensions_of (slice_get items (item_number items one.item)) in
-      both_straight (work_piece (i.Place (item_index items one.item))) (subscripts_piece items dimensions one.subscripts) (work_straight (i.Place (item_index items one.item))) (subscripts_straight dimensions one.subscripts)
+      both_straight (work_fragment (i.Place (item_index items one.item))) (subscripts_fragment items dimensions one.subscripts) (work_straight (i.Place (item_index items one.item))) (subscripts_straight dimensions one.subscripts)
 
-  pub taking_straight : (taking : DataInstruction) (one : Reference) → AlwaysStraight (taking_piece items taking one)
-  taking_straight taking one = both_straight (reference_piece items one) (work_piece taking) (reference_straight one) (work_straight taking)
+  pub taking_straight : (taking : DataInstruction) (one : Reference) → AlwaysStraight (take_fragment items taking one)
+  taking_straight taking one = both_straight (reference_fragment items one) (work_fragment taking) (reference_straight one) (work_straight taking)
 
   -- ---- MOVE, DISPLAY and ACCEPT
 
-  pub sender_straight : (one : Operand) → operand_rules items one ≡ [] → AlwaysStraight (sender_piece items one)
+  pub sender_straight : (one : Operand) → operand_rules items one ≡ [] → AlwaysStraight (sender_fragment items one)
   sender_straight (operand.Item one) e before = taking_straight i.Take one before
   sender_straight (operand.Literal one) e before = record {
     instructions = (tt, tt);
@@ -176,27 +176,27 @@ module _ (items : List Placed) where
     inspections = tt;
   }
 
-  pub operand_straight : (one : Operand) → AlwaysStraight (operand_piece items one)
+  pub operand_straight : (one : Operand) → AlwaysStraight (operand_fragment items one)
   operand_straight (operand.Item one) = taking_straight i.Append one
   operand_straight (operand.Literal one) = text_straight (shown_literal one.value)
 
-  initialize_straight : (one : Reference) → AlwaysStraight (initialize_piece items one)
+  initialize_straight : (one : Reference) → AlwaysStraight (initialize_fragment items one)
   initialize_straight one =
       let pattern = pattern_of (slice_get items (item_number items one.item)) in
-      both_straight (reference_piece items one) (pattern_piece pattern) (reference_straight one) (pattern_straight pattern)
+      both_straight (reference_fragment items one) (pattern_fragment pattern) (reference_straight one) (pattern_straight pattern)
 
-  set_straight : (one : Reference) → AlwaysStraight (set_piece items one)
+  set_straight : (one : Reference) → AlwaysStraight (set_fragment items one)
   set_straight one =
       let place = i.Place (condition_item items one.item) in
       let dimensions = dimensions_of (slice_get items (condition_item items one.item).number) in
-      let subscripts = subscripts_piece items dimensions one.subscripts in
+      let subscripts = subscripts_fragment items dimensions one.subscripts in
       let pattern = set_of (slice_get (all_conditions items) (condition_number items one.item)) in
-      both_straight (work_piece place) (both subscripts (pattern_piece pattern)) (work_straight place)
-      (both_straight subscripts (pattern_piece pattern) (subscripts_straight dimensions one.subscripts) (pattern_straight pattern))
+      both_straight (work_fragment place) (sequence subscripts (pattern_fragment pattern)) (work_straight place)
+      (both_straight subscripts (pattern_fragment pattern) (subscripts_straight dimensions one.subscripts) (pattern_straight pattern))
 
-  pub moving_straight : (one : Moving) → moving_rules items one ≡ [] → AlwaysStraight (moving_piece items one)
+  pub moving_straight : (one : DataStatement) → moving_rules items one ≡ [] → AlwaysStraight (data_fragment items one)
   moving_straight (Move sender receivers) e =
-      both_straight (sender_piece items sender) (receivers_piece items receivers)
-      (sender_straight sender (left_none (operand_rules items sender) (each (item_rules items (receives (sent_by items sender))) receivers) e)) (in_order_straight (taking_piece items i.Move) (taking_straight i.Move) receivers)
-  moving_straight (Initialize receivers) e = in_order_straight (initialize_piece items) initialize_straight receivers
-  moving_straight (Set conditions) e = in_order_straight (set_piece items) set_straight conditions
+      both_straight (sender_fragment items sender) (receivers_fragment items receivers)
+      (sender_straight sender (left_none (operand_rules items sender) (each (reference_rules items (receives (sent_by items sender))) receivers) e)) (in_order_straight (take_fragment items i.Move) (taking_straight i.Move) receivers)
+  moving_straight (Initialize receivers) e = in_order_straight (initialize_fragment items) initialize_straight receivers
+  moving_straight (Set conditions) e = in_order_straight (set_fragment items) set_straight conditions

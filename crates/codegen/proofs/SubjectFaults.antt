@@ -21,32 +21,32 @@ use Rattle.source_tree.specs.declared.condition.Side.{Side}
 use Rattle.source_tree.specs.declared.condition.Side.TheVariants as side
 use Rattle.source_tree.specs.declared.condition.Condition.{Condition}
 use Rattle.source_tree.specs.declared.condition.Condition.TheVariants as condition
-use Rattle.source_tree.specs.Places.{Placed}
+use Rattle.source_tree.specs.Places.{LocatedItem}
 use Rattle.source_tree.specs.Literals.{Sender, item_sender}
 use Rattle.source_tree.specs.Storage.{Storage}
-use Rattle.source_tree.specs.Evaluated.{Fault, Data, Evaluated, ◌>>=◌, needed}
+use Rattle.source_tree.specs.Evaluated.{Fault, Data, Evaluation, ◌>>=◌, evaluation_of}
 use Rattle.source_tree.specs.References.{ItemPlace, part_of, place_of}
 use Rattle.source_tree.specs.Moving.{taken_of}
-use Rattle.source_tree.specs.Computed.{Computed, Reckoning, number_at, number_of_literal, number_of_operand, operand_value, expression_layer, expression_value}
-use Rattle.source_tree.specs.Conditions.{stands, senders_stand, numbers_stand, alone, alone_side, relation_of, side_number, holds, all_hold, any_holds}
-use Rattle.source_tree.specs.Evaluate.{Wanted, told_as, value_within, value_asked, without_value, take_bytes, take_item, take_value}
+use Rattle.source_tree.specs.Computed.{ArithmeticValue, ExpressionValue, number_at, number_of_literal, number_of_operand, operand_value, expression_layer, expression_value}
+use Rattle.source_tree.specs.Conditions.{satisfies, senders_stand, numbers_stand, alone, alone_side, relation_of, side_number, holds, all_hold, any_holds}
+use Rattle.source_tree.specs.Evaluate.{ObjectValues, told_as, value_within, value_asked, without_value, take_bytes, take_item, take_value}
 use Rattle.source_tree.proofs.Folded.{relation_tells, not_tells, all_tell, any_tells}
 
 -- no fault but this one
-abbrev pub OnlyData : {A : Type 0} → Evaluated A → Type 0
+abbrev pub OnlyData : {A : Type 0} → Evaluation A → Type 0
 OnlyData (Ok value) = Unit {0}
 OnlyData (Err fault) = fault ≡ Data
 
-only_needed : {A : Type 0} (found : Option A) → OnlyData (needed found)
+only_needed : {A : Type 0} (found : Option A) → OnlyData (evaluation_of found)
 only_needed (Some x) = tt
 only_needed None = refl
 
-pub only_then : {A B : Type 0} (found : Evaluated A) (go : A → Evaluated B) → OnlyData found → ((x : A) → OnlyData (go x)) → OnlyData (found >>= go)
+pub only_then : {A B : Type 0} (found : Evaluation A) (go : A → Evaluation B) → OnlyData found → ((x : A) → OnlyData (go x)) → OnlyData (found >>= go)
 only_then (Ok x) go one more = more x
 only_then (Err fault) go one more = one
 
 -- behind it nothing else can follow
-ends_so : {A B : Type 0} (found : Evaluated A) (go : A → Evaluated B) → OnlyData found → ((x : A) → go x ≡ Err Data) → (found >>= go) ≡ Err Data
+ends_so : {A B : Type 0} (found : Evaluation A) (go : A → Evaluation B) → OnlyData found → ((x : A) → go x ≡ Err Data) → (found >>= go) ≡ Err Data
 ends_so (Ok x) go one more = more x
 ends_so (Err fault) go one more = ap (λ (f : Fault). Err f) one
 
@@ -58,25 +58,25 @@ both_none op (Some x) other e = absurd cc
 
 module _ (form : Numeric) (length : ℕ) (bytes : List ℕ) (none : value_of form bytes ≡ None) where
   choice_none : (is_number : Bool) (other : Sender)
-      → (if is_number then compare.both order (value_of form bytes) (compare.number other.taken other.bytes)
+      → (if is_number then compare.both order (value_of form bytes) (compare.operand_number other.taken other.bytes)
       else compare.both compare.order_of_texts (option_map (digits_of form) (value_of form bytes)) (characters other.taken other.bytes form.digits))
       ≡ None
-  choice_none true other = both_none order (value_of form bytes) (compare.number other.taken other.bytes) none
+  choice_none true other = both_none order (value_of form bytes) (compare.operand_number other.taken other.bytes) none
   choice_none false other =
       both_none compare.order_of_texts (option_map (digits_of form) (value_of form bytes)) (characters other.taken other.bytes form.digits)
       (ap (option_map (digits_of form)) none)
 
   sender_fault : (one : Relation) (other : Sender)
       → senders_stand one (item_sender (record { kind = kind.Numeric form; length = length }) bytes) other ≡ Err Data
-  unfolding compare.compared
-  sender_fault one other = ap (λ o. needed o >>= (λ ordering. Ok (stands one ordering))) (choice_none (compare.is_number other.taken) other)
+  unfolding compare.comparison_of
+  sender_fault one other = ap (λ o. evaluation_of o >>= (λ ordering. Ok (satisfies one ordering))) (choice_none (compare.is_number_operand other.taken) other)
 
-no_value : {A : Type 0} (found : Option A) (fault : Fault) → without_value (needed found) ≡ Err fault → (found ≡ None) × (fault ≡ Data)
+no_value : {A : Type 0} (found : Option A) (fault : Fault) → without_value (evaluation_of found) ≡ Err fault → (found ≡ None) × (fault ≡ Data)
 no_value (Some x) fault e = absurd cc
-no_value None fault e = (refl, let is : ◌≡◌ {A = Evaluated (Unit {0})} (Err Data) (Err fault) = e in cc)
+no_value None fault e = (refl, let is : ◌≡◌ {A = Evaluation (Unit {0})} (Err Data) (Err fault) = e in cc)
 
 -- An item whose bytes are taken with a fault, beside whatever is taken without another one.
-bytes_fault : (one : Kind) (length : ℕ) (bytes : List ℕ) (fault : Fault) (by : Relation) (found : Evaluated Sender) → OnlyData found → take_bytes one bytes ≡ Err fault
+bytes_fault : (one : Kind) (length : ℕ) (bytes : List ℕ) (fault : Fault) (by : Relation) (found : Evaluation Sender) → OnlyData found → take_bytes one bytes ≡ Err fault
     → (found >>= senders_stand by (item_sender (record { kind = one; length = length }) bytes)) ≡ Err fault
 bytes_fault kind.Group length bytes fault by found only e = absurd cc
 bytes_fault (kind.Alphabetic justified) length bytes fault by found only e = absurd cc
@@ -89,22 +89,22 @@ bytes_fault (kind.Numeric form) length bytes fault by found only e =
     (λ other. sender_fault form length bytes none.0 by other)
     ∙ sym (ap (λ (f : Fault). Err f) none.1)
 
-item_fault : (storage : Storage) (place : Evaluated ItemPlace) (fault : Fault) (by : Relation) (found : Evaluated Sender) → OnlyData found
+item_fault : (storage : Storage) (place : Evaluation ItemPlace) (fault : Fault) (by : Relation) (found : Evaluation Sender) → OnlyData found
     → (place >>= take_item storage) ≡ Err fault
     → ((place >>= (λ one. Ok (item_sender one.item (part_of storage one)))) >>= (λ x. found >>= senders_stand by x)) ≡ Err fault
 item_fault storage (Ok place) fault by found only e = bytes_fault place.item.kind place.item.length (part_of storage place) fault by found only e
-item_fault storage (Err other) fault by found only e = let is : ◌≡◌ {A = Evaluated (Unit {0})} (Err other) (Err fault) = e in cc
+item_fault storage (Err other) fault by found only e = let is : ◌≡◌ {A = Evaluation (Unit {0})} (Err other) (Err fault) = e in cc
 
 -- ---- two numbers, of which there isn't a first one
 
-number_fault : (value : Evaluated Computed) (fault : Fault) (by : Relation) (found : Evaluated Computed) → OnlyData found
-    → (value >>= (λ x. without_value (needed x))) ≡ Err fault → (value >>= (λ x. found >>= numbers_stand by x)) ≡ Err fault
+number_fault : (value : Evaluation ArithmeticValue) (fault : Fault) (by : Relation) (found : Evaluation ArithmeticValue) → OnlyData found
+    → (value >>= (λ x. without_value (evaluation_of x))) ≡ Err fault → (value >>= (λ x. found >>= numbers_stand by x)) ≡ Err fault
 number_fault (Ok (Some x)) fault by found only e = absurd cc
 number_fault (Ok None) fault by found only e =
-    ends_so found (numbers_stand by None) only (λ y. refl) ∙ (let is : ◌≡◌ {A = Evaluated (Unit {0})} (Err Data) (Err fault) = e in cc)
-number_fault (Err other) fault by found only e = let is : ◌≡◌ {A = Evaluated (Unit {0})} (Err other) (Err fault) = e in cc
+    ends_so found (numbers_stand by None) only (λ y. refl) ∙ (let is : ◌≡◌ {A = Evaluation (Unit {0})} (Err Data) (Err fault) = e in cc)
+number_fault (Err other) fault by found only e = let is : ◌≡◌ {A = Evaluation (Unit {0})} (Err other) (Err fault) = e in cc
 
-module _ (items : List Placed) where
+module _ (items : List LocatedItem) where
   -- An operand at hand has a place, if it is an item.
   abbrev pub IsAtHand : Operand → Storage → Type 0
   IsAtHand (operand.Item one) storage = OnlyData (place_of items one storage)
@@ -125,7 +125,7 @@ module _ (items : List Placed) where
       → expression_value items (roll-Expression form) storage ≡ operand_value items one storage
   unfolding expression_value
   layer_value (Expression-F.Operand inner) one storage e =
-      ap (λ (r : Reckoning). r storage) (fold-roll-Expression Reckoning (expression_layer items) (Expression-F.Operand inner))
+      ap (λ (r : ExpressionValue). r storage) (fold-roll-Expression ExpressionValue (expression_layer items) (Expression-F.Operand inner))
       ∙ ap (λ (o : Operand). operand_value items o storage) (same_Some inner one e)
   layer_value (Expression-F.Negated inner) one storage e = absurd cc
   layer_value (Expression-F.Chain first more) one storage e = absurd cc
@@ -159,19 +159,19 @@ module _ (items : List Placed) where
   -- and so it is in what begins with that relation, with NOT or without
   pub told_fault : (truth : Bool) (one : Condition) (storage : Storage) (fault : Fault) → holds items one storage ≡ Err fault → holds items (told_as truth one) storage ≡ Err fault
   told_fault true one storage fault e = e
-  told_fault false one storage fault e = not_tells items one storage ∙ ap (λ (o : Evaluated Bool). o >>= (λ truth. Ok (not truth))) e
+  told_fault false one storage fault e = not_tells items one storage ∙ ap (λ (o : Evaluation Bool). o >>= (λ truth. Ok (not truth))) e
 
   pub all_fault : (one : Condition) (more : List Condition) (storage : Storage) (fault : Fault) → holds items one storage ≡ Err fault
       → holds items (condition.All (one ∷ more)) storage ≡ Err fault
   all_fault one more storage fault e =
       all_tell items (one ∷ more) storage
-      ∙ ap (λ (o : Evaluated Bool). o >>= (λ truth. if truth then all_hold items (map (holds items) more) storage else Ok false)) e
+      ∙ ap (λ (o : Evaluation Bool). o >>= (λ truth. if truth then all_hold items (map (holds items) more) storage else Ok false)) e
 
   pub any_fault : (one : Condition) (more : List Condition) (storage : Storage) (fault : Fault) → holds items one storage ≡ Err fault
       → holds items (condition.Any (one ∷ more)) storage ≡ Err fault
   any_fault one more storage fault e =
       any_tells items (one ∷ more) storage
-      ∙ ap (λ (o : Evaluated Bool). o >>= (λ truth. if truth then Ok true else any_holds items (map (holds items) more) storage)) e
+      ∙ ap (λ (o : Evaluation Bool). o >>= (λ truth. if truth then Ok true else any_holds items (map (holds items) more) storage)) e
 
   within_fault : (value first : Side) (last : Option Side) (one : Operand) (storage : Storage) (fault : Fault) → alone_side first ≡ Some one → IsAtHand one storage
       → take_value items (alone_side value) value storage ≡ Err fault → holds items (value_within value first last) storage ≡ Err fault
@@ -180,7 +180,7 @@ module _ (items : List Placed) where
       all_fault (condition.Relation value relation.GreaterOrEqual first) (condition.Relation value relation.LessOrEqual last ∷ []) storage fault
       (relation_fault value first one relation.GreaterOrEqual storage fault is h e)
 
-  pub asked_fault : (value : Side) (wanted : Wanted) (one : Operand) (storage : Storage) (fault : Fault) → alone_side wanted.first ≡ Some one → IsAtHand one storage
+  pub asked_fault : (value : Side) (wanted : ObjectValues) (one : Operand) (storage : Storage) (fault : Fault) → alone_side wanted.first ≡ Some one → IsAtHand one storage
       → take_value items (alone_side value) value storage ≡ Err fault → holds items (value_asked value wanted) storage ≡ Err fault
   asked_fault value wanted one storage fault is h e =
       told_fault (not wanted.negated) (value_within value wanted.first wanted.last) storage fault (within_fault value wanted.first wanted.last one storage fault is h e)

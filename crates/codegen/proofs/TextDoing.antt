@@ -1,6 +1,6 @@
 -- What the code of INITIALIZE, SET, STRING and INSPECT does.
 use Rattle.std.proofs.Common.{◌≡◌, ℕ, ◌+◌, Bool, List, Ok, Err, refl, ap, ◌∙◌, arith}
-use Rattle.source_tree.specs.Evaluated.{Evaluated}
+use Rattle.source_tree.specs.Evaluated.{Evaluation}
 use Rattle.source_tree.specs.Storage.{Storage}
 use Rattle.source_tree.specs.Stringing.{Strings}
 use Rattle.source_tree.specs.State.{State, Outcome, Done, with_value}
@@ -13,8 +13,8 @@ use Rattle.codegen.proofs.Doing.{Does, after}
 
 module _ (whole : Code) (kept : ℕ → Type 0) (from to address next : ℕ) (cs : Own) (s : State) (count : ℕ) (behind_is : address + count ≡ next) where
   -- what puts bytes into items, and leaves all else
-  pub changed_does : (e : Evaluated Storage)
-      → WorksFrom whole address cs s count (step.step_with e (λ after. step.Went (record (scratch_of s cs) { storage = after })))
+  pub changed_does : (e : Evaluation Storage)
+      → WorksFrom whole address cs s count (step.step_with e (λ after. step.Continues (record (scratch_of s cs) { storage = after })))
       → Does whole kept from to address cs s next (with_value e s (λ after. Done (record s { storage = after })))
   changed_does (Ok stored) h = (
     cs,
@@ -24,8 +24,8 @@ module _ (whole : Code) (kept : ℕ → Type 0) (from to address next : ℕ) (cs
   changed_does (Err fault) h = h
 
   -- STRING, and what goes on from there by whether there was an overflow
-  pub strung_does : (last : ℕ) (e : Evaluated Strings) (go : Bool → State → Outcome)
-      → WorksFrom whole address cs s count (step.step_with e (λ after. step.Went (record (scratch_of s cs) { storage = after.storage; truth = after.overflow })))
+  pub strung_does : (last : ℕ) (e : Evaluation Strings) (go : Bool → State → Outcome)
+      → WorksFrom whole address cs s count (step.step_with e (λ after. step.Continues (record (scratch_of s cs) { storage = after.storage; truth = after.overflow })))
       → ((after : Strings) → Does whole kept from to next (record cs { truth = after.overflow }) (record s { storage = after.storage }) last (go after.overflow (record s { storage = after.storage })))
       → Does whole kept from to address cs s last (with_value e s (λ after. go after.overflow (record s { storage = after.storage })))
   strung_does last (Ok made) go h goes_on =

@@ -8,8 +8,8 @@ use Rattle.source_tree.specs.Performing.{turns}
 use Rattle.code_image.specs.declared.code.Code.{Code}
 use Rattle.code_image.specs.declared.instruction.Instruction.TheVariants.{Count, Turn}
 use Rattle.code_image.specs.Points.{Own}
-use Rattle.codegen.specs.Pieces.{Piece, joined}
-use Rattle.codegen.specs.Layout.{loop_begin, turn_end, counted_turn, times_piece}
+use Rattle.codegen.specs.Pieces.{Fragment, append}
+use Rattle.codegen.specs.Layout.{loop_begin, turn_end, counted_turn, times_fragment}
 use Rattle.codegen.proofs.Pieces.{joined_assoc}
 use Rattle.codegen.proofs.Standing.{back, first_stands}
 use Rattle.codegen.proofs.Doing.{end_of, setting, keeps_all, keeps_set, Does, PartDoes, Sits, front_sits, back_sits, IsRoom, still_room, after, spend_then, then_does, moved_from, stays, count_comes, turn_goes_on, turn_goes_back, nothing_does, Repeats}
@@ -51,50 +51,50 @@ module _ (whole : Code) (kept : ℕ → Type 0) where
         (get_or-set_same ds.counters begin more 0 within)))
 
   -- The turns of the loop that begins at this address, with its counter at those after the first.
-  pub counted_turn_does : (line depth begin more : ℕ) (go : State → Outcome) (piece : Piece) → Repeats whole kept depth (λ t. spend line t go) piece
+  pub counted_turn_does : (line depth begin more : ℕ) (go : State → Outcome) (piece : Fragment) → Repeats whole kept depth (λ t. spend line t go) piece
       → (before : Code) (cs : Own) (s : State) → begin < end_of before → kept begin → s.budget < depth → IsRoom whole cs
       → slice_index cs.counters begin ≡ more
       → Sits whole kept before (counted_turn begin piece before)
-      → Does whole kept begin (end_of (joined before (counted_turn begin piece before))) (end_of before) cs s
-      (end_of (joined before (counted_turn begin piece before))) (turns line (suc more) go s)
+      → Does whole kept begin (end_of (append before (counted_turn begin piece before))) (end_of before) cs s
+      (end_of (append before (counted_turn begin piece before))) (turns line (suc more) go s)
   counted_turn_does line depth begin more go piece each before cs s later own below room holds sits =
       let b = piece before in
       let to = end_of before in
       let last = turn_end begin to in
-      let end = end_of (joined before b) in
+      let end = end_of (append before b) in
       let one : length last.instructions ≡ 1 = refl in
       let on : to ≤ end = omega (arith, length-append before.instructions b.instructions) in
-      let inner_ends = length-append (joined before b).instructions last.instructions in
-      let ends : end + 1 ≡ end_of (joined before (joined b last)) = omega (arith, one, ap end_of (joined_assoc before b last), inner_ends) in
+      let inner_ends = length-append (append before b).instructions last.instructions in
+      let ends : end + 1 ≡ end_of (append before (append b last)) = omega (arith, one, ap end_of (joined_assoc before b last), inner_ends) in
       subst (λ (p : ℕ). Does whole kept begin p to cs s p (turns line (suc more) go s)) ends
       (loop_does line begin to end depth go
-      (first_stands whole (joined before b) last (Turn (record { number = begin }) to) [] refl (back whole before b last sits.stands)) later on own
+      (first_stands whole (append before b) last (Turn (record { number = begin }) to) [] refl (back whole before b last sits.stands)) later on own
       (λ es t lt wide. each.by before es t lt wide (front_sits whole kept before b last sits))
       more cs s below room holds)
 
   -- where a loop begins: a counter of its own, and one for each address
-  pub own_counter : (before begin inner : Code) → length begin.instructions ≡ 1 → Sits whole kept before (joined begin inner) → kept (end_of before)
+  pub own_counter : (before begin inner : Code) → length begin.instructions ≡ 1 → Sits whole kept before (append begin inner) → kept (end_of before)
   own_counter before begin inner single sits =
-      let l = length-append before.instructions (joined begin inner).instructions in
+      let l = length-append before.instructions (append begin inner).instructions in
       let m = length-append begin.instructions inner.instructions in
       sits.keeps (end_of before) (omega arith) (omega (arith, l, m, single))
 
-  pub times_does : (line depth count : ℕ) (go : State → Outcome) (piece : Piece) → Repeats whole kept depth (λ t. spend line t go) piece
+  pub times_does : (line depth count : ℕ) (go : State → Outcome) (piece : Fragment) → Repeats whole kept depth (λ t. spend line t go) piece
       → (before : Code) (cs : Own) (s : State) → s.budget < depth → IsRoom whole cs
-      → Sits whole kept before (times_piece count piece before)
-      → PartDoes whole kept before (times_piece count piece before) cs s (turns line count go s)
+      → Sits whole kept before (times_fragment count piece before)
+      → PartDoes whole kept before (times_fragment count piece before) cs s (turns line count go s)
   times_does line depth zero go piece each before cs s below room sits = nothing_does whole kept before cs s
   times_does line depth (suc more) go piece each before cs s below room sits =
       let begin = end_of before in
       let first = loop_begin more before in
-      let inner = joined before first in
+      let inner = append before first in
       let last = counted_turn begin piece inner in
-      let part = joined first last in
+      let part = append first last in
       let count = Count (record { number = begin }) more in
-      let to = end_of (joined before part) in
+      let to = end_of (append before part) in
       let single : length first.instructions ≡ 1 = refl in
       let starts : end_of inner ≡ begin + 1 = omega (arith, single, length-append before.instructions first.instructions) in
-      let ends : end_of (joined inner last) ≡ to = ap end_of (joined_assoc before first last) in
+      let ends : end_of (append inner last) ≡ to = ap end_of (joined_assoc before first last) in
       let on = length-append inner.instructions last.instructions in
       let here = first_stands whole before part count last.instructions refl sits.stands in
       let within : begin < length cs.counters = (let h = slice_get_within whole.instructions begin count here in omega (arith, room.counters)) in

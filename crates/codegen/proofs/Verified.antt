@@ -7,8 +7,8 @@ use Rattle.std.proofs.lemmas.List.{append-nil, length-map}
 use Rattle.std.proofs.lemmas.List.Elements.{All-from_recursion, recursion_from_All}
 use Rattle.picture.specs.declared.picture.Picture.{Picture}
 use Rattle.items.specs.declared.item.Item.{Item}
-use Rattle.perform_order.specs.declared.performed.PerformedRange.{PerformedRange}
-use Rattle.perform_order.specs.Order.{IsRange, Falls, heights, AreHeights}
+use Rattle.perform_graph.specs.declared.performed.PerformedRange.{PerformedRange}
+use Rattle.perform_graph.specs.Order.{IsRange, Decreases, rank_in, AreRanks}
 use Rattle.source_tree.specs.declared.table.Dimension.{Dimension}
 use Rattle.records.specs.Connector as connector
 use Rattle.records.specs.FileStep.{entry_at, Suits}
@@ -16,10 +16,10 @@ use Rattle.source_tree.specs.declared.select.Select.{Select}
 use Rattle.source_tree.specs.declared.program.Program.{Program}
 use Rattle.source_tree.specs.declared.program.Section.{Section}
 use Rattle.source_tree.specs.declared.program.Paragraph.{Paragraph}
-use Rattle.source_tree.specs.Broken.{Broken, each}
+use Rattle.source_tree.specs.Broken.{RuleBreach, each}
 use Rattle.source_tree.specs.EntryRules.{entry_rules}
-use Rattle.source_tree.specs.Places.{Placed, items_of}
-use Rattle.source_tree.specs.FileRules.{select_names, description_names, unmatched, file_name_rules, descriptions_rules, select_rules, program_file_rules}
+use Rattle.source_tree.specs.Places.{LocatedItem, items_of}
+use Rattle.source_tree.specs.FileRules.{select_names, description_names, broken_match_rule, file_name_rules, descriptions_rules, select_rules, program_file_rules}
 use Rattle.source_tree.specs.ProgramFiles.{ProgramFile, entries_of}
 use Rattle.source_tree.specs.Records.{storage_areas, program_items, program_areas}
 use Rattle.source_tree.specs.SoundFiles.{IsSound, HasRecordArea}
@@ -28,7 +28,7 @@ use Rattle.source_tree.proofs.SoundFiles as sound
 use Rattle.source_tree.proofs.SoundFiles.{names_matched, sound_files}
 use Rattle.source_tree.specs.PerformRules.{is_among, procedure_name_rules}
 use Rattle.source_tree.specs.Procedures.{Range, paragraphs_or_one, paragraphs_in}
-use Rattle.source_tree.specs.Recursion.{performed, HasOrder}
+use Rattle.source_tree.specs.Recursion.{performed_by_program, HasOrder}
 use Rattle.source_tree.specs.Rules.{paragraph_rules, section_rules, sections_rules, procedure_rules, all_permitted, program_rules}
 use Rattle.source_tree.specs.Setting.{Scope, paragraphs, scope}
 use Rattle.initial_storage.specs.Formed as formed
@@ -50,17 +50,17 @@ use Rattle.data_instructions.specs.Chains.{greatest, LiesWhole}
 use Rattle.data_instructions.specs.Naming.{NamesEntries}
 use Rattle.data_instructions.specs.Shapes.{empty, and_then, effect}
 use Rattle.data_instructions.proofs.Known.{and_then_some, parts}
-use Rattle.file_tables.specs.declared.file.CodeFile.{CodeFile}
-use Rattle.file_tables.specs.Files as table
-use Rattle.file_tables.specs.Files.{places_of, NamesPlaces, IsCodeFile}
+use Rattle.file_image.specs.declared.file.CodeFile.{CodeFile}
+use Rattle.file_image.specs.Files as table
+use Rattle.file_image.specs.Files.{places_of, NamesPlaces, IsCodeFile}
 use Rattle.code_image.specs.declared.code.Code.{Code}
 use Rattle.code_image.specs.declared.instruction.Instruction.{Instruction}
 use Rattle.code_image.specs.declared.instruction.Instruction.TheVariants.{Tick, Show, Stop, Count, CountNumber, Turn, Accept, Date, Branch, Jump, Join, Perform, Back, File, TestStatus, Unheard, Data}
 use Rattle.code_image.specs.Known.{known_after, known_along}
-use Rattle.code_image.specs.Demands.{NamesData, NamesCounter, NamesParagraph, IsAddress, NamesFile, SuitsFile, StartsAt, AllStart, performed_from, performed as performed_instructions, HasOrder as HasOrderCode, IsVerified}
+use Rattle.code_image.specs.Demands.{NamesData, NamesCounter, NamesParagraph, IsAddress, NamesFile, SuitsFile, StartsAt, AllStart, performed_from, performed_by_code as performed_instructions, HasOrder as HasOrderCode, IsVerified}
 use Rattle.codegen.specs.Pieces.{in_order}
 use Rattle.codegen.specs.FileCode.{sent_entry, code_file, code_files}
-use Rattle.codegen.specs.Layout.{paragraph_piece, section_piece, end_piece, storage_items, storage_code, code_of}
+use Rattle.codegen.specs.Layout.{paragraph_fragment, section_fragment, end_fragment, storage_items, storage_code, code_of}
 use Rattle.codegen.proofs.Standing.{Stands, at_seam}
 use Rattle.codegen.proofs.Flowing.{along_append}
 use Rattle.codegen.proofs.CodeFiles.{every, each_at, kept_at, files_count, codes_count, file_there, all_numbered, places_are, names_places, is_code_file, entries_are}
@@ -208,10 +208,10 @@ behind_first : (offset : ℕ) (all : List Dimension) → offset ≤ last_offset 
 behind_first offset [] = omega arith
 behind_first offset (one ∷ more) = let h = behind_first (offset + (one.count - 1) * one.stride) more in omega (arith, h)
 
-lies_whole : (tables : DataTables) (one : Placed) → reach.Lies tables.areas one → LiesWhole tables one
+lies_whole : (tables : DataTables) (one : LocatedItem) → reach.Lies tables.areas one → LiesWhole tables one
 lies_whole tables one h = record { area = h.area; here = h.here; within = omega (arith, h.within, same_offset one.offset one.dimensions) }
 
-is_data_item : (areas : List (List ℕ)) (one : Placed) → formed.IsFormed one → reach.Lies areas one → IsDataItem areas (data_item one)
+is_data_item : (areas : List (List ℕ)) (one : LocatedItem) → formed.IsFormed one → reach.Lies areas one → IsDataItem areas (data_item one)
 is_data_item areas one f h = record {
   form = f.form;
   editing = same_editing one.item one.editing f.editing;
@@ -220,7 +220,7 @@ is_data_item areas one f h = record {
 
 -- ---- the whole code
 
-each_append : {A : Type 0} (rules : A → List Broken) (xs ys : List A) → each rules xs ≡ [] → each rules ys ≡ [] → each rules (xs ++ ys) ≡ []
+each_append : {A : Type 0} (rules : A → List RuleBreach) (xs ys : List A) → each rules xs ≡ [] → each rules ys ≡ [] → each rules (xs ++ ys) ≡ []
 each_append rules [] ys a b = b
 each_append rules (x ∷ xs) ys a b =
     ap (λ l. l ++ each rules (xs ++ ys)) (left_none (rules x) (each rules xs) a) ∙ each_append rules xs ys (right_none (rules x) (each rules xs) a) b
@@ -241,16 +241,16 @@ paragraphs_keep scope permits (one ∷ more) e =
 
 -- the entries, the files and the sections of a program that keeps the rules
 module _ (program : Program) (keep : program_rules program ≡ []) where
-  abbrev of_entries : List Broken
+  abbrev of_entries : List RuleBreach
   of_entries = entry_rules program.storage
 
-  abbrev of_files : List Broken
+  abbrev of_files : List RuleBreach
   of_files = program_file_rules (program_items program) program
 
-  abbrev of_names : List Broken
+  abbrev of_names : List RuleBreach
   of_names = procedure_name_rules program.sections
 
-  abbrev of_sections : List Broken
+  abbrev of_sections : List RuleBreach
   of_sections = sections_rules (scope program) all_permitted program.sections
 
   pub sections_kept : sections_rules (scope program) all_permitted program.sections ≡ []
@@ -271,20 +271,20 @@ module _ (program : Program) (keep : program_rules program ≡ []) where
   files_kept = right_none of_entries of_files front_kept
 
 -- the rules of the names of files, of FDs and of SELECTs
-module _ (items : List Placed) (program : Program) (keep : program_file_rules items program ≡ []) where
-  abbrev of_matches : List Broken
+module _ (items : List LocatedItem) (program : Program) (keep : program_file_rules items program ≡ []) where
+  abbrev of_matches : List RuleBreach
   of_matches = file_name_rules (select_names program.selects) (description_names program.files)
 
-  abbrev of_descriptions : List Broken
+  abbrev of_descriptions : List RuleBreach
   of_descriptions = descriptions_rules program.storage program.files
 
-  abbrev of_selects : List Broken
+  abbrev of_selects : List RuleBreach
   of_selects = each (select_rules items (storage_areas program.storage) program.files) program.selects
 
   pub selects_kept : each (select_rules items (storage_areas program.storage) program.files) program.selects ≡ []
   selects_kept = right_none (of_matches ++ of_descriptions) of_selects keep
 
-  matches_kept : each (unmatched (description_names program.files)) (select_names program.selects) ≡ []
+  matches_kept : each (broken_match_rule (description_names program.files)) (select_names program.selects) ≡ []
   matches_kept =
       names_matched (select_names program.selects) (description_names program.files)
       (left_none of_matches of_descriptions (left_none (of_matches ++ of_descriptions) of_selects keep))
@@ -293,7 +293,7 @@ module _ (items : List Placed) (program : Program) (keep : program_file_rules it
   pub is_described : (k : ℕ) (one : Select) → slice_get program.selects k ≡ Some one → is_among one.name (description_names program.files) ≡ true
   is_described k one here =
       sound.kept (is_among one.name (description_names program.files)) 57 one.name.place
-      (kept_at (unmatched (description_names program.files)) (select_names program.selects) k one.name matches_kept
+      (kept_at (broken_match_rule (description_names program.files)) (select_names program.selects) k one.name matches_kept
       (map_at (λ (select : Select). select.name) program.selects k one here))
 
 all_so : (all : List PerformedRange) → AllByRecursion (λ (one : PerformedRange). Unit {0}) all
@@ -304,7 +304,7 @@ module _ (program : Program) (keep : program_rules program ≡ []) where
   abbrev found : Scope
   found = scope program
 
-  abbrev items : List Placed
+  abbrev items : List LocatedItem
   items = found.items
 
   abbrev code : Code
@@ -314,11 +314,11 @@ module _ (program : Program) (keep : program_rules program ≡ []) where
   storage = storage_code program
 
   abbrev body : Code
-  body = in_order (section_piece found) program.sections storage
+  body = in_order (section_fragment found) program.sections storage
 
   -- the same, by paragraphs
   abbrev paragraphs_code : Code
-  paragraphs_code = in_order (paragraph_piece found) (paragraphs program) storage
+  paragraphs_code = in_order (paragraph_fragment found) (paragraphs program) storage
 
   abbrev count : ℕ
   count = length (paragraphs program)
@@ -361,7 +361,7 @@ module _ (program : Program) (keep : program_rules program ≡ []) where
   pub is_flat : body ≡ paragraphs_code
   is_flat = flat found program.sections storage
 
-  met : (P : PerformedRange → Type 0) → AllByRecursion P (performed program) → AreParagraphs files count P count storage body
+  met : (P : PerformedRange → Type 0) → AllByRecursion P (performed_by_program program) → AreParagraphs files count P count storage body
   met P q =
       subst (AreParagraphs files count P count storage) (sym is_flat)
       (paragraphs_lie found count P all_permitted formed_conditions items_sized within numbered (paragraphs program) storage
@@ -369,7 +369,7 @@ module _ (program : Program) (keep : program_rules program ≡ []) where
 
   -- the names of its parts
   names : Names storage body
-  names = (met (λ one. Unit {0}) (all_so (performed program))).names
+  names = (met (λ one. Unit {0}) (all_so (performed_by_program program))).names
 
   pub areas_are : code.tables.areas ≡ program_areas program
   areas_are =
@@ -396,17 +396,17 @@ module _ (program : Program) (keep : program_rules program ≡ []) where
   pub files_counted : length code.files ≡ length program.selects
   files_counted = ap length files_are ∙ codes_count items areas program.files 0 program.selects
 
-  pub item_entries : (n : ℕ) (one : Placed) → slice_get items n ≡ Some one → slice_get code.tables.items n ≡ Some (data_item one)
+  pub item_entries : (n : ℕ) (one : LocatedItem) → slice_get items n ≡ Some one → slice_get code.tables.items n ≡ Some (data_item one)
   item_entries n one here =
       ap (λ l. slice_get l n) items_are
       ∙ stays_at (map data_item items) (map (sent_entry items) files) n (data_item one) (map_at data_item items n one here)
 
-  item_lies : (n : ℕ) (one : Placed) → slice_get items n ≡ Some one → reach.Lies code.tables.areas one
+  item_lies : (n : ℕ) (one : LocatedItem) → slice_get items n ≡ Some one → reach.Lies code.tables.areas one
   item_lies n one here =
       subst (λ all. reach.Lies all one) (sym areas_are)
       (all_at (reach.Lies (program_areas program)) items (items_lie program entries_keep descriptions_keep) n one here)
 
-  item_in_order : (n : ℕ) (one : Placed) → slice_get items n ≡ Some one → IsInOrder code.tables.areas items one
+  item_in_order : (n : ℕ) (one : LocatedItem) → slice_get items n ≡ Some one → IsInOrder code.tables.areas items one
   item_in_order n one here =
       is_data_item code.tables.areas one
       (all_at formed.IsFormed items (all_formed program entries_keep descriptions_keep) n one here) (item_lies n one here)
@@ -521,11 +521,11 @@ module _ (program : Program) (keep : program_rules program ≡ []) where
         each_at IsInspection body.tables.inspections names.inspections k one (sym (ap (λ l. slice_get l k) inspections_are) ∙ here);
   }
 
-  pub lies : (n : ℕ) (one : Placed) → slice_get items n ≡ Some one → LiesWhole code.tables one
+  pub lies : (n : ℕ) (one : LocatedItem) → slice_get items n ≡ Some one → LiesWhole code.tables one
   lies n one here = lies_whole code.tables one (item_lies n one here)
 
   stands : Stands code storage paragraphs_code
-  stands = subst (Stands code storage) is_flat (record { rest = end_piece; is = refl })
+  stands = subst (Stands code storage) is_flat (record { rest = end_fragment; is = refl })
 
   finds : known_along code.tables code.instructions empty ≡ Some empty
   finds =
@@ -540,8 +540,8 @@ module _ (program : Program) (keep : program_rules program ≡ []) where
     abbrev all_heights : List ℕ
     all_heights = ordered.0
 
-    lying : AreParagraphs files count (Falls (heights all_heights)) count storage body
-    lying = met (Falls (heights all_heights)) (recursion_from_All (Falls (heights all_heights)) (performed program) ordered.1.fall)
+    lying : AreParagraphs files count (Decreases (rank_in all_heights)) count storage body
+    lying = met (Decreases (rank_in all_heights)) (recursion_from_All (Decreases (rank_in all_heights)) (performed_by_program program) ordered.1.fall)
 
     so_many : length code.starts ≡ count
     so_many = ap length starts_are ∙ lying.many_are
@@ -555,11 +555,11 @@ module _ (program : Program) (keep : program_rules program ≡ []) where
           (subst (λ n. AllByRecursion (IsRange n) (performed_instructions code.instructions)) (sym so_many)
           (subst (AllByRecursion (IsRange count)) (sym performs_are) lying.ranges));
       heights = all_heights;
-      fall = subst (λ n. AreHeights n (performed_instructions code.instructions) all_heights) (sym so_many) (record {
+      fall = subst (λ n. AreRanks n (performed_instructions code.instructions) all_heights) (sym so_many) (record {
         one_each = ordered.1.one_each;
         below = ordered.1.below;
-        fall = All-from_recursion (Falls (heights all_heights)) (performed_instructions code.instructions)
-            (subst (AllByRecursion (Falls (heights all_heights))) (sym performs_are) lying.performed);
+        fall = All-from_recursion (Decreases (rank_in all_heights)) (performed_instructions code.instructions)
+            (subst (AllByRecursion (Decreases (rank_in all_heights))) (sym performs_are) lying.performed);
       });
     }
 

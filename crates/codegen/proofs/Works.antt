@@ -2,9 +2,9 @@
 use Rattle.std.proofs.Common.{◌≡◌, List, [], ◌∷◌, refl, ap}
 use Rattle.data_instructions.specs.declared.instruction.DataInstruction.{DataInstruction}
 use Rattle.code_image.specs.declared.code.Code.{Code}
-use Rattle.codegen.specs.Pieces.{joined, in_order}
-use Rattle.codegen.specs.DataCode.{work_piece, works_piece}
+use Rattle.codegen.specs.Pieces.{append, in_order}
+use Rattle.codegen.specs.DataCode.{work_fragment, works_fragment}
 
-pub works_are : (all : List DataInstruction) (before : Code) → in_order work_piece all before ≡ works_piece all before
+pub works_are : (all : List DataInstruction) (before : Code) → in_order work_fragment all before ≡ works_fragment all before
 works_are [] before = refl
-works_are (one ∷ more) before = ap (joined (work_piece one before)) (works_are more (joined before (work_piece one before)))
+works_are (one ∷ more) before = ap (append (work_fragment one before)) (works_are more (append before (work_fragment one before)))

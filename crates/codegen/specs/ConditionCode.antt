@@ -14,91 +14,91 @@ use Rattle.source_tree.specs.declared.condition.Condition.TheOpen.{Condition-F}
 use Rattle.source_tree.specs.declared.condition.Condition.TheFolds.{fold-Condition}
 use Rattle.source_tree.specs.Literals.{literal_sender}
 use Rattle.source_tree.specs.LookUp.{NamedCondition, all_conditions}
-use Rattle.source_tree.specs.Places.{Placed}
+use Rattle.source_tree.specs.Places.{LocatedItem}
 use Rattle.source_tree.specs.Conditions.{sign_relation, alone_side}
 use Rattle.data_instructions.specs.declared.index.ItemIndex.{ItemIndex}
 use Rattle.data_instructions.specs.declared.test.Test.TheVariants as t
 use Rattle.data_instructions.specs.declared.instruction.DataInstruction.TheVariants as i
 use Rattle.data_instructions.specs.ConditionCodes.{negation}
 use Rattle.code_image.specs.declared.instruction.Instruction.TheVariants.{Data}
-use Rattle.names.specs.Positions.{look_up}
-use Rattle.names.specs.Conditions.{called_condition, item_numbers}
-use Rattle.codegen.specs.Pieces.{Piece, no_tables, both, in_order}
-use Rattle.codegen.specs.Meeting.{either_piece, nothing_piece}
-use Rattle.codegen.specs.DataCode.{number_found, dimensions_of, work_piece, works_piece, number_piece, literal_entry, subscripts_piece, taking_piece, sender_piece}
-use Rattle.codegen.specs.ArithmeticCode.{zero_number, value_piece, expression_piece}
+use Rattle.name_table.specs.Positions.{look_up}
+use Rattle.name_table.specs.Conditions.{called_condition, item_numbers}
+use Rattle.codegen.specs.Pieces.{Fragment, no_tables, sequence, in_order}
+use Rattle.codegen.specs.Meeting.{either_fragment, nothing_fragment}
+use Rattle.codegen.specs.DataCode.{number_found, dimensions_of, work_fragment, works_fragment, number_fragment, literal_entry, subscripts_fragment, take_fragment, sender_fragment}
+use Rattle.codegen.specs.ArithmeticCode.{zero_number, value_fragment, expression_fragment}
 
 -- ---- condition names
 
 -- a condition name, by its place among all of them
-abbrev pub condition_number : List Placed → QualifiedName → ℕ
+abbrev pub condition_number : List LocatedItem → QualifiedName → ℕ
 condition_number items name = number_found (look_up name (map called_condition (all_conditions items)))
 
 -- the item that a condition name is of, by its place in the table
-abbrev pub condition_item : List Placed → QualifiedName → ItemIndex
+abbrev pub condition_item : List LocatedItem → QualifiedName → ItemIndex
 condition_item items name = record { number = get_or (item_numbers 0 items) (condition_number items name) 0 }
 
 abbrev pub values_of : Option NamedCondition → List ValueRange
 values_of None = []
 values_of (Some found) = found.condition.values
 
-abbrev pub values_named : List Placed → QualifiedName → List ValueRange
+abbrev pub values_named : List LocatedItem → QualifiedName → List ValueRange
 values_named items name = values_of (slice_get (all_conditions items) (condition_number items name))
 
 -- The sender compared with a value of a condition name, or with what lies from it to the last one.
-abbrev pub range_piece : Literal → Option Literal → Piece
-range_piece from None before = record {
+abbrev pub range_fragment : Literal → Option Literal → Fragment
+range_fragment from None before = record {
   tables = record no_tables { senders = literal_entry (literal_sender from.value) ∷ [] };
   files = [];
   starts = [];
   instructions = Data (i.Test (t.OrEqual (record { number = length before.tables.senders }))) ∷ [];
 }
-range_piece from (Some last) before = record {
+range_fragment from (Some last) before = record {
   tables = record no_tables { senders = literal_entry (literal_sender from.value) ∷ literal_entry (literal_sender last.value) ∷ [] };
   files = [];
   starts = [];
   instructions = Data (i.Test (t.OrWithin (record { number = length before.tables.senders }))) ∷ [];
 }
 
-abbrev pub value_range_piece : ValueRange → Piece
-value_range_piece one = range_piece one.first one.last
+abbrev pub value_range_fragment : ValueRange → Fragment
+value_range_fragment one = range_fragment one.first one.last
 
-abbrev pub values_piece : List ValueRange → Piece
-values_piece = in_order value_range_piece
+abbrev pub values_fragment : List ValueRange → Fragment
+values_fragment = in_order value_range_fragment
 
 -- ---- AND and OR
 
 -- A further condition behind AND, where the truth is true so far; behind OR, where it is false.
-abbrev pub and_piece : Piece → Piece
-and_piece one = either_piece one nothing_piece
+abbrev pub and_fragment : Fragment → Fragment
+and_fragment one = either_fragment one nothing_fragment
 
-abbrev pub or_piece : Piece → Piece
-or_piece one = either_piece nothing_piece one
+abbrev pub or_fragment : Fragment → Fragment
+or_fragment one = either_fragment nothing_fragment one
 
 -- of no conditions what has no opposite: true for AND, false for OR; no text has that
-abbrev pub all_piece : List Piece → Piece
-all_piece [] = works_piece (i.ClearTruth ∷ i.Test t.Invert ∷ [])
-all_piece (one ∷ more) = both one (in_order and_piece more)
+abbrev pub all_fragment : List Fragment → Fragment
+all_fragment [] = works_fragment (i.ClearTruth ∷ i.Test t.Invert ∷ [])
+all_fragment (one ∷ more) = sequence one (in_order and_fragment more)
 
-abbrev pub any_piece : List Piece → Piece
-any_piece [] = works_piece (i.ClearTruth ∷ [])
-any_piece (one ∷ more) = both one (in_order or_piece more)
+abbrev pub any_fragment : List Fragment → Fragment
+any_fragment [] = works_fragment (i.ClearTruth ∷ [])
+any_fragment (one ∷ more) = sequence one (in_order or_fragment more)
 
 -- ---- conditions
 
 -- `items` are those of the table of items, in order.
-module _ (items : List Placed) where
+module _ (items : List LocatedItem) where
   -- the item is taken, in the occurrence referred to, and compared with each value
-  abbrev pub condition_name_piece : Reference → Piece
-  condition_name_piece one =
-      both (work_piece (i.Place (condition_item items one.item)))
-      (both (subscripts_piece items (dimensions_of (slice_get items (condition_item items one.item).number)) one.subscripts)
-      (both (works_piece (i.Take ∷ i.ClearTruth ∷ [])) (values_piece (values_named items one.item))))
+  abbrev pub condition_name_fragment : Reference → Fragment
+  condition_name_fragment one =
+      sequence (work_fragment (i.Place (condition_item items one.item)))
+      (sequence (subscripts_fragment items (dimensions_of (slice_get items (condition_item items one.item).number)) one.subscripts)
+      (sequence (works_fragment (i.Take ∷ i.ClearTruth ∷ [])) (values_fragment (values_named items one.item))))
 
   -- the sender compared with an operand
-  abbrev pub compared_piece : Relation → Operand → Piece
-  compared_piece one (operand.Item reference) = taking_piece items (i.Test (t.Compare one)) reference
-  compared_piece one (operand.Literal literal) = λ before. record {
+  abbrev pub compared_fragment : Relation → Operand → Fragment
+  compared_fragment one (operand.Item reference) = take_fragment items (i.Test (t.Compare one)) reference
+  compared_fragment one (operand.Literal literal) = λ before. record {
     tables = record no_tables { senders = literal_entry (literal_sender literal.value) ∷ [] };
     files = [];
     starts = [];
@@ -106,28 +106,28 @@ module _ (items : List Placed) where
   }
 
   -- a side as a number
-  abbrev pub side_piece : Side → Piece
-  side_piece (side.Expression one) = expression_piece items one
-  side_piece (side.Literal one) = value_piece items (operand.Literal one)
+  abbrev pub side_fragment : Side → Fragment
+  side_fragment (side.Expression one) = expression_fragment items one
+  side_fragment (side.Literal one) = value_fragment items (operand.Literal one)
 
   -- Two operands alone are compared as what they are, others as numbers.
-  abbrev pub relation_from : Option Operand → Option Operand → Side → Relation → Side → Piece
-  relation_from (Some a) (Some b) left one right = both (sender_piece items a) (compared_piece one b)
-  relation_from _ _ left one right = both (side_piece left) (both (side_piece right) (work_piece (i.Test (t.CompareNumbers one))))
+  abbrev pub relation_from : Option Operand → Option Operand → Side → Relation → Side → Fragment
+  relation_from (Some a) (Some b) left one right = sequence (sender_fragment items a) (compared_fragment one b)
+  relation_from _ _ left one right = sequence (side_fragment left) (sequence (side_fragment right) (work_fragment (i.Test (t.CompareNumbers one))))
 
-  abbrev pub relation_piece : Side → Relation → Side → Piece
-  relation_piece left one right = relation_from (alone_side left) (alone_side right) left one right
+  abbrev pub relation_fragment : Side → Relation → Side → Fragment
+  relation_fragment left one right = relation_from (alone_side left) (alone_side right) left one right
 
   -- a condition, by the code of those in it
-  abbrev pub condition_layer_piece : Condition-F Piece → Piece
-  condition_layer_piece (Condition-F.Name reference) = condition_name_piece reference
-  condition_layer_piece (Condition-F.Relation left one right) = relation_piece left one right
-  condition_layer_piece (Condition-F.Sign value negated one) =
-      both (expression_piece items value) (both (number_piece zero_number) (work_piece (i.Test (t.CompareNumbers (sign_relation one negated)))))
-  condition_layer_piece (Condition-F.Class reference negated one) = both (taking_piece items (i.Test (t.Class one)) reference) (works_piece (negation negated))
-  condition_layer_piece (Condition-F.Not inner) = both inner (work_piece (i.Test t.Invert))
-  condition_layer_piece (Condition-F.All parts) = all_piece parts
-  condition_layer_piece (Condition-F.Any parts) = any_piece parts
+  abbrev pub condition_layer_fragment : Condition-F Fragment → Fragment
+  condition_layer_fragment (Condition-F.Name reference) = condition_name_fragment reference
+  condition_layer_fragment (Condition-F.Relation left one right) = relation_fragment left one right
+  condition_layer_fragment (Condition-F.Sign value negated one) =
+      sequence (expression_fragment items value) (sequence (number_fragment zero_number) (work_fragment (i.Test (t.CompareNumbers (sign_relation one negated)))))
+  condition_layer_fragment (Condition-F.Class reference negated one) = sequence (take_fragment items (i.Test (t.Class one)) reference) (works_fragment (negation negated))
+  condition_layer_fragment (Condition-F.Not inner) = sequence inner (work_fragment (i.Test t.Invert))
+  condition_layer_fragment (Condition-F.All parts) = all_fragment parts
+  condition_layer_fragment (Condition-F.Any parts) = any_fragment parts
 
-  unfoldable pub condition_piece : Condition → Piece
-  condition_piece = fold-Condition Piece condition_layer_piece
+  unfoldable pub condition_fragment : Condition → Fragment
+  condition_fragment = fold-Condition Fragment condition_layer_fragment

@@ -1,22 +1,22 @@
 -- The code of what is always true, or always false, and that of groups of WHENs whose ways don't meet yet (own choice).
 use Rattle.std.specs.Prelude.{◌≡◌, Bool, true, false, List, [], length, Option}
 use Rattle.std.specs.List.{AllByRecursion}
-use Rattle.source_tree.specs.declared.evaluate.Subject.{Subject}
-use Rattle.source_tree.specs.declared.evaluate.Selected.{Selected}
+use Rattle.source_tree.specs.declared.evaluate_statement.Subject.{Subject}
+use Rattle.source_tree.specs.declared.evaluate_statement.Selected.{Selected}
 use Rattle.source_tree.specs.Setting.{Scope}
 use Rattle.code_image.specs.declared.code.Code.{Code}
 use Rattle.codegen.specs.declared.phrases.Way.{Way}
-use Rattle.codegen.specs.Pieces.{Piece, joined}
-use Rattle.codegen.specs.ConditionCode.{all_piece, any_piece}
-use Rattle.codegen.specs.Layout.{phrase_piece, selecting_piece}
+use Rattle.codegen.specs.Pieces.{Fragment, append}
+use Rattle.codegen.specs.ConditionCode.{all_fragment, any_fragment}
+use Rattle.codegen.specs.Layout.{phrase_fragment, selection_fragment}
 use Rattle.codegen.specs.Phrases.{IsWay, met_all}
 
-abbrev pub constant_piece : Bool → Piece
-constant_piece true = all_piece []
-constant_piece false = any_piece []
+abbrev pub constant_fragment : Bool → Fragment
+constant_fragment true = all_fragment []
+constant_fragment false = any_fragment []
 
 -- Whatever OTHER has, with it and once all ways meet it is the code of the statement.
-pub record OpensAll (scope : Scope) {S : Type 0} (inside : S → Piece) (subjects : List Subject) (selected : List (Selected S)) (before after : Code) (ways : List Way) : Type 0 where
+pub record OpensAll (scope : Scope) {S : Type 0} (inside : S → Fragment) (subjects : List Subject) (selected : List (Selected S)) (before after : Code) (ways : List Way) : Type 0 where
   pub same : (other : Option (List S))
-      → met_all ways (joined after (phrase_piece scope inside other after)) ≡ joined before (selecting_piece scope inside subjects selected other before)
+      → met_all ways (append after (phrase_fragment scope inside other after)) ≡ append before (selection_fragment scope inside subjects selected other before)
   pub within : AllByRecursion (IsWay (length after.instructions)) ways

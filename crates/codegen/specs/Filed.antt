@@ -1,6 +1,6 @@
 -- What file statements look at of a file.
 use Rattle.records.specs.Spec.{Spec}
-use Rattle.program_files.specs.declared.file.ProgramFile.{ProgramFile}
+use Rattle.file_descriptions.specs.declared.file.ProgramFile.{ProgramFile}
 
 -- its organization and its keys
 abbrev pub spec_in : ProgramFile → Spec

@@ -3,22 +3,22 @@ use Rattle.std.specs.Prelude.{◌≡◌, ℕ, ◌+◌, List, [], ◌∷◌, ◌+
 use Rattle.text_ops.specs.declared.entry.Span.{Span}
 use Rattle.text_ops.specs.declared.entry.Entry.{Entry}
 use Rattle.source_tree.specs.declared.expression.Operand.{Operand}
-use Rattle.source_tree.specs.declared.inspecting.Limits.{Limits}
-use Rattle.source_tree.specs.declared.inspecting.Tallying.{Tallying}
-use Rattle.source_tree.specs.declared.inspecting.Inspecting.{Inspecting}
-use Rattle.source_tree.specs.Places.{Placed}
-use Rattle.source_tree.specs.InspectLayout.{Source, Bytes, Characters, Taking, Counter, Text, Inspected, text_sizes, limit_text, limit_texts, entries_texts, span_at, limit_span, before_at, after_at, entries_at, counter_entries, tallying_takings, all_inspected, entry_counts, takings, inspection, inspected_size}
+use Rattle.source_tree.specs.declared.inspect_statement.Limits.{Limits}
+use Rattle.source_tree.specs.declared.inspect_statement.Tallying.{Tallying}
+use Rattle.source_tree.specs.declared.inspect_statement.InspectStatement.{InspectStatement}
+use Rattle.source_tree.specs.Places.{LocatedItem}
+use Rattle.source_tree.specs.InspectLayout.{Source, Bytes, Characters, InspectArgument, Counter, Text, InspectEntry, text_sizes, limit_text, limit_texts, entries_texts, span_at, limit_span, before_at, after_at, entries_at, counter_entries, tallying_takings, all_inspected, entry_counts, takings, inspection, inspected_size}
 use Rattle.data_instructions.specs.declared.gather.Gather.TheVariants as g
 use Rattle.data_instructions.specs.declared.tables.Inspection.{Inspection}
 use Rattle.data_instructions.specs.declared.instruction.DataInstruction.TheVariants as i
 use Rattle.code_image.specs.declared.code.Code.{Code}
 use Rattle.code_image.specs.declared.instruction.Instruction.TheVariants.{Data}
-use Rattle.codegen.specs.Pieces.{Piece, no_tables, joined, both, in_order}
-use Rattle.codegen.specs.DataCode.{text_piece, reference_piece, taking_piece}
+use Rattle.codegen.specs.Pieces.{Fragment, no_tables, append, sequence, in_order}
+use Rattle.codegen.specs.DataCode.{text_fragment, reference_fragment, take_fragment}
 
 -- the INSPECT of an entry of the table
-abbrev pub inspection_piece : Inspection → Piece
-inspection_piece one before = record {
+abbrev pub inspection_fragment : Inspection → Fragment
+inspection_fragment one before = record {
   tables = record no_tables { inspections = one ∷ [] };
   files = [];
   starts = [];
@@ -26,18 +26,18 @@ inspection_piece one before = record {
 }
 
 -- `items` are those of the table of items, in order.
-module _ (items : List Placed) where
+module _ (items : List LocatedItem) where
   -- A counter's place stays on the stack of places; a text is added to the line, an item's with as many bytes as it has.
-  abbrev pub taken_piece : Taking → Piece
-  taken_piece (Counter one) = reference_piece items one
-  taken_piece (Text (Bytes one)) = taking_piece items (i.Gather g.Sized) one
-  taken_piece (Text (Characters text)) = text_piece text
+  abbrev pub taken_fragment : InspectArgument → Fragment
+  taken_fragment (Counter one) = reference_fragment items one
+  taken_fragment (Text (Bytes one)) = take_fragment items (i.Gather g.Sized) one
+  taken_fragment (Text (Characters text)) = text_fragment text
 
-  abbrev pub takings_piece : List Taking → Piece
-  takings_piece = in_order taken_piece
+  abbrev pub takings_fragment : List InspectArgument → Fragment
+  takings_fragment = in_order taken_fragment
 
   -- what the table has of an INSPECT
-  abbrev pub inspection_entry : Inspecting → Inspection
+  abbrev pub inspection_entry : InspectStatement → Inspection
   inspection_entry one = record {
     size = inspected_size items one;
     counters = (inspection items one).counters;
@@ -46,14 +46,14 @@ module _ (items : List Placed) where
   }
 
   -- INSPECT, behind its `tick`
-  abbrev pub inspect_piece : Inspecting → Piece
-  inspect_piece one = both (reference_piece items one.subject) (both (takings_piece (takings items one)) (inspection_piece (inspection_entry one)))
+  abbrev pub inspect_fragment : InspectStatement → Fragment
+  inspect_fragment one = sequence (reference_fragment items one.subject) (sequence (takings_fragment (takings items one)) (inspection_fragment (inspection_entry one)))
 
   -- ---- while it is made: texts that are taken, and entries that have them
 
   -- These are taken behind the code.
-  abbrev pub Takes : List Taking → Code → Code → Type 0
-  Takes all before after = after ≡ joined before (takings_piece all before)
+  abbrev pub Takes : List InspectArgument → Code → Code → Type 0
+  Takes all before after = after ≡ append before (takings_fragment all before)
 
   abbrev pub TakesTexts : List Source → Code → Code → Type 0
   TakesTexts texts before after = Takes (map Text texts) before after
@@ -77,7 +77,7 @@ module _ (items : List Placed) where
     pub end_is : end ≡ at + text_sizes items (limit_texts one)
 
   -- The texts of entries are taken behind so many bytes, and the entries are in the list.
-  pub record Puts (all : List Inspected) (before after : Code) (size : ℕ) (made : List Entry) (size_after : ℕ) (made_after : List Entry) : Type 0 where
+  pub record Puts (all : List InspectEntry) (before after : Code) (size : ℕ) (made : List Entry) (size_after : ℕ) (made_after : List Entry) : Type 0 where
     pub code : TakesTexts (entries_texts all) before after
     pub sizes : size_after ≡ size + text_sizes items (entries_texts all)
     pub entries : made_after ≡ made ++ entries_at items size all

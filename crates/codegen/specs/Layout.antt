@@ -1,9 +1,9 @@
 -- The layout of a program's code (own choice).
 use Rattle.std.specs.Prelude.{ℕ, zero, suc, List, [], ◌∷◌, ◌++◌, length, map, Option, Some, None}
-use Rattle.source_tree.specs.declared.moving.Moving.{Moving}
-use Rattle.source_tree.specs.declared.moving.Moving.TheVariants.{Move, Initialize, Set}
-use Rattle.source_tree.specs.declared.text.Text.{Text}
-use Rattle.source_tree.specs.declared.text.Text.TheVariants.{Display, Accept, AcceptDate, Inspect}
+use Rattle.source_tree.specs.declared.data_statement.DataStatement.{DataStatement}
+use Rattle.source_tree.specs.declared.data_statement.DataStatement.TheVariants.{Move, Initialize, Set}
+use Rattle.source_tree.specs.declared.text_statement.TextStatement.{TextStatement}
+use Rattle.source_tree.specs.declared.text_statement.TextStatement.TheVariants.{Display, Accept, AcceptDate, Inspect}
 use Rattle.records.specs.declared.verb.Verb as on_files
 use Rattle.records.specs.declared.verb.Verb.TheVariants as file_verb
 use Rattle.source_tree.specs.declared.name.Name.{Name}
@@ -11,23 +11,23 @@ use Rattle.source_tree.specs.declared.reference.Reference.{Reference}
 use Rattle.source_tree.specs.declared.phrases.Phrases.{Phrases}
 use Rattle.source_tree.specs.declared.phrases.FilePhrases.{FilePhrases}
 use Rattle.source_tree.specs.declared.phrases.FilePhrases.TheVariants as file_phrases
-use Rattle.source_tree.specs.declared.filing.Opening.{Opening}
-use Rattle.source_tree.specs.declared.filing.Filing.{Filing}
-use Rattle.source_tree.specs.declared.filing.Filing.TheVariants as filing
+use Rattle.source_tree.specs.declared.file_statement.Opening.{Opening}
+use Rattle.source_tree.specs.declared.file_statement.FileStatement.{FileStatement}
+use Rattle.source_tree.specs.declared.file_statement.FileStatement.TheVariants as filing
 use Rattle.source_tree.specs.declared.arithmetic.Arithmetic.{Arithmetic}
-use Rattle.source_tree.specs.declared.branching.Branching.{Branching}
-use Rattle.source_tree.specs.declared.branching.Branching.TheVariants as branch
-use Rattle.source_tree.specs.declared.evaluate.Subject.{Subject}
-use Rattle.source_tree.specs.declared.evaluate.Selected.{Selected}
-use Rattle.source_tree.specs.declared.evaluate.Evaluate.{Evaluate}
-use Rattle.source_tree.specs.declared.ending.Ending.{Ending}
-use Rattle.source_tree.specs.declared.ending.Ending.TheVariants as ending
-use Rattle.source_tree.specs.declared.performing.Performed.{Performed}
-use Rattle.source_tree.specs.declared.performing.Performed.TheVariants.{Procedures, Statements}
-use Rattle.source_tree.specs.declared.performing.Turns.{Turns}
-use Rattle.source_tree.specs.declared.performing.Turns.TheVariants.{Once, Times, CountedBy, Until}
-use Rattle.source_tree.specs.declared.performing.Performing.{Performing}
-use Rattle.source_tree.specs.declared.stringing.Stringing.{Stringing}
+use Rattle.source_tree.specs.declared.conditional_statement.ConditionalStatement.{ConditionalStatement}
+use Rattle.source_tree.specs.declared.conditional_statement.ConditionalStatement.TheVariants as branch
+use Rattle.source_tree.specs.declared.evaluate_statement.Subject.{Subject}
+use Rattle.source_tree.specs.declared.evaluate_statement.Selected.{Selected}
+use Rattle.source_tree.specs.declared.evaluate_statement.Evaluate.{Evaluate}
+use Rattle.source_tree.specs.declared.control_statement.ControlStatement.{ControlStatement}
+use Rattle.source_tree.specs.declared.control_statement.ControlStatement.TheVariants as ending
+use Rattle.source_tree.specs.declared.perform_statement.Performed.{Performed}
+use Rattle.source_tree.specs.declared.perform_statement.Performed.TheVariants.{Procedures, Statements}
+use Rattle.source_tree.specs.declared.perform_statement.Repetition.{Repetition}
+use Rattle.source_tree.specs.declared.perform_statement.Repetition.TheVariants.{Once, Times, CountedBy, Until}
+use Rattle.source_tree.specs.declared.perform_statement.PerformStatement.{PerformStatement}
+use Rattle.source_tree.specs.declared.string_statement.StringStatement.{StringStatement}
 use Rattle.source_tree.specs.declared.statement.Verb.{Verb}
 use Rattle.source_tree.specs.declared.statement.Verb.TheVariants as verb
 use Rattle.source_tree.specs.declared.statement.Statement.{Statement}
@@ -40,7 +40,7 @@ use Rattle.source_tree.specs.declared.program.Program.{Program}
 use Rattle.source_tree.specs.declared.select.Select.{Select}
 use Rattle.source_tree.specs.Evaluate.{selected_asked}
 use Rattle.source_tree.specs.Performing.{turns_of}
-use Rattle.source_tree.specs.Places.{Placed}
+use Rattle.source_tree.specs.Places.{LocatedItem}
 use Rattle.source_tree.specs.Procedures.{Range, paragraphs_or_one, range_of}
 use Rattle.source_tree.specs.Setting.{Scope, scope}
 use Rattle.source_tree.specs.Records.{program_areas}
@@ -50,240 +50,240 @@ use Rattle.source_tree.specs.Filing.{read_verb, start_verb}
 use Rattle.data_instructions.specs.declared.tables.DataTables.{DataTables}
 use Rattle.data_instructions.specs.declared.tables.DataItem.{DataItem}
 use Rattle.data_instructions.specs.Codes.{data_item}
-use Rattle.file_tables.specs.declared.class.StatusClass.{StatusClass}
-use Rattle.file_tables.specs.declared.class.StatusClass.TheVariants.{Successful, AtEnd, InvalidKey}
+use Rattle.file_image.specs.declared.class.StatusClass.{StatusClass}
+use Rattle.file_image.specs.declared.class.StatusClass.TheVariants.{Successful, AtEnd, InvalidKey}
 use Rattle.code_image.specs.declared.code.Code.{Code}
 use Rattle.code_image.specs.declared.instruction.Instruction.TheVariants.{Tick, Stop, Count, CountNumber, Turn, Perform, Back}
 use Rattle.data_instructions.specs.declared.instruction.DataInstruction.TheVariants as i
-use Rattle.codegen.specs.Pieces.{Piece, no_tables, nothing, joined, both, in_order, plain}
-use Rattle.codegen.specs.Meeting.{either_piece, nothing_piece}
+use Rattle.codegen.specs.Pieces.{Fragment, no_tables, empty_code, append, sequence, in_order, plain_code}
+use Rattle.codegen.specs.Meeting.{either_fragment, nothing_fragment}
 use Rattle.source_tree.specs.Arithmetic.{is_there}
-use Rattle.codegen.specs.DataCode.{taking_piece, move_piece, display_piece, accept_piece, date_piece}
-use Rattle.codegen.specs.ArithmeticCode.{arithmetic_piece}
-use Rattle.codegen.specs.ConditionCode.{condition_piece}
-use Rattle.codegen.specs.PatternCode.{initializes_piece, sets_piece}
-use Rattle.codegen.specs.StringCode.{string_piece}
-use Rattle.codegen.specs.InspectCode.{inspect_piece}
-use Rattle.codegen.specs.SubjectCode.{first_object, subjects_piece}
-use Rattle.codegen.specs.UntilCode.{tick_piece, until_piece}
-use Rattle.codegen.specs.FileCode.{code_files, sent_entry, file_piece, test_piece, unheard_piece, into_piece, from_piece, on_name_piece, on_record_piece}
+use Rattle.codegen.specs.DataCode.{take_fragment, move_fragment, display_fragment, accept_fragment, date_fragment}
+use Rattle.codegen.specs.ArithmeticCode.{arithmetic_fragment}
+use Rattle.codegen.specs.ConditionCode.{condition_fragment}
+use Rattle.codegen.specs.PatternCode.{initializes_fragment, sets_fragment}
+use Rattle.codegen.specs.StringCode.{string_fragment}
+use Rattle.codegen.specs.InspectCode.{inspect_fragment}
+use Rattle.codegen.specs.SubjectCode.{first_object, subjects_fragment}
+use Rattle.codegen.specs.UntilCode.{tick_fragment, until_fragment}
+use Rattle.codegen.specs.FileCode.{code_files, sent_entry, file_fragment, test_fragment, unheard_fragment, into_fragment, from_fragment, on_name_fragment, on_record_fragment}
 
-abbrev pub stop_run_piece : ℕ → Piece
-stop_run_piece line before = plain (Tick line ∷ Stop ∷ [])
+abbrev pub stop_run_fragment : ℕ → Fragment
+stop_run_fragment line before = plain_code (Tick line ∷ Stop ∷ [])
 
-abbrev pub ending_piece : ℕ → Ending → Piece
-ending_piece line ending.StopRun = stop_run_piece line
-ending_piece line ending.Continue = tick_piece line
-ending_piece line ending.Exit = tick_piece line
+abbrev pub control_fragment : ℕ → ControlStatement → Fragment
+control_fragment line ending.StopRun = stop_run_fragment line
+control_fragment line ending.Continue = tick_fragment line
+control_fragment line ending.Exit = tick_fragment line
 
 -- A loop begins that counts the turns after the first: at its own address, as each loop does.
-abbrev pub loop_begin : ℕ → Piece
-loop_begin more before = plain (Count (record { number = length before.instructions }) more ∷ [])
+abbrev pub loop_begin : ℕ → Fragment
+loop_begin more before = plain_code (Count (record { number = length before.instructions }) more ∷ [])
 
 -- A loop begins whose turns the newest number counts; the truth says whether there is one.
-abbrev pub count_begin : Piece
-count_begin before = plain (CountNumber (record { number = length before.instructions }) ∷ [])
+abbrev pub count_begin : Fragment
+count_begin before = plain_code (CountNumber (record { number = length before.instructions }) ∷ [])
 
 -- the end of a turn of the loop that begins at an address, back to another
 abbrev pub turn_end : ℕ → ℕ → Code
-turn_end begin to = plain (Turn (record { number = begin }) to ∷ [])
+turn_end begin to = plain_code (Turn (record { number = begin }) to ∷ [])
 
 -- The turns of the loop that begins at this address. A turn begins with what uses one of the budget, and each but the last leads back there.
-abbrev pub counted_turn : ℕ → Piece → Piece
-counted_turn begin turn before = joined (turn before) (turn_end begin (length before.instructions))
+abbrev pub counted_turn : ℕ → Fragment → Fragment
+counted_turn begin turn before = append (turn before) (turn_end begin (length before.instructions))
 
 -- so many turns
-abbrev pub times_piece : ℕ → Piece → Piece
-times_piece zero turn before = nothing
-times_piece (suc more) turn before = both (loop_begin more) (counted_turn (length before.instructions) turn) before
+abbrev pub times_fragment : ℕ → Fragment → Fragment
+times_fragment zero turn before = empty_code
+times_fragment (suc more) turn before = sequence (loop_begin more) (counted_turn (length before.instructions) turn) before
 
 -- as many turns as the newest number says
-abbrev pub counted_piece : Piece → Piece
-counted_piece turn before = both count_begin (either_piece (counted_turn (length before.instructions) turn) nothing_piece) before
+abbrev pub counted_fragment : Fragment → Fragment
+counted_fragment turn before = sequence count_begin (either_fragment (counted_turn (length before.instructions) turn) nothing_fragment) before
 
 -- How often, as the phrase of a PERFORM at this line says. The PERFORM uses one of the budget, and so does each turn; without a phrase
 -- they are the same.
-abbrev pub turns_piece : List Placed → ℕ → Turns → Piece → Piece
-turns_piece items line Once turn = turn
-turns_piece items line (Times count) turn = both (tick_piece line) (times_piece (turns_of count) turn)
-turns_piece items line (CountedBy one) turn = both (tick_piece line) (both (taking_piece items i.Push one) (counted_piece turn))
-turns_piece items line (Until one) turn = both (tick_piece line) (until_piece items one turn)
+abbrev pub turns_fragment : List LocatedItem → ℕ → Repetition → Fragment → Fragment
+turns_fragment items line Once turn = turn
+turns_fragment items line (Times count) turn = sequence (tick_fragment line) (times_fragment (turns_of count) turn)
+turns_fragment items line (CountedBy one) turn = sequence (tick_fragment line) (sequence (take_fragment items i.Push one) (counted_fragment turn))
+turns_fragment items line (Until one) turn = sequence (tick_fragment line) (until_fragment items one turn)
 
 -- The paragraphs of a range are performed, at this line; where names name none, nothing is.
-abbrev pub range_piece : ℕ → Option Range → Piece
-range_piece line None before = plain (Tick line ∷ [])
-range_piece line (Some range) before = plain (Perform line (record { number = range.first }) (record { number = range.last }) ∷ [])
+abbrev pub range_fragment : ℕ → Option Range → Fragment
+range_fragment line None before = plain_code (Tick line ∷ [])
+range_fragment line (Some range) before = plain_code (Perform line (record { number = range.first }) (record { number = range.last }) ∷ [])
 
-abbrev pub moving_piece : List Placed → Moving → Piece
-moving_piece items (Move sender receivers) = move_piece items sender receivers
-moving_piece items (Initialize receivers) = initializes_piece items receivers
-moving_piece items (Set conditions) = sets_piece items conditions
+abbrev pub data_fragment : List LocatedItem → DataStatement → Fragment
+data_fragment items (Move sender receivers) = move_fragment items sender receivers
+data_fragment items (Initialize receivers) = initializes_fragment items receivers
+data_fragment items (Set conditions) = sets_fragment items conditions
 
-abbrev pub texts_piece : List Placed → Text → Piece
-texts_piece items (Display operands advancing) = display_piece items operands advancing
-texts_piece items (Accept receiver) = accept_piece items receiver
-texts_piece items (AcceptDate receiver) = date_piece items receiver
-texts_piece items (Inspect one) = inspect_piece items one
+abbrev pub texts_fragment : List LocatedItem → TextStatement → Fragment
+texts_fragment items (Display operands advancing) = display_fragment items operands advancing
+texts_fragment items (Accept receiver) = accept_fragment items receiver
+texts_fragment items (AcceptDate receiver) = date_fragment items receiver
+texts_fragment items (Inspect one) = inspect_fragment items one
 
 -- Statements that hold statements; `inside` is the code of those.
-module _ (scope : Scope) {S : Type 0} (inside : S → Piece) where
+module _ (scope : Scope) {S : Type 0} (inside : S → Fragment) where
   -- one turn of a PERFORM at this line, which uses one of the budget
-  abbrev pub turn_piece : ℕ → Performed S → Piece
-  turn_piece line (Procedures first last) = range_piece line (range_of scope.procedures first last)
-  turn_piece line (Statements statements) = both (tick_piece line) (in_order inside statements)
+  abbrev pub turn_fragment : ℕ → Performed S → Fragment
+  turn_fragment line (Procedures first last) = range_fragment line (range_of scope.procedures first last)
+  turn_fragment line (Statements statements) = sequence (tick_fragment line) (in_order inside statements)
 
-  abbrev pub performing_piece : ℕ → Performing S → Piece
-  performing_piece line one = turns_piece scope.items line one.turns (turn_piece line one.performed)
+  abbrev pub perform_fragment : ℕ → PerformStatement S → Fragment
+  perform_fragment line one = turns_fragment scope.items line one.turns (turn_fragment line one.performed)
 
-  abbrev pub phrase_piece : Option (List S) → Piece
-  phrase_piece None before = nothing
-  phrase_piece (Some statements) before = in_order inside statements before
+  abbrev pub phrase_fragment : Option (List S) → Fragment
+  phrase_fragment None before = empty_code
+  phrase_fragment (Some statements) before = in_order inside statements before
 
   -- the phrases, where one stands
-  abbrev pub phrases_from : Option (List S) → Option (List S) → Piece
-  phrases_from None None before = nothing
-  phrases_from (Some statements) other before = either_piece (phrase_piece (Some statements)) (phrase_piece other) before
-  phrases_from None (Some statements) before = either_piece (phrase_piece None) (phrase_piece (Some statements)) before
+  abbrev pub phrases_from : Option (List S) → Option (List S) → Fragment
+  phrases_from None None before = empty_code
+  phrases_from (Some statements) other before = either_fragment (phrase_fragment (Some statements)) (phrase_fragment other) before
+  phrases_from None (Some statements) before = either_fragment (phrase_fragment None) (phrase_fragment (Some statements)) before
 
-  abbrev pub phrases_piece : Phrases S → Piece
-  phrases_piece phrases = phrases_from phrases.arose phrases.did_not
+  abbrev pub phrases_fragment : Phrases S → Fragment
+  phrases_fragment phrases = phrases_from phrases.arose phrases.did_not
 
-  abbrev pub calculating_piece : ℕ → Arithmetic S → Piece
-  calculating_piece line one =
-      both (tick_piece line) (both (arithmetic_piece scope.items (is_there one.phrases.arose) one.operation) (phrases_piece one.phrases))
+  abbrev pub arithmetic_statement_fragment : ℕ → Arithmetic S → Fragment
+  arithmetic_statement_fragment line one =
+      sequence (tick_fragment line) (sequence (arithmetic_fragment scope.items (is_there one.phrases.arose) one.operation) (phrases_fragment one.phrases))
 
-  abbrev pub stringing_piece : ℕ → Stringing S → Piece
-  stringing_piece line one =
-      both (tick_piece line) (both (string_piece scope.items one.sendings one.receiver one.pointer) (phrases_piece one.phrases))
+  abbrev pub string_statement_fragment : ℕ → StringStatement S → Fragment
+  string_statement_fragment line one =
+      sequence (tick_fragment line) (sequence (string_fragment scope.items one.sendings one.receiver one.pointer) (phrases_fragment one.phrases))
 
   -- The condition of each group of WHENs in turn, and its statements where it is true; those of OTHER behind the last one.
-  abbrev pub selecting_piece : List Subject → List (Selected S) → Option (List S) → Piece
-  selecting_piece subjects [] other = phrase_piece other
-  selecting_piece subjects (one ∷ more) other =
-      both (condition_piece scope.items (selected_asked scope.items subjects one))
-      (either_piece (in_order inside one.statements) (selecting_piece subjects more other))
+  abbrev pub selection_fragment : List Subject → List (Selected S) → Option (List S) → Fragment
+  selection_fragment subjects [] other = phrase_fragment other
+  selection_fragment subjects (one ∷ more) other =
+      sequence (condition_fragment scope.items (selected_asked scope.items subjects one))
+      (either_fragment (in_order inside one.statements) (selection_fragment subjects more other))
 
   -- EVALUATE, behind its `tick`
-  abbrev pub evaluate_piece : Evaluate S → Piece
-  evaluate_piece one =
-      both (subjects_piece scope.items one.subjects (first_object one.selected)) (selecting_piece one.subjects one.selected one.other)
+  abbrev pub evaluate_fragment : Evaluate S → Fragment
+  evaluate_fragment one =
+      sequence (subjects_fragment scope.items one.subjects (first_object one.selected)) (selection_fragment one.subjects one.selected one.other)
 
-  abbrev pub branching_piece : ℕ → Branching S → Piece
-  branching_piece line (branch.If condition statements otherwise) =
-      both (tick_piece line) (both (condition_piece scope.items condition) (either_piece (in_order inside statements) (phrase_piece otherwise)))
-  branching_piece line (branch.Evaluate one) = both (tick_piece line) (evaluate_piece one)
+  abbrev pub conditional_fragment : ℕ → ConditionalStatement S → Fragment
+  conditional_fragment line (branch.If condition statements otherwise) =
+      sequence (tick_fragment line) (sequence (condition_fragment scope.items condition) (either_fragment (in_order inside statements) (phrase_fragment otherwise)))
+  conditional_fragment line (branch.Evaluate one) = sequence (tick_fragment line) (evaluate_fragment one)
 
   -- ---- file statements
 
   -- the statements of a phrase for a status, or else what comes of a status that nothing takes
-  abbrev pub taken_piece : Option ItemPlace → Option (List S) → Piece
-  taken_piece status None = unheard_piece status
-  taken_piece status (Some statements) = phrase_piece (Some statements)
+  abbrev pub taken_fragment : Option ItemPlace → Option (List S) → Fragment
+  taken_fragment status None = unheard_fragment status
+  taken_fragment status (Some statements) = phrase_fragment (Some statements)
 
   -- behind a success
-  abbrev pub success_piece : FilePhrases S → Piece
-  success_piece file_phrases.Absent = nothing_piece
-  success_piece (file_phrases.AtEnd pair) = phrase_piece pair.did_not
-  success_piece (file_phrases.InvalidKey pair) = phrase_piece pair.did_not
+  abbrev pub success_fragment : FilePhrases S → Fragment
+  success_fragment file_phrases.Absent = nothing_fragment
+  success_fragment (file_phrases.AtEnd pair) = phrase_fragment pair.did_not
+  success_fragment (file_phrases.InvalidKey pair) = phrase_fragment pair.did_not
 
   -- the phrase for statuses of a class
-  abbrev pub class_piece : Option ItemPlace → StatusClass → Option (List S) → Piece
-  class_piece status class arose = both (test_piece class) (either_piece (taken_piece status arose) (unheard_piece status))
+  abbrev pub class_fragment : Option ItemPlace → StatusClass → Option (List S) → Fragment
+  class_fragment status class arose = sequence (test_fragment class) (either_fragment (taken_fragment status arose) (unheard_fragment status))
 
   -- behind another status
-  abbrev pub failure_piece : Option ItemPlace → FilePhrases S → Piece
-  failure_piece status file_phrases.Absent = unheard_piece status
-  failure_piece status (file_phrases.AtEnd pair) = class_piece status AtEnd pair.arose
-  failure_piece status (file_phrases.InvalidKey pair) = class_piece status InvalidKey pair.arose
+  abbrev pub failure_fragment : Option ItemPlace → FilePhrases S → Fragment
+  failure_fragment status file_phrases.Absent = unheard_fragment status
+  failure_fragment status (file_phrases.AtEnd pair) = class_fragment status AtEnd pair.arose
+  failure_fragment status (file_phrases.InvalidKey pair) = class_fragment status InvalidKey pair.arose
 
   -- what comes of the status; `onward` comes first after a success
-  abbrev pub status_piece : Option ItemPlace → FilePhrases S → Piece → Piece
-  status_piece status phrases onward =
-      both (test_piece Successful) (either_piece (both onward (success_piece phrases)) (failure_piece status phrases))
+  abbrev pub status_fragment : Option ItemPlace → FilePhrases S → Fragment → Fragment
+  status_fragment status phrases onward =
+      sequence (test_fragment Successful) (either_fragment (sequence onward (success_fragment phrases)) (failure_fragment status phrases))
 
-  abbrev pub statement_on_piece : FilePhrases S → (ProgramFile → Piece) → (ProgramFile → on_files.Verb) → ProgramFile → Piece
-  statement_on_piece phrases onward verb file = both (file_piece (verb file) file) (status_piece file.places.status phrases (onward file))
+  abbrev pub statement_on_fragment : FilePhrases S → (ProgramFile → Fragment) → (ProgramFile → on_files.Verb) → ProgramFile → Fragment
+  statement_on_fragment phrases onward verb file = sequence (file_fragment (verb file) file) (status_fragment file.places.status phrases (onward file))
 
   -- nothing comes first
-  abbrev pub alone_piece : FilePhrases S → (ProgramFile → on_files.Verb) → ProgramFile → Piece
-  alone_piece phrases verb = statement_on_piece phrases (λ file. nothing_piece) verb
+  abbrev pub alone_fragment : FilePhrases S → (ProgramFile → on_files.Verb) → ProgramFile → Fragment
+  alone_fragment phrases verb = statement_on_fragment phrases (λ file. nothing_fragment) verb
 
-  abbrev pub open_piece : Opening → Piece
-  open_piece one = on_name_piece scope.items scope.files one.file (alone_piece file_phrases.Absent (λ file. file_verb.Open one.mode))
+  abbrev pub open_fragment : Opening → Fragment
+  open_fragment one = on_name_fragment scope.items scope.files one.file (alone_fragment file_phrases.Absent (λ file. file_verb.Open one.mode))
 
-  abbrev pub close_piece : Name → Piece
-  close_piece one = on_name_piece scope.items scope.files one (alone_piece file_phrases.Absent (λ file. file_verb.Close))
+  abbrev pub close_fragment : Name → Fragment
+  close_fragment one = on_name_fragment scope.items scope.files one (alone_fragment file_phrases.Absent (λ file. file_verb.Close))
 
-  abbrev pub record_piece : on_files.Verb → Reference → Option Reference → FilePhrases S → Piece
-  record_piece verb one from phrases =
-      both (from_piece scope.items one from) (on_record_piece scope.items scope.files one (alone_piece phrases (λ file. verb)))
+  abbrev pub record_fragment : on_files.Verb → Reference → Option Reference → FilePhrases S → Fragment
+  record_fragment verb one from phrases =
+      sequence (from_fragment scope.items one from) (on_record_fragment scope.items scope.files one (alone_fragment phrases (λ file. verb)))
 
   -- a file statement, behind its `tick`; each file of OPEN and CLOSE in turn
-  abbrev pub filing_piece : Filing S → Piece
-  filing_piece (filing.Open all) = in_order open_piece all
-  filing_piece (filing.Close all) = in_order close_piece all
-  filing_piece (filing.Read file next into key phrases) =
-      on_name_piece scope.items scope.files file
-      (statement_on_piece phrases (into_piece scope.items into) (λ file. read_verb scope.items file next key))
-  filing_piece (filing.Write one from phrases) = record_piece file_verb.Write one from phrases
-  filing_piece (filing.Rewrite one from phrases) = record_piece file_verb.Rewrite one from phrases
-  filing_piece (filing.Delete file phrases) = on_name_piece scope.items scope.files file (alone_piece phrases (λ file. file_verb.Delete))
-  filing_piece (filing.Start file key phrases) =
-      on_name_piece scope.items scope.files file (alone_piece phrases (λ file. start_verb scope.items file key))
+  abbrev pub file_statement_fragment : FileStatement S → Fragment
+  file_statement_fragment (filing.Open all) = in_order open_fragment all
+  file_statement_fragment (filing.Close all) = in_order close_fragment all
+  file_statement_fragment (filing.Read file next into key phrases) =
+      on_name_fragment scope.items scope.files file
+      (statement_on_fragment phrases (into_fragment scope.items into) (λ file. read_verb scope.items file next key))
+  file_statement_fragment (filing.Write one from phrases) = record_fragment file_verb.Write one from phrases
+  file_statement_fragment (filing.Rewrite one from phrases) = record_fragment file_verb.Rewrite one from phrases
+  file_statement_fragment (filing.Delete file phrases) = on_name_fragment scope.items scope.files file (alone_fragment phrases (λ file. file_verb.Delete))
+  file_statement_fragment (filing.Start file key phrases) =
+      on_name_fragment scope.items scope.files file (alone_fragment phrases (λ file. start_verb scope.items file key))
 
   -- a statement at this line, by its family
-  abbrev pub verb_piece : ℕ → Verb S → Piece
-  verb_piece line (verb.Moving one) = both (tick_piece line) (moving_piece scope.items one)
-  verb_piece line (verb.Arithmetic one) = calculating_piece line one
-  verb_piece line (verb.Branching one) = branching_piece line one
-  verb_piece line (verb.Performing one) = performing_piece line one
-  verb_piece line (verb.Text one) = both (tick_piece line) (texts_piece scope.items one)
-  verb_piece line (verb.Stringing one) = stringing_piece line one
-  verb_piece line (verb.Filing one) = both (tick_piece line) (filing_piece one)
-  verb_piece line (verb.Ending one) = ending_piece line one
+  abbrev pub verb_fragment : ℕ → Verb S → Fragment
+  verb_fragment line (verb.DataStatement one) = sequence (tick_fragment line) (data_fragment scope.items one)
+  verb_fragment line (verb.Arithmetic one) = arithmetic_statement_fragment line one
+  verb_fragment line (verb.ConditionalStatement one) = conditional_fragment line one
+  verb_fragment line (verb.PerformStatement one) = perform_fragment line one
+  verb_fragment line (verb.Text one) = sequence (tick_fragment line) (texts_fragment scope.items one)
+  verb_fragment line (verb.StringStatement one) = string_statement_fragment line one
+  verb_fragment line (verb.FileStatement one) = sequence (tick_fragment line) (file_statement_fragment one)
+  verb_fragment line (verb.ControlStatement one) = control_fragment line one
 
 module _ (scope : Scope) where
   -- a statement, by the code of those that stand in it
-  abbrev pub statement_layer : Statement-F Piece → Piece
-  statement_layer one = verb_piece scope (λ piece. piece) one.place.line one.verb
+  abbrev pub statement_layer : Statement-F Fragment → Fragment
+  statement_layer one = verb_fragment scope (λ piece. piece) one.place.line one.verb
 
-  unfoldable pub statement_piece : Statement → Piece
-  statement_piece = fold-Statement Piece statement_layer
+  unfoldable pub statement_fragment : Statement → Fragment
+  statement_fragment = fold-Statement Fragment statement_layer
 
-  abbrev pub sentence_piece : Sentence → Piece
-  sentence_piece sentence = in_order statement_piece sentence.statements
+  abbrev pub sentence_fragment : Sentence → Fragment
+  sentence_fragment sentence = in_order statement_fragment sentence.statements
 
 -- a code paragraph starts
-abbrev pub start_piece : Piece
-start_piece before = record { tables = no_tables; files = []; starts = length before.instructions ∷ []; instructions = [] }
+abbrev pub start_fragment : Fragment
+start_fragment before = record { tables = no_tables; files = []; starts = length before.instructions ∷ []; instructions = [] }
 
 -- the end of the code paragraph of this number
-abbrev pub back_piece : ℕ → Piece
-back_piece number before = plain (Back (record { number = number }) ∷ [])
+abbrev pub back_fragment : ℕ → Fragment
+back_fragment number before = plain_code (Back (record { number = number }) ∷ [])
 
 module _ (scope : Scope) where
   -- a paragraph, numbered by how many start before it
-  abbrev pub paragraph_piece : Paragraph → Piece
-  paragraph_piece paragraph before =
-      both start_piece (both (in_order (sentence_piece scope) paragraph.sentences) (back_piece (length before.starts))) before
+  abbrev pub paragraph_fragment : Paragraph → Fragment
+  paragraph_fragment paragraph before =
+      sequence start_fragment (sequence (in_order (sentence_fragment scope) paragraph.sentences) (back_fragment (length before.starts))) before
 
-  abbrev pub section_piece : Section → Piece
-  section_piece section = in_order paragraph_piece (paragraphs_or_one section.paragraphs)
+  abbrev pub section_fragment : Section → Fragment
+  section_fragment section = in_order paragraph_fragment (paragraphs_or_one section.paragraphs)
 
 -- the end of the last paragraph
-abbrev pub end_piece : Code
-end_piece = plain (Stop ∷ [])
+abbrev pub end_fragment : Code
+end_fragment = plain_code (Stop ∷ [])
 
 -- the bytes of all areas at the start, and the items; behind these what READ INTO sends of each file
-abbrev pub storage_items : List Placed → List ProgramFile → List DataItem
+abbrev pub storage_items : List LocatedItem → List ProgramFile → List DataItem
 storage_items items files = map data_item items ++ map (sent_entry items) files
 
 -- the tables before the first statement, by these
-abbrev pub tables_with : List (List ℕ) → List Placed → List ProgramFile → DataTables
+abbrev pub tables_with : List (List ℕ) → List LocatedItem → List ProgramFile → DataTables
 tables_with areas items files = record no_tables { areas = areas; items = storage_items items files }
 
-abbrev pub storage_with : List (List ℕ) → List Placed → List Select → List ProgramFile → Code
-storage_with areas items selects files = record nothing { tables = tables_with areas items files; files = code_files items selects files }
+abbrev pub storage_with : List (List ℕ) → List LocatedItem → List Select → List ProgramFile → Code
+storage_with areas items selects files = record empty_code { tables = tables_with areas items files; files = code_files items selects files }
 
 abbrev pub storage_tables : Program → DataTables
 storage_tables program = tables_with (program_areas program) (scope program).items (scope program).files
@@ -294,4 +294,4 @@ storage_code program = storage_with (program_areas program) (scope program).item
 abbrev pub code_of : Program → Code
 code_of program =
     let storage = storage_code program in
-    joined (joined storage (in_order (section_piece (scope program)) program.sections storage)) end_piece
+    append (append storage (in_order (section_fragment (scope program)) program.sections storage)) end_fragment

@@ -3,28 +3,28 @@ use Rattle.std.specs.Prelude.{ℕ, List, [], ◌∷◌, length, map, Option, Som
 use Rattle.source_tree.specs.declared.reference.Reference.{Reference}
 use Rattle.source_tree.specs.Initializing.{Pattern, named_pattern, set_pattern}
 use Rattle.source_tree.specs.LookUp.{NamedCondition, all_conditions}
-use Rattle.source_tree.specs.Places.{Placed}
+use Rattle.source_tree.specs.Places.{LocatedItem}
 use Rattle.data_instructions.specs.declared.instruction.DataInstruction.TheVariants as i
 use Rattle.data_instructions.specs.TextCodes.{new_byte, new_mark}
 use Rattle.code_image.specs.declared.instruction.Instruction.TheVariants.{Data}
-use Rattle.codegen.specs.Pieces.{Piece, no_tables, both, in_order}
-use Rattle.codegen.specs.DataCode.{item_number, dimensions_of, work_piece, subscripts_piece, reference_piece}
+use Rattle.codegen.specs.Pieces.{Fragment, no_tables, sequence, in_order}
+use Rattle.codegen.specs.DataCode.{item_number, dimensions_of, work_fragment, subscripts_fragment, reference_fragment}
 use Rattle.codegen.specs.ConditionCode.{condition_number, condition_item}
 
 -- New bytes for the newest place, which is taken: those that are marked.
-abbrev pub overlay_piece : List ℕ → List ℕ → Piece
-overlay_piece bytes marks before = record {
+abbrev pub overlay_fragment : List ℕ → List ℕ → Fragment
+overlay_fragment bytes marks before = record {
   tables = record no_tables { texts = bytes ∷ marks ∷ [] };
   files = [];
   starts = [];
   instructions = Data (i.Overlay (record { number = length before.tables.texts })) ∷ [];
 }
 
-abbrev pub pattern_piece : Pattern → Piece
-pattern_piece pattern = overlay_piece (map new_byte pattern) (map new_mark pattern)
+abbrev pub pattern_fragment : Pattern → Fragment
+pattern_fragment pattern = overlay_fragment (map new_byte pattern) (map new_mark pattern)
 
 -- what INITIALIZE puts into an item
-abbrev pub pattern_of : Option Placed → Pattern
+abbrev pub pattern_of : Option LocatedItem → Pattern
 pattern_of None = []
 pattern_of (Some one) = named_pattern one
 
@@ -34,21 +34,21 @@ set_of None = []
 set_of (Some found) = set_pattern found
 
 -- `items` are those of the table of items, in order.
-module _ (items : List Placed) where
-  abbrev pub initialize_piece : Reference → Piece
-  initialize_piece one = both (reference_piece items one) (pattern_piece (pattern_of (slice_get items (item_number items one.item))))
+module _ (items : List LocatedItem) where
+  abbrev pub initialize_fragment : Reference → Fragment
+  initialize_fragment one = sequence (reference_fragment items one) (pattern_fragment (pattern_of (slice_get items (item_number items one.item))))
 
   -- INITIALIZE, behind its `tick`
-  abbrev pub initializes_piece : List Reference → Piece
-  initializes_piece = in_order initialize_piece
+  abbrev pub initializes_fragment : List Reference → Fragment
+  initializes_fragment = in_order initialize_fragment
 
   -- the item of a condition name, in the occurrence referred to
-  abbrev pub set_piece : Reference → Piece
-  set_piece one =
-      both (work_piece (i.Place (condition_item items one.item)))
-      (both (subscripts_piece items (dimensions_of (slice_get items (condition_item items one.item).number)) one.subscripts)
-      (pattern_piece (set_of (slice_get (all_conditions items) (condition_number items one.item)))))
+  abbrev pub set_fragment : Reference → Fragment
+  set_fragment one =
+      sequence (work_fragment (i.Place (condition_item items one.item)))
+      (sequence (subscripts_fragment items (dimensions_of (slice_get items (condition_item items one.item).number)) one.subscripts)
+      (pattern_fragment (set_of (slice_get (all_conditions items) (condition_number items one.item)))))
 
   -- SET, behind its `tick`
-  abbrev pub sets_piece : List Reference → Piece
-  sets_piece = in_order set_piece
+  abbrev pub sets_fragment : List Reference → Fragment
+  sets_fragment = in_order set_fragment

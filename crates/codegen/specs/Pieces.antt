@@ -5,14 +5,14 @@ use Rattle.code_image.specs.declared.code.Code.{Code}
 use Rattle.code_image.specs.declared.instruction.Instruction.{Instruction}
 
 -- What a part of a program adds to the code that stands before it.
-abbrev pub Piece : Type 0
-Piece = Code → Code
+abbrev pub Fragment : Type 0
+Fragment = Code → Code
 
 abbrev pub no_tables : DataTables
 no_tables = record { areas = []; items = []; numbers = []; senders = []; texts = []; inspections = [] }
 
-abbrev pub nothing : Code
-nothing = record { tables = no_tables; files = []; starts = []; instructions = [] }
+abbrev pub empty_code : Code
+empty_code = record { tables = no_tables; files = []; starts = []; instructions = [] }
 
 abbrev pub joined_tables : DataTables → DataTables → DataTables
 joined_tables a b = record {
@@ -25,8 +25,8 @@ joined_tables a b = record {
 }
 
 -- one code after another
-abbrev pub joined : Code → Code → Code
-joined a b = record {
+abbrev pub append : Code → Code → Code
+append a b = record {
   tables = joined_tables a.tables b.tables;
   files = a.files ++ b.files;
   starts = a.starts ++ b.starts;
@@ -34,13 +34,13 @@ joined a b = record {
 }
 
 -- one piece after another
-abbrev pub both : Piece → Piece → Piece
-both first second before = joined (first before) (second (joined before (first before)))
+abbrev pub sequence : Fragment → Fragment → Fragment
+sequence first second before = append (first before) (second (append before (first before)))
 
-abbrev pub in_order : {A : Type 0} → (A → Piece) → List A → Piece
-in_order piece [] before = nothing
-in_order piece (one ∷ more) before = joined (piece one before) (in_order piece more (joined before (piece one before)))
+abbrev pub in_order : {A : Type 0} → (A → Fragment) → List A → Fragment
+in_order piece [] before = empty_code
+in_order piece (one ∷ more) before = append (piece one before) (in_order piece more (append before (piece one before)))
 
 -- instructions that name nothing new
-abbrev pub plain : List Instruction → Code
-plain instructions = record { tables = no_tables; files = []; starts = []; instructions = instructions }
+abbrev pub plain_code : List Instruction → Code
+plain_code instructions = record { tables = no_tables; files = []; starts = []; instructions = instructions }

@@ -3,8 +3,8 @@ use Rattle.std.specs.Prelude.{◌==◌, ◌&&◌, Bool, if◌then◌else◌, Lis
 use Rattle.std.specs.Option.{option_map}
 use Rattle.picture.specs.declared.picture.Picture.{Picture}
 use Rattle.layout.specs.declared.placed.PlacedItem.{PlacedItem}
-use Rattle.program_files.specs.declared.file.ProgramFile.{ProgramFile}
-use Rattle.file_tables.specs.declared.file.CodeFile.{CodeFile}
+use Rattle.file_descriptions.specs.declared.file.ProgramFile.{ProgramFile}
+use Rattle.file_image.specs.declared.file.CodeFile.{CodeFile}
 use Rattle.codegen.specs.FileCode.{index_at, edited_alike}
 
 -- an item of the record area that is edited, as what is sent is

@@ -3,22 +3,22 @@ use Rattle.std.specs.Prelude.{ℕ, true, false, List, [], ◌∷◌, length, Opt
 use Rattle.source_tree.specs.declared.reference.Reference.{Reference}
 use Rattle.source_tree.specs.declared.expression.Operand.{Operand}
 use Rattle.source_tree.specs.declared.expression.Operand.TheVariants as operand
-use Rattle.source_tree.specs.declared.stringing.Sending.{Sending}
-use Rattle.source_tree.specs.Broken.{Broken, each}
+use Rattle.source_tree.specs.declared.string_statement.Sending.{Sending}
+use Rattle.source_tree.specs.Broken.{RuleBreach, each}
 use Rattle.source_tree.specs.Display.{shown_literal}
 use Rattle.source_tree.specs.NameRules.{subscript_rules}
-use Rattle.source_tree.specs.Places.{Placed}
+use Rattle.source_tree.specs.Places.{LocatedItem}
 use Rattle.source_tree.specs.Stringing.{sent_of}
 use Rattle.data_instructions.specs.declared.gather.Gather.TheVariants as g
 use Rattle.data_instructions.specs.declared.instruction.DataInstruction.TheVariants as i
 use Rattle.code_image.specs.declared.instruction.Instruction.TheVariants.{Data}
-use Rattle.codegen.specs.Pieces.{Piece, no_tables, both, in_order}
-use Rattle.codegen.specs.Meeting.{nothing_piece}
-use Rattle.codegen.specs.DataCode.{work_piece, text_piece, reference_piece, taking_piece}
+use Rattle.codegen.specs.Pieces.{Fragment, no_tables, sequence, in_order}
+use Rattle.codegen.specs.Meeting.{nothing_fragment}
+use Rattle.codegen.specs.DataCode.{work_fragment, text_fragment, reference_fragment, take_fragment}
 
 -- The bytes of the newest place up to a text, added to the line; the place is taken.
-abbrev pub up_to_text_piece : List ℕ → Piece
-up_to_text_piece delimiter before = record {
+abbrev pub up_to_text_fragment : List ℕ → Fragment
+up_to_text_fragment delimiter before = record {
   tables = record no_tables { texts = delimiter ∷ [] };
   files = [];
   starts = [];
@@ -26,8 +26,8 @@ up_to_text_piece delimiter before = record {
 }
 
 -- a text up to the bytes of the newest place, added to the line
-abbrev pub text_up_to_place_piece : List ℕ → Piece
-text_up_to_place_piece bytes before = record {
+abbrev pub text_up_to_place_fragment : List ℕ → Fragment
+text_up_to_place_fragment bytes before = record {
   tables = record no_tables { texts = bytes ∷ [] };
   files = [];
   starts = [];
@@ -35,53 +35,53 @@ text_up_to_place_piece bytes before = record {
 }
 
 -- `items` are those of the table of items, in order.
-module _ (items : List Placed) where
-  abbrev pub sent_item_piece : Option (List ℕ) → Reference → Piece
-  sent_item_piece None one = taking_piece items (i.Gather g.Bytes) one
-  sent_item_piece (Some delimiter) one = both (reference_piece items one) (up_to_text_piece delimiter)
+module _ (items : List LocatedItem) where
+  abbrev pub sent_item_fragment : Option (List ℕ) → Reference → Fragment
+  sent_item_fragment None one = take_fragment items (i.Gather g.Bytes) one
+  sent_item_fragment (Some delimiter) one = sequence (reference_fragment items one) (up_to_text_fragment delimiter)
 
   -- A sender DELIMITED BY SIZE, or by a literal, up to which a sender that is a literal is cut here.
-  abbrev pub sent_piece : Option (List ℕ) → Operand → Piece
-  sent_piece delimiter (operand.Item one) = sent_item_piece delimiter one
-  sent_piece delimiter (operand.Literal one) = text_piece (sent_of delimiter (shown_literal one.value))
+  abbrev pub sent_fragment : Option (List ℕ) → Operand → Fragment
+  sent_fragment delimiter (operand.Item one) = sent_item_fragment delimiter one
+  sent_fragment delimiter (operand.Literal one) = text_fragment (sent_of delimiter (shown_literal one.value))
 
   -- the place of a sender, which isn't wanted yet
-  abbrev pub found_piece : Operand → Piece
-  found_piece (operand.Item one) = taking_piece items i.DropPlace one
-  found_piece (operand.Literal one) = nothing_piece
+  abbrev pub found_fragment : Operand → Fragment
+  found_fragment (operand.Item one) = take_fragment items i.DropPlace one
+  found_fragment (operand.Literal one) = nothing_fragment
 
   -- a sender up to the bytes of the newest place, which stays
-  abbrev pub up_to_place_piece : Operand → Piece
-  up_to_place_piece (operand.Item one) = taking_piece items (i.Gather g.UpToPlace) one
-  up_to_place_piece (operand.Literal one) = text_up_to_place_piece (shown_literal one.value)
+  abbrev pub up_to_place_fragment : Operand → Fragment
+  up_to_place_fragment (operand.Item one) = take_fragment items (i.Gather g.UpToPlace) one
+  up_to_place_fragment (operand.Literal one) = text_up_to_place_fragment (shown_literal one.value)
 
   -- Senders up to an item, which is found behind them, for faults in the order of writing.
-  abbrev pub delimited_piece : List Operand → Reference → Piece
-  delimited_piece senders delimiter =
-      both (in_order found_piece senders) (both (reference_piece items delimiter) (both (in_order up_to_place_piece senders) (work_piece i.DropPlace)))
+  abbrev pub delimited_fragment : List Operand → Reference → Fragment
+  delimited_fragment senders delimiter =
+      sequence (in_order found_fragment senders) (sequence (reference_fragment items delimiter) (sequence (in_order up_to_place_fragment senders) (work_fragment i.DropPlace)))
 
   -- senders with their delimiter
-  abbrev pub sending_by_piece : List Operand → Option Operand → Piece
-  sending_by_piece senders None = in_order (sent_piece None) senders
-  sending_by_piece senders (Some (operand.Literal delimiter)) = in_order (sent_piece (Some (shown_literal delimiter.value))) senders
-  sending_by_piece senders (Some (operand.Item delimiter)) = delimited_piece senders delimiter
+  abbrev pub sender_by_fragment : List Operand → Option Operand → Fragment
+  sender_by_fragment senders None = in_order (sent_fragment None) senders
+  sender_by_fragment senders (Some (operand.Literal delimiter)) = in_order (sent_fragment (Some (shown_literal delimiter.value))) senders
+  sender_by_fragment senders (Some (operand.Item delimiter)) = delimited_fragment senders delimiter
 
-  abbrev pub sending_piece : Sending → Piece
-  sending_piece one = sending_by_piece one.senders one.delimiter
+  abbrev pub sender_fragment : Sending → Fragment
+  sender_fragment one = sender_by_fragment one.senders one.delimiter
 
-  abbrev pub sendings_piece : List Sending → Piece
-  sendings_piece = in_order sending_piece
+  abbrev pub sendings_fragment : List Sending → Fragment
+  sendings_fragment = in_order sender_fragment
 
   -- the rules of the subscripts of a pointer
-  abbrev pub pointer_subscripts : Option Reference → List Broken
+  abbrev pub pointer_subscripts : Option Reference → List RuleBreach
   pointer_subscripts None = []
   pointer_subscripts (Some pointer) = each (subscript_rules items) pointer.subscripts
 
   -- the pointer's place, if there is one, and what puts the text
-  abbrev pub put_piece : Option Reference → Piece
-  put_piece None = work_piece (i.String false)
-  put_piece (Some pointer) = taking_piece items (i.String true) pointer
+  abbrev pub put_fragment : Option Reference → Fragment
+  put_fragment None = work_fragment (i.String false)
+  put_fragment (Some pointer) = take_fragment items (i.String true) pointer
 
   -- STRING, behind its `tick` and before its phrases
-  abbrev pub string_piece : List Sending → Reference → Option Reference → Piece
-  string_piece sendings receiver pointer = both (sendings_piece sendings) (both (reference_piece items receiver) (put_piece pointer))
+  abbrev pub string_fragment : List Sending → Reference → Option Reference → Fragment
+  string_fragment sendings receiver pointer = sequence (sendings_fragment sendings) (sequence (reference_fragment items receiver) (put_fragment pointer))

@@ -9,33 +9,33 @@ use Rattle.source_tree.specs.declared.condition.Side.{Side}
 use Rattle.source_tree.specs.declared.condition.Side.TheVariants as side
 use Rattle.source_tree.specs.declared.condition.Condition.{Condition}
 use Rattle.source_tree.specs.declared.condition.Condition.TheVariants.{Relation}
-use Rattle.source_tree.specs.declared.evaluate.Subject.{Subject}
-use Rattle.source_tree.specs.declared.evaluate.Object.{Object}
-use Rattle.source_tree.specs.declared.evaluate.When.{When}
-use Rattle.source_tree.specs.declared.evaluate.Selected.{Selected}
+use Rattle.source_tree.specs.declared.evaluate_statement.Subject.{Subject}
+use Rattle.source_tree.specs.declared.evaluate_statement.Object.{Object}
+use Rattle.source_tree.specs.declared.evaluate_statement.When.{When}
+use Rattle.source_tree.specs.declared.evaluate_statement.Selected.{Selected}
 use Rattle.source_tree.specs.ArithmeticRules.{is_numeric_kind}
 use Rattle.source_tree.specs.Conditions.{alone_side}
-use Rattle.source_tree.specs.Evaluate.{Wanted, Looked, Value, Truth, Asking, looked_subject}
+use Rattle.source_tree.specs.Evaluate.{ObjectValues, ResolvedOperand, Value, Truth, Asking, looked_subject}
 use Rattle.source_tree.specs.LookUp.{first}
-use Rattle.source_tree.specs.Places.{Placed}
+use Rattle.source_tree.specs.Places.{LocatedItem}
 use Rattle.declarations.specs.Looking.{choice_looked}
-use Rattle.codegen.specs.Pieces.{Piece, in_order}
-use Rattle.codegen.specs.Meeting.{nothing_piece}
+use Rattle.codegen.specs.Pieces.{Fragment, in_order}
+use Rattle.codegen.specs.Meeting.{nothing_fragment}
 use Rattle.codegen.specs.DataCode.{item_number}
-use Rattle.codegen.specs.ConditionCode.{condition_piece}
+use Rattle.codegen.specs.ConditionCode.{condition_fragment}
 
 -- ZERO, with which each value may be compared
 abbrev pub zero_side : Side
 zero_side = side.Literal (record { value = literal.Figurative figurative.Zero; place = record { line = 0; column = 0 } })
 
 -- an item without subscripts
-abbrev pub is_single : Option Placed → Bool
+abbrev pub is_single : Option LocatedItem → Bool
 is_single None = false
 is_single (Some one) = length one.dimensions == 0
 
-abbrev pub is_numeric : Option Placed → Bool
-is_numeric None = false
-is_numeric (Some one) = is_numeric_kind one.item.kind
+abbrev pub is_numeric_subject : Option LocatedItem → Bool
+is_numeric_subject None = false
+is_numeric_subject (Some one) = is_numeric_kind one.item.kind
 
 -- the first object of a group of WHENs, and of all groups
 abbrev pub object_of_when : Option When → Option Object
@@ -50,7 +50,7 @@ abbrev pub first_object : {S : Type 0} → List (Selected S) → Option Object
 first_object selected = object_of_group (slice_get selected 0)
 
 -- `items` are those of the table of items, in order.
-module _ (items : List Placed) where
+module _ (items : List LocatedItem) where
   -- a literal, or an item without subscripts: no fault but that of bytes that are no number
   abbrev pub is_at_hand : Option Operand → Bool
   is_at_hand (Some (operand.Item one)) = is_single (slice_get items (item_number items one.item))
@@ -60,7 +60,7 @@ module _ (items : List Placed) where
   -- a literal, or an item without subscripts that isn't numeric: no fault at all
   abbrev pub is_faultless : Option Operand → Bool
   is_faultless (Some (operand.Item one)) =
-      is_single (slice_get items (item_number items one.item)) && not (is_numeric (slice_get items (item_number items one.item)))
+      is_single (slice_get items (item_number items one.item)) && not (is_numeric_subject (slice_get items (item_number items one.item)))
   is_faultless (Some (operand.Literal one)) = true
   is_faultless None = false
 
@@ -71,25 +71,25 @@ module _ (items : List Placed) where
   value_look value = if is_faultless (alone_side value) then None else Some (Relation value Equal zero_side)
 
   -- TRUE and FALSE are there.
-  abbrev pub look : Looked Side → Option Condition
+  abbrev pub look : ResolvedOperand Side → Option Condition
   look (Value one) = value_look one
   look (Truth one) = None
   look (Asking one) = Some one
 
-  abbrev pub look_piece : Option Condition → Piece
-  look_piece None = nothing_piece
-  look_piece (Some one) = condition_piece items one
+  abbrev pub look_fragment : Option Condition → Fragment
+  look_fragment None = nothing_fragment
+  look_fragment (Some one) = condition_fragment items one
 
-  abbrev pub subject_piece : Subject → Piece
-  subject_piece one = look_piece (look (looked_subject items one))
+  abbrev pub subject_fragment : Subject → Fragment
+  subject_fragment one = look_fragment (look (looked_subject items one))
 
-  abbrev pub each_subject_piece : List Subject → Piece
-  each_subject_piece = in_order subject_piece
+  abbrev pub each_subject_fragment : List Subject → Fragment
+  each_subject_fragment = in_order subject_fragment
 
   -- ---- where the first object does it
 
   -- The object asks for its subject first of all, for a value beside one that is at hand: what is a fault is the same one.
-  abbrev pub asks_at_once : Looked Side → Option (Looked Wanted) → Bool
+  abbrev pub asks_at_once : ResolvedOperand Side → Option (ResolvedOperand ObjectValues) → Bool
   asks_at_once (Value one) (Some (Value wanted)) = is_at_hand (alone_side wanted.first)
   asks_at_once (Asking one) (Some (Truth truth)) = true
   asks_at_once (Asking one) (Some (Asking other)) = true
@@ -99,10 +99,10 @@ module _ (items : List Placed) where
   is_asked_first (one ∷ []) (Some object) = asks_at_once (looked_subject items one) (choice_looked items object.choice)
   is_asked_first _ _ = false
 
-  abbrev pub taken_from : Bool → List Subject → Piece
-  taken_from true subjects = nothing_piece
-  taken_from false subjects = each_subject_piece subjects
+  abbrev pub taken_from : Bool → List Subject → Fragment
+  taken_from true subjects = nothing_fragment
+  taken_from false subjects = each_subject_fragment subjects
 
   -- The subjects before the first WHEN. One alone for which its first object asks at once is taken there.
-  abbrev pub subjects_piece : List Subject → Option Object → Piece
-  subjects_piece subjects object = taken_from (is_asked_first subjects object) subjects
+  abbrev pub subjects_fragment : List Subject → Option Object → Fragment
+  subjects_fragment subjects object = taken_from (is_asked_first subjects object) subjects

@@ -2,14 +2,14 @@
 
 ghost use Rattle.std.specs.Prelude.{◌≡◌, [], ◌∷◌, ◌++◌, OnOk};
 ghost use Rattle.source_tree.specs.Broken.{each};
-ghost use Rattle.source_tree.specs.NameRules.{subscript_rules, item_rules};
+ghost use Rattle.source_tree.specs.NameRules.{subscript_rules, reference_rules};
 ghost use Rattle.source_tree.specs.ArithmeticRules.{number_receiver, number_rules, updated_rules, given_rules, operation_rules};
 ghost use Rattle.data_instructions.specs.ArithmeticCodes as codes;
 ghost use Rattle.data_instructions.specs.declared.calculation.Calculation.TheVariants as c;
 ghost use Rattle.data_instructions.specs.declared.instruction.DataInstruction.TheVariants as i;
 ghost use Rattle.declarations.specs.Named.{IsDeclared, items_in};
-ghost use Rattle.codegen.specs.Pieces.{joined, both};
-ghost use Rattle.codegen.specs.DataCode.{work_piece, works_piece};
+ghost use Rattle.codegen.specs.Pieces.{append, sequence};
+ghost use Rattle.codegen.specs.DataCode.{work_fragment, works_fragment};
 ghost use Rattle.codegen.specs.ArithmeticCode as spec;
 ghost use Rattle.codegen.specs.Operations as parts;
 
@@ -22,13 +22,6 @@ use source_tree::{DivisionOrder, Operand, Operation, Operator, Receiver, Referen
 use sqlite_items::Items;
 use std::alloc::AllocError;
 
-/// A number of the stack again, so many below the newest one.
-fn duplicate(depth: u32) -> DataInstruction
-    ensures { result ≡ codes.duplicate depth }
-{
-    DataInstruction::Calculate(Calculation::Duplicate { depth })
-}
-
 /// The newest number isn't wanted any more.
 pub(crate) fn discard() -> DataInstruction
     ensures { result ≡ codes.discard }
@@ -36,9 +29,16 @@ pub(crate) fn discard() -> DataInstruction
     DataInstruction::Calculate(Calculation::Discard)
 }
 
+/// A number of the stack again, so many below the newest one.
+fn duplicate(depth: u32) -> DataInstruction
+    ensures { result ≡ codes.duplicate depth }
+{
+    DataInstruction::Calculate(Calculation::Duplicate { depth })
+}
+
 /// From a dividend, a divisor and their quotient the remainder. Where the quotient was kept there is none.
 fn emit_subtracted(code: &mut Code, scale: u8, keep: bool) -> Result<(), AllocError>
-    ensures { OnOk result (code.new ≡ joined code.old (works_piece (i.Calculate (c.Truncate scale) ∷ i.Calculate c.Multiply ∷ i.Calculate c.Subtract ∷ spec.void_code keep) code.old)) }
+    ensures { OnOk result (code.new ≡ append code.old (works_fragment (i.Calculate (c.Truncate scale) ∷ i.Calculate c.Multiply ∷ i.Calculate c.Subtract ∷ spec.void_code keep) code.old)) }
 {
     emit_work(
         code,
@@ -63,7 +63,7 @@ impl<'a> Emitter<'a> {
     ) -> Result<(), AllocError>
         requires declared { IsDeclared self.now.declarations.now }
         requires rules { each (subscript_rules (items_in self.now.declarations.now)) item.now.subscripts ≡ [] }
-        ensures { OnOk result (code.new ≡ joined code.old (spec.store_piece (items_in self.now.declarations.now) keep (record { item = item.now; rounded = rounded }) code.old)) }
+        ensures { OnOk result (code.new ≡ append code.old (spec.store_fragment (items_in self.now.declarations.now) keep (record { item = item.now; rounded = rounded }) code.old)) }
     {
         self.emit_taking(code, DataInstruction::Store { rounded, keep }, item)
     }
@@ -79,7 +79,7 @@ impl<'a> Emitter<'a> {
     ) -> Result<(), AllocError>
         requires declared { IsDeclared self.now.declarations.now }
         requires rules { each (subscript_rules (items_in self.now.declarations.now)) item.now.subscripts ≡ [] }
-        ensures { OnOk result (code.new ≡ joined code.old (spec.update_piece (items_in self.now.declarations.now) keep operator (record { item = item.now; rounded = rounded }) code.old)) }
+        ensures { OnOk result (code.new ≡ append code.old (spec.update_fragment (items_in self.now.declarations.now) keep operator (record { item = item.now; rounded = rounded }) code.old)) }
     {
         self.emit_taking(code, DataInstruction::Push, item)?;
         emit_works(code, &[duplicate(1), operator_code(operator)])?;
@@ -95,7 +95,7 @@ impl<'a> Emitter<'a> {
     ) -> Result<(), AllocError>
         requires declared { IsDeclared self.now.declarations.now }
         requires rules { updated_rules (items_in self.now.declarations.now) all.now ≡ [] }
-        ensures { OnOk result (code.new ≡ joined code.old (spec.updates_piece (items_in self.now.declarations.now) keep operator all.now code.old)) }
+        ensures { OnOk result (code.new ≡ append code.old (spec.updates_fragment (items_in self.now.declarations.now) keep operator all.now code.old)) }
     {
         for one in all {
             self.emit_update(code, keep, operator, one.rounded, &one.item)?;
@@ -113,7 +113,7 @@ impl<'a> Emitter<'a> {
     ) -> Result<(), AllocError>
         requires declared { IsDeclared self.now.declarations.now }
         requires rules { updated_rules (items_in self.now.declarations.now) all.now ≡ [] }
-        ensures { OnOk result (code.new ≡ joined code.old (both (spec.updates_piece (items_in self.now.declarations.now) keep operator all.now) parts.discard_piece code.old)) }
+        ensures { OnOk result (code.new ≡ append code.old (sequence (spec.updates_fragment (items_in self.now.declarations.now) keep operator all.now) parts.discard_fragment code.old)) }
     {
         self.emit_updates(code, keep, operator, all.as_slice())?;
         emit_work(code, discard())
@@ -123,7 +123,7 @@ impl<'a> Emitter<'a> {
     fn emit_give(&self, code: &mut Code, keep: bool, one: &Receiver) -> Result<(), AllocError>
         requires declared { IsDeclared self.now.declarations.now }
         requires rules { each (subscript_rules (items_in self.now.declarations.now)) one.now.item.subscripts ≡ [] }
-        ensures { OnOk result (code.new ≡ joined code.old (spec.give_piece (items_in self.now.declarations.now) keep one.now code.old)) }
+        ensures { OnOk result (code.new ≡ append code.old (spec.give_fragment (items_in self.now.declarations.now) keep one.now code.old)) }
     {
         emit_work(code, duplicate(0))?;
         self.emit_store(code, keep, one.rounded, &one.item)
@@ -132,7 +132,7 @@ impl<'a> Emitter<'a> {
     fn emit_gives(&self, code: &mut Code, keep: bool, all: &[Receiver]) -> Result<(), AllocError>
         requires declared { IsDeclared self.now.declarations.now }
         requires rules { given_rules (items_in self.now.declarations.now) all.now ≡ [] }
-        ensures { OnOk result (code.new ≡ joined code.old (spec.gives_piece (items_in self.now.declarations.now) keep all.now code.old)) }
+        ensures { OnOk result (code.new ≡ append code.old (spec.gives_fragment (items_in self.now.declarations.now) keep all.now code.old)) }
     {
         for one in all {
             self.emit_give(code, keep, one)?;
@@ -149,7 +149,7 @@ impl<'a> Emitter<'a> {
     ) -> Result<(), AllocError>
         requires declared { IsDeclared self.now.declarations.now }
         requires rules { given_rules (items_in self.now.declarations.now) all.now ≡ [] }
-        ensures { OnOk result (code.new ≡ joined code.old (both (spec.gives_piece (items_in self.now.declarations.now) keep all.now) parts.discard_piece code.old)) }
+        ensures { OnOk result (code.new ≡ append code.old (sequence (spec.gives_fragment (items_in self.now.declarations.now) keep all.now) parts.discard_fragment code.old)) }
     {
         self.emit_gives(code, keep, all.as_slice())?;
         emit_work(code, discard())
@@ -164,7 +164,7 @@ impl<'a> Emitter<'a> {
     ) -> Result<(), AllocError>
         requires declared { IsDeclared self.now.declarations.now }
         requires rules { given_rules (items_in self.now.declarations.now) all.now ≡ [] }
-        ensures { OnOk result (code.new ≡ joined code.old (both (works_piece (codes.duplicate 1 ∷ i.Calculate c.Subtract ∷ [])) (both (spec.gives_piece (items_in self.now.declarations.now) keep all.now) (works_piece (codes.discard ∷ codes.discard ∷ []))) code.old)) }
+        ensures { OnOk result (code.new ≡ append code.old (sequence (works_fragment (codes.duplicate 1 ∷ i.Calculate c.Subtract ∷ [])) (sequence (spec.gives_fragment (items_in self.now.declarations.now) keep all.now) (works_fragment (codes.discard ∷ codes.discard ∷ []))) code.old)) }
     {
         emit_works(code, &[duplicate(1), operator_code(Operator::Subtract)])?;
         self.emit_gives(code, keep, all.as_slice())?;
@@ -180,7 +180,7 @@ impl<'a> Emitter<'a> {
     ) -> Result<(), AllocError>
         requires declared { IsDeclared self.now.declarations.now }
         requires rules { given_rules (items_in self.now.declarations.now) all.now ≡ [] }
-        ensures { OnOk result (code.new ≡ joined code.old (both (work_piece (i.Calculate c.Multiply)) (both (spec.gives_piece (items_in self.now.declarations.now) keep all.now) parts.discard_piece) code.old)) }
+        ensures { OnOk result (code.new ≡ append code.old (sequence (work_fragment (i.Calculate c.Multiply)) (sequence (spec.gives_fragment (items_in self.now.declarations.now) keep all.now) parts.discard_fragment) code.old)) }
     {
         emit_work(code, operator_code(Operator::Multiply))?;
         self.emit_giving(code, keep, all)
@@ -195,7 +195,7 @@ impl<'a> Emitter<'a> {
     ) -> Result<(), AllocError>
         requires declared { IsDeclared self.now.declarations.now }
         requires rules { given_rules (items_in self.now.declarations.now) all.now ≡ [] }
-        ensures { OnOk result (code.new ≡ joined code.old (both (work_piece (i.Calculate c.Divide)) (both (spec.gives_piece (items_in self.now.declarations.now) keep all.now) parts.discard_piece) code.old)) }
+        ensures { OnOk result (code.new ≡ append code.old (sequence (work_fragment (i.Calculate c.Divide)) (sequence (spec.gives_fragment (items_in self.now.declarations.now) keep all.now) parts.discard_fragment) code.old)) }
     {
         emit_work(code, operator_code(Operator::Divide))?;
         self.emit_giving(code, keep, all)
@@ -211,7 +211,7 @@ impl<'a> Emitter<'a> {
     ) -> Result<(), AllocError>
         requires declared { IsDeclared self.now.declarations.now }
         requires rules { given_rules (items_in self.now.declarations.now) all.now ≡ [] }
-        ensures { OnOk result (code.new ≡ joined code.old (spec.division_piece order (both (work_piece (i.Calculate c.Divide)) (both (spec.gives_piece (items_in self.now.declarations.now) keep all.now) parts.discard_piece)) code.old)) }
+        ensures { OnOk result (code.new ≡ append code.old (spec.division_fragment order (sequence (work_fragment (i.Calculate c.Divide)) (sequence (spec.gives_fragment (items_in self.now.declarations.now) keep all.now) parts.discard_fragment)) code.old)) }
     {
         match order {
             DivisionOrder::By => self.emit_quotient(code, keep, all),
@@ -232,8 +232,8 @@ impl<'a> Emitter<'a> {
         remainder: &Reference,
     ) -> Result<(), AllocError>
         requires declared { IsDeclared self.now.declarations.now }
-        requires rules { item_rules (items_in self.now.declarations.now) number_receiver quotient.now.item ++ item_rules (items_in self.now.declarations.now) number_receiver remainder.now ≡ [] }
-        ensures { OnOk result (code.new ≡ joined code.old (spec.remainder_piece (items_in self.now.declarations.now) keep quotient.now remainder.now code.old)) }
+        requires rules { reference_rules (items_in self.now.declarations.now) number_receiver quotient.now.item ++ reference_rules (items_in self.now.declarations.now) number_receiver remainder.now ≡ [] }
+        ensures { OnOk result (code.new ≡ append code.old (spec.remainder_fragment (items_in self.now.declarations.now) keep quotient.now remainder.now code.old)) }
     {
         emit_works(
             code,
@@ -255,8 +255,8 @@ impl<'a> Emitter<'a> {
         remainder: &Reference,
     ) -> Result<(), AllocError>
         requires declared { IsDeclared self.now.declarations.now }
-        requires rules { item_rules (items_in self.now.declarations.now) number_receiver quotient.now.item ++ item_rules (items_in self.now.declarations.now) number_receiver remainder.now ≡ [] }
-        ensures { OnOk result (code.new ≡ joined code.old (spec.division_piece order (spec.remainder_piece (items_in self.now.declarations.now) keep quotient.now remainder.now) code.old)) }
+        requires rules { reference_rules (items_in self.now.declarations.now) number_receiver quotient.now.item ++ reference_rules (items_in self.now.declarations.now) number_receiver remainder.now ≡ [] }
+        ensures { OnOk result (code.new ≡ append code.old (spec.division_fragment order (spec.remainder_fragment (items_in self.now.declarations.now) keep quotient.now remainder.now) code.old)) }
     {
         match order {
             DivisionOrder::By => self.emit_remainder(code, keep, quotient, remainder),
@@ -276,7 +276,7 @@ impl<'a> Emitter<'a> {
     ) -> Result<(), AllocError>
         requires declared { IsDeclared self.now.declarations.now }
         requires rules { number_rules (items_in self.now.declarations.now) first.now ++ number_rules (items_in self.now.declarations.now) second.now ≡ [] }
-        ensures { OnOk result (code.new ≡ joined code.old (both (spec.value_piece (items_in self.now.declarations.now) first.now) (spec.value_piece (items_in self.now.declarations.now) second.now) code.old)) }
+        ensures { OnOk result (code.new ≡ append code.old (sequence (spec.value_fragment (items_in self.now.declarations.now) first.now) (spec.value_fragment (items_in self.now.declarations.now) second.now) code.old)) }
     {
         self.emit_value(code, first)?;
         self.emit_value(code, second)
@@ -290,7 +290,7 @@ impl<'a> Emitter<'a> {
     ) -> Result<(), AllocError>
         requires declared { IsDeclared self.now.declarations.now }
         requires rules { each (number_rules (items_in self.now.declarations.now)) all.now ++ number_rules (items_in self.now.declarations.now) minuend.now ≡ [] }
-        ensures { OnOk result (code.new ≡ joined code.old (both (spec.total_piece (items_in self.now.declarations.now) all.now) (spec.value_piece (items_in self.now.declarations.now) minuend.now) code.old)) }
+        ensures { OnOk result (code.new ≡ append code.old (sequence (spec.total_fragment (items_in self.now.declarations.now) all.now) (spec.value_fragment (items_in self.now.declarations.now) minuend.now) code.old)) }
     {
         self.emit_total(code, all)?;
         self.emit_value(code, minuend)
@@ -300,7 +300,7 @@ impl<'a> Emitter<'a> {
     fn emit_values(&self, code: &mut Code, one: &Operation) -> Result<(), AllocError>
         requires declared { IsDeclared self.now.declarations.now }
         requires rules { parts.values_rules (items_in self.now.declarations.now) one.now ≡ [] }
-        ensures { OnOk result (code.new ≡ joined code.old (parts.values_piece (items_in self.now.declarations.now) one.now code.old)) }
+        ensures { OnOk result (code.new ≡ append code.old (parts.values_fragment (items_in self.now.declarations.now) one.now code.old)) }
     {
         match one {
             Operation::Add { operands, .. } => self.emit_total(code, operands.as_slice()),
@@ -324,7 +324,7 @@ impl<'a> Emitter<'a> {
     fn emit_results(&self, code: &mut Code, keep: bool, one: &Operation) -> Result<(), AllocError>
         requires declared { IsDeclared self.now.declarations.now }
         requires rules { parts.results_rules (items_in self.now.declarations.now) one.now ≡ [] }
-        ensures { OnOk result (code.new ≡ joined code.old (parts.results_piece (items_in self.now.declarations.now) keep one.now code.old)) }
+        ensures { OnOk result (code.new ≡ append code.old (parts.results_fragment (items_in self.now.declarations.now) keep one.now code.old)) }
     {
         match one {
             Operation::Add { receivers, .. } => {
@@ -364,7 +364,7 @@ impl<'a> Emitter<'a> {
     fn emit_operation(&self, code: &mut Code, keep: bool, one: &Operation) -> Result<(), AllocError>
         requires declared { IsDeclared self.now.declarations.now }
         requires rules { operation_rules (items_in self.now.declarations.now) one.now ≡ [] }
-        ensures { OnOk result (code.new ≡ joined code.old (spec.operation_piece (items_in self.now.declarations.now) keep one.now code.old)) }
+        ensures { OnOk result (code.new ≡ append code.old (spec.operation_fragment (items_in self.now.declarations.now) keep one.now code.old)) }
     {
         self.emit_values(code, one)?;
         self.emit_results(code, keep, one)
@@ -379,7 +379,7 @@ impl<'a> Emitter<'a> {
     ) -> Result<(), AllocError>
         requires declared { IsDeclared self.now.declarations.now }
         requires rules { operation_rules (items_in self.now.declarations.now) one.now ≡ [] }
-        ensures { OnOk result (code.new ≡ joined code.old (spec.arithmetic_piece (items_in self.now.declarations.now) keep one.now code.old)) }
+        ensures { OnOk result (code.new ≡ append code.old (spec.arithmetic_fragment (items_in self.now.declarations.now) keep one.now code.old)) }
     {
         emit_work(code, DataInstruction::ClearTruth)?;
         self.emit_operation(code, keep, one)

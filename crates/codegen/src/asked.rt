@@ -4,16 +4,16 @@ ghost use Rattle.std.specs.Prelude.{◌≡◌, not, [], ◌∷◌, OnOk};
 ghost use Rattle.source_tree.specs.declared.condition.Condition.{Condition};
 ghost use Rattle.source_tree.specs.declared.condition.Condition.TheVariants.{All, Any};
 ghost use Rattle.source_tree.specs.declared.condition.Relation.TheVariants as relation;
-ghost use Rattle.source_tree.specs.declared.evaluate.When.{When};
+ghost use Rattle.source_tree.specs.declared.evaluate_statement.When.{When};
 ghost use Rattle.source_tree.specs.Broken.{each};
 ghost use Rattle.source_tree.specs.EntryRules.{entry_rules};
 ghost use Rattle.source_tree.specs.ConditionRules.{relation_rules, condition_rules};
 ghost use Rattle.source_tree.specs.Evaluate as meaning;
 ghost use Rattle.declarations.specs.Named.{IsDeclared, items_in};
 ghost use Rattle.declarations.specs.Looking.{condition_meant, wanted_meant, question_meant};
-ghost use Rattle.codegen.specs.Pieces.{joined, both, in_order};
+ghost use Rattle.codegen.specs.Pieces.{append, sequence, in_order};
 ghost use Rattle.codegen.specs.ConditionCode as spec;
-ghost use Rattle.codegen.specs.EvaluateCode.{constant_piece};
+ghost use Rattle.codegen.specs.EvaluateCode.{constant_fragment};
 
 use crate::condition::emit_negation;
 use crate::emitter::Emitter;
@@ -27,7 +27,7 @@ use std::alloc::AllocError;
 
 /// What is always true, or always false.
 fn emit_constant(code: &mut Code, truth: bool) -> Result<(), AllocError>
-    ensures { OnOk result (code.new ≡ joined code.old (constant_piece truth code.old)) }
+    ensures { OnOk result (code.new ≡ append code.old (constant_fragment truth code.old)) }
 {
     if !truth {
         return emit_works(code, &[DataInstruction::ClearTruth]);
@@ -51,7 +51,7 @@ impl<'a> Emitter<'a> {
         requires declared { IsDeclared self.now.declarations.now }
         requires entries { entry_rules self.now.declarations.now.storage.now ≡ [] }
         requires rules { condition_rules (items_in self.now.declarations.now) (condition_meant one) ≡ [] }
-        ensures { OnOk result (code.new ≡ joined code.old (spec.condition_piece (items_in self.now.declarations.now) (condition_meant one.entry) code.old)) }
+        ensures { OnOk result (code.new ≡ append code.old (spec.condition_fragment (items_in self.now.declarations.now) (condition_meant one.entry) code.old)) }
     {
         match one {
             AskedCondition::Name { negated, reference } => {
@@ -73,7 +73,7 @@ impl<'a> Emitter<'a> {
         requires declared { IsDeclared self.now.declarations.now }
         requires first { relation_rules (items_in self.now.declarations.now) value.now first.now ≡ [] }
         requires last { relation_rules (items_in self.now.declarations.now) value.now last.now ≡ [] }
-        ensures { OnOk result (code.new ≡ joined code.old (both (spec.relation_piece (items_in self.now.declarations.now) value.now relation.GreaterOrEqual first.now) (spec.and_piece (spec.relation_piece (items_in self.now.declarations.now) value.now relation.LessOrEqual last.now)) code.old)) }
+        ensures { OnOk result (code.new ≡ append code.old (sequence (spec.relation_fragment (items_in self.now.declarations.now) value.now relation.GreaterOrEqual first.now) (spec.and_fragment (spec.relation_fragment (items_in self.now.declarations.now) value.now relation.LessOrEqual last.now)) code.old)) }
     {
         self.emit_relation(code, value, Relation::GreaterOrEqual, first)?;
         let branch = emit_branch(code)?;
@@ -92,7 +92,7 @@ impl<'a> Emitter<'a> {
     ) -> Result<(), AllocError>
         requires declared { IsDeclared self.now.declarations.now }
         requires rules { condition_rules (items_in self.now.declarations.now) (meaning.value_within value.now first.now last.now) ≡ [] }
-        ensures { OnOk result (code.new ≡ joined code.old (spec.condition_piece (items_in self.now.declarations.now) (meaning.value_within value.now first.now last.now) code.old)) }
+        ensures { OnOk result (code.new ≡ append code.old (spec.condition_fragment (items_in self.now.declarations.now) (meaning.value_within value.now first.now last.now) code.old)) }
     {
         match last {
             None => self.emit_relation(code, value, Relation::Equal, first),
@@ -109,7 +109,7 @@ impl<'a> Emitter<'a> {
     ) -> Result<(), AllocError>
         requires declared { IsDeclared self.now.declarations.now }
         requires rules { condition_rules (items_in self.now.declarations.now) (meaning.value_asked value.now (wanted_meant wanted)) ≡ [] }
-        ensures { OnOk result (code.new ≡ joined code.old (spec.condition_piece (items_in self.now.declarations.now) (meaning.value_asked value.now (wanted_meant wanted.entry)) code.old)) }
+        ensures { OnOk result (code.new ≡ append code.old (spec.condition_fragment (items_in self.now.declarations.now) (meaning.value_asked value.now (wanted_meant wanted.entry)) code.old)) }
     {
         self.emit_within(code, value, wanted.first, wanted.last)?;
         emit_negation(code, wanted.negated)
@@ -125,7 +125,7 @@ impl<'a> Emitter<'a> {
         requires declared { IsDeclared self.now.declarations.now }
         requires entries { entry_rules self.now.declarations.now.storage.now ≡ [] }
         requires rules { condition_rules (items_in self.now.declarations.now) (condition_meant one) ≡ [] }
-        ensures { OnOk result (code.new ≡ joined code.old (spec.condition_piece (items_in self.now.declarations.now) (meaning.told_as truth (condition_meant one.entry)) code.old)) }
+        ensures { OnOk result (code.new ≡ append code.old (spec.condition_fragment (items_in self.now.declarations.now) (meaning.told_as truth (condition_meant one.entry)) code.old)) }
     {
         self.emit_asked_condition(code, one)?;
         emit_negation(code, !truth)
@@ -143,7 +143,7 @@ impl<'a> Emitter<'a> {
         requires entries { entry_rules self.now.declarations.now.storage.now ≡ [] }
         requires one { condition_rules (items_in self.now.declarations.now) (condition_meant one) ≡ [] }
         requires other { condition_rules (items_in self.now.declarations.now) (condition_meant other) ≡ [] }
-        ensures { OnOk result (code.new ≡ joined code.old (spec.condition_piece (items_in self.now.declarations.now) (All (meaning.told_as truth (condition_meant one.entry) ∷ meaning.told_as truth (condition_meant other.entry) ∷ [])) code.old)) }
+        ensures { OnOk result (code.new ≡ append code.old (spec.condition_fragment (items_in self.now.declarations.now) (All (meaning.told_as truth (condition_meant one.entry) ∷ meaning.told_as truth (condition_meant other.entry) ∷ [])) code.old)) }
     {
         self.emit_told(code, truth, one)?;
         let branch = emit_branch(code)?;
@@ -163,7 +163,7 @@ impl<'a> Emitter<'a> {
         requires entries { entry_rules self.now.declarations.now.storage.now ≡ [] }
         requires one { condition_rules (items_in self.now.declarations.now) (condition_meant one) ≡ [] }
         requires other { condition_rules (items_in self.now.declarations.now) (condition_meant other) ≡ [] }
-        ensures { OnOk result (code.new ≡ joined code.old (spec.condition_piece (items_in self.now.declarations.now) (meaning.alike (condition_meant one.entry) (condition_meant other.entry)) code.old)) }
+        ensures { OnOk result (code.new ≡ append code.old (spec.condition_fragment (items_in self.now.declarations.now) (meaning.alike (condition_meant one.entry) (condition_meant other.entry)) code.old)) }
     {
         self.emit_both_told(code, true, one, other)?;
         let branch = emit_branch(code)?;
@@ -174,7 +174,7 @@ impl<'a> Emitter<'a> {
 
     /// Whether two truths are the same.
     fn emit_truths(&self, code: &mut Code, one: bool, other: bool) -> Result<(), AllocError>
-        ensures { OnOk result (code.new ≡ joined code.old (spec.condition_piece (items_in self.now.declarations.now) (meaning.told_as one (meaning.constant other)) code.old)) }
+        ensures { OnOk result (code.new ≡ append code.old (spec.condition_fragment (items_in self.now.declarations.now) (meaning.told_as one (meaning.constant other)) code.old)) }
     {
         emit_constant(code, other)?;
         emit_negation(code, !one)
@@ -185,7 +185,7 @@ impl<'a> Emitter<'a> {
         requires declared { IsDeclared self.now.declarations.now }
         requires entries { entry_rules self.now.declarations.now.storage.now ≡ [] }
         requires rules { condition_rules (items_in self.now.declarations.now) (question_meant one) ≡ [] }
-        ensures { OnOk result (code.new ≡ joined code.old (spec.condition_piece (items_in self.now.declarations.now) (question_meant one.entry) code.old)) }
+        ensures { OnOk result (code.new ≡ append code.old (spec.condition_fragment (items_in self.now.declarations.now) (question_meant one.entry) code.old)) }
     {
         match one {
             Question::Nothing => emit_constant(code, true),
@@ -206,8 +206,8 @@ impl<'a> Emitter<'a> {
     ) -> Result<(), AllocError>
         requires declared { IsDeclared self.now.declarations.now }
         requires entries { entry_rules self.now.declarations.now.storage.now ≡ [] }
-        requires rules { condition_rules (items_in self.now.declarations.now) (meaning.asked (items_in self.now.declarations.now) subject.now choice.now) ≡ [] }
-        ensures { OnOk result (code.new ≡ joined code.old (spec.condition_piece (items_in self.now.declarations.now) (meaning.asked (items_in self.now.declarations.now) subject.now choice.now) code.old)) }
+        requires rules { condition_rules (items_in self.now.declarations.now) (meaning.selection_condition (items_in self.now.declarations.now) subject.now choice.now) ≡ [] }
+        ensures { OnOk result (code.new ≡ append code.old (spec.condition_fragment (items_in self.now.declarations.now) (meaning.selection_condition (items_in self.now.declarations.now) subject.now choice.now) code.old)) }
     {
         let question = self.declarations.question(subject, choice);
         self.emit_question(code, question)
@@ -222,8 +222,8 @@ impl<'a> Emitter<'a> {
     ) -> Result<(), AllocError>
         requires declared { IsDeclared self.now.declarations.now }
         requires entries { entry_rules self.now.declarations.now.storage.now ≡ [] }
-        requires rules { condition_rules (items_in self.now.declarations.now) (meaning.asked (items_in self.now.declarations.now) subject.now choice.now) ≡ [] }
-        ensures { OnOk result (code.new ≡ joined code.old (spec.and_piece (spec.condition_piece (items_in self.now.declarations.now) (meaning.asked (items_in self.now.declarations.now) subject.now choice.now)) code.old)) }
+        requires rules { condition_rules (items_in self.now.declarations.now) (meaning.selection_condition (items_in self.now.declarations.now) subject.now choice.now) ≡ [] }
+        ensures { OnOk result (code.new ≡ append code.old (spec.and_fragment (spec.condition_fragment (items_in self.now.declarations.now) (meaning.selection_condition (items_in self.now.declarations.now) subject.now choice.now)) code.old)) }
     {
         let branch = emit_branch(code)?;
         self.emit_asked(code, subject, choice)?;
@@ -241,7 +241,7 @@ impl<'a> Emitter<'a> {
         requires declared { IsDeclared self.now.declarations.now }
         requires entries { entry_rules self.now.declarations.now.storage.now ≡ [] }
         requires rules { each (condition_rules (items_in self.now.declarations.now)) (meaning.asked_each (items_in self.now.declarations.now) subjects.now objects.now) ≡ [] }
-        ensures { OnOk result (code.new ≡ joined code.old (in_order (λ (one : Condition). spec.and_piece (spec.condition_piece (items_in self.now.declarations.now) one)) (meaning.asked_each (items_in self.now.declarations.now) subjects.now objects.now) code.old)) }
+        ensures { OnOk result (code.new ≡ append code.old (in_order (λ (one : Condition). spec.and_fragment (spec.condition_fragment (items_in self.now.declarations.now) one)) (meaning.asked_each (items_in self.now.declarations.now) subjects.now objects.now) code.old)) }
     {
         let mut asking = subjects;
         let mut rest = objects;
@@ -266,7 +266,7 @@ impl<'a> Emitter<'a> {
         requires declared { IsDeclared self.now.declarations.now }
         requires entries { entry_rules self.now.declarations.now.storage.now ≡ [] }
         requires rules { each (condition_rules (items_in self.now.declarations.now)) (meaning.asked_each (items_in self.now.declarations.now) subjects.now objects.now) ≡ [] }
-        ensures { OnOk result (code.new ≡ joined code.old (spec.condition_piece (items_in self.now.declarations.now) (All (meaning.asked_each (items_in self.now.declarations.now) subjects.now objects.now)) code.old)) }
+        ensures { OnOk result (code.new ≡ append code.old (spec.condition_fragment (items_in self.now.declarations.now) (All (meaning.asked_each (items_in self.now.declarations.now) subjects.now objects.now)) code.old)) }
     {
         let Some((subject, subjects)) = subjects.split_first() else {
             return emit_constant(code, true);
@@ -288,7 +288,7 @@ impl<'a> Emitter<'a> {
         requires declared { IsDeclared self.now.declarations.now }
         requires entries { entry_rules self.now.declarations.now.storage.now ≡ [] }
         requires rules { each (condition_rules (items_in self.now.declarations.now)) (meaning.asked_each (items_in self.now.declarations.now) subjects.now one.now.objects) ≡ [] }
-        ensures { OnOk result (code.new ≡ joined code.old (spec.or_piece (spec.condition_piece (items_in self.now.declarations.now) (meaning.when_asked (items_in self.now.declarations.now) subjects.now one.now)) code.old)) }
+        ensures { OnOk result (code.new ≡ append code.old (spec.or_fragment (spec.condition_fragment (items_in self.now.declarations.now) (meaning.when_asked (items_in self.now.declarations.now) subjects.now one.now)) code.old)) }
     {
         let branch = emit_branch(code)?;
         let other = emit_jump(code)?;
@@ -306,7 +306,7 @@ impl<'a> Emitter<'a> {
         requires declared { IsDeclared self.now.declarations.now }
         requires entries { entry_rules self.now.declarations.now.storage.now ≡ [] }
         requires rules { each (λ (one : When). each (condition_rules (items_in self.now.declarations.now)) (meaning.asked_each (items_in self.now.declarations.now) subjects.now one.objects)) more.now ≡ [] }
-        ensures { OnOk result (code.new ≡ joined code.old (in_order (λ (one : When). spec.or_piece (spec.condition_piece (items_in self.now.declarations.now) (meaning.when_asked (items_in self.now.declarations.now) subjects.now one))) more.now code.old)) }
+        ensures { OnOk result (code.new ≡ append code.old (in_order (λ (one : When). spec.or_fragment (spec.condition_fragment (items_in self.now.declarations.now) (meaning.when_asked (items_in self.now.declarations.now) subjects.now one))) more.now code.old)) }
     {
         for one in more {
             self.emit_or_when(code, subjects, one)?;
@@ -324,7 +324,7 @@ impl<'a> Emitter<'a> {
         requires declared { IsDeclared self.now.declarations.now }
         requires entries { entry_rules self.now.declarations.now.storage.now ≡ [] }
         requires rules { each (λ (one : When). each (condition_rules (items_in self.now.declarations.now)) (meaning.asked_each (items_in self.now.declarations.now) subjects.now one.objects)) whens.now ≡ [] }
-        ensures { OnOk result (code.new ≡ joined code.old (spec.condition_piece (items_in self.now.declarations.now) (Any (meaning.whens_asked (items_in self.now.declarations.now) subjects.now whens.now)) code.old)) }
+        ensures { OnOk result (code.new ≡ append code.old (spec.condition_fragment (items_in self.now.declarations.now) (Any (meaning.whens_asked (items_in self.now.declarations.now) subjects.now whens.now)) code.old)) }
     {
         let Some((first, more)) = whens.split_first() else {
             return emit_constant(code, false);

@@ -7,7 +7,7 @@ ghost use Rattle.source_tree.specs.declared.expression.Operand.TheVariants as op
 ghost use Rattle.source_tree.specs.Broken.{each};
 ghost use Rattle.source_tree.specs.Conditions as meaning;
 ghost use Rattle.source_tree.specs.EntryRules.{entry_rules};
-ghost use Rattle.source_tree.specs.NameRules.{any_item, item_rules, operand_rules};
+ghost use Rattle.source_tree.specs.NameRules.{any_item, reference_rules, operand_rules};
 ghost use Rattle.source_tree.specs.ArithmeticRules.{expression_rules};
 ghost use Rattle.source_tree.specs.ConditionRules.{side_rules, relation_rules, condition_rules};
 ghost use Rattle.source_tree.specs.ValueRules.{has_form};
@@ -15,14 +15,14 @@ ghost use Rattle.data_instructions.specs.ConditionCodes.{negation};
 ghost use Rattle.data_instructions.specs.declared.test.Test.TheVariants as t;
 ghost use Rattle.data_instructions.specs.declared.instruction.DataInstruction.TheVariants as i;
 ghost use Rattle.declarations.specs.Named.{IsDeclared, items_in};
-ghost use Rattle.codegen.specs.Pieces.{joined, both, in_order};
-ghost use Rattle.codegen.specs.DataCode.{sender_piece, work_piece, works_piece, number_piece, taking_piece};
-ghost use Rattle.codegen.specs.ArithmeticCode.{zero_number, value_piece, expression_piece};
+ghost use Rattle.codegen.specs.Pieces.{append, sequence, in_order};
+ghost use Rattle.codegen.specs.DataCode.{sender_fragment, work_fragment, works_fragment, number_fragment, take_fragment};
+ghost use Rattle.codegen.specs.ArithmeticCode.{zero_number, value_fragment, expression_fragment};
 ghost use Rattle.codegen.specs.ConditionCode as spec;
 ghost use Rattle.codegen.specs.Sides.{operand_of};
 
 use crate::emitter::Emitter;
-use crate::moving::{emit_literal, put_sender};
+use crate::move_statement::{emit_literal, put_sender};
 use crate::number::number_of_literal;
 use crate::phrases::{emit_branch, emit_jump, emit_meeting};
 use crate::references::{emit_number, emit_work, emit_works};
@@ -73,7 +73,7 @@ fn sign_relation(one: SignTest, negated: bool) -> Relation
 
 /// NOT behind a test.
 pub(crate) fn emit_negation(code: &mut Code, negated: bool) -> Result<(), AllocError>
-    ensures { OnOk result (code.new ≡ joined code.old (works_piece (negation negated) code.old)) }
+    ensures { OnOk result (code.new ≡ append code.old (works_fragment (negation negated) code.old)) }
 {
     if !negated {
         return Ok(());
@@ -90,7 +90,7 @@ impl<'a> Emitter<'a> {
         one: &Literal,
     ) -> Result<(), AllocError>
         requires { has_form one.now.value ≡ true }
-        ensures { OnOk result (code.new ≡ joined code.old (spec.compared_piece (items_in self.now.declarations.now) relation (operand.Literal one.now) code.old)) }
+        ensures { OnOk result (code.new ≡ append code.old (spec.compared_fragment (items_in self.now.declarations.now) relation (operand.Literal one.now) code.old)) }
     {
         let literal = put_sender(self.alloc, code, &one.value)?;
         emit_work(
@@ -103,7 +103,7 @@ impl<'a> Emitter<'a> {
     fn emit_taken(&self, code: &mut Code, one: Alone<'_>) -> Result<(), AllocError>
         requires declared { IsDeclared self.now.declarations.now }
         requires rules { operand_rules (items_in self.now.declarations.now) (operand_of one) ≡ [] }
-        ensures { OnOk result (code.new ≡ joined code.old (sender_piece (items_in self.now.declarations.now) (operand_of one.entry) code.old)) }
+        ensures { OnOk result (code.new ≡ append code.old (sender_fragment (items_in self.now.declarations.now) (operand_of one.entry) code.old)) }
     {
         match one {
             Alone::Item(reference) => self.emit_taking(code, DataInstruction::Take, reference),
@@ -120,7 +120,7 @@ impl<'a> Emitter<'a> {
     ) -> Result<(), AllocError>
         requires declared { IsDeclared self.now.declarations.now }
         requires rules { operand_rules (items_in self.now.declarations.now) (operand_of one) ≡ [] }
-        ensures { OnOk result (code.new ≡ joined code.old (spec.compared_piece (items_in self.now.declarations.now) relation (operand_of one.entry) code.old)) }
+        ensures { OnOk result (code.new ≡ append code.old (spec.compared_fragment (items_in self.now.declarations.now) relation (operand_of one.entry) code.old)) }
     {
         match one {
             Alone::Item(reference) => {
@@ -135,7 +135,7 @@ impl<'a> Emitter<'a> {
     fn emit_number_alone(&self, code: &mut Code, one: Alone<'_>) -> Result<(), AllocError>
         requires declared { IsDeclared self.now.declarations.now }
         requires rules { operand_rules (items_in self.now.declarations.now) (operand_of one) ≡ [] }
-        ensures { OnOk result (code.new ≡ joined code.old (value_piece (items_in self.now.declarations.now) (operand_of one.entry) code.old)) }
+        ensures { OnOk result (code.new ≡ append code.old (value_fragment (items_in self.now.declarations.now) (operand_of one.entry) code.old)) }
     {
         match one {
             Alone::Item(reference) => self.emit_taking(code, DataInstruction::Push, reference),
@@ -147,7 +147,7 @@ impl<'a> Emitter<'a> {
     fn emit_side(&self, code: &mut Code, side: &Side) -> Result<(), AllocError>
         requires declared { IsDeclared self.now.declarations.now }
         requires rules { side_rules (items_in self.now.declarations.now) side.now ≡ [] }
-        ensures { OnOk result (code.new ≡ joined code.old (spec.side_piece (items_in self.now.declarations.now) side.now code.old)) }
+        ensures { OnOk result (code.new ≡ append code.old (spec.side_fragment (items_in self.now.declarations.now) side.now code.old)) }
     {
         if let Some(one) = alone_side(side) {
             return self.emit_number_alone(code, one);
@@ -169,7 +169,7 @@ impl<'a> Emitter<'a> {
         requires declared { IsDeclared self.now.declarations.now }
         requires left { side_rules (items_in self.now.declarations.now) left.now ≡ [] }
         requires right { side_rules (items_in self.now.declarations.now) right.now ≡ [] }
-        ensures { OnOk result (code.new ≡ joined code.old (both (spec.side_piece (items_in self.now.declarations.now) left.now) (both (spec.side_piece (items_in self.now.declarations.now) right.now) (work_piece (i.Test (t.CompareNumbers relation)))) code.old)) }
+        ensures { OnOk result (code.new ≡ append code.old (sequence (spec.side_fragment (items_in self.now.declarations.now) left.now) (sequence (spec.side_fragment (items_in self.now.declarations.now) right.now) (work_fragment (i.Test (t.CompareNumbers relation)))) code.old)) }
     {
         self.emit_side(code, left)?;
         self.emit_side(code, right)?;
@@ -189,7 +189,7 @@ impl<'a> Emitter<'a> {
     ) -> Result<(), AllocError>
         requires declared { IsDeclared self.now.declarations.now }
         requires rules { relation_rules (items_in self.now.declarations.now) left.now right.now ≡ [] }
-        ensures { OnOk result (code.new ≡ joined code.old (spec.relation_piece (items_in self.now.declarations.now) left.now relation right.now code.old)) }
+        ensures { OnOk result (code.new ≡ append code.old (spec.relation_fragment (items_in self.now.declarations.now) left.now relation right.now code.old)) }
     {
         let Some(one) = alone_side(left) else {
             return self.emit_numbers_compared(code, left, relation, right);
@@ -211,7 +211,7 @@ impl<'a> Emitter<'a> {
     ) -> Result<(), AllocError>
         requires declared { IsDeclared self.now.declarations.now }
         requires rules { expression_rules (items_in self.now.declarations.now) value.now ≡ [] }
-        ensures { OnOk result (code.new ≡ joined code.old (both (expression_piece (items_in self.now.declarations.now) value.now) (both (number_piece zero_number) (work_piece (i.Test (t.CompareNumbers (meaning.sign_relation sign negated))))) code.old)) }
+        ensures { OnOk result (code.new ≡ append code.old (sequence (expression_fragment (items_in self.now.declarations.now) value.now) (sequence (number_fragment zero_number) (work_fragment (i.Test (t.CompareNumbers (meaning.sign_relation sign negated))))) code.old)) }
     {
         self.emit_expression(code, value)?;
         emit_number(code, Dec::short(0, 0))?;
@@ -231,8 +231,8 @@ impl<'a> Emitter<'a> {
         class: Class,
     ) -> Result<(), AllocError>
         requires declared { IsDeclared self.now.declarations.now }
-        requires rules { item_rules (items_in self.now.declarations.now) any_item item.now ≡ [] }
-        ensures { OnOk result (code.new ≡ joined code.old (both (taking_piece (items_in self.now.declarations.now) (i.Test (t.Class class)) item.now) (works_piece (negation negated)) code.old)) }
+        requires rules { reference_rules (items_in self.now.declarations.now) any_item item.now ≡ [] }
+        ensures { OnOk result (code.new ≡ append code.old (sequence (take_fragment (items_in self.now.declarations.now) (i.Test (t.Class class)) item.now) (works_fragment (negation negated)) code.old)) }
     {
         self.emit_taking(code, DataInstruction::Test(Test::Class { class }), item)?;
         emit_negation(code, negated)
@@ -244,7 +244,7 @@ impl<'a> Emitter<'a> {
         requires declared { IsDeclared self.now.declarations.now }
         requires entries { entry_rules self.now.declarations.now.storage.now ≡ [] }
         requires rules { condition_rules (items_in self.now.declarations.now) one.now ≡ [] }
-        ensures { OnOk result (code.new ≡ joined code.old (spec.condition_piece (items_in self.now.declarations.now) one.now code.old)) }
+        ensures { OnOk result (code.new ≡ append code.old (spec.condition_fragment (items_in self.now.declarations.now) one.now code.old)) }
     {
         match one {
             Condition::Name(reference) => self.emit_condition_name(code, reference),
@@ -278,7 +278,7 @@ impl<'a> Emitter<'a> {
         requires declared { IsDeclared self.now.declarations.now }
         requires entries { entry_rules self.now.declarations.now.storage.now ≡ [] }
         requires rules { each (condition_rules (items_in self.now.declarations.now)) parts.now ≡ [] }
-        ensures { OnOk result (code.new ≡ joined code.old (spec.all_piece (map (spec.condition_piece (items_in self.now.declarations.now)) parts.now) code.old)) }
+        ensures { OnOk result (code.new ≡ append code.old (spec.all_fragment (map (spec.condition_fragment (items_in self.now.declarations.now)) parts.now) code.old)) }
     {
         let Some((first, more)) = parts.split_first() else {
             return emit_works(
@@ -299,7 +299,7 @@ impl<'a> Emitter<'a> {
         requires declared { IsDeclared self.now.declarations.now }
         requires entries { entry_rules self.now.declarations.now.storage.now ≡ [] }
         requires rules { each (condition_rules (items_in self.now.declarations.now)) parts.now ≡ [] }
-        ensures { OnOk result (code.new ≡ joined code.old (spec.any_piece (map (spec.condition_piece (items_in self.now.declarations.now)) parts.now) code.old)) }
+        ensures { OnOk result (code.new ≡ append code.old (spec.any_fragment (map (spec.condition_fragment (items_in self.now.declarations.now)) parts.now) code.old)) }
     {
         let Some((first, more)) = parts.split_first() else {
             return emit_works(code, &[DataInstruction::ClearTruth]);
@@ -314,7 +314,7 @@ impl<'a> Emitter<'a> {
         requires declared { IsDeclared self.now.declarations.now }
         requires entries { entry_rules self.now.declarations.now.storage.now ≡ [] }
         requires rules { each (condition_rules (items_in self.now.declarations.now)) more.now ≡ [] }
-        ensures { OnOk result (code.new ≡ joined code.old (in_order (λ (one : Condition). spec.and_piece (spec.condition_piece (items_in self.now.declarations.now) one)) more.now code.old)) }
+        ensures { OnOk result (code.new ≡ append code.old (in_order (λ (one : Condition). spec.and_fragment (spec.condition_fragment (items_in self.now.declarations.now) one)) more.now code.old)) }
     {
         for one in more {
             self.emit_and(code, one)?;
@@ -328,7 +328,7 @@ impl<'a> Emitter<'a> {
         requires declared { IsDeclared self.now.declarations.now }
         requires entries { entry_rules self.now.declarations.now.storage.now ≡ [] }
         requires rules { each (condition_rules (items_in self.now.declarations.now)) more.now ≡ [] }
-        ensures { OnOk result (code.new ≡ joined code.old (in_order (λ (one : Condition). spec.or_piece (spec.condition_piece (items_in self.now.declarations.now) one)) more.now code.old)) }
+        ensures { OnOk result (code.new ≡ append code.old (in_order (λ (one : Condition). spec.or_fragment (spec.condition_fragment (items_in self.now.declarations.now) one)) more.now code.old)) }
     {
         for one in more {
             self.emit_or(code, one)?;
@@ -342,7 +342,7 @@ impl<'a> Emitter<'a> {
         requires declared { IsDeclared self.now.declarations.now }
         requires entries { entry_rules self.now.declarations.now.storage.now ≡ [] }
         requires rules { condition_rules (items_in self.now.declarations.now) one.now ≡ [] }
-        ensures { OnOk result (code.new ≡ joined code.old (spec.and_piece (spec.condition_piece (items_in self.now.declarations.now) one.now) code.old)) }
+        ensures { OnOk result (code.new ≡ append code.old (spec.and_fragment (spec.condition_fragment (items_in self.now.declarations.now) one.now) code.old)) }
     {
         let branch = emit_branch(code)?;
         self.emit_condition(code, one)?;
@@ -356,7 +356,7 @@ impl<'a> Emitter<'a> {
         requires declared { IsDeclared self.now.declarations.now }
         requires entries { entry_rules self.now.declarations.now.storage.now ≡ [] }
         requires rules { condition_rules (items_in self.now.declarations.now) one.now ≡ [] }
-        ensures { OnOk result (code.new ≡ joined code.old (spec.or_piece (spec.condition_piece (items_in self.now.declarations.now) one.now) code.old)) }
+        ensures { OnOk result (code.new ≡ append code.old (spec.or_fragment (spec.condition_fragment (items_in self.now.declarations.now) one.now) code.old)) }
     {
         let branch = emit_branch(code)?;
         let other = emit_jump(code)?;

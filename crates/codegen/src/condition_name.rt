@@ -4,23 +4,23 @@ ghost use Rattle.std.specs.Prelude.{◌≡◌, [], OnOk, IfOk};
 ghost use Rattle.source_tree.specs.EntryRules.{entry_rules};
 ghost use Rattle.source_tree.specs.ConditionRules.{condition_name_rules};
 ghost use Rattle.declarations.specs.Named.{IsDeclared, items_in};
-ghost use Rattle.codegen.specs.Pieces.{joined};
+ghost use Rattle.codegen.specs.Pieces.{append};
 ghost use Rattle.codegen.specs.ConditionCode as spec;
 ghost use Rattle.codegen.specs.Values.{HasForms, AreFormedValues};
 
 use crate::emitter::{Emitter, entry_number};
-use crate::moving::put_sender;
+use crate::move_statement::put_sender;
 use crate::references::{emit_work, emit_works};
 use code_image::Code;
 use data_instructions::{DataInstruction, ItemIndex, Test};
-use names::LookUp;
+use name_table::LookUp;
 use source_tree::{QualifiedName, Reference, ValueRange};
 use std::alloc::{AllocError, Global};
 
 /// The sender compared with a value, where it is one alone; else with what lies from it to the last one.
 fn emit_range(alloc: Global, code: &mut Code, one: &ValueRange) -> Result<(), AllocError>
     requires { HasForms one.now.first one.now.last }
-    ensures { OnOk result (code.new ≡ joined code.old (spec.value_range_piece one.now code.old)) }
+    ensures { OnOk result (code.new ≡ append code.old (spec.value_range_fragment one.now code.old)) }
 {
     let first = put_sender(alloc, code, &one.first.value)?;
     let Some(last) = &one.last else {
@@ -34,7 +34,7 @@ fn emit_range(alloc: Global, code: &mut Code, one: &ValueRange) -> Result<(), Al
 /// The sender compared with each value.
 fn emit_values(alloc: Global, code: &mut Code, all: &[ValueRange]) -> Result<(), AllocError>
     requires { AreFormedValues all.now }
-    ensures { OnOk result (code.new ≡ joined code.old (spec.values_piece all.now code.old)) }
+    ensures { OnOk result (code.new ≡ append code.old (spec.values_fragment all.now code.old)) }
 {
     for one in all {
         emit_range(alloc, code, one)?;
@@ -89,7 +89,7 @@ impl<'a> Emitter<'a> {
         requires declared { IsDeclared self.now.declarations.now }
         requires entries { entry_rules self.now.declarations.now.storage.now ≡ [] }
         requires rules { condition_name_rules (items_in self.now.declarations.now) one.now ≡ [] }
-        ensures { OnOk result (code.new ≡ joined code.old (spec.condition_name_piece (items_in self.now.declarations.now) one.now code.old)) }
+        ensures { OnOk result (code.new ≡ append code.old (spec.condition_name_fragment (items_in self.now.declarations.now) one.now code.old)) }
     {
         let item = self.condition_item(&one.item)?;
         emit_work(code, DataInstruction::Place { item })?;

@@ -8,47 +8,56 @@ ghost use Rattle.source_tree.specs.Procedures.{range_of};
 ghost use Rattle.source_tree.specs.Rules as rules;
 ghost use Rattle.source_tree.specs.Rules.{all_permitted};
 ghost use Rattle.declarations.specs.Named.{IsDeclared, items_in, scope_in};
-ghost use Rattle.codegen.specs.Pieces.{joined, both, in_order};
-ghost use Rattle.codegen.specs.UntilCode.{tick_piece};
-ghost use Rattle.codegen.specs.Layout.{moving_piece, texts_piece, stop_run_piece, branching_piece, ending_piece, range_piece, turn_piece, performing_piece, phrase_piece, phrases_piece, calculating_piece, statement_piece, sentence_piece, start_piece, back_piece, paragraph_piece, section_piece, end_piece};
+ghost use Rattle.codegen.specs.Pieces.{append, sequence, in_order};
+ghost use Rattle.codegen.specs.UntilCode.{tick_fragment};
+ghost use Rattle.codegen.specs.Layout.{data_fragment, texts_fragment, stop_run_fragment, conditional_fragment, control_fragment, range_fragment, turn_fragment, perform_fragment, phrase_fragment, phrases_fragment, arithmetic_statement_fragment, statement_fragment, sentence_fragment, start_fragment, back_fragment, paragraph_fragment, section_fragment, end_fragment};
 
 use crate::emitter::Emitter;
 use crate::phrases::{emit_branch, emit_jump, emit_meeting, has_phrase};
 use crate::times::count_of;
 use code_image::{Code, Instruction, ParagraphIndex};
 use source_tree::{
-    Arithmetic, Branching, Ending, Moving, Name, Paragraph, Performed, Performing, Phrases,
-    Section, Sentence, Statement, Text, Turns, Verb,
+    Arithmetic, ConditionalStatement, ControlStatement, DataStatement, Name, Paragraph,
+    PerformStatement, Performed, Phrases, Repetition, Section, Sentence, Statement, TextStatement,
+    Verb,
 };
 use sqlite_items::Items;
 use std::alloc::AllocError;
 
+pub(crate) fn emit_tick(code: &mut Code, line: u32) -> Result<(), AllocError>
+    ensures { OnOk result (code.new ≡ append code.old (tick_fragment line code.old)) }
+{
+    code.instructions.push(Instruction::Tick { line })?;
+    Ok(())
+}
+
+// The end of the last paragraph.
+pub(crate) fn emit_end(code: &mut Code) -> Result<(), AllocError>
+    ensures { OnOk result (code.new ≡ append code.old end_fragment) }
+{
+    code.instructions.push(Instruction::Stop)?;
+    Ok(())
+}
+
 fn emit_stop_run(code: &mut Code, line: u32) -> Result<(), AllocError>
-    ensures { OnOk result (code.new ≡ joined code.old (stop_run_piece line code.old)) }
+    ensures { OnOk result (code.new ≡ append code.old (stop_run_fragment line code.old)) }
 {
     code.instructions.push(Instruction::Tick { line })?;
     code.instructions.push(Instruction::Stop)?;
     Ok(())
 }
 
-pub(crate) fn emit_tick(code: &mut Code, line: u32) -> Result<(), AllocError>
-    ensures { OnOk result (code.new ≡ joined code.old (tick_piece line code.old)) }
-{
-    code.instructions.push(Instruction::Tick { line })?;
-    Ok(())
-}
-
-fn emit_ending(code: &mut Code, line: u32, one: Ending) -> Result<(), AllocError>
-    ensures { OnOk result (code.new ≡ joined code.old (ending_piece line one code.old)) }
+fn emit_ending(code: &mut Code, line: u32, one: ControlStatement) -> Result<(), AllocError>
+    ensures { OnOk result (code.new ≡ append code.old (control_fragment line one code.old)) }
 {
     match one {
-        Ending::StopRun => emit_stop_run(code, line),
-        Ending::Continue | Ending::Exit => emit_tick(code, line),
+        ControlStatement::StopRun => emit_stop_run(code, line),
+        ControlStatement::Continue | ControlStatement::Exit => emit_tick(code, line),
     }
 }
 
 fn emit_start(code: &mut Code) -> Result<(), AllocError>
-    ensures { OnOk result (code.new ≡ joined code.old (start_piece code.old)) }
+    ensures { OnOk result (code.new ≡ append code.old (start_fragment code.old)) }
 {
     let start = code.instructions.len();
     code.starts.push(start)?;
@@ -57,7 +66,7 @@ fn emit_start(code: &mut Code) -> Result<(), AllocError>
 
 /// The end of the code paragraph of this number.
 fn emit_back(code: &mut Code, number: usize) -> Result<(), AllocError>
-    ensures { OnOk result (code.new ≡ joined code.old (back_piece number code.old)) }
+    ensures { OnOk result (code.new ≡ append code.old (back_fragment number code.old)) }
 {
     let paragraph = ParagraphIndex { number };
     code.instructions.push(Instruction::Back { paragraph })?;
@@ -66,54 +75,49 @@ fn emit_back(code: &mut Code, number: usize) -> Result<(), AllocError>
 
 /// The code paragraph of a section without paragraphs.
 fn emit_nothing(code: &mut Code) -> Result<(), AllocError>
-    ensures { OnOk result (code.new ≡ joined code.old (joined (start_piece code.old) (back_piece (length code.old.starts) code.old))) }
+    ensures { OnOk result (code.new ≡ append code.old (append (start_fragment code.old) (back_fragment (length code.old.starts) code.old))) }
 {
     let number = code.starts.len();
     emit_start(code)?;
     emit_back(code, number)
 }
 
-// The end of the last paragraph.
-pub(crate) fn emit_end(code: &mut Code) -> Result<(), AllocError>
-    ensures { OnOk result (code.new ≡ joined code.old end_piece) }
-{
-    code.instructions.push(Instruction::Stop)?;
-    Ok(())
-}
-
 impl<'a> Emitter<'a> {
     /// A statement that moves, with its `tick`.
-    fn emit_moving(&self, code: &mut Code, line: u32, one: &Moving) -> Result<(), AllocError>
+    fn emit_moving(&self, code: &mut Code, line: u32, one: &DataStatement) -> Result<(), AllocError>
         requires declared { IsDeclared self.now.declarations.now }
         requires entries { entry_rules self.now.declarations.now.storage.now ≡ [] }
         requires rules { rules.moving_rules (items_in self.now.declarations.now) one.now ≡ [] }
-        ensures { OnOk result (code.new ≡ joined code.old (both (tick_piece line) (moving_piece (items_in self.now.declarations.now) one.now) code.old)) }
+        ensures { OnOk result (code.new ≡ append code.old (sequence (tick_fragment line) (data_fragment (items_in self.now.declarations.now) one.now) code.old)) }
     {
         emit_tick(code, line)?;
         match one {
-            Moving::Move { sender, receivers } => {
+            DataStatement::Move { sender, receivers } => {
                 self.emit_move(code, sender, receivers.as_slice())
             }
-            Moving::Initialize { receivers } => self.emit_initializes(code, receivers.as_slice()),
-            Moving::Set { conditions } => self.emit_sets(code, conditions.as_slice()),
+            DataStatement::Initialize { receivers } => self.emit_initializes(
+                code,
+                receivers.as_slice(),
+            ),
+            DataStatement::Set { conditions } => self.emit_sets(code, conditions.as_slice()),
         }
     }
 
     /// A statement on texts, with its `tick`.
-    fn emit_texts(&self, code: &mut Code, line: u32, one: &Text) -> Result<(), AllocError>
+    fn emit_texts(&self, code: &mut Code, line: u32, one: &TextStatement) -> Result<(), AllocError>
         requires declared { IsDeclared self.now.declarations.now }
         requires rules { rules.text_rules (items_in self.now.declarations.now) one.now ≡ [] }
-        ensures { OnOk result (code.new ≡ joined code.old (both (tick_piece line) (texts_piece (items_in self.now.declarations.now) one.now) code.old)) }
+        ensures { OnOk result (code.new ≡ append code.old (sequence (tick_fragment line) (texts_fragment (items_in self.now.declarations.now) one.now) code.old)) }
     {
         emit_tick(code, line)?;
         match one {
-            Text::Display {
+            TextStatement::Display {
                 operands,
                 advancing,
             } => self.emit_display(code, operands.as_slice(), *advancing),
-            Text::Accept { receiver } => self.emit_accept(code, receiver),
-            Text::AcceptDate { receiver } => self.emit_date(code, receiver),
-            Text::Inspect(inspecting) => self.emit_inspect(code, inspecting),
+            TextStatement::Accept { receiver } => self.emit_accept(code, receiver),
+            TextStatement::AcceptDate { receiver } => self.emit_date(code, receiver),
+            TextStatement::Inspect(inspecting) => self.emit_inspect(code, inspecting),
         }
     }
 
@@ -124,18 +128,18 @@ impl<'a> Emitter<'a> {
         requires declared { IsDeclared self.now.declarations.now }
         requires entries { entry_rules self.now.declarations.now.storage.now ≡ [] }
         requires rules { rules.statement_rules (scope_in self.now.declarations.now) all_permitted one.now ≡ [] }
-        ensures { OnOk result (code.new ≡ joined code.old (statement_piece (scope_in self.now.declarations.now) one.now code.old)) }
+        ensures { OnOk result (code.new ≡ append code.old (statement_fragment (scope_in self.now.declarations.now) one.now code.old)) }
     {
         let line = one.place.line;
         match &one.verb {
-            Verb::Moving(moving) => self.emit_moving(code, line, moving),
+            Verb::DataStatement(moving) => self.emit_moving(code, line, moving),
             Verb::Arithmetic(arithmetic) => self.emit_calculating(code, line, arithmetic),
-            Verb::Branching(branching) => self.emit_branching(code, line, branching),
-            Verb::Performing(performing) => self.emit_performing(code, line, performing),
+            Verb::ConditionalStatement(branching) => self.emit_branching(code, line, branching),
+            Verb::PerformStatement(performing) => self.emit_performing(code, line, performing),
             Verb::Text(text) => self.emit_texts(code, line, text),
-            Verb::Stringing(stringing) => self.emit_stringing(code, line, stringing),
-            Verb::Filing(filing) => self.emit_filing(code, line, filing),
-            Verb::Ending(ending) => emit_ending(code, line, *ending),
+            Verb::StringStatement(stringing) => self.emit_stringing(code, line, stringing),
+            Verb::FileStatement(filing) => self.emit_filing(code, line, filing),
+            Verb::ControlStatement(ending) => emit_ending(code, line, *ending),
         }
     }
 
@@ -152,7 +156,7 @@ impl<'a> Emitter<'a> {
         requires operation { operation_rules (items_in self.now.declarations.now) one.now.operation ≡ [] }
         requires arose { rules.phrase_rules (rules.statement_rules (scope_in self.now.declarations.now) all_permitted) one.now.phrases.arose ≡ [] }
         requires did_not { rules.phrase_rules (rules.statement_rules (scope_in self.now.declarations.now) all_permitted) one.now.phrases.did_not ≡ [] }
-        ensures { OnOk result (code.new ≡ joined code.old (calculating_piece (scope_in self.now.declarations.now) (statement_piece (scope_in self.now.declarations.now)) line one.now code.old)) }
+        ensures { OnOk result (code.new ≡ append code.old (arithmetic_statement_fragment (scope_in self.now.declarations.now) (statement_fragment (scope_in self.now.declarations.now)) line one.now code.old)) }
     {
         emit_tick(code, line)?;
         self.emit_arithmetic(code, one.phrases.arose.is_some(), &one.operation)?;
@@ -170,7 +174,7 @@ impl<'a> Emitter<'a> {
         requires entries { entry_rules self.now.declarations.now.storage.now ≡ [] }
         requires arose { rules.phrase_rules (rules.statement_rules (scope_in self.now.declarations.now) all_permitted) one.now.arose ≡ [] }
         requires did_not { rules.phrase_rules (rules.statement_rules (scope_in self.now.declarations.now) all_permitted) one.now.did_not ≡ [] }
-        ensures { OnOk result (code.new ≡ joined code.old (phrases_piece (scope_in self.now.declarations.now) (statement_piece (scope_in self.now.declarations.now)) one.now code.old)) }
+        ensures { OnOk result (code.new ≡ append code.old (phrases_fragment (scope_in self.now.declarations.now) (statement_fragment (scope_in self.now.declarations.now)) one.now code.old)) }
     {
         if !has_phrase(one) {
             return Ok(());
@@ -192,7 +196,7 @@ impl<'a> Emitter<'a> {
         requires declared { IsDeclared self.now.declarations.now }
         requires entries { entry_rules self.now.declarations.now.storage.now ≡ [] }
         requires rules { rules.phrase_rules (rules.statement_rules (scope_in self.now.declarations.now) all_permitted) one.now ≡ [] }
-        ensures { OnOk result (code.new ≡ joined code.old (phrase_piece (scope_in self.now.declarations.now) (statement_piece (scope_in self.now.declarations.now)) one.now code.old)) }
+        ensures { OnOk result (code.new ≡ append code.old (phrase_fragment (scope_in self.now.declarations.now) (statement_fragment (scope_in self.now.declarations.now)) one.now code.old)) }
     {
         match one {
             None => Ok(()),
@@ -206,16 +210,16 @@ impl<'a> Emitter<'a> {
         &self,
         code: &mut Code,
         line: u32,
-        one: &Branching<Statement>,
+        one: &ConditionalStatement<Statement>,
     ) -> Result<(), AllocError>
         requires declared { IsDeclared self.now.declarations.now }
         requires entries { entry_rules self.now.declarations.now.storage.now ≡ [] }
         requires rules { rules.branching_rules (items_in self.now.declarations.now) (rules.statement_rules (scope_in self.now.declarations.now) all_permitted) one.now ≡ [] }
-        ensures { OnOk result (code.new ≡ joined code.old (branching_piece (scope_in self.now.declarations.now) (statement_piece (scope_in self.now.declarations.now)) line one.now code.old)) }
+        ensures { OnOk result (code.new ≡ append code.old (conditional_fragment (scope_in self.now.declarations.now) (statement_fragment (scope_in self.now.declarations.now)) line one.now code.old)) }
     {
         emit_tick(code, line)?;
         match one {
-            Branching::If {
+            ConditionalStatement::If {
                 condition,
                 statements,
                 otherwise,
@@ -227,7 +231,7 @@ impl<'a> Emitter<'a> {
                 self.emit_phrase(code, otherwise)?;
                 emit_meeting(code, branch, other)
             }
-            Branching::Evaluate(evaluate) => self.emit_evaluate(code, evaluate),
+            ConditionalStatement::Evaluate(evaluate) => self.emit_evaluate(code, evaluate),
         }
     }
 
@@ -237,24 +241,24 @@ impl<'a> Emitter<'a> {
         &self,
         code: &mut Code,
         line: u32,
-        one: &Performing<Statement>,
+        one: &PerformStatement<Statement>,
     ) -> Result<(), AllocError>
         requires declared { IsDeclared self.now.declarations.now }
         requires entries { entry_rules self.now.declarations.now.storage.now ≡ [] }
         requires rules { rules.performing_rules (scope_in self.now.declarations.now) all_permitted (rules.statement_rules (scope_in self.now.declarations.now) all_permitted) one.now ≡ [] }
-        ensures { OnOk result (code.new ≡ joined code.old (performing_piece (scope_in self.now.declarations.now) (statement_piece (scope_in self.now.declarations.now)) line one.now code.old)) }
+        ensures { OnOk result (code.new ≡ append code.old (perform_fragment (scope_in self.now.declarations.now) (statement_fragment (scope_in self.now.declarations.now)) line one.now code.old)) }
     {
         match &one.turns {
-            Turns::Once => self.emit_turn(code, line, &one.performed),
-            Turns::Times(count) => {
+            Repetition::Once => self.emit_turn(code, line, &one.performed),
+            Repetition::Times(count) => {
                 emit_tick(code, line)?;
                 self.emit_times(code, line, count_of(count), &one.performed)
             }
-            Turns::CountedBy(item) => {
+            Repetition::CountedBy(item) => {
                 emit_tick(code, line)?;
                 self.emit_counted(code, line, item, &one.performed)
             }
-            Turns::Until(until) => {
+            Repetition::Until(until) => {
                 emit_tick(code, line)?;
                 self.emit_until(code, line, until, &one.performed)
             }
@@ -272,7 +276,7 @@ impl<'a> Emitter<'a> {
         requires declared { IsDeclared self.now.declarations.now }
         requires entries { entry_rules self.now.declarations.now.storage.now ≡ [] }
         requires rules { rules.performed_rules (scope_in self.now.declarations.now).procedures all_permitted (rules.statement_rules (scope_in self.now.declarations.now) all_permitted) one.now ≡ [] }
-        ensures { OnOk result (code.new ≡ joined code.old (turn_piece (scope_in self.now.declarations.now) (statement_piece (scope_in self.now.declarations.now)) line one.now code.old)) }
+        ensures { OnOk result (code.new ≡ append code.old (turn_fragment (scope_in self.now.declarations.now) (statement_fragment (scope_in self.now.declarations.now)) line one.now code.old)) }
     {
         match one {
             Performed::Procedures { first, last } => self.emit_range(code, line, first, last),
@@ -292,7 +296,7 @@ impl<'a> Emitter<'a> {
         last: &Option<Name>,
     ) -> Result<(), AllocError>
         requires { IsDeclared self.now.declarations.now }
-        ensures { OnOk result (code.new ≡ joined code.old (range_piece line (range_of (scope_in self.now.declarations.now).procedures first.now last.now) code.old)) }
+        ensures { OnOk result (code.new ≡ append code.old (range_fragment line (range_of (scope_in self.now.declarations.now).procedures first.now last.now) code.old)) }
     {
         let Some(range) = self.declarations.procedures.range_of(first, last) else {
             return emit_tick(code, line);
@@ -317,7 +321,7 @@ impl<'a> Emitter<'a> {
         requires declared { IsDeclared self.now.declarations.now }
         requires entries { entry_rules self.now.declarations.now.storage.now ≡ [] }
         requires rules { each (rules.statement_rules (scope_in self.now.declarations.now) all_permitted) all.now ≡ [] }
-        ensures { OnOk result (code.new ≡ joined code.old (in_order (statement_piece (scope_in self.now.declarations.now)) all.now code.old)) }
+        ensures { OnOk result (code.new ≡ append code.old (in_order (statement_fragment (scope_in self.now.declarations.now)) all.now code.old)) }
     {
         for one in all {
             self.emit_statement(code, one)?;
@@ -329,7 +333,7 @@ impl<'a> Emitter<'a> {
         requires declared { IsDeclared self.now.declarations.now }
         requires entries { entry_rules self.now.declarations.now.storage.now ≡ [] }
         requires rules { rules.sentence_rules (scope_in self.now.declarations.now) all_permitted one.now ≡ [] }
-        ensures { OnOk result (code.new ≡ joined code.old (sentence_piece (scope_in self.now.declarations.now) one.now code.old)) }
+        ensures { OnOk result (code.new ≡ append code.old (sentence_fragment (scope_in self.now.declarations.now) one.now code.old)) }
     {
         self.emit_statements(code, one.statements.as_slice())
     }
@@ -338,7 +342,7 @@ impl<'a> Emitter<'a> {
         requires declared { IsDeclared self.now.declarations.now }
         requires entries { entry_rules self.now.declarations.now.storage.now ≡ [] }
         requires rules { each (rules.sentence_rules (scope_in self.now.declarations.now) all_permitted) all.now ≡ [] }
-        ensures { OnOk result (code.new ≡ joined code.old (in_order (sentence_piece (scope_in self.now.declarations.now)) all.now code.old)) }
+        ensures { OnOk result (code.new ≡ append code.old (in_order (sentence_fragment (scope_in self.now.declarations.now)) all.now code.old)) }
     {
         for one in all {
             self.emit_sentence(code, one)?;
@@ -350,7 +354,7 @@ impl<'a> Emitter<'a> {
         requires declared { IsDeclared self.now.declarations.now }
         requires entries { entry_rules self.now.declarations.now.storage.now ≡ [] }
         requires rules { rules.paragraph_rules (scope_in self.now.declarations.now) all_permitted one.now ≡ [] }
-        ensures { OnOk result (code.new ≡ joined code.old (paragraph_piece (scope_in self.now.declarations.now) one.now code.old)) }
+        ensures { OnOk result (code.new ≡ append code.old (paragraph_fragment (scope_in self.now.declarations.now) one.now code.old)) }
     {
         let number = code.starts.len();
         emit_start(code)?;
@@ -362,7 +366,7 @@ impl<'a> Emitter<'a> {
         requires declared { IsDeclared self.now.declarations.now }
         requires entries { entry_rules self.now.declarations.now.storage.now ≡ [] }
         requires rules { each (rules.paragraph_rules (scope_in self.now.declarations.now) all_permitted) all.now ≡ [] }
-        ensures { OnOk result (code.new ≡ joined code.old (in_order (paragraph_piece (scope_in self.now.declarations.now)) all.now code.old)) }
+        ensures { OnOk result (code.new ≡ append code.old (in_order (paragraph_fragment (scope_in self.now.declarations.now)) all.now code.old)) }
     {
         for one in all {
             self.emit_paragraph(code, one)?;
@@ -374,7 +378,7 @@ impl<'a> Emitter<'a> {
         requires declared { IsDeclared self.now.declarations.now }
         requires entries { entry_rules self.now.declarations.now.storage.now ≡ [] }
         requires rules { rules.section_rules (scope_in self.now.declarations.now) all_permitted one.now ≡ [] }
-        ensures { OnOk result (code.new ≡ joined code.old (section_piece (scope_in self.now.declarations.now) one.now code.old)) }
+        ensures { OnOk result (code.new ≡ append code.old (section_fragment (scope_in self.now.declarations.now) one.now code.old)) }
     {
         match one.paragraphs.as_slice() {
             [] => emit_nothing(code),
@@ -387,7 +391,7 @@ impl<'a> Emitter<'a> {
         requires declared { IsDeclared self.now.declarations.now }
         requires entries { entry_rules self.now.declarations.now.storage.now ≡ [] }
         requires rules { rules.sections_rules (scope_in self.now.declarations.now) all_permitted all.now ≡ [] }
-        ensures { OnOk result (code.new ≡ joined code.old (in_order (section_piece (scope_in self.now.declarations.now)) all.now code.old)) }
+        ensures { OnOk result (code.new ≡ append code.old (in_order (section_fragment (scope_in self.now.declarations.now)) all.now code.old)) }
     {
         for one in all {
             self.emit_section(code, one)?;

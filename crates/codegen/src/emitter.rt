@@ -11,7 +11,7 @@ use data_instructions::ItemIndex;
 use declarations::Declarations;
 use items::Kind;
 use layout::PlacedItem;
-use names::LookUp;
+use name_table::LookUp;
 use source_tree::{Dimension, QualifiedName};
 use std::alloc::{AllocError, Global};
 

@@ -7,7 +7,7 @@ ghost use Rattle.source_tree.specs.Broken.{each};
 ghost use Rattle.source_tree.specs.ArithmeticRules.{number_rules, expression_rules};
 ghost use Rattle.data_instructions.specs.ArithmeticCodes as codes;
 ghost use Rattle.declarations.specs.Named.{IsDeclared, items_in};
-ghost use Rattle.codegen.specs.Pieces.{joined, in_order};
+ghost use Rattle.codegen.specs.Pieces.{append, in_order};
 ghost use Rattle.codegen.specs.ArithmeticCode as spec;
 
 use crate::emitter::Emitter;
@@ -36,7 +36,7 @@ impl<'a> Emitter<'a> {
     pub(crate) fn emit_value(&self, code: &mut Code, one: &Operand) -> Result<(), AllocError>
         requires declared { IsDeclared self.now.declarations.now }
         requires rules { number_rules (items_in self.now.declarations.now) one.now ≡ [] }
-        ensures { OnOk result (code.new ≡ joined code.old (spec.value_piece (items_in self.now.declarations.now) one.now code.old)) }
+        ensures { OnOk result (code.new ≡ append code.old (spec.value_fragment (items_in self.now.declarations.now) one.now code.old)) }
     {
         match one {
             Operand::Item(reference) => self.emit_taking(code, DataInstruction::Push, reference),
@@ -48,7 +48,7 @@ impl<'a> Emitter<'a> {
     fn emit_added(&self, code: &mut Code, one: &Operand) -> Result<(), AllocError>
         requires declared { IsDeclared self.now.declarations.now }
         requires rules { number_rules (items_in self.now.declarations.now) one.now ≡ [] }
-        ensures { OnOk result (code.new ≡ joined code.old (spec.added_piece (items_in self.now.declarations.now) one.now code.old)) }
+        ensures { OnOk result (code.new ≡ append code.old (spec.added_fragment (items_in self.now.declarations.now) one.now code.old)) }
     {
         self.emit_value(code, one)?;
         emit_work(code, operator_code(Operator::Add))
@@ -58,7 +58,7 @@ impl<'a> Emitter<'a> {
     fn emit_all_added(&self, code: &mut Code, all: &[Operand]) -> Result<(), AllocError>
         requires declared { IsDeclared self.now.declarations.now }
         requires rules { each (number_rules (items_in self.now.declarations.now)) all.now ≡ [] }
-        ensures { OnOk result (code.new ≡ joined code.old (in_order (spec.added_piece (items_in self.now.declarations.now)) all.now code.old)) }
+        ensures { OnOk result (code.new ≡ append code.old (in_order (spec.added_fragment (items_in self.now.declarations.now)) all.now code.old)) }
     {
         for one in all {
             self.emit_added(code, one)?;
@@ -70,7 +70,7 @@ impl<'a> Emitter<'a> {
     pub(crate) fn emit_total(&self, code: &mut Code, all: &[Operand]) -> Result<(), AllocError>
         requires declared { IsDeclared self.now.declarations.now }
         requires rules { each (number_rules (items_in self.now.declarations.now)) all.now ≡ [] }
-        ensures { OnOk result (code.new ≡ joined code.old (spec.total_piece (items_in self.now.declarations.now) all.now code.old)) }
+        ensures { OnOk result (code.new ≡ append code.old (spec.total_fragment (items_in self.now.declarations.now) all.now code.old)) }
     {
         let Some((first, more)) = all.split_first() else {
             return emit_number(code, Dec::short(0, 0));
@@ -88,7 +88,7 @@ impl<'a> Emitter<'a> {
     ) -> Result<(), AllocError>
         requires declared { IsDeclared self.now.declarations.now }
         requires rules { expression_rules (items_in self.now.declarations.now) one.now ≡ [] }
-        ensures { OnOk result (code.new ≡ joined code.old (spec.expression_piece (items_in self.now.declarations.now) one.now code.old)) }
+        ensures { OnOk result (code.new ≡ append code.old (spec.expression_fragment (items_in self.now.declarations.now) one.now code.old)) }
     {
         match one {
             Expression::Operand(operand) => self.emit_value(code, operand),
@@ -108,7 +108,7 @@ impl<'a> Emitter<'a> {
     fn emit_chain(&self, code: &mut Code, all: &[(Operator, Expression)]) -> Result<(), AllocError>
         requires declared { IsDeclared self.now.declarations.now }
         requires rules { each (λ (one : Operator × Expression). expression_rules (items_in self.now.declarations.now) one.1) all.now ≡ [] }
-        ensures { OnOk result (code.new ≡ joined code.old (in_order (λ (one : Operator × Expression). spec.chain_piece (items_in self.now.declarations.now) (one.0, spec.expression_piece (items_in self.now.declarations.now) one.1)) all.now code.old)) }
+        ensures { OnOk result (code.new ≡ append code.old (in_order (λ (one : Operator × Expression). spec.chain_fragment (items_in self.now.declarations.now) (one.0, spec.expression_fragment (items_in self.now.declarations.now) one.1)) all.now code.old)) }
     {
         for (operator, value) in all {
             self.emit_expression(code, value)?;

@@ -1,202 +1,270 @@
-//! The parts of the code of file statements that hold no other statements (COBOL-85, Sequential, Relative and Indexed I-O).
+//! The code of file statements with the statements in their phrases (COBOL-85, Sequential, Relative and Indexed I-O).
 
-ghost use Rattle.std.specs.Prelude.{◌≡◌, [], ◌∷◌, is_some, IfOk, OnOk};
-ghost use Rattle.source_tree.specs.Filing.{file_with_record};
-ghost use Rattle.source_tree.specs.FilingRules.{from_rules, into_rules};
-ghost use Rattle.source_tree.specs.LookUp.{first, items_named};
-ghost use Rattle.source_tree.specs.ProgramFiles.{files_named};
-ghost use Rattle.source_tree.specs.declared.phrases.FilePhrases.TheVariants.{Absent};
-ghost use Rattle.code_image.specs.declared.instruction.Instruction.TheVariants as instruction;
-ghost use Rattle.program_files.specs.Clauses.{NamesOne};
-ghost use Rattle.program_files.specs.Files.{file_in, found_in};
+ghost use Rattle.std.specs.Prelude.{◌≡◌, [], OnOk};
+ghost use Rattle.records.specs.declared.verb.Verb.TheVariants as file_verb;
+ghost use Rattle.source_tree.specs.EntryRules.{entry_rules};
+ghost use Rattle.source_tree.specs.Filing as meaning;
+ghost use Rattle.source_tree.specs.Filing.{phrases_of};
+ghost use Rattle.source_tree.specs.FilingRules.{delete_rules, file_named_rules, filing_rules, into_rules, read_rules, record_rules, start_rules};
+ghost use Rattle.source_tree.specs.Rules as rules;
+ghost use Rattle.source_tree.specs.Rules.{all_permitted};
+ghost use Rattle.file_descriptions.specs.Files.{file_in};
 ghost use Rattle.declarations.specs.Named.{IsDeclared, items_in, files_in, scope_in};
-ghost use Rattle.codegen.specs.Pieces.{joined, in_order, plain};
-ghost use Rattle.codegen.specs.FileCode as spec;
-ghost use Rattle.codegen.specs.Layout.{alone_piece, open_piece, close_piece, statement_piece};
+ghost use Rattle.codegen.specs.Pieces.{append, sequence};
+ghost use Rattle.codegen.specs.UntilCode.{tick_fragment};
+ghost use Rattle.codegen.specs.FileCode.{file_fragment, into_fragment, on_name_fragment};
+ghost use Rattle.codegen.specs.Layout.{alone_fragment, class_fragment, failure_fragment, file_statement_fragment, record_fragment, statement_on_fragment, statement_fragment, status_fragment, success_fragment, taken_fragment};
 
-use crate::emitter::{Emitter, entry_number};
+use crate::emit::emit_tick;
+use crate::emitter::Emitter;
+use crate::file_parts::{emit_file, emit_test};
 use crate::phrases::{emit_branch, emit_jump, emit_meeting};
-use crate::references::emit_works;
-use code_image::{Code, Instruction};
-use data_instructions::{DataInstruction, ItemIndex};
-use file_tables::{FileIndex, StatusClass};
-use program_files::ProgramFile;
+use code_image::Code;
+use file_descriptions::ProgramFile;
+use file_image::StatusClass;
 use records::Verb;
-use source_tree::{Name, Opening, Reference};
+use source_tree::{FilePhrases, FileStatement, Name, Reference, StartKey, Statement};
+use sqlite_items::Items;
 use std::alloc::AllocError;
-use std::slice;
-
-/// A file, by its place in the table of files. It is refused where 8 bits don't hold its number.
-fn file_index(file: &ProgramFile<'_>) -> Result<FileIndex, AllocError>
-    ensures { IfOk result (λ index. index ≡ record { number = file.now.number }) }
-{
-    let Ok(number) = u8::try_from(file.number) else {
-        return Err(AllocError);
-    };
-    Ok(FileIndex { number })
-}
-
-/// A file statement on a file.
-pub(crate) fn emit_file(
-    code: &mut Code,
-    verb: Verb,
-    file: &ProgramFile<'_>,
-) -> Result<(), AllocError>
-    ensures { OnOk result (code.new ≡ joined code.old (plain (instruction.File (record { number = file.now.number }) verb ∷ []))) }
-{
-    let file = file_index(file)?;
-    code.instructions.push(Instruction::File { file, verb })?;
-    Ok(())
-}
-
-/// Whether the last status is of this class.
-pub(crate) fn emit_test(code: &mut Code, class: StatusClass) -> Result<(), AllocError>
-    ensures { OnOk result (code.new ≡ joined code.old (spec.test_piece class code.old)) }
-{
-    code.instructions.push(Instruction::TestStatus { class })?;
-    Ok(())
-}
 
 impl<'a> Emitter<'a> {
-    /// The file has a FILE STATUS item.
-    fn has_status(&self, file: &ProgramFile<'_>) -> bool
-        requires { IsDeclared self.now.declarations.now }
-        ensures { result ≡ is_some (file_in (items_in self.now.declarations.now) file.now).places.status }
-    {
-        match file.status {
-            Some(number) => self.declarations.layout.items.get(number).is_some(),
-            None => false,
-        }
-    }
-
-    /// What comes of a status that nothing takes.
-    pub(crate) fn emit_unheard(
+    /// A file statement, with its `tick` and the statements in its phrases.
+    #[cycle(statement)]
+    pub(crate) fn emit_filing(
         &self,
         code: &mut Code,
-        file: &ProgramFile<'_>,
+        line: u32,
+        one: &FileStatement<Statement>,
     ) -> Result<(), AllocError>
-        requires { IsDeclared self.now.declarations.now }
-        ensures { OnOk result (code.new ≡ joined code.old (spec.unheard_piece (file_in (items_in self.now.declarations.now) file.now).places.status code.old)) }
+        requires declared { IsDeclared self.now.declarations.now }
+        requires entries { entry_rules self.now.declarations.now.storage.now ≡ [] }
+        requires rules { filing_rules (items_in self.now.declarations.now) (files_in self.now.declarations.now) one.now ≡ [] }
+        requires phrases { rules.file_phrases_rules (rules.statement_rules (scope_in self.now.declarations.now) all_permitted) (phrases_of one.now) ≡ [] }
+        ensures { OnOk result (code.new ≡ append code.old (sequence (tick_fragment line) (file_statement_fragment (scope_in self.now.declarations.now) (statement_fragment (scope_in self.now.declarations.now)) one.now) code.old)) }
     {
-        if self.has_status(file) {
-            return Ok(());
+        emit_tick(code, line)?;
+        match one {
+            FileStatement::Open { files } => self.emit_opens(code, files.as_slice()),
+            FileStatement::Close { files } => self.emit_closes(code, files.as_slice()),
+            FileStatement::Read {
+                file,
+                next,
+                into,
+                key,
+                phrases,
+            } => self.emit_read(code, file, *next, into, key, phrases),
+            FileStatement::Write {
+                record,
+                from,
+                phrases,
+            } => self.emit_record(code, Verb::Write, record, from, phrases),
+            FileStatement::Rewrite {
+                record,
+                from,
+                phrases,
+            } => self.emit_record(code, Verb::Rewrite, record, from, phrases),
+            FileStatement::Delete { file, phrases } => self.emit_delete(code, file, phrases),
+            FileStatement::Start { file, key, phrases } => self.emit_starting(
+                code, file, key, phrases,
+            ),
         }
-        code.instructions.push(Instruction::Unheard)?;
-        Ok(())
     }
 
-    /// What READ INTO sends of a file, by its place in the table of items.
-    fn sent_index(&self, file: &ProgramFile<'_>) -> Result<ItemIndex, AllocError>
-        requires { IsDeclared self.now.declarations.now }
-        ensures { IfOk result (λ index. index ≡ spec.sent_index (items_in self.now.declarations.now) (file_in (items_in self.now.declarations.now) file.now)) }
-    {
-        let Some(place) = self
-            .declarations
-            .layout
-            .items
-            .len()
-            .checked_add(file.number)
-        else {
-            return Err(AllocError);
-        };
-        let number = entry_number(place)?;
-        Ok(ItemIndex { number })
-    }
-
-    /// INTO: the record is taken, and moved.
-    pub(crate) fn emit_into(
+    /// READ, if there is such a file.
+    #[cycle(statement)]
+    fn emit_read(
         &self,
         code: &mut Code,
-        file: &ProgramFile<'_>,
+        name: &Name,
+        next: bool,
         into: &Option<Reference>,
+        key: &Option<Reference>,
+        phrases: &FilePhrases<Statement>,
     ) -> Result<(), AllocError>
         requires declared { IsDeclared self.now.declarations.now }
-        requires rules { into_rules (items_in self.now.declarations.now) (files_in self.now.declarations.now) (file_in (items_in self.now.declarations.now) file.now) into.now ≡ [] }
-        ensures { OnOk result (code.new ≡ joined code.old (spec.into_piece (items_in self.now.declarations.now) into.now (file_in (items_in self.now.declarations.now) file.now) code.old)) }
-    {
-        let Some(into) = into else {
-            return Ok(());
-        };
-        let item = self.sent_index(file)?;
-        emit_works(
-            code,
-            &[DataInstruction::Place { item }, DataInstruction::Take],
-        )?;
-        self.emit_receivers(code, slice::from_ref(into))
-    }
-
-    /// FROM, before the file statement.
-    pub(crate) fn emit_from(
-        &self,
-        code: &mut Code,
-        to: &Reference,
-        from: &Option<Reference>,
-    ) -> Result<(), AllocError>
-        requires declared { IsDeclared self.now.declarations.now }
-        requires rules { from_rules (items_in self.now.declarations.now) (files_in self.now.declarations.now) to.now from.now ≡ [] }
-        ensures { OnOk result (code.new ≡ joined code.old (spec.from_piece (items_in self.now.declarations.now) to.now from.now code.old)) }
-    {
-        let Some(from) = from else {
-            return Ok(());
-        };
-        self.emit_taking(code, DataInstruction::Take, from)?;
-        self.emit_receivers(code, slice::from_ref(to))
-    }
-
-    /// The file of that name.
-    pub(crate) fn file_named(&self, name: &Name) -> Option<&ProgramFile<'a>>
-        requires { IsDeclared self.now.declarations.now }
-        ensures { first (files_named (files_in self.now.declarations.now) name.now) ≡ found_in (items_in self.now.declarations.now) result }
-    {
-        self.declarations.files.file_named(name)
-    }
-
-    /// The first file that has the area of a record, which names one item.
-    pub(crate) fn file_of_record(&self, one: &Reference) -> Option<&ProgramFile<'a>>
-        requires declared { IsDeclared self.now.declarations.now }
-        requires named { NamesOne (items_in self.now.declarations.now) one.now }
-        ensures { file_with_record (files_in self.now.declarations.now) (first (items_named (items_in self.now.declarations.now) one.now.item)) ≡ found_in (items_in self.now.declarations.now) result }
-    {
-        let number = self.item_number(&one.item);
-        let found = self.declarations.layout.items.get(number)?;
-        self.declarations.files.file_with(found.area)
-    }
-
-    /// A statement without phrases on the file of that name, and what comes of its status.
-    fn emit_alone(&self, code: &mut Code, verb: Verb, name: &Name) -> Result<(), AllocError>
-        requires { IsDeclared self.now.declarations.now }
-        ensures { OnOk result (code.new ≡ joined code.old (spec.on_name_piece (items_in self.now.declarations.now) (files_in self.now.declarations.now) name.now (alone_piece (scope_in self.now.declarations.now) (statement_piece (scope_in self.now.declarations.now)) Absent (λ file. verb)) code.old)) }
+        requires entries { entry_rules self.now.declarations.now.storage.now ≡ [] }
+        requires rules { file_named_rules (items_in self.now.declarations.now) (files_in self.now.declarations.now) name.now (read_rules (items_in self.now.declarations.now) (files_in self.now.declarations.now) name.now.place next into.now key.now phrases.now) ≡ [] }
+        requires phrases { rules.file_phrases_rules (rules.statement_rules (scope_in self.now.declarations.now) all_permitted) phrases.now ≡ [] }
+        ensures { OnOk result (code.new ≡ append code.old (on_name_fragment (items_in self.now.declarations.now) (files_in self.now.declarations.now) name.now (statement_on_fragment (scope_in self.now.declarations.now) (statement_fragment (scope_in self.now.declarations.now)) phrases.now (into_fragment (items_in self.now.declarations.now) into.now) (λ file. meaning.read_verb (items_in self.now.declarations.now) file next key.now)) code.old)) }
     {
         let Some(file) = self.file_named(name) else {
             return Ok(());
         };
+        let verb = self.read_verb(file, next, key)?;
+        self.emit_on_file(code, file, verb, into, phrases)
+    }
+
+    /// WRITE or REWRITE.
+    #[cycle(statement)]
+    fn emit_record(
+        &self,
+        code: &mut Code,
+        verb: Verb,
+        one: &Reference,
+        from: &Option<Reference>,
+        phrases: &FilePhrases<Statement>,
+    ) -> Result<(), AllocError>
+        requires declared { IsDeclared self.now.declarations.now }
+        requires entries { entry_rules self.now.declarations.now.storage.now ≡ [] }
+        requires rules { record_rules (items_in self.now.declarations.now) (files_in self.now.declarations.now) one.now from.now phrases.now ≡ [] }
+        requires phrases { rules.file_phrases_rules (rules.statement_rules (scope_in self.now.declarations.now) all_permitted) phrases.now ≡ [] }
+        ensures { OnOk result (code.new ≡ append code.old (record_fragment (scope_in self.now.declarations.now) (statement_fragment (scope_in self.now.declarations.now)) verb one.now from.now phrases.now code.old)) }
+    {
+        self.emit_from(code, one, from)?;
+        let Some(file) = self.file_of_record(one) else {
+            return Ok(());
+        };
+        self.emit_on_file(code, file, verb, &None, phrases)
+    }
+
+    /// DELETE, if there is such a file.
+    #[cycle(statement)]
+    fn emit_delete(
+        &self,
+        code: &mut Code,
+        name: &Name,
+        phrases: &FilePhrases<Statement>,
+    ) -> Result<(), AllocError>
+        requires declared { IsDeclared self.now.declarations.now }
+        requires entries { entry_rules self.now.declarations.now.storage.now ≡ [] }
+        requires phrases { rules.file_phrases_rules (rules.statement_rules (scope_in self.now.declarations.now) all_permitted) phrases.now ≡ [] }
+        ensures { OnOk result (code.new ≡ append code.old (on_name_fragment (items_in self.now.declarations.now) (files_in self.now.declarations.now) name.now (alone_fragment (scope_in self.now.declarations.now) (statement_fragment (scope_in self.now.declarations.now)) phrases.now (λ file. file_verb.Delete)) code.old)) }
+    {
+        let Some(file) = self.file_named(name) else {
+            return Ok(());
+        };
+        self.emit_on_file(code, file, Verb::Delete, &None, phrases)
+    }
+
+    /// START, if there is such a file.
+    #[cycle(statement)]
+    fn emit_starting(
+        &self,
+        code: &mut Code,
+        name: &Name,
+        key: &Option<StartKey>,
+        phrases: &FilePhrases<Statement>,
+    ) -> Result<(), AllocError>
+        requires declared { IsDeclared self.now.declarations.now }
+        requires entries { entry_rules self.now.declarations.now.storage.now ≡ [] }
+        requires rules { file_named_rules (items_in self.now.declarations.now) (files_in self.now.declarations.now) name.now (start_rules (items_in self.now.declarations.now) (files_in self.now.declarations.now) name.now.place key.now phrases.now) ≡ [] }
+        requires phrases { rules.file_phrases_rules (rules.statement_rules (scope_in self.now.declarations.now) all_permitted) phrases.now ≡ [] }
+        ensures { OnOk result (code.new ≡ append code.old (on_name_fragment (items_in self.now.declarations.now) (files_in self.now.declarations.now) name.now (alone_fragment (scope_in self.now.declarations.now) (statement_fragment (scope_in self.now.declarations.now)) phrases.now (λ file. meaning.start_verb (items_in self.now.declarations.now) file key.now)) code.old)) }
+    {
+        let Some(file) = self.file_named(name) else {
+            return Ok(());
+        };
+        let verb = self.start_verb(file, key)?;
+        self.emit_on_file(code, file, verb, &None, phrases)
+    }
+
+    /// A file statement on a file, and what comes of its status. INTO comes first after a success.
+    #[cycle(statement)]
+    fn emit_on_file(
+        &self,
+        code: &mut Code,
+        file: &ProgramFile<'_>,
+        verb: Verb,
+        into: &Option<Reference>,
+        phrases: &FilePhrases<Statement>,
+    ) -> Result<(), AllocError>
+        requires declared { IsDeclared self.now.declarations.now }
+        requires entries { entry_rules self.now.declarations.now.storage.now ≡ [] }
+        requires into { into_rules (items_in self.now.declarations.now) (files_in self.now.declarations.now) (file_in (items_in self.now.declarations.now) file.now) into.now ≡ [] }
+        requires phrases { rules.file_phrases_rules (rules.statement_rules (scope_in self.now.declarations.now) all_permitted) phrases.now ≡ [] }
+        ensures { OnOk result (code.new ≡ append code.old (sequence (file_fragment verb (file_in (items_in self.now.declarations.now) file.now)) (status_fragment (scope_in self.now.declarations.now) (statement_fragment (scope_in self.now.declarations.now)) (file_in (items_in self.now.declarations.now) file.now).places.status phrases.now (into_fragment (items_in self.now.declarations.now) into.now (file_in (items_in self.now.declarations.now) file.now))) code.old)) }
+    {
         emit_file(code, verb, file)?;
         emit_test(code, StatusClass::Successful)?;
         let branch = emit_branch(code)?;
+        self.emit_into(code, file, into)?;
+        self.emit_success(code, phrases)?;
+        let other = emit_jump(code)?;
+        self.emit_failure(code, file, phrases)?;
+        emit_meeting(code, branch, other)
+    }
+
+    /// The statements behind a success.
+    #[cycle(statement)]
+    fn emit_success(
+        &self,
+        code: &mut Code,
+        phrases: &FilePhrases<Statement>,
+    ) -> Result<(), AllocError>
+        requires declared { IsDeclared self.now.declarations.now }
+        requires entries { entry_rules self.now.declarations.now.storage.now ≡ [] }
+        requires phrases { rules.file_phrases_rules (rules.statement_rules (scope_in self.now.declarations.now) all_permitted) phrases.now ≡ [] }
+        ensures { OnOk result (code.new ≡ append code.old (success_fragment (scope_in self.now.declarations.now) (statement_fragment (scope_in self.now.declarations.now)) phrases.now code.old)) }
+    {
+        match phrases {
+            FilePhrases::Absent => Ok(()),
+            FilePhrases::AtEnd(pair) => self.emit_phrase(code, &pair.did_not),
+            FilePhrases::InvalidKey(pair) => self.emit_phrase(code, &pair.did_not),
+        }
+    }
+
+    /// What comes of a status that is no success.
+    #[cycle(statement)]
+    fn emit_failure(
+        &self,
+        code: &mut Code,
+        file: &ProgramFile<'_>,
+        phrases: &FilePhrases<Statement>,
+    ) -> Result<(), AllocError>
+        requires declared { IsDeclared self.now.declarations.now }
+        requires entries { entry_rules self.now.declarations.now.storage.now ≡ [] }
+        requires phrases { rules.file_phrases_rules (rules.statement_rules (scope_in self.now.declarations.now) all_permitted) phrases.now ≡ [] }
+        ensures { OnOk result (code.new ≡ append code.old (failure_fragment (scope_in self.now.declarations.now) (statement_fragment (scope_in self.now.declarations.now)) (file_in (items_in self.now.declarations.now) file.now).places.status phrases.now code.old)) }
+    {
+        match phrases {
+            FilePhrases::Absent => self.emit_unheard(code, file),
+            FilePhrases::AtEnd(pair) => {
+                self.emit_class_phrase(code, file, StatusClass::AtEnd, &pair.arose)
+            }
+            FilePhrases::InvalidKey(pair) => {
+                self.emit_class_phrase(code, file, StatusClass::InvalidKey, &pair.arose)
+            }
+        }
+    }
+
+    /// The phrase for statuses of a class.
+    #[cycle(statement)]
+    fn emit_class_phrase(
+        &self,
+        code: &mut Code,
+        file: &ProgramFile<'_>,
+        class: StatusClass,
+        arose: &Option<Items<Statement>>,
+    ) -> Result<(), AllocError>
+        requires declared { IsDeclared self.now.declarations.now }
+        requires entries { entry_rules self.now.declarations.now.storage.now ≡ [] }
+        requires rules { rules.phrase_rules (rules.statement_rules (scope_in self.now.declarations.now) all_permitted) arose.now ≡ [] }
+        ensures { OnOk result (code.new ≡ append code.old (class_fragment (scope_in self.now.declarations.now) (statement_fragment (scope_in self.now.declarations.now)) (file_in (items_in self.now.declarations.now) file.now).places.status class arose.now code.old)) }
+    {
+        emit_test(code, class)?;
+        let branch = emit_branch(code)?;
+        self.emit_phrase_taken(code, file, arose)?;
         let other = emit_jump(code)?;
         self.emit_unheard(code, file)?;
         emit_meeting(code, branch, other)
     }
 
-    /// OPEN of each file in turn.
-    pub(crate) fn emit_opens(&self, code: &mut Code, all: &[Opening]) -> Result<(), AllocError>
-        requires { IsDeclared self.now.declarations.now }
-        ensures { OnOk result (code.new ≡ joined code.old (in_order (open_piece (scope_in self.now.declarations.now) (statement_piece (scope_in self.now.declarations.now))) all.now code.old)) }
+    /// The statements of a phrase for a status, or else what comes of a status that nothing takes.
+    #[cycle(statement)]
+    fn emit_phrase_taken(
+        &self,
+        code: &mut Code,
+        file: &ProgramFile<'_>,
+        phrase: &Option<Items<Statement>>,
+    ) -> Result<(), AllocError>
+        requires declared { IsDeclared self.now.declarations.now }
+        requires entries { entry_rules self.now.declarations.now.storage.now ≡ [] }
+        requires rules { rules.phrase_rules (rules.statement_rules (scope_in self.now.declarations.now) all_permitted) phrase.now ≡ [] }
+        ensures { OnOk result (code.new ≡ append code.old (taken_fragment (scope_in self.now.declarations.now) (statement_fragment (scope_in self.now.declarations.now)) (file_in (items_in self.now.declarations.now) file.now).places.status phrase.now code.old)) }
     {
-        for one in all {
-            self.emit_alone(code, Verb::Open(one.mode), &one.file)?;
+        match phrase {
+            None => self.emit_unheard(code, file),
+            Some(inside) => self.emit_statements(code, inside.as_slice()),
         }
-        Ok(())
-    }
-
-    /// CLOSE of each file in turn.
-    pub(crate) fn emit_closes(&self, code: &mut Code, all: &[Name]) -> Result<(), AllocError>
-        requires { IsDeclared self.now.declarations.now }
-        ensures { OnOk result (code.new ≡ joined code.old (in_order (close_piece (scope_in self.now.declarations.now) (statement_piece (scope_in self.now.declarations.now))) all.now code.old)) }
-    {
-        for one in all {
-            self.emit_alone(code, Verb::Close, one)?;
-        }
-        Ok(())
     }
 }

@@ -9,10 +9,25 @@ ghost use Rattle.codegen.specs.Sent.{code_in};
 use crate::emitter::entry_number;
 use data_instructions::ItemIndex;
 use declarations::Declarations;
-use file_tables::CodeFile;
-use program_files::ProgramFile;
+use file_descriptions::ProgramFile;
+use file_image::CodeFile;
 use sqlite_items::Items;
 use std::alloc::{AllocError, Global};
+
+/// The files, in the order of their SELECTs.
+pub(crate) fn code_files(
+    alloc: Global,
+    declarations: &Declarations<'_>,
+) -> Result<Items<CodeFile>, AllocError>
+    requires { IsDeclared declarations.now }
+    ensures { IfOk result (λ files. files ≡ spec.code_files (items_in declarations.now) declarations.now.selects.now (files_in declarations.now)) }
+{
+    let mut files = Items::new(alloc);
+    for file in &declarations.files.files {
+        files.push(code_file(alloc, file)?)?;
+    }
+    Ok(files)
+}
 
 /// The item of a clause, by its number.
 fn clause_index(number: Option<usize>) -> Result<Option<ItemIndex>, AllocError>
@@ -42,19 +57,4 @@ fn code_file(alloc: Global, file: &ProgramFile<'_>) -> Result<CodeFile, AllocErr
         relative_key: clause_index(file.relative_key)?,
         status: clause_index(file.status)?,
     })
-}
-
-/// The files, in the order of their SELECTs.
-pub(crate) fn code_files(
-    alloc: Global,
-    declarations: &Declarations<'_>,
-) -> Result<Items<CodeFile>, AllocError>
-    requires { IsDeclared declarations.now }
-    ensures { IfOk result (λ files. files ≡ spec.code_files (items_in declarations.now) declarations.now.selects.now (files_in declarations.now)) }
-{
-    let mut files = Items::new(alloc);
-    for file in &declarations.files.files {
-        files.push(code_file(alloc, file)?)?;
-    }
-    Ok(files)
 }

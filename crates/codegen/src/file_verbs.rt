@@ -8,13 +8,13 @@ ghost use Rattle.records.specs.declared.verb.Verb.TheVariants as verbs;
 ghost use Rattle.source_tree.specs.Filing as meaning;
 ghost use Rattle.source_tree.specs.FilingRules.{read_key_rules, start_key_rules};
 ghost use Rattle.source_tree.specs.ProgramFiles.{key_place};
-ghost use Rattle.program_files.specs.Clauses.{NamesOne};
-ghost use Rattle.program_files.specs.Files.{file_in};
+ghost use Rattle.file_descriptions.specs.Clauses.{NamesOne};
+ghost use Rattle.file_descriptions.specs.Files.{file_in};
 ghost use Rattle.declarations.specs.Named.{IsDeclared, items_in, files_in};
 ghost use Rattle.codegen.specs.Filed.{spec_in};
 
 use crate::emitter::Emitter;
-use program_files::ProgramFile;
+use file_descriptions::ProgramFile;
 use records::{Access, AlternateKey, KeyOfReference, Organization, Relation, Verb};
 use source_tree::{Reference, Relation as Asked, RelationalOperator, StartKey};
 use std::alloc::AllocError;

@@ -10,6 +10,19 @@ ghost use Rattle.codegen.specs.ArithmeticCode.{or_zero};
 use decimal18::{Dec, number_behind};
 use source_tree::{LiteralValue, NumericLiteral, Sign};
 
+/// The number that a literal is: of ZERO, and of one that is none, 0.
+pub(crate) fn number_of_literal(value: &LiteralValue) -> Dec
+    requires { has_form value.now ≡ true }
+    ensures { result ≡ or_zero (computed.number_of_literal value.now) }
+{
+    match value {
+        LiteralValue::Numeric(one) => number_written(one),
+        LiteralValue::Figurative(_) | LiteralValue::Nonnumeric(_) | LiteralValue::All(_) => {
+            Dec::short(0, 0)
+        }
+    }
+}
+
 fn is_minus(sign: Sign) -> bool
     ensures { result ≡ spec.is_minus sign }
 {
@@ -29,17 +42,4 @@ fn number_written(one: &NumericLiteral) -> Dec
     };
     let scale = one.decimals.len() as u8;
     Dec::from_parts(is_minus(one.sign), u128::from(magnitude), scale)
-}
-
-/// The number that a literal is: of ZERO, and of one that is none, 0.
-pub(crate) fn number_of_literal(value: &LiteralValue) -> Dec
-    requires { has_form value.now ≡ true }
-    ensures { result ≡ or_zero (computed.number_of_literal value.now) }
-{
-    match value {
-        LiteralValue::Numeric(one) => number_written(one),
-        LiteralValue::Figurative(_) | LiteralValue::Nonnumeric(_) | LiteralValue::All(_) => {
-            Dec::short(0, 0)
-        }
-    }
 }

@@ -4,7 +4,7 @@ ghost use Rattle.std.specs.Prelude.{◌≡◌, [], map, replicate, slice_get, If
 ghost use Rattle.source_tree.specs.EntryRules.{entry_rules};
 ghost use Rattle.source_tree.specs.Initializing.{first_value};
 ghost use Rattle.source_tree.specs.LookUp.{all_conditions};
-ghost use Rattle.source_tree.specs.NameRules.{item_rules, any_item};
+ghost use Rattle.source_tree.specs.NameRules.{reference_rules, any_item};
 ghost use Rattle.source_tree.specs.SettingRules.{set_one};
 ghost use Rattle.data_instructions.specs.TextCodes.{new_byte, new_mark};
 ghost use Rattle.declarations.specs.Named.{IsDeclared, items_in};
@@ -68,7 +68,7 @@ impl<'a> Emitter<'a> {
     pub(crate) fn initial_overlay(&self, one: &Reference) -> Result<Overlay, AllocError>
         requires declared { IsDeclared self.now.declarations.now }
         requires entries { entry_rules self.now.declarations.now.storage.now ≡ [] }
-        requires rules { item_rules (items_in self.now.declarations.now) any_item one.now ≡ [] }
+        requires rules { reference_rules (items_in self.now.declarations.now) any_item one.now ≡ [] }
         ensures bytes { IfOk result (λ made. made.bytes ≡ map new_byte (spec.pattern_of (slice_get (items_in self.now.declarations.now) (item_number (items_in self.now.declarations.now) one.now.item)))) }
         ensures marks { IfOk result (λ made. made.marks ≡ map new_mark (spec.pattern_of (slice_get (items_in self.now.declarations.now) (item_number (items_in self.now.declarations.now) one.now.item)))) }
     {

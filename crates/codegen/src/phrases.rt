@@ -2,10 +2,10 @@
 
 ghost use Rattle.std.specs.Prelude.{◌≡◌, ◌+◌, ◌<◌, ◌≤◌, ◌||◌, length, OnOk, IfOk};
 ghost use Rattle.source_tree.specs.Arithmetic.{is_there};
-ghost use Rattle.codegen.specs.Pieces.{joined};
+ghost use Rattle.codegen.specs.Pieces.{append};
 ghost use Rattle.codegen.specs.Meeting.{branch_code, jump_code};
 ghost use Rattle.std.specs.List.{AllByRecursion};
-ghost use Rattle.codegen.specs.Phrases.{IsWay, met, met_all};
+ghost use Rattle.codegen.specs.Phrases.{IsWay, patched_code, met_all};
 
 use code_image::{Code, Instruction};
 use source_tree::{Phrases, Statement};
@@ -27,7 +27,7 @@ pub(crate) fn has_phrase(one: &Phrases<Statement>) -> bool
 
 /// Where the truth is false, on to an address that isn't known yet. Answers its own address.
 pub(crate) fn emit_branch(code: &mut Code) -> Result<usize, AllocError>
-    ensures code { OnOk result (code.new ≡ joined code.old (branch_code 0)) }
+    ensures code { OnOk result (code.new ≡ append code.old (branch_code 0)) }
     ensures address { IfOk result (λ address. address ≡ length code.old.instructions) }
 {
     let address = code.instructions.len();
@@ -37,7 +37,7 @@ pub(crate) fn emit_branch(code: &mut Code) -> Result<usize, AllocError>
 
 /// Where the truth is false, back to an address.
 pub(crate) fn emit_way_back(code: &mut Code, to: usize) -> Result<(), AllocError>
-    ensures { OnOk result (code.new ≡ joined code.old (branch_code to)) }
+    ensures { OnOk result (code.new ≡ append code.old (branch_code to)) }
 {
     code.instructions.push(Instruction::Branch { to })?;
     Ok(())
@@ -45,7 +45,7 @@ pub(crate) fn emit_way_back(code: &mut Code, to: usize) -> Result<(), AllocError
 
 /// On to an address that isn't known yet, and the end of the first way. Answers the address at which the other one begins.
 pub(crate) fn emit_jump(code: &mut Code) -> Result<usize, AllocError>
-    ensures code { OnOk result (code.new ≡ joined code.old (jump_code 0)) }
+    ensures code { OnOk result (code.new ≡ append code.old (jump_code 0)) }
     ensures other { IfOk result (λ other. other ≡ length code.old.instructions + 2) }
 {
     code.instructions.push(Instruction::Jump { to: 0 })?;
@@ -58,7 +58,7 @@ pub(crate) fn emit_meeting(code: &mut Code, branch: usize, other: usize) -> Resu
     requires branch { branch < length code.old.instructions }
     requires jump { 2 ≤ other }
     requires other { other ≤ length code.old.instructions }
-    ensures { OnOk result (code.new ≡ met branch other code.old) }
+    ensures { OnOk result (code.new ≡ patched_code branch other code.old) }
 {
     code.instructions.push(Instruction::Join)?;
     let end = code.instructions.len();

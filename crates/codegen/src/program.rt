@@ -1,11 +1,11 @@
 //! The code of a program.
 
 ghost use Rattle.std.specs.Prelude.{◌≡◌, length, IfOk};
-ghost use Rattle.source_tree.specs.Given.{Given};
+ghost use Rattle.source_tree.specs.Given.{RunInput};
 ghost use Rattle.source_tree.specs.Setting.{scope};
 ghost use Rattle.source_tree.specs.ProgramFiles as described;
 ghost use Rattle.source_tree.specs.Meaning.{Run, meaning};
-ghost use Rattle.file_tables.specs.Files.{entries_of};
+ghost use Rattle.file_image.specs.Files.{entries_of};
 ghost use Rattle.code_image.specs.Demands.{IsVerified};
 ghost use Rattle.code_image.specs.Table.{Runs};
 ghost use Rattle.codegen.specs.Layout.{code_of};
@@ -21,9 +21,9 @@ use std::alloc::{AllocError, Global};
 pub fn generate(alloc: Global, checked: &Checked<'_>) -> Result<Code, AllocError>
     ensures layout { IfOk result (λ code. code ≡ code_of checked.now) }
     // Whatever it is given, the code's run is what the tree means,
-    ensures ends { IfOk result (λ code. (given : Given) → Runs code given (meaning checked.now given)) }
+    ensures ends { IfOk result (λ code. (given : RunInput) → Runs code given (meaning checked.now given)) }
     // and nothing else is.
-    ensures ends_only { IfOk result (λ code. (given : Given) (run : Run) → Runs code given run → run ≡ meaning checked.now given) }
+    ensures ends_only { IfOk result (λ code. (given : RunInput) (run : Run) → Runs code given run → run ≡ meaning checked.now given) }
     // There is one file for each SELECT.
     ensures files { IfOk result (λ code. length code.files ≡ length checked.now.selects) }
     // Each file is what its SELECT and FD say.

@@ -6,7 +6,7 @@ ghost use Rattle.source_tree.specs.Integers as written;
 ghost use Rattle.source_tree.specs.NameRules.{integer_rules, adjustment_rules, subscript_rules};
 ghost use Rattle.data_instructions.specs.Codes.{integer, index_code};
 ghost use Rattle.declarations.specs.Named.{IsDeclared, items_in};
-ghost use Rattle.codegen.specs.Pieces.{joined, both};
+ghost use Rattle.codegen.specs.Pieces.{append, sequence};
 ghost use Rattle.codegen.specs.DataCode as spec;
 
 use crate::emitter::{Emitter, entry_number};
@@ -15,6 +15,36 @@ use data_instructions::{Calculation, DataInstruction, NumberIndex};
 use decimal18::{Dec, number_behind};
 use source_tree::{Adjustment, Dimension, Integer, Reference, Subscript};
 use std::alloc::AllocError;
+
+/// An instruction on data.
+pub(crate) fn emit_work(code: &mut Code, one: DataInstruction) -> Result<(), AllocError>
+    ensures { OnOk result (code.new ≡ append code.old (spec.work_fragment one code.old)) }
+{
+    code.instructions.push(Instruction::Data(one))?;
+    Ok(())
+}
+
+/// Instructions on data, in order.
+pub(crate) fn emit_works(code: &mut Code, all: &[DataInstruction]) -> Result<(), AllocError>
+    ensures { OnOk result (code.new ≡ append code.old (spec.works_fragment all.now code.old)) }
+{
+    for one in all {
+        emit_work(code, *one)?;
+    }
+    Ok(())
+}
+
+/// A number, on the stack of numbers.
+pub(crate) fn emit_number(code: &mut Code, one: Dec) -> Result<(), AllocError>
+    ensures { OnOk result (code.new ≡ append code.old (spec.number_fragment one code.old)) }
+{
+    let number = entry_number(code.tables.numbers.len())?;
+    code.tables.numbers.push(one)?;
+    let number = NumberIndex { number };
+    code.instructions
+        .push(Instruction::Data(DataInstruction::Literal { number }))?;
+    Ok(())
+}
 
 /// The number that an integer is.
 fn number_of(one: &Integer) -> Dec
@@ -27,40 +57,10 @@ fn number_of(one: &Integer) -> Dec
     Dec::from_parts(false, u128::from(number), 0)
 }
 
-/// An instruction on data.
-pub(crate) fn emit_work(code: &mut Code, one: DataInstruction) -> Result<(), AllocError>
-    ensures { OnOk result (code.new ≡ joined code.old (spec.work_piece one code.old)) }
-{
-    code.instructions.push(Instruction::Data(one))?;
-    Ok(())
-}
-
-/// Instructions on data, in order.
-pub(crate) fn emit_works(code: &mut Code, all: &[DataInstruction]) -> Result<(), AllocError>
-    ensures { OnOk result (code.new ≡ joined code.old (spec.works_piece all.now code.old)) }
-{
-    for one in all {
-        emit_work(code, *one)?;
-    }
-    Ok(())
-}
-
-/// A number, on the stack of numbers.
-pub(crate) fn emit_number(code: &mut Code, one: Dec) -> Result<(), AllocError>
-    ensures { OnOk result (code.new ≡ joined code.old (spec.number_piece one code.old)) }
-{
-    let number = entry_number(code.tables.numbers.len())?;
-    code.tables.numbers.push(one)?;
-    let number = NumberIndex { number };
-    code.instructions
-        .push(Instruction::Data(DataInstruction::Literal { number }))?;
-    Ok(())
-}
-
 /// An integer, on the stack of numbers.
 fn emit_integer(code: &mut Code, one: &Integer) -> Result<(), AllocError>
     requires { integer_rules one.now ≡ [] }
-    ensures { OnOk result (code.new ≡ joined code.old (spec.integer_piece (written.number_of one.now) code.old)) }
+    ensures { OnOk result (code.new ≡ append code.old (spec.integer_fragment (written.number_of one.now) code.old)) }
 {
     emit_number(code, number_of(one))
 }
@@ -68,7 +68,7 @@ fn emit_integer(code: &mut Code, one: &Integer) -> Result<(), AllocError>
 /// What is added to the item of a subscript.
 fn emit_adjustment(code: &mut Code, one: &Adjustment) -> Result<(), AllocError>
     requires { adjustment_rules one.now ≡ [] }
-    ensures { OnOk result (code.new ≡ joined code.old (spec.adjustment_piece one.now code.old)) }
+    ensures { OnOk result (code.new ≡ append code.old (spec.adjustment_fragment one.now code.old)) }
 {
     match one {
         Adjustment::Nothing => Ok(()),
@@ -85,7 +85,7 @@ fn emit_adjustment(code: &mut Code, one: &Adjustment) -> Result<(), AllocError>
 
 /// The range of a subscript, whose number is on the stack.
 fn emit_range(code: &mut Code, one: Dimension) -> Result<(), AllocError>
-    ensures { OnOk result (code.new ≡ joined code.old (spec.work_piece (index_code one) code.old)) }
+    ensures { OnOk result (code.new ≡ append code.old (spec.work_fragment (index_code one) code.old)) }
 {
     let Dimension { stride, count } = one;
     emit_work(code, DataInstruction::Index { stride, count })
@@ -96,7 +96,7 @@ impl<'a> Emitter<'a> {
     fn emit_subscript(&self, code: &mut Code, one: &Subscript) -> Result<(), AllocError>
         requires declared { IsDeclared self.now.declarations.now }
         requires rules { subscript_rules (items_in self.now.declarations.now) one.now ≡ [] }
-        ensures { OnOk result (code.new ≡ joined code.old (spec.subscript_piece (items_in self.now.declarations.now) one.now code.old)) }
+        ensures { OnOk result (code.new ≡ append code.old (spec.subscript_fragment (items_in self.now.declarations.now) one.now code.old)) }
     {
         match one {
             Subscript::Literal(integer) => emit_integer(code, integer),
@@ -118,7 +118,7 @@ impl<'a> Emitter<'a> {
     ) -> Result<(), AllocError>
         requires declared { IsDeclared self.now.declarations.now }
         requires rules { subscript_rules (items_in self.now.declarations.now) one.now ≡ [] }
-        ensures { OnOk result (code.new ≡ joined code.old (both (spec.subscript_piece (items_in self.now.declarations.now) one.now) (spec.work_piece (index_code dimension)) code.old)) }
+        ensures { OnOk result (code.new ≡ append code.old (sequence (spec.subscript_fragment (items_in self.now.declarations.now) one.now) (spec.work_fragment (index_code dimension)) code.old)) }
     {
         self.emit_subscript(code, one)?;
         emit_range(code, dimension)
@@ -133,7 +133,7 @@ impl<'a> Emitter<'a> {
     ) -> Result<(), AllocError>
         requires declared { IsDeclared self.now.declarations.now }
         requires rules { each (subscript_rules (items_in self.now.declarations.now)) subscripts.now ≡ [] }
-        ensures { OnOk result (code.new ≡ joined code.old (spec.subscripts_piece (items_in self.now.declarations.now) dimensions.now subscripts.now code.old)) }
+        ensures { OnOk result (code.new ≡ append code.old (spec.subscripts_fragment (items_in self.now.declarations.now) dimensions.now subscripts.now code.old)) }
     {
         for (number, dimension) in dimensions.iter().enumerate() {
             let Some(one) = subscripts.get(number) else {
@@ -148,7 +148,7 @@ impl<'a> Emitter<'a> {
     pub(crate) fn emit_reference(&self, code: &mut Code, one: &Reference) -> Result<(), AllocError>
         requires declared { IsDeclared self.now.declarations.now }
         requires rules { each (subscript_rules (items_in self.now.declarations.now)) one.now.subscripts ≡ [] }
-        ensures { OnOk result (code.new ≡ joined code.old (spec.reference_piece (items_in self.now.declarations.now) one.now code.old)) }
+        ensures { OnOk result (code.new ≡ append code.old (spec.reference_fragment (items_in self.now.declarations.now) one.now code.old)) }
     {
         let item = self.item_index(&one.item)?;
         emit_work(code, DataInstruction::Place { item })?;
@@ -165,7 +165,7 @@ impl<'a> Emitter<'a> {
     ) -> Result<(), AllocError>
         requires declared { IsDeclared self.now.declarations.now }
         requires rules { each (subscript_rules (items_in self.now.declarations.now)) one.now.subscripts ≡ [] }
-        ensures { OnOk result (code.new ≡ joined code.old (spec.taking_piece (items_in self.now.declarations.now) taking one.now code.old)) }
+        ensures { OnOk result (code.new ≡ append code.old (spec.take_fragment (items_in self.now.declarations.now) taking one.now code.old)) }
     {
         self.emit_reference(code, one)?;
         emit_work(code, taking)

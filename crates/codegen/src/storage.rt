@@ -4,7 +4,7 @@ ghost use Rattle.std.specs.Prelude.{◌≡◌, [], map, IfOk};
 ghost use Rattle.source_tree.specs.EntryRules.{entry_rules};
 ghost use Rattle.source_tree.specs.Records.{program_areas};
 ghost use Rattle.data_instructions.specs.Codes.{data_item};
-ghost use Rattle.program_files.specs.Files.{file_in};
+ghost use Rattle.file_descriptions.specs.Files.{file_in};
 ghost use Rattle.declarations.specs.Named.{Declares, IsDeclared, items_in, files_in};
 ghost use Rattle.codegen.specs.FileCode as files;
 ghost use Rattle.codegen.specs.Layout as spec;
@@ -14,14 +14,33 @@ use crate::file_table::code_files;
 use code_image::Code;
 use data_instructions::{DataItem, DataTables};
 use declarations::Declarations;
+use file_descriptions::ProgramFile;
 use initial_storage::InitialStorage;
 use items::Kind;
 use layout::PlacedItem;
 use picture::Picture;
-use program_files::ProgramFile;
 use source_tree::Program;
 use sqlite_items::Items;
 use std::alloc::{AllocError, Global};
+
+/// The code before the first statement of the program that declares this.
+pub(crate) fn storage_code(
+    alloc: Global,
+    program: &Program,
+    declarations: &Declarations<'_>,
+) -> Result<Code, AllocError>
+    requires declared { IsDeclared declarations.now }
+    requires program { Declares program.now declarations.now }
+    requires rules { entry_rules program.now.storage ≡ [] }
+    ensures { IfOk result (λ code. code ≡ spec.storage_with (program_areas program.now) (items_in declarations.now) declarations.now.selects.now (files_in declarations.now)) }
+{
+    Ok(Code {
+        tables: storage_tables(alloc, program, declarations)?,
+        files: code_files(alloc, declarations)?,
+        starts: Items::new(alloc),
+        instructions: Items::new(alloc),
+    })
+}
 
 fn editing_of(one: &PlacedItem) -> Result<Option<Picture>, AllocError>
     ensures { IfOk result (λ editing. editing ≡ one.now.editing) }
@@ -146,24 +165,5 @@ fn storage_tables(
         senders: Items::new(alloc),
         texts: Items::new(alloc),
         inspections: Items::new(alloc),
-    })
-}
-
-/// The code before the first statement of the program that declares this.
-pub(crate) fn storage_code(
-    alloc: Global,
-    program: &Program,
-    declarations: &Declarations<'_>,
-) -> Result<Code, AllocError>
-    requires declared { IsDeclared declarations.now }
-    requires program { Declares program.now declarations.now }
-    requires rules { entry_rules program.now.storage ≡ [] }
-    ensures { IfOk result (λ code. code ≡ spec.storage_with (program_areas program.now) (items_in declarations.now) declarations.now.selects.now (files_in declarations.now)) }
-{
-    Ok(Code {
-        tables: storage_tables(alloc, program, declarations)?,
-        files: code_files(alloc, declarations)?,
-        starts: Items::new(alloc),
-        instructions: Items::new(alloc),
     })
 }

@@ -10,7 +10,7 @@ ghost use Rattle.source_tree.specs.Evaluate as tree;
 ghost use Rattle.source_tree.specs.EvaluateRules.{subject_rules};
 ghost use Rattle.declarations.specs.Named.{IsDeclared, items_in};
 ghost use Rattle.declarations.specs.Looking.{choice_looked};
-ghost use Rattle.codegen.specs.Pieces.{joined};
+ghost use Rattle.codegen.specs.Pieces.{append};
 ghost use Rattle.codegen.specs.DataCode.{item_number};
 ghost use Rattle.codegen.specs.SubjectCode as spec;
 
@@ -59,7 +59,7 @@ impl<'a> Emitter<'a> {
     /// The item that a name names is numeric.
     fn is_numeric(&self, name: &QualifiedName) -> bool
         requires { IsDeclared self.now.declarations.now }
-        ensures { result ≡ spec.is_numeric (slice_get (items_in self.now.declarations.now) (item_number (items_in self.now.declarations.now) name.now)) }
+        ensures { result ≡ spec.is_numeric_subject (slice_get (items_in self.now.declarations.now) (item_number (items_in self.now.declarations.now) name.now)) }
     {
         match self.declarations.layout.items.get(self.item_number(name)) {
             Some(found) => matches!(found.item.kind, Kind::Numeric(_)),
@@ -125,7 +125,7 @@ impl<'a> Emitter<'a> {
     fn emit_value_look(&self, code: &mut Code, value: &Side) -> Result<(), AllocError>
         requires declared { IsDeclared self.now.declarations.now }
         requires rules { side_rules (items_in self.now.declarations.now) value.now ≡ [] }
-        ensures { OnOk result (code.new ≡ joined code.old (spec.look_piece (items_in self.now.declarations.now) (spec.value_look (items_in self.now.declarations.now) value.now) code.old)) }
+        ensures { OnOk result (code.new ≡ append code.old (spec.look_fragment (items_in self.now.declarations.now) (spec.value_look (items_in self.now.declarations.now) value.now) code.old)) }
     {
         if self.is_faultless(value) {
             return Ok(());
@@ -139,7 +139,7 @@ impl<'a> Emitter<'a> {
         requires declared { IsDeclared self.now.declarations.now }
         requires entries { entry_rules self.now.declarations.now.storage.now ≡ [] }
         requires rules { subject_rules (items_in self.now.declarations.now) one.now ≡ [] }
-        ensures { OnOk result (code.new ≡ joined code.old (spec.subject_piece (items_in self.now.declarations.now) one.now code.old)) }
+        ensures { OnOk result (code.new ≡ append code.old (spec.subject_fragment (items_in self.now.declarations.now) one.now code.old)) }
     {
         match self.declarations.looked_subject(one) {
             LookedSubject::Value(value) => self.emit_value_look(code, value),
@@ -153,7 +153,7 @@ impl<'a> Emitter<'a> {
         requires declared { IsDeclared self.now.declarations.now }
         requires entries { entry_rules self.now.declarations.now.storage.now ≡ [] }
         requires rules { each (subject_rules (items_in self.now.declarations.now)) all.now ≡ [] }
-        ensures { OnOk result (code.new ≡ joined code.old (spec.each_subject_piece (items_in self.now.declarations.now) all.now code.old)) }
+        ensures { OnOk result (code.new ≡ append code.old (spec.each_subject_fragment (items_in self.now.declarations.now) all.now code.old)) }
     {
         for one in all {
             self.emit_subject(code, one)?;
@@ -170,7 +170,7 @@ impl<'a> Emitter<'a> {
         requires declared { IsDeclared self.now.declarations.now }
         requires entries { entry_rules self.now.declarations.now.storage.now ≡ [] }
         requires rules { each (subject_rules (items_in self.now.declarations.now)) one.now.subjects ≡ [] }
-        ensures { OnOk result (code.new ≡ joined code.old (spec.subjects_piece (items_in self.now.declarations.now) one.now.subjects (spec.first_object one.now.selected) code.old)) }
+        ensures { OnOk result (code.new ≡ append code.old (spec.subjects_fragment (items_in self.now.declarations.now) one.now.subjects (spec.first_object one.now.selected) code.old)) }
     {
         let subjects = one.subjects.as_slice();
         if self.is_asked_first(subjects, first_object(one.selected.as_slice())) {

@@ -2,14 +2,14 @@
 
 ghost use Rattle.std.specs.Prelude.{◌≡◌, [], length, OnOk, IfOk};
 ghost use Rattle.source_tree.specs.EntryRules.{entry_rules};
-ghost use Rattle.source_tree.specs.NameRules.{item_rules};
+ghost use Rattle.source_tree.specs.NameRules.{reference_rules};
 ghost use Rattle.source_tree.specs.Performing.{turns_of};
 ghost use Rattle.source_tree.specs.Rules as rules;
 ghost use Rattle.source_tree.specs.Rules.{all_permitted, integer_item};
 ghost use Rattle.declarations.specs.Named.{IsDeclared, items_in, scope_in};
-ghost use Rattle.codegen.specs.Pieces.{joined, both};
-ghost use Rattle.codegen.specs.DataCode.{taking_piece};
-ghost use Rattle.codegen.specs.Layout.{loop_begin, count_begin, turn_end, counted_turn, times_piece, counted_piece, turn_piece, statement_piece};
+ghost use Rattle.codegen.specs.Pieces.{append, sequence};
+ghost use Rattle.codegen.specs.DataCode.{take_fragment};
+ghost use Rattle.codegen.specs.Layout.{loop_begin, count_begin, turn_end, counted_turn, times_fragment, counted_fragment, turn_fragment, statement_fragment};
 ghost use Rattle.data_instructions.specs.declared.instruction.DataInstruction.TheVariants as i;
 
 use crate::emitter::Emitter;
@@ -34,7 +34,7 @@ pub(crate) fn count_of(integer: &Integer) -> u64
 
 /// A loop begins that has so many turns after the first. Answers its address.
 fn emit_loop_begin(code: &mut Code, more: u64) -> Result<usize, AllocError>
-    ensures code { OnOk result (code.new ≡ joined code.old (loop_begin more code.old)) }
+    ensures code { OnOk result (code.new ≡ append code.old (loop_begin more code.old)) }
     ensures begin { IfOk result (λ begin. begin ≡ length code.old.instructions) }
 {
     let number = code.instructions.len();
@@ -47,7 +47,7 @@ fn emit_loop_begin(code: &mut Code, more: u64) -> Result<usize, AllocError>
 
 /// A loop begins that has as many turns as the newest number says. Answers its address.
 fn emit_count_begin(code: &mut Code) -> Result<usize, AllocError>
-    ensures code { OnOk result (code.new ≡ joined code.old (count_begin code.old)) }
+    ensures code { OnOk result (code.new ≡ append code.old (count_begin code.old)) }
     ensures begin { IfOk result (λ begin. begin ≡ length code.old.instructions) }
 {
     let number = code.instructions.len();
@@ -59,7 +59,7 @@ fn emit_count_begin(code: &mut Code) -> Result<usize, AllocError>
 
 /// The end of a turn of the loop that begins at this address, back to where each turn begins.
 fn emit_turn_end(code: &mut Code, begin: usize, to: usize) -> Result<(), AllocError>
-    ensures { OnOk result (code.new ≡ joined code.old (turn_end begin to)) }
+    ensures { OnOk result (code.new ≡ append code.old (turn_end begin to)) }
 {
     code.instructions.push(Instruction::Turn {
         counter: CounterIndex { number: begin },
@@ -81,7 +81,7 @@ impl<'a> Emitter<'a> {
         requires declared { IsDeclared self.now.declarations.now }
         requires entries { entry_rules self.now.declarations.now.storage.now ≡ [] }
         requires rules { rules.performed_rules (scope_in self.now.declarations.now).procedures all_permitted (rules.statement_rules (scope_in self.now.declarations.now) all_permitted) one.now ≡ [] }
-        ensures { OnOk result (code.new ≡ joined code.old (times_piece count (turn_piece (scope_in self.now.declarations.now) (statement_piece (scope_in self.now.declarations.now)) line one.now) code.old)) }
+        ensures { OnOk result (code.new ≡ append code.old (times_fragment count (turn_fragment (scope_in self.now.declarations.now) (statement_fragment (scope_in self.now.declarations.now)) line one.now) code.old)) }
     {
         if count == 0 {
             return Ok(());
@@ -101,9 +101,9 @@ impl<'a> Emitter<'a> {
     ) -> Result<(), AllocError>
         requires declared { IsDeclared self.now.declarations.now }
         requires entries { entry_rules self.now.declarations.now.storage.now ≡ [] }
-        requires item { item_rules (items_in self.now.declarations.now) integer_item item.now ≡ [] }
+        requires item { reference_rules (items_in self.now.declarations.now) integer_item item.now ≡ [] }
         requires rules { rules.performed_rules (scope_in self.now.declarations.now).procedures all_permitted (rules.statement_rules (scope_in self.now.declarations.now) all_permitted) one.now ≡ [] }
-        ensures { OnOk result (code.new ≡ joined code.old (both (taking_piece (items_in self.now.declarations.now) i.Push item.now) (counted_piece (turn_piece (scope_in self.now.declarations.now) (statement_piece (scope_in self.now.declarations.now)) line one.now)) code.old)) }
+        ensures { OnOk result (code.new ≡ append code.old (sequence (take_fragment (items_in self.now.declarations.now) i.Push item.now) (counted_fragment (turn_fragment (scope_in self.now.declarations.now) (statement_fragment (scope_in self.now.declarations.now)) line one.now)) code.old)) }
     {
         self.emit_taking(code, DataInstruction::Push, item)?;
         let begin = emit_count_begin(code)?;
@@ -125,7 +125,7 @@ impl<'a> Emitter<'a> {
         requires declared { IsDeclared self.now.declarations.now }
         requires entries { entry_rules self.now.declarations.now.storage.now ≡ [] }
         requires rules { rules.performed_rules (scope_in self.now.declarations.now).procedures all_permitted (rules.statement_rules (scope_in self.now.declarations.now) all_permitted) one.now ≡ [] }
-        ensures { OnOk result (code.new ≡ joined code.old (counted_turn begin (turn_piece (scope_in self.now.declarations.now) (statement_piece (scope_in self.now.declarations.now)) line one.now) code.old)) }
+        ensures { OnOk result (code.new ≡ append code.old (counted_turn begin (turn_fragment (scope_in self.now.declarations.now) (statement_fragment (scope_in self.now.declarations.now)) line one.now) code.old)) }
     {
         let to = code.instructions.len();
         self.emit_turn(code, line, one)?;

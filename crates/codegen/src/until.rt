@@ -6,12 +6,12 @@ ghost use Rattle.source_tree.specs.ConditionRules.{varying_rules, until_rules};
 ghost use Rattle.source_tree.specs.Rules as rules;
 ghost use Rattle.source_tree.specs.Rules.{all_permitted};
 ghost use Rattle.declarations.specs.Named.{IsDeclared, items_in, scope_in};
-ghost use Rattle.codegen.specs.Pieces.{joined, both};
-ghost use Rattle.codegen.specs.Meeting.{either_piece, nothing_piece};
-ghost use Rattle.codegen.specs.DataCode.{work_piece};
-ghost use Rattle.codegen.specs.ConditionCode.{condition_piece};
+ghost use Rattle.codegen.specs.Pieces.{append, sequence};
+ghost use Rattle.codegen.specs.Meeting.{either_fragment, nothing_fragment};
+ghost use Rattle.codegen.specs.DataCode.{work_fragment};
+ghost use Rattle.codegen.specs.ConditionCode.{condition_fragment};
 ghost use Rattle.codegen.specs.UntilCode as spec;
-ghost use Rattle.codegen.specs.Layout.{turn_piece, statement_piece};
+ghost use Rattle.codegen.specs.Layout.{turn_fragment, statement_fragment};
 ghost use Rattle.data_instructions.specs.declared.instruction.DataInstruction.TheVariants as i;
 
 use crate::arithmetic::discard;
@@ -28,7 +28,7 @@ impl<'a> Emitter<'a> {
     fn emit_vary_begin(&self, code: &mut Code, one: &Option<Varying>) -> Result<(), AllocError>
         requires declared { IsDeclared self.now.declarations.now }
         requires rules { varying_rules (items_in self.now.declarations.now) one.now ≡ [] }
-        ensures { OnOk result (code.new ≡ joined code.old (spec.vary_begin_piece (items_in self.now.declarations.now) one.now code.old)) }
+        ensures { OnOk result (code.new ≡ append code.old (spec.vary_begin_fragment (items_in self.now.declarations.now) one.now code.old)) }
     {
         let Some(varying) = one else {
             return Ok(());
@@ -41,7 +41,7 @@ impl<'a> Emitter<'a> {
     fn emit_vary_on(&self, code: &mut Code, one: &Option<Varying>) -> Result<(), AllocError>
         requires declared { IsDeclared self.now.declarations.now }
         requires rules { varying_rules (items_in self.now.declarations.now) one.now ≡ [] }
-        ensures { OnOk result (code.new ≡ joined code.old (spec.vary_on_piece (items_in self.now.declarations.now) one.now code.old)) }
+        ensures { OnOk result (code.new ≡ append code.old (spec.vary_on_fragment (items_in self.now.declarations.now) one.now code.old)) }
     {
         let Some(varying) = one else {
             return Ok(());
@@ -56,7 +56,7 @@ impl<'a> Emitter<'a> {
     fn emit_onward(&self, code: &mut Code, one: &Option<Varying>) -> Result<(), AllocError>
         requires declared { IsDeclared self.now.declarations.now }
         requires rules { varying_rules (items_in self.now.declarations.now) one.now ≡ [] }
-        ensures { OnOk result (code.new ≡ joined code.old (either_piece nothing_piece (both (spec.vary_on_piece (items_in self.now.declarations.now) one.now) (work_piece i.ClearTruth)) code.old)) }
+        ensures { OnOk result (code.new ≡ append code.old (either_fragment nothing_fragment (sequence (spec.vary_on_fragment (items_in self.now.declarations.now) one.now) (work_fragment i.ClearTruth)) code.old)) }
     {
         let branch = emit_branch(code)?;
         let other = emit_jump(code)?;
@@ -78,7 +78,7 @@ impl<'a> Emitter<'a> {
         requires entries { entry_rules self.now.declarations.now.storage.now ≡ [] }
         requires turns { until_rules (items_in self.now.declarations.now) one.now ≡ [] }
         requires rules { rules.performed_rules (scope_in self.now.declarations.now).procedures all_permitted (rules.statement_rules (scope_in self.now.declarations.now) all_permitted) performed.now ≡ [] }
-        ensures { OnOk result (code.new ≡ joined code.old (spec.until_piece (items_in self.now.declarations.now) one.now (turn_piece (scope_in self.now.declarations.now) (statement_piece (scope_in self.now.declarations.now)) line performed.now) code.old)) }
+        ensures { OnOk result (code.new ≡ append code.old (spec.until_fragment (items_in self.now.declarations.now) one.now (turn_fragment (scope_in self.now.declarations.now) (statement_fragment (scope_in self.now.declarations.now)) line performed.now) code.old)) }
     {
         self.emit_vary_begin(code, &one.varying)?;
         match one.test {
@@ -100,7 +100,7 @@ impl<'a> Emitter<'a> {
         requires entries { entry_rules self.now.declarations.now.storage.now ≡ [] }
         requires turns { until_rules (items_in self.now.declarations.now) one.now ≡ [] }
         requires rules { rules.performed_rules (scope_in self.now.declarations.now).procedures all_permitted (rules.statement_rules (scope_in self.now.declarations.now) all_permitted) performed.now ≡ [] }
-        ensures { OnOk result (code.new ≡ joined code.old (spec.until_before_piece (condition_piece (items_in self.now.declarations.now) one.now.condition) (spec.vary_on_piece (items_in self.now.declarations.now) one.now.varying) (turn_piece (scope_in self.now.declarations.now) (statement_piece (scope_in self.now.declarations.now)) line performed.now) code.old)) }
+        ensures { OnOk result (code.new ≡ append code.old (spec.until_before_fragment (condition_fragment (items_in self.now.declarations.now) one.now.condition) (spec.vary_on_fragment (items_in self.now.declarations.now) one.now.varying) (turn_fragment (scope_in self.now.declarations.now) (statement_fragment (scope_in self.now.declarations.now)) line performed.now) code.old)) }
     {
         self.emit_condition(code, &one.condition)?;
         let branch = emit_branch(code)?;
@@ -122,7 +122,7 @@ impl<'a> Emitter<'a> {
         requires entries { entry_rules self.now.declarations.now.storage.now ≡ [] }
         requires turns { until_rules (items_in self.now.declarations.now) one.now ≡ [] }
         requires rules { rules.performed_rules (scope_in self.now.declarations.now).procedures all_permitted (rules.statement_rules (scope_in self.now.declarations.now) all_permitted) performed.now ≡ [] }
-        ensures { OnOk result (code.new ≡ joined code.old (spec.turning_piece (turn_piece (scope_in self.now.declarations.now) (statement_piece (scope_in self.now.declarations.now)) line performed.now) (both (spec.vary_on_piece (items_in self.now.declarations.now) one.now.varying) (condition_piece (items_in self.now.declarations.now) one.now.condition)) code.old)) }
+        ensures { OnOk result (code.new ≡ append code.old (spec.repetition_fragment (turn_fragment (scope_in self.now.declarations.now) (statement_fragment (scope_in self.now.declarations.now)) line performed.now) (sequence (spec.vary_on_fragment (items_in self.now.declarations.now) one.now.varying) (condition_fragment (items_in self.now.declarations.now) one.now.condition)) code.old)) }
     {
         let begin = code.instructions.len();
         self.emit_turn(code, line, performed)?;
@@ -144,7 +144,7 @@ impl<'a> Emitter<'a> {
         requires entries { entry_rules self.now.declarations.now.storage.now ≡ [] }
         requires turns { until_rules (items_in self.now.declarations.now) one.now ≡ [] }
         requires rules { rules.performed_rules (scope_in self.now.declarations.now).procedures all_permitted (rules.statement_rules (scope_in self.now.declarations.now) all_permitted) performed.now ≡ [] }
-        ensures { OnOk result (code.new ≡ joined code.old (spec.until_after_piece (condition_piece (items_in self.now.declarations.now) one.now.condition) (spec.vary_on_piece (items_in self.now.declarations.now) one.now.varying) (turn_piece (scope_in self.now.declarations.now) (statement_piece (scope_in self.now.declarations.now)) line performed.now) code.old)) }
+        ensures { OnOk result (code.new ≡ append code.old (spec.until_after_fragment (condition_fragment (items_in self.now.declarations.now) one.now.condition) (spec.vary_on_fragment (items_in self.now.declarations.now) one.now.varying) (turn_fragment (scope_in self.now.declarations.now) (statement_fragment (scope_in self.now.declarations.now)) line performed.now) code.old)) }
     {
         let begin = code.instructions.len();
         self.emit_turn(code, line, performed)?;

@@ -17,10 +17,10 @@ use Rattle.source_tree.specs.declared.condition.Side.{Side}
 use Rattle.source_tree.specs.declared.condition.Side.TheVariants as side
 use Rattle.source_tree.specs.declared.condition.Condition.{Condition}
 use Rattle.source_tree.specs.declared.condition.Condition.TheVariants as c
-use Rattle.source_tree.specs.declared.evaluate.Subject.TheVariants as subject
-use Rattle.source_tree.specs.declared.evaluate.Choice.{Choice}
-use Rattle.source_tree.specs.declared.evaluate.Choice.TheVariants as choice
-use Rattle.source_tree.specs.declared.evaluate.Object.{Object}
+use Rattle.source_tree.specs.declared.evaluate_statement.Subject.TheVariants as subject
+use Rattle.source_tree.specs.declared.evaluate_statement.Choice.{Choice}
+use Rattle.source_tree.specs.declared.evaluate_statement.Choice.TheVariants as choice
+use Rattle.source_tree.specs.declared.evaluate_statement.Object.{Object}
 use Rattle.grammar.specs.declared.fault.Halt.TheVariants.{TooDeep}
 use Rattle.tokens.specs.Reserved.{same_word}
 use Rattle.grammar.specs.Reading as read
@@ -64,7 +64,7 @@ equal = at (k.Operator operator.Equal)
 
 -- every step of reading, so that a condition's tree is computed
 unfoldable computing : Unit {0}
-unfolding same_word read.after_word read.past_word read.expect read.skip read.stands read.one_token read.name read.several_from read.several read.any s.qualifier_reader s.qualified_reader s.integer_reader s.subscript_reader r.subscripts_reader r.enclosed_subscripts_reader r.reference_reader o.item_reader o.number_literal_reader o.number_operand_reader l.literal_reader l.all_literal_reader e.further_reader e.level_reader e.product_reader e.sum_reader e.plain_reader e.signed_reader e.enclosed_reader e.nested_reader e.factor_reader e.expression_reader looking.past_closing t.or_equal_phrase_reader t.or_equal_reader t.order_reader t.equal_reader t.asked_reader g.expression_side_reader g.literal_side_reader g.side_reader g.named_reader g.class_reader g.relation_reader g.compared_reader g.by_reference_reader g.plain_reader g.further_reader g.level_reader g.conjunction_reader g.disjunction_reader g.negation_reader g.enclosed_reader g.nested_reader g.simple_reader g.condition_reader read.here v.alone_reader v.truth_reader v.subject_truth_reader v.subject_condition_reader v.subject_asked_reader v.subject_reader v.last_reader v.choice_any_reader v.choice_truth_reader v.choice_condition_reader v.choice_value_reader v.choice_asked_reader v.choice_reader v.object_reader
+unfolding same_word read.after_word read.past_word read.expect read.skip read.presence_reader read.one_token read.name read.several_from read.several read.any s.qualifier_reader s.qualified_reader s.integer_reader s.subscript_reader r.subscripts_reader r.enclosed_subscripts_reader r.reference_reader o.item_reader o.number_literal_reader o.number_operand_reader l.literal_reader l.all_literal_reader e.further_operand_reader e.level_reader e.product_reader e.sum_reader e.plain_reader e.signed_reader e.enclosed_reader e.nested_reader e.factor_reader e.expression_reader looking.past_closing t.or_equal_phrase_reader t.or_equal_reader t.order_reader t.equal_reader t.asked_reader g.expression_side_reader g.literal_side_reader g.side_reader g.named_reader g.class_reader g.relation_reader g.compared_reader g.by_reference_reader g.plain_reader g.further_condition_reader g.level_reader g.conjunction_reader g.disjunction_reader g.negation_reader g.enclosed_reader g.nested_reader g.simple_reader g.condition_reader read.here v.alone_reader v.truth_reader v.subject_truth_reader v.subject_condition_reader v.subject_asked_reader v.subject_reader v.last_reader v.choice_any_reader v.choice_truth_reader v.choice_condition_reader v.choice_value_reader v.choice_asked_reader v.choice_reader v.object_reader
 computing = tt
 
 -- A OR B AND C: AND before OR, and nothing of the depth

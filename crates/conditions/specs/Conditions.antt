@@ -20,17 +20,17 @@ use Rattle.source_tree.specs.declared.condition.Condition.{Condition}
 use Rattle.source_tree.specs.declared.condition.Condition.TheVariants as c
 use Rattle.grammar.specs.declared.fault.Halt.TheVariants.{TooDeep}
 use Rattle.grammar.specs.Parts as g
-use Rattle.grammar.specs.Parts.{Part, ◌then◌, ◌or◌, without, tested, word, begins_name}
+use Rattle.grammar.specs.Parts.{Part, ◌then◌, ◌or◌, absence_of, lookahead, word, begins_name}
 use Rattle.grammar.specs.Reading as r
 use Rattle.grammar.specs.Reading.{Parser, ◌>>=◌, ◌>>◌, pure, refuse, expect, one_token, begins_word}
-use Rattle.expressions.specs.Marks.{left, right, left_in, right_in, begins_left}
+use Rattle.expressions.specs.Marks.{left_parenthesis, right_parenthesis, left_in, right_in, begins_left}
 use Rattle.expressions.specs.References.{reference, reference_reader}
 use Rattle.expressions.specs.Literals.{literal, literal_reader, zero_in}
 use Rattle.expressions.specs.Expressions.{expression, expression_reader}
 use Rattle.expressions.specs.Looking.{past_reference, past_parentheses, begins_expression, begins_operator}
 use Rattle.conditions.specs.declared.asked.Asked.{Asked}
 use Rattle.conditions.specs.declared.asked.Asked.TheVariants as asked_as
-use Rattle.conditions.specs.Tests.{asked, asked_reader, begins_test, begins_class}
+use Rattle.conditions.specs.Tests.{test_phrase, asked_reader, begins_test, begins_class}
 
 -- ---- what shows that an operand goes on
 
@@ -41,22 +41,22 @@ goes_on i = begins_operator i || begins_test i
 -- ---- sides of a relation
 
 -- a literal that is no number
-abbrev pub is_text : LiteralValue → Bool
-is_text (value.Numeric number) = false
-is_text (value.Nonnumeric bytes) = true
-is_text (value.Figurative constant) = not (zero_in (Some constant))
-is_text (value.All bytes) = true
+abbrev pub is_text_literal : LiteralValue → Bool
+is_text_literal (value.Numeric number) = false
+is_text_literal (value.Nonnumeric bytes) = true
+is_text_literal (value.Figurative constant) = not (zero_in (Some constant))
+is_text_literal (value.All bytes) = true
 
 -- e|lit, where a number is an expression
 abbrev pub side : ℕ → Side → Part
 side depth (side_as.Expression one) = expression depth one
-side depth (side_as.Literal one) = λ from rest. (is_text one.value ≡ true) × literal one from rest
+side depth (side_as.Literal one) = λ from rest. (is_text_literal one.value ≡ true) × literal one from rest
 
 -- ---- conditions without NOT, AND, OR and parentheses around them
 
 -- d, where it does not go on as an operand
-abbrev pub named : Condition → Part
-named whole = λ from rest. (one : Reference) × (whole ≡ c.Name one) × (reference one then without (tested goes_on)) from rest
+abbrev pub condition_name : Condition → Part
+condition_name whole = λ from rest. (one : Reference) × (whole ≡ c.Name one) × (reference one then absence_of (lookahead goes_on)) from rest
 
 abbrev pub opposite : Relation → Relation
 opposite relation.Less = relation.GreaterOrEqual
@@ -66,46 +66,46 @@ opposite relation.NotEqual = relation.Equal
 opposite relation.GreaterOrEqual = relation.Less
 opposite relation.Greater = relation.LessOrEqual
 
-abbrev pub denied : Bool → Relation → Relation
-denied false one = one
-denied true one = opposite one
+abbrev pub with_negation : Bool → Relation → Relation
+with_negation false one = one
+with_negation true one = opposite one
 
 -- NOT gives the opposite relation.
 abbrev pub relation_of : RelationalOperator → Relation
-relation_of one = denied one.negated one.relation
+relation_of one = with_negation one.negated one.relation
 
 -- o [IS] [NOT] rel o
-abbrev pub compared : ℕ → Condition → Part
-compared depth whole = λ from rest. (first : Side) × (one : RelationalOperator) × (second : Side) × (whole ≡ c.Relation first (relation_of one) second)
-    × (side depth first then asked (asked_as.Relation one) then side depth second) from rest
+abbrev pub relation_condition : ℕ → Condition → Part
+relation_condition depth whole = λ from rest. (first : Side) × (one : RelationalOperator) × (second : Side) × (whole ≡ c.Relation first (relation_of one) second)
+    × (side depth first then test_phrase (asked_as.Relation one) then side depth second) from rest
 
 -- e [IS] [NOT] {POSITIVE|NEGATIVE|ZERO}
 abbrev pub with_sign : ℕ → Condition → Part
 with_sign depth whole = λ from rest. (value : Expression) × (negated : Bool) × (one : SignTest) × (whole ≡ c.Sign value negated one)
-    × (expression depth value then asked (asked_as.Sign negated one)) from rest
+    × (expression depth value then test_phrase (asked_as.Sign negated one)) from rest
 
 -- d [IS] [NOT] {NUMERIC|ALPHABETIC|ALPHABETIC-LOWER|ALPHABETIC-UPPER}
 abbrev pub of_class : Condition → Part
 of_class whole = λ from rest. (item : Reference) × (negated : Bool) × (one : Class) × (whole ≡ c.Class item negated one)
-    × (reference item then asked (asked_as.Class negated one)) from rest
+    × (reference item then test_phrase (asked_as.Class negated one)) from rest
 
-abbrev pub plain : ℕ → Condition → Part
-plain depth whole = named whole or (of_class whole or (compared depth whole or with_sign depth whole))
+abbrev pub simple_condition : ℕ → Condition → Part
+simple_condition depth whole = condition_name whole or (of_class whole or (relation_condition depth whole or with_sign depth whole))
 
 -- ---- levels
 
 -- without AND, or OR, the first is all
-abbrev pub joined : (List Condition → Condition) → Condition → List Condition → Condition
-joined node first [] = first
-joined node first (one ∷ more) = node (first ∷ one ∷ more)
+abbrev pub combined_condition : (List Condition → Condition) → Condition → List Condition → Condition
+combined_condition node first [] = first
+combined_condition node first (one ∷ more) = node (first ∷ one ∷ more)
 
-abbrev pub further : Reserved → (Condition → Part) → Condition → Part
-further between lower one = word between then lower one
+abbrev pub further_condition : Reserved → (Condition → Part) → Condition → Part
+further_condition between lower one = word between then lower one
 
 -- conditions with one word between, up to where it does not follow
 abbrev pub level : Reserved → (List Condition → Condition) → (Condition → Part) → Condition → Part
-level between node lower whole = λ from rest. (first : Condition) × (more : List Condition) × (whole ≡ joined node first more)
-    × (lower first then g.any (further between lower) (tested (begins_word between)) more) from rest
+level between node lower whole = λ from rest. (first : Condition) × (more : List Condition) × (whole ≡ combined_condition node first more)
+    × (lower first then g.any (further_condition between lower) (lookahead (begins_word between)) more) from rest
 
 abbrev pub conjunction : (Condition → Part) → Condition → Part
 conjunction simple = level w.And c.All simple
@@ -120,13 +120,13 @@ abbrev pub negation : (Condition → Part) → Condition → Part
 negation simple whole = λ from rest. (inner : Condition) × (whole ≡ c.Not inner) × (word w.Not then simple inner) from rest
 
 -- ( c ), where it does not go on as an operand
-abbrev pub enclosed : (Condition → Part) → Condition → Part
-enclosed simple whole = (left then disjunction simple whole then right) then without (tested goes_on)
+abbrev pub parenthesized_condition : (Condition → Part) → Condition → Part
+parenthesized_condition simple whole = (left_parenthesis then disjunction simple whole then right_parenthesis) then absence_of (lookahead goes_on)
 
 -- A condition without AND and OR outside parentheses, with at most this many NOTs, parentheses and signs in one another.
 abbrev pub simple : ℕ → Condition → Part
-simple zero whole = plain zero whole
-simple (suc depth) whole = plain (suc depth) whole or (negation (simple depth) whole or enclosed (simple depth) whole)
+simple zero whole = simple_condition zero whole
+simple (suc depth) whole = simple_condition (suc depth) whole or (negation (simple depth) whole or parenthesized_condition (simple depth) whole)
 
 abbrev pub condition : ℕ → Condition → Part
 condition depth = disjunction (simple depth)
@@ -201,14 +201,14 @@ plain_reader depth i = if begins_name i then by_reference_reader depth i else co
 
 -- ---- reading levels
 
-unfoldable pub further_reader : Reserved → Parser Condition → Parser Condition
-further_reader between lower = expect between >> lower
+unfoldable pub further_condition_reader : Reserved → Parser Condition → Parser Condition
+further_condition_reader between lower = expect between >> lower
 
 unfoldable pub level_reader : Reserved → (List Condition → Condition) → Parser Condition → Parser Condition
 level_reader between node lower = do
   first ← lower
-  more ← r.any (further_reader between lower) (begins_word between)
-  pure (joined node first more)
+  more ← r.any (further_condition_reader between lower) (begins_word between)
+  pure (combined_condition node first more)
 
 unfoldable pub conjunction_reader : Parser Condition → Parser Condition
 conjunction_reader simple = level_reader w.And c.All simple

@@ -5,13 +5,13 @@ use Rattle.tokens.specs.declared.reserved.Reserved.{Reserved}
 use Rattle.tokens.specs.declared.reserved.Reserved.TheVariants as w
 use Rattle.tokens.specs.declared.token.Token.{Token}
 use Rattle.source_tree.specs.declared.condition.Side.{Side}
-use Rattle.source_tree.specs.declared.evaluate.Subject.{Subject}
-use Rattle.source_tree.specs.declared.evaluate.Subject.TheVariants as subject_as
-use Rattle.source_tree.specs.declared.evaluate.Choice.{Choice}
-use Rattle.source_tree.specs.declared.evaluate.Choice.TheVariants as choice_as
-use Rattle.source_tree.specs.declared.evaluate.Object.{Object}
+use Rattle.source_tree.specs.declared.evaluate_statement.Subject.{Subject}
+use Rattle.source_tree.specs.declared.evaluate_statement.Subject.TheVariants as subject_as
+use Rattle.source_tree.specs.declared.evaluate_statement.Choice.{Choice}
+use Rattle.source_tree.specs.declared.evaluate_statement.Choice.TheVariants as choice_as
+use Rattle.source_tree.specs.declared.evaluate_statement.Object.{Object}
 use Rattle.grammar.specs.declared.fault.Halt.TheVariants.{Unexpected, TooDeep}
-use Rattle.grammar.specs.Parts.{Part, ◌then◌, ◌or◌, ◌but◌, without, stands, some_of, tested, word, here}
+use Rattle.grammar.specs.Parts.{Part, ◌then◌, ◌or◌, ◌but◌, absence_of, optional_part, some_of, lookahead, word, here}
 use Rattle.grammar.specs.Reading as r
 use Rattle.grammar.specs.Reading.{Outcome, Parser, ◌>>=◌, ◌>>◌, pure, expect, begins_word, after_word}
 use Rattle.conditions.specs.Conditions.{goes_on, side, side_reader, condition, condition_reader}
@@ -24,7 +24,7 @@ in_condition i = goes_on i || (begins_word w.And i || begins_word w.Or i)
 
 -- o, where it is no part of a condition
 abbrev pub alone : ℕ → Side → Part
-alone depth one = side depth one then without (tested in_condition)
+alone depth one = side depth one then absence_of (lookahead in_condition)
 
 -- such a value, to whatever depth
 abbrev pub some_alone : Part
@@ -32,20 +32,20 @@ some_alone = some_of (λ depth. some_of (alone depth))
 
 -- [NOT] and such a value
 abbrev pub some_wanted : Part
-some_wanted = some_of (λ negated. stands (word w.Not) negated then some_alone)
+some_wanted = some_of (λ negated. optional_part (word w.Not) negated then some_alone)
 
 -- ---- subjects
 
 -- TRUE|FALSE
-abbrev pub truth : Bool → Part
-truth true = word w.True
-truth false = word w.False
+abbrev pub truth_value : Bool → Part
+truth_value true = word w.True
+truth_value false = word w.False
 
 -- o|c|TRUE|FALSE
 abbrev pub subject : ℕ → Subject → Part
 subject depth (subject_as.Value one) = alone depth one
 subject depth (subject_as.Condition one) = condition depth one but some_alone
-subject depth (subject_as.Truth one) = truth one
+subject depth (subject_as.Truth one) = truth_value one
 
 -- ---- objects
 
@@ -54,15 +54,15 @@ thru = word w.Thru or word w.Through
 
 -- [{THRU|THROUGH} o]
 abbrev pub to_last : ℕ → Option Side → Part
-to_last depth None = without thru
+to_last depth None = absence_of thru
 to_last depth (Some one) = thru then side depth one
 
 -- ANY|[NOT] o [{THRU|THROUGH} o]|c|TRUE|FALSE
 abbrev pub choice : ℕ → Choice → Part
 choice depth choice_as.Any = word w.Any
-choice depth (choice_as.Value negated first last) = stands (word w.Not) negated then alone depth first then to_last depth last
+choice depth (choice_as.Value negated first last) = optional_part (word w.Not) negated then alone depth first then to_last depth last
 choice depth (choice_as.Condition one) = condition depth one but some_wanted
-choice depth (choice_as.Truth one) = truth one
+choice depth (choice_as.Truth one) = truth_value one
 
 -- with the place where it begins
 abbrev pub object : ℕ → Object → Part
@@ -148,7 +148,7 @@ choice_from depth i negated None = λ behind. choice_condition_reader depth i
 
 unfoldable pub choice_asked_reader : ℕ → List Token → Parser Choice
 choice_asked_reader depth i = do
-  negated ← r.stands (after_word w.Not)
+  negated ← r.presence_reader (after_word w.Not)
   one ← alone_reader depth
   choice_from depth i negated one
 

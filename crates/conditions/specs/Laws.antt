@@ -7,8 +7,8 @@ use Rattle.source_tree.specs.declared.expression.Expression.TheVariants.{Operand
 use Rattle.source_tree.specs.declared.condition.Side.{Side}
 use Rattle.source_tree.specs.declared.condition.Side.TheVariants.{Expression}
 use Rattle.source_tree.specs.declared.condition.Condition.TheVariants.{Name}
-use Rattle.source_tree.specs.declared.evaluate.Subject.TheVariants as subject_as
-use Rattle.source_tree.specs.declared.evaluate.Choice.TheVariants as choice_as
+use Rattle.source_tree.specs.declared.evaluate_statement.Subject.TheVariants as subject_as
+use Rattle.source_tree.specs.declared.evaluate_statement.Choice.TheVariants as choice_as
 use Rattle.grammar.specs.declared.fault.Halt.TheVariants.{TooDeep}
 use Rattle.grammar.specs.Parts.{Part}
 use Rattle.grammar.specs.Reading.{Parser}

@@ -9,11 +9,11 @@ use Rattle.conditions.specs.declared.asked.Test.{Test}
 use Rattle.conditions.specs.declared.asked.Test.TheVariants as test
 use Rattle.conditions.specs.declared.asked.Asked.{Asked}
 use Rattle.conditions.specs.declared.asked.Asked.TheVariants as asked_as
-use Rattle.conditions.specs.Tests.{asked, asked_reader, next_test}
+use Rattle.conditions.specs.Tests.{test_phrase, asked_reader, next_test}
 
 -- [IS] [NOT] rel
-abbrev pub related : RelationalOperator → Part
-related one = asked (asked_as.Relation one)
+abbrev pub relational_operator : RelationalOperator → Part
+relational_operator one = test_phrase (asked_as.Relation one)
 
 abbrev pub is_relation : Option Test → Bool
 is_relation (Some (test.Symbol one)) = true

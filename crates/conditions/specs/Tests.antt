@@ -13,7 +13,7 @@ use Rattle.source_tree.specs.declared.condition.Relation.{Relation}
 use Rattle.source_tree.specs.declared.condition.Relation.TheVariants as relation
 use Rattle.source_tree.specs.declared.condition.SignTest.TheVariants as sign
 use Rattle.source_tree.specs.declared.condition.Class.TheVariants as class
-use Rattle.grammar.specs.Parts.{Part, ◌then◌, ◌or◌, without, optional, stands, word, telling, is_told}
+use Rattle.grammar.specs.Parts.{Part, ◌then◌, ◌or◌, absence_of, optional, optional_part, word, token_with, is_told}
 use Rattle.grammar.specs.Reading as r
 use Rattle.grammar.specs.Reading.{Parser, ◌>>=◌, ◌>>◌, pure, expect, skip, one_token, begins_word, after_word, past_word}
 use Rattle.conditions.specs.declared.asked.Test.{Test}
@@ -58,7 +58,7 @@ test_in one = test_by one.kind
 -- [OR EQUAL [TO]], told by whether it stands
 abbrev pub or_equal : Bool → Part
 or_equal true = word w.Or then word w.Equal then optional (word w.To)
-or_equal false = without (word w.Or)
+or_equal false = absence_of (word w.Or)
 
 abbrev pub with_equal : Bool → Relation → Relation
 with_equal false one = one
@@ -67,29 +67,29 @@ with_equal true relation.Less = relation.LessOrEqual
 with_equal true one = one
 
 -- {GREATER|LESS} [THAN] [OR EQUAL [TO]]
-abbrev pub ordering : Relation → Part
-ordering one = λ from rest. (order : Relation) × (equal : Bool) × (one ≡ with_equal equal order)
-    × (telling test_in (test.Order order) then optional (word w.Than) then or_equal equal) from rest
+abbrev pub order_relation : Relation → Part
+order_relation one = λ from rest. (order : Relation) × (equal : Bool) × (one ≡ with_equal equal order)
+    × (token_with test_in (test.Order order) then optional (word w.Than) then or_equal equal) from rest
 
 -- EQUAL [TO]
 abbrev pub equality : Relation → Part
-equality one = λ from rest. (one ≡ relation.Equal) × (telling test_in test.Equal then optional (word w.To)) from rest
+equality one = λ from rest. (one ≡ relation.Equal) × (token_with test_in test.Equal then optional (word w.To)) from rest
 
 -- {GREATER|LESS} [THAN] [OR EQUAL [TO]] | EQUAL [TO] | > | < | = | >= | <=
 abbrev pub comparison : Relation → Part
-comparison one = telling test_in (test.Symbol one) or (ordering one or equality one)
+comparison one = token_with test_in (test.Symbol one) or (order_relation one or equality one)
 
 -- ---- with IS and NOT
 
 -- [IS] [NOT]
 abbrev pub is_not : Bool → Part
-is_not negated = optional (word w.Is) then stands (word w.Not) negated
+is_not negated = optional (word w.Is) then optional_part (word w.Not) negated
 
 -- [IS] [NOT] rel | [IS] [NOT] {POSITIVE|NEGATIVE|ZERO} | [IS] [NOT] {NUMERIC|ALPHABETIC|ALPHABETIC-LOWER|ALPHABETIC-UPPER}
-abbrev pub asked : Asked → Part
-asked (asked_as.Relation one) = is_not one.negated then comparison one.relation
-asked (asked_as.Sign negated one) = is_not negated then telling test_in (test.Sign one)
-asked (asked_as.Class negated one) = is_not negated then telling test_in (test.Class one)
+abbrev pub test_phrase : Asked → Part
+test_phrase (asked_as.Relation one) = is_not one.negated then comparison one.relation
+test_phrase (asked_as.Sign negated one) = is_not negated then token_with test_in (test.Sign one)
+test_phrase (asked_as.Class negated one) = is_not negated then token_with test_in (test.Class one)
 
 -- ---- reading
 
@@ -129,7 +129,7 @@ asked_after negated (test.Class one) = pure (asked_as.Class negated one)
 unfoldable pub asked_reader : Parser Asked
 asked_reader = do
   skip w.Is
-  negated ← r.stands (after_word w.Not)
+  negated ← r.presence_reader (after_word w.Not)
   one ← one_token test_in
   asked_after negated one
 

@@ -12,6 +12,28 @@ use source_tree::{Choice, Object, Side, Subject};
 use std::alloc::Global;
 use tokens::{Reserved, Token};
 
+/// A selection subject with at most this many NOTs, parentheses and signs in one another.
+#[tactic(auto, unfolding(crate::specs::Evaluate::subject_reader))]
+pub fn subject(alloc: Global, tokens: &mut Tokens<'_>, depth: usize) -> Result<Subject, ReadFault>
+    ensures { Reads (spec.subject_reader depth tokens.old) result tokens.new }
+{
+    if begins_truth(tokens) {
+        subject_truth(tokens)
+    } else {
+        subject_asked(alloc, tokens, depth)
+    }
+}
+
+/// A selection object, with where it begins, and at most this many NOTs, parentheses and signs in one another.
+#[tactic(auto, unfolding(crate::specs::Evaluate::object_reader))]
+pub fn object(alloc: Global, tokens: &mut Tokens<'_>, depth: usize) -> Result<Object, ReadFault>
+    ensures { Reads (spec.object_reader depth tokens.old) result tokens.new }
+{
+    let place = tokens.here()?;
+    let choice = choice(alloc, tokens, depth)?;
+    Ok(Object { place, choice })
+}
+
 /// What stands before is part of a condition: it goes on as an operand, or AND or OR follows.
 fn in_condition(tokens: &[Token]) -> bool
     ensures { result ≡ spec.in_condition tokens.now }
@@ -88,18 +110,6 @@ fn subject_asked(alloc: Global, tokens: &mut Tokens<'_>, depth: usize) -> Result
     match alone(alloc, tokens, depth)? {
         Some(one) => Ok(Subject::Value(one)),
         None => subject_condition(alloc, tokens, depth),
-    }
-}
-
-/// A selection subject with at most this many NOTs, parentheses and signs in one another.
-#[tactic(auto, unfolding(crate::specs::Evaluate::subject_reader))]
-pub fn subject(alloc: Global, tokens: &mut Tokens<'_>, depth: usize) -> Result<Subject, ReadFault>
-    ensures { Reads (spec.subject_reader depth tokens.old) result tokens.new }
-{
-    if begins_truth(tokens) {
-        subject_truth(tokens)
-    } else {
-        subject_asked(alloc, tokens, depth)
     }
 }
 
@@ -202,14 +212,4 @@ fn choice(alloc: Global, tokens: &mut Tokens<'_>, depth: usize) -> Result<Choice
     } else {
         choice_asked(alloc, tokens, depth)
     }
-}
-
-/// A selection object, with where it begins, and at most this many NOTs, parentheses and signs in one another.
-#[tactic(auto, unfolding(crate::specs::Evaluate::object_reader))]
-pub fn object(alloc: Global, tokens: &mut Tokens<'_>, depth: usize) -> Result<Object, ReadFault>
-    ensures { Reads (spec.object_reader depth tokens.old) result tokens.new }
-{
-    let place = tokens.here()?;
-    let choice = choice(alloc, tokens, depth)?;
-    Ok(Object { place, choice })
 }

@@ -46,11 +46,11 @@ impl<F: Fn(Global, &mut Tokens<'_>, usize) -> Result<Condition, ReadFault>> Part
 
     ghost ready = { λ n. Nests n.conditions.now.depth (F.pre n.conditions.now.simple) (F.post n.conditions.now.simple) };
 
-    ghost reading = { λ n. spec.further_reader w.And (spec.simple_reader n.conditions.now.depth) };
+    ghost reading = { λ n. spec.further_condition_reader w.And (spec.simple_reader n.conditions.now.depth) };
 
     ghost beginning = { λ _. begins_word w.And };
 
-    #[tactic(auto, unfolding(crate::specs::Conditions::further_reader))]
+    #[tactic(auto, unfolding(crate::specs::Conditions::further_condition_reader))]
     fn read(&self, _alloc: Global, tokens: &mut Tokens<'_>) -> Result<Condition, ReadFault> {
         tokens.expect(Reserved::And)?;
         self.conditions.simple(tokens)
@@ -70,11 +70,11 @@ impl<F: Fn(Global, &mut Tokens<'_>, usize) -> Result<Condition, ReadFault>> Part
 
     ghost ready = { λ n. Nests n.conditions.now.depth (F.pre n.conditions.now.simple) (F.post n.conditions.now.simple) };
 
-    ghost reading = { λ n. spec.further_reader w.Or (spec.conjunction_reader (spec.simple_reader n.conditions.now.depth)) };
+    ghost reading = { λ n. spec.further_condition_reader w.Or (spec.conjunction_reader (spec.simple_reader n.conditions.now.depth)) };
 
     ghost beginning = { λ _. begins_word w.Or };
 
-    #[tactic(auto, unfolding(crate::specs::Conditions::further_reader))]
+    #[tactic(auto, unfolding(crate::specs::Conditions::further_condition_reader))]
     fn read(&self, _alloc: Global, tokens: &mut Tokens<'_>) -> Result<Condition, ReadFault> {
         tokens.expect(Reserved::Or)?;
         self.conditions.conjunction(tokens)
@@ -101,7 +101,7 @@ fn listed(
 
 /// The first condition alone, or all of them with AND between.
 fn all_of(alloc: Global, first: Condition, more: Items<Condition>) -> Result<Condition, AllocError>
-    ensures { IfOk result (λ whole. whole ≡ spec.joined c.All first more) }
+    ensures { IfOk result (λ whole. whole ≡ spec.combined_condition c.All first more) }
 {
     if more.is_empty() {
         return Ok(first);
@@ -111,7 +111,7 @@ fn all_of(alloc: Global, first: Condition, more: Items<Condition>) -> Result<Con
 
 /// The first condition alone, or all of them with OR between.
 fn any_of(alloc: Global, first: Condition, more: Items<Condition>) -> Result<Condition, AllocError>
-    ensures { IfOk result (λ whole. whole ≡ spec.joined c.Any first more) }
+    ensures { IfOk result (λ whole. whole ≡ spec.combined_condition c.Any first more) }
 {
     if more.is_empty() {
         return Ok(first);

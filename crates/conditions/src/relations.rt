@@ -9,6 +9,19 @@ use grammar::{ReadFault, Tokens, past_word};
 use source_tree::RelationalOperator;
 use tokens::{Reserved, Token};
 
+/// A relational operator as it is written, with IS before it or without. Another word is refused where it stands.
+#[tactic(auto, unfolding(crate::specs::Relations::relation_reader))]
+pub fn relation(tokens: &mut Tokens<'_>) -> Result<RelationalOperator, ReadFault>
+    ensures { Reads (spec.relation_reader tokens.old) result tokens.new }
+{
+    if begins_relation(tokens.rest()) {
+        return some_relation(tokens);
+    }
+    let other = past_word(past_word(tokens.rest(), Reserved::Is), Reserved::Not);
+    tokens.go_to(other);
+    Err(tokens.refuse())
+}
+
 /// A relational operator comes here, behind IS and NOT.
 fn begins_relation(tokens: &[Token]) -> bool
     ensures { result ≡ spec.begins_relation tokens.now }
@@ -27,17 +40,4 @@ fn some_relation(tokens: &mut Tokens<'_>) -> Result<RelationalOperator, ReadFaul
         Asked::Relation(operator) => Ok(operator),
         _ => Err(tokens.refuse()),
     }
-}
-
-/// A relational operator as it is written, with IS before it or without. Another word is refused where it stands.
-#[tactic(auto, unfolding(crate::specs::Relations::relation_reader))]
-pub fn relation(tokens: &mut Tokens<'_>) -> Result<RelationalOperator, ReadFault>
-    ensures { Reads (spec.relation_reader tokens.old) result tokens.new }
-{
-    if begins_relation(tokens.rest()) {
-        return some_relation(tokens);
-    }
-    let other = past_word(past_word(tokens.rest(), Reserved::Is), Reserved::Not);
-    tokens.go_to(other);
-    Err(tokens.refuse())
 }

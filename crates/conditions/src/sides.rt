@@ -8,6 +8,18 @@ use grammar::{ReadFault, Tokens};
 use source_tree::Side;
 use std::alloc::Global;
 
+/// An expression, or a literal that is no number. Signs and parentheses nest to this depth.
+#[tactic(auto, unfolding(crate::specs::Conditions::side_reader))]
+pub fn side(alloc: Global, tokens: &mut Tokens<'_>, depth: usize) -> Result<Side, ReadFault>
+    ensures { Reads (spec.side_reader depth tokens.old) result tokens.new }
+{
+    if begins_expression(tokens) {
+        expression_side(alloc, tokens, depth)
+    } else {
+        literal_side(alloc, tokens)
+    }
+}
+
 #[tactic(auto, unfolding(crate::specs::Conditions::expression_side_reader))]
 fn expression_side(alloc: Global, tokens: &mut Tokens<'_>, depth: usize) -> Result<Side, ReadFault>
     ensures { Reads (spec.expression_side_reader depth tokens.old) result tokens.new }
@@ -20,16 +32,4 @@ fn literal_side(alloc: Global, tokens: &mut Tokens<'_>) -> Result<Side, ReadFaul
     ensures { Reads (spec.literal_side_reader tokens.old) result tokens.new }
 {
     Ok(Side::Literal(literal(alloc, tokens)?))
-}
-
-/// An expression, or a literal that is no number. Signs and parentheses nest to this depth.
-#[tactic(auto, unfolding(crate::specs::Conditions::side_reader))]
-pub fn side(alloc: Global, tokens: &mut Tokens<'_>, depth: usize) -> Result<Side, ReadFault>
-    ensures { Reads (spec.side_reader depth tokens.old) result tokens.new }
-{
-    if begins_expression(tokens) {
-        expression_side(alloc, tokens, depth)
-    } else {
-        literal_side(alloc, tokens)
-    }
 }

@@ -26,9 +26,9 @@ use Rattle.expressions.specs.Literals as literals
 use Rattle.data_division.specs.declared.clause.Clause.TheVariants as clause_as
 use Rattle.data_division.specs.ClauseReading as c
 use Rattle.data_division.specs.Gathering as gathering
-use Rattle.data_division.specs.Gathering.{gathered}
+use Rattle.data_division.specs.Gathering.{gathered_clauses}
 use Rattle.data_division.specs.Stated as stated
-use Rattle.data_division.specs.Stated.{none, entry_clauses}
+use Rattle.data_division.specs.Stated.{no_clauses, entry_clauses}
 use Rattle.data_division.specs.EntryReading as r
 use Rattle.data_division.specs.FileClauses as file_clauses
 use Rattle.data_division.specs.Files as files
@@ -92,7 +92,7 @@ nine = record { characters = 57 ∷ []; place = in_column 30 }
 
 -- every step of reading, so that entries are computed
 unfoldable computing : Unit {0}
-unfolding same_word read.after_word read.past_word read.expect read.skip read.stands read.period read.heading read.here read.one_token read.name read.several_from read.several read.any subscripts.integer_reader literals.literal_reader literals.all_literal_reader c.either_reader c.skip_either c.skip_led c.after_separate c.redefines_reader c.picture_reader c.usage_reader c.sign_reader c.occurs_reader c.synchronized_reader c.justified_reader c.blank_when_zero_reader c.value_reader c.clause_reader gathering.gathering_turns gathering.gathering_reader stated.stated_reader r.given_reader r.filler_reader r.named_reader r.item_reader r.last_reader r.last_value_reader r.range_reader r.condition_reader r.by_level r.entry_reader file_clauses.label_records_reader file_clauses.to_size_reader file_clauses.block_contains_reader file_clauses.record_contains_reader file_clauses.data_records_reader file_clauses.file_clause_reader files.file_reader files.described_reader files.file_section_reader division.stored_reader division.working_storage_reader division.sections_reader division.data_division_reader
+unfolding same_word read.after_word read.past_word read.expect read.skip read.presence_reader read.period read.heading_reader read.here read.one_token read.name read.several_from read.several read.any subscripts.integer_reader literals.literal_reader literals.all_literal_reader c.either_reader c.skip_either c.skip_led c.after_separate c.redefines_reader c.picture_reader c.usage_reader c.sign_reader c.occurs_reader c.synchronized_reader c.justified_reader c.blank_when_zero_reader c.value_reader c.clause_reader gathering.gathering_turns gathering.gathering_reader stated.stated_reader r.given_reader r.filler_reader r.named_reader r.item_reader r.through_literal_reader r.last_value_reader r.range_reader r.condition_reader r.by_level r.entry_reader file_clauses.label_records_reader file_clauses.to_size_reader file_clauses.block_contains_reader file_clauses.record_contains_reader file_clauses.data_records_reader file_clauses.file_clause_reader files.file_reader files.described_reader files.file_section_reader division.stored_reader division.working_storage_reader division.sections_reader division.data_division_reader
 computing = tt
 
 -- 01 A.
@@ -175,11 +175,11 @@ left_out = refl
 -- ---- clauses together
 
 -- in either order
-either_order : gathered entry_clauses none (clause_as.Usage usage.Binary ∷ clause_as.Justified ∷ []) ≡ gathered entry_clauses none (clause_as.Justified ∷ clause_as.Usage usage.Binary ∷ [])
+either_order : gathered_clauses entry_clauses no_clauses (clause_as.Usage usage.Binary ∷ clause_as.Justified ∷ []) ≡ gathered_clauses entry_clauses no_clauses (clause_as.Justified ∷ clause_as.Usage usage.Binary ∷ [])
 either_order = refl
 
-usage_twice : gathered entry_clauses none (clause_as.Usage usage.Binary ∷ clause_as.Justified ∷ clause_as.Usage usage.Display ∷ []) ≡ None
+usage_twice : gathered_clauses entry_clauses no_clauses (clause_as.Usage usage.Binary ∷ clause_as.Justified ∷ clause_as.Usage usage.Display ∷ []) ≡ None
 usage_twice = refl
 
-synchronized_twice : gathered entry_clauses none (clause_as.Synchronized ∷ clause_as.Synchronized ∷ []) ≡ None
+synchronized_twice : gathered_clauses entry_clauses no_clauses (clause_as.Synchronized ∷ clause_as.Synchronized ∷ []) ≡ None
 synchronized_twice = refl

@@ -3,7 +3,7 @@ use Rattle.std.specs.Prelude.{if◌then◌else◌, Ok}
 use Rattle.std.specs.Option.{option_map}
 use Rattle.tokens.specs.declared.reserved.Reserved.{Reserved}
 use Rattle.tokens.specs.declared.reserved.Reserved.TheVariants as w
-use Rattle.grammar.specs.Reading.{Parser, Words, ◌>>=◌, ◌>>◌, pure, begins_word, after_word, past_word, expect, skip, stands, one_token, name}
+use Rattle.grammar.specs.Reading.{Parser, Words, ◌>>=◌, ◌>>◌, pure, begins_word, after_word, past_word, expect, skip, presence_reader, one_token, name}
 use Rattle.expressions.specs.Subscripts.{integer_reader}
 use Rattle.expressions.specs.Literals.{literal_reader}
 use Rattle.data_division.specs.Words.{usage_in, position_in}
@@ -51,7 +51,7 @@ unfoldable pub sign_reader : Parser Clause
 sign_reader = do
   skip_led w.Sign
   position ← one_token position_in
-  separate ← stands after_separate
+  separate ← presence_reader after_separate
   pure (clause_as.Sign (record { position = position; separate = separate }))
 
 unfoldable pub occurs_reader : Parser Clause

@@ -12,7 +12,7 @@ use Rattle.source_tree.specs.declared.literal.Literal.{Literal}
 use Rattle.source_tree.specs.declared.entry.PictureText.{PictureText}
 use Rattle.source_tree.specs.declared.entry.UsageClause.{UsageClause}
 use Rattle.source_tree.specs.declared.entry.SignClause.{SignClause}
-use Rattle.grammar.specs.Parts.{Part, ◌then◌, ◌or◌, optional, stands, word, telling, name}
+use Rattle.grammar.specs.Parts.{Part, ◌then◌, ◌or◌, optional, optional_part, word, token_with, name}
 use Rattle.expressions.specs.Subscripts.{integer}
 use Rattle.expressions.specs.Literals.{literal}
 use Rattle.data_division.specs.Words.{usage_in, position_in}
@@ -40,11 +40,11 @@ picture_in one = picture_by one.kind one.place
 
 -- {PIC|PICTURE} [IS] pic
 abbrev pub picture : PictureText → Part
-picture text = either w.Pic w.Picture then optional (word w.Is) then telling picture_in text
+picture text = either w.Pic w.Picture then optional (word w.Is) then token_with picture_in text
 
 -- [USAGE [IS]] {DISPLAY|COMP|COMPUTATIONAL|BINARY|PACKED-DECIMAL|COMP-3|COMPUTATIONAL-3}
 abbrev pub usage : UsageClause → Part
-usage one = led_by w.Usage then telling usage_in one
+usage one = led_by w.Usage then token_with usage_in one
 
 -- SEPARATE [CHARACTER]
 abbrev pub separate : Part
@@ -52,19 +52,19 @@ separate = word w.Separate then optional (word w.Character)
 
 -- [SIGN [IS]] {LEADING|TRAILING} [SEPARATE [CHARACTER]]
 abbrev pub sign : SignClause → Part
-sign one = led_by w.Sign then telling position_in one.position then stands separate one.separate
+sign one = led_by w.Sign then token_with position_in one.position then optional_part separate one.separate
 
 -- OCCURS int [TIMES]
 abbrev pub occurs : Integer → Part
 occurs count = word w.Occurs then integer count then optional (word w.Times)
 
 -- {SYNC|SYNCHRONIZED} [LEFT|RIGHT]
-abbrev pub synchronized : Part
-synchronized = either w.Sync w.Synchronized then optional (either w.Left w.Right)
+abbrev pub synchronized_clause : Part
+synchronized_clause = either w.Sync w.Synchronized then optional (either w.Left w.Right)
 
 -- {JUST|JUSTIFIED} [RIGHT]
-abbrev pub justified : Part
-justified = either w.Just w.Justified then optional (word w.Right)
+abbrev pub justified_clause : Part
+justified_clause = either w.Just w.Justified then optional (word w.Right)
 
 -- BLANK [WHEN] ZERO
 abbrev pub blank_when_zero : Part
@@ -80,7 +80,7 @@ clause (clause_as.Picture text) = picture text
 clause (clause_as.Usage one) = usage one
 clause (clause_as.Sign one) = sign one
 clause (clause_as.Occurs count) = occurs count
-clause clause_as.Synchronized = synchronized
-clause clause_as.Justified = justified
+clause clause_as.Synchronized = synchronized_clause
+clause clause_as.Justified = justified_clause
 clause clause_as.BlankWhenZero = blank_when_zero
 clause (clause_as.Value one) = value one

@@ -10,21 +10,21 @@ use Rattle.source_tree.specs.declared.entry.ConditionEntry.{ConditionEntry}
 use Rattle.source_tree.specs.declared.entry.Entry.{Entry}
 use Rattle.source_tree.specs.declared.entry.Entry.TheVariants as entry_as
 use Rattle.source_tree.specs.Integers.{number_of}
-use Rattle.grammar.specs.Parts.{Part, ◌then◌, ◌or◌, without, optional, some_of, several, tested, word, period, name}
+use Rattle.grammar.specs.Parts.{Part, ◌then◌, ◌or◌, absence_of, optional, some_of, several, lookahead, word, period, name}
 use Rattle.expressions.specs.Subscripts.{integer}
 use Rattle.expressions.specs.Literals.{literal, begins_literal}
 use Rattle.data_division.specs.declared.stated.Stated.{Stated}
 use Rattle.data_division.specs.Clauses.{either}
-use Rattle.data_division.specs.Stated.{stated}
+use Rattle.data_division.specs.Stated.{stated_clauses}
 
 -- Level 88 is that of condition names, and of nothing else.
 abbrev pub is_condition : Integer → Bool
 is_condition level = number_of level == 88
 
 -- [n|FILLER]
-abbrev pub named : Option Name → Part
-named None = word w.Filler or without (some_of name or word w.Filler)
-named (Some n) = name n
+abbrev pub entry_name : Option Name → Part
+entry_name None = word w.Filler or absence_of (some_of name or word w.Filler)
+entry_name (Some n) = name n
 
 -- SYNCHRONIZED leaves nothing.
 abbrev pub item_of : Integer → Option Name → Stated → ItemEntry
@@ -45,15 +45,15 @@ item_of level given clauses = record {
 abbrev pub item_entry : ItemEntry → Part
 item_entry one = λ from rest.
     (clauses : Stated) × (one ≡ item_of one.level one.name clauses) × (is_condition one.level ≡ false)
-    × (integer one.level then named one.name then stated clauses then period) from rest
+    × (integer one.level then entry_name one.name then stated_clauses clauses then period) from rest
 
-abbrev pub through : Part
-through = either w.Thru w.Through
+abbrev pub through_word : Part
+through_word = either w.Thru w.Through
 
 -- [{THRU|THROUGH} lit]
 abbrev pub last_value : Option Literal → Part
-last_value None = without through
-last_value (Some one) = through then literal one
+last_value None = absence_of through_word
+last_value (Some one) = through_word then literal one
 
 -- lit [{THRU|THROUGH} lit]
 abbrev pub range : ValueRange → Part
@@ -67,7 +67,7 @@ condition_level = λ from rest. (level : Integer) × (is_condition level ≡ tru
 abbrev pub condition_entry : ConditionEntry → Part
 condition_entry one =
     condition_level then name one.name then either w.Value w.Values then optional (either w.Is w.Are)
-    then several range (tested begins_literal) one.values then period
+    then several range (lookahead begins_literal) one.values then period
 
 abbrev pub entry : Entry → Part
 entry (entry_as.Item one) = item_entry one

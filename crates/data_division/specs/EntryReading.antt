@@ -40,14 +40,14 @@ item_reader level = do
 abbrev pub begins_through : List Token → Bool
 begins_through i = begins_word w.Thru i || begins_word w.Through i
 
-unfoldable pub last_reader : Parser (Option Literal)
-last_reader = do
+unfoldable pub through_literal_reader : Parser (Option Literal)
+through_literal_reader = do
   either_reader w.Thru w.Through
   one ← literal_reader
   pure (Some one)
 
 unfoldable pub last_value_reader : Parser (Option Literal)
-last_value_reader i = if begins_through i then last_reader i else Ok (None, i)
+last_value_reader i = if begins_through i then through_literal_reader i else Ok (None, i)
 
 unfoldable pub range_reader : Parser ValueRange
 range_reader = do

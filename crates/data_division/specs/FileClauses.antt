@@ -6,7 +6,7 @@ use Rattle.tokens.specs.declared.reserved.Reserved.TheVariants as w
 use Rattle.tokens.specs.declared.token.Kind.{Kind}
 use Rattle.tokens.specs.declared.token.Kind.TheVariants as k
 use Rattle.tokens.specs.declared.token.Token.{Token}
-use Rattle.grammar.specs.Parts.{Part, ◌then◌, optional, some_of, several, tested, word, name, begins_name}
+use Rattle.grammar.specs.Parts.{Part, ◌then◌, optional, some_of, several, lookahead, word, name, begins_name}
 use Rattle.grammar.specs.Reading as r
 use Rattle.grammar.specs.Reading.{Parser, ◌>>=◌, ◌>>◌, pure, expect, skip}
 use Rattle.expressions.specs.Subscripts.{integer, integer_reader}
@@ -39,7 +39,7 @@ record_contains = word w.Record then optional (word w.Contains) then some_of int
 
 -- DATA {RECORD|RECORDS} [IS|ARE] n...
 abbrev pub data_records : Part
-data_records = word w.Data then either w.Record w.Records then optional (either w.Is w.Are) then some_of (several name (tested begins_name))
+data_records = word w.Data then either w.Record w.Records then optional (either w.Is w.Are) then some_of (several name (lookahead begins_name))
 
 abbrev pub file_clause : FileClause → Part
 file_clause clause_as.LabelRecords = label_records
@@ -117,14 +117,14 @@ file_clause_reader clause_as.DataRecords = data_records_reader
 
 -- ---- in any order, each at most once
 
-abbrev pub none : FileClauses
-none = record { label_records = false; block_contains = false; record_contains = false; data_records = false }
+abbrev pub no_file_clauses : FileClauses
+no_file_clauses = record { label_records = false; block_contains = false; record_contains = false; data_records = false }
 
-abbrev pub has : FileClauses → FileClause → Bool
-has all clause_as.LabelRecords = all.label_records
-has all clause_as.BlockContains = all.block_contains
-has all clause_as.RecordContains = all.record_contains
-has all clause_as.DataRecords = all.data_records
+abbrev pub has_file_clause : FileClauses → FileClause → Bool
+has_file_clause all clause_as.LabelRecords = all.label_records
+has_file_clause all clause_as.BlockContains = all.block_contains
+has_file_clause all clause_as.RecordContains = all.record_contains
+has_file_clause all clause_as.DataRecords = all.data_records
 
 abbrev pub with_clause : FileClauses → FileClause → FileClauses
 with_clause all clause_as.LabelRecords = record all { label_records = true }
@@ -138,6 +138,6 @@ file_clauses = record {
   clause = file_clause;
   kind_of = λ one. one;
   at = file_clause_at;
-  has = has;
+  has = has_file_clause;
   with_clause = with_clause;
 }

@@ -8,7 +8,7 @@ use Rattle.data_division.specs.declared.clause.Clause.{Clause}
 use Rattle.data_division.specs.declared.clause.Clause.TheVariants as clause_as
 use Rattle.data_division.specs.declared.stated.Stated.{Stated}
 use Rattle.data_division.specs.Words.{clause_at}
-use Rattle.data_division.specs.Gathering.{Clauses, gathering, gathering_reader}
+use Rattle.data_division.specs.Gathering.{Clauses, clauses_from, gathering_reader}
 use Rattle.data_division.specs.Clauses.{clause}
 use Rattle.data_division.specs.ClauseReading.{clause_reader}
 
@@ -23,8 +23,8 @@ kind_of clause_as.Justified = kind.Justified
 kind_of clause_as.BlankWhenZero = kind.BlankWhenZero
 kind_of (clause_as.Value one) = kind.Value
 
-abbrev pub none : Stated
-none = record {
+abbrev pub no_clauses : Stated
+no_clauses = record {
   redefines = None;
   picture = None;
   usage = None;
@@ -37,16 +37,16 @@ none = record {
 }
 
 -- whether a clause of that kind is among them
-abbrev pub has : Stated → ClauseKind → Bool
-has all kind.Redefines = is_some all.redefines
-has all kind.Picture = is_some all.picture
-has all kind.Usage = is_some all.usage
-has all kind.Sign = is_some all.sign
-has all kind.Occurs = is_some all.occurs
-has all kind.Synchronized = all.synchronized
-has all kind.Justified = all.justified
-has all kind.BlankWhenZero = all.blank_when_zero
-has all kind.Value = is_some all.value
+abbrev pub has_clause : Stated → ClauseKind → Bool
+has_clause all kind.Redefines = is_some all.redefines
+has_clause all kind.Picture = is_some all.picture
+has_clause all kind.Usage = is_some all.usage
+has_clause all kind.Sign = is_some all.sign
+has_clause all kind.Occurs = is_some all.occurs
+has_clause all kind.Synchronized = all.synchronized
+has_clause all kind.Justified = all.justified
+has_clause all kind.BlankWhenZero = all.blank_when_zero
+has_clause all kind.Value = is_some all.value
 
 abbrev pub with_clause : Stated → Clause → Stated
 with_clause all (clause_as.Redefines n) = record all { redefines = Some n }
@@ -61,11 +61,11 @@ with_clause all (clause_as.Value one) = record all { value = Some one }
 
 -- the clauses of an entry
 abbrev pub entry_clauses : Clauses Clause ClauseKind Stated
-entry_clauses = record { clause = clause; kind_of = kind_of; at = clause_at; has = has; with_clause = with_clause }
+entry_clauses = record { clause = clause; kind_of = kind_of; at = clause_at; has = has_clause; with_clause = with_clause }
 
 -- Clauses in any order, up to where no more can begin, each at most once.
-abbrev pub stated : Stated → Part
-stated = gathering entry_clauses none
+abbrev pub stated_clauses : Stated → Part
+stated_clauses = clauses_from entry_clauses no_clauses
 
 unfoldable pub stated_reader : Parser Stated
-stated_reader = gathering_reader entry_clauses clause_reader none
+stated_reader = gathering_reader entry_clauses clause_reader no_clauses

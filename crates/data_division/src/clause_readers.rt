@@ -17,6 +17,28 @@ use sqlite_items::Items;
 use std::alloc::Global;
 use tokens::{Kind, Reserved};
 
+/// A clause of this kind.
+#[tactic(auto, unfolding(crate::specs::ClauseReading::clause_reader))]
+pub fn clause_of_kind(
+    kind: ClauseKind,
+    alloc: Global,
+    tokens: &mut Tokens<'_>,
+) -> Result<Clause, ReadFault>
+    ensures { Reads (spec.clause_reader kind tokens.old) result tokens.new }
+{
+    match kind {
+        ClauseKind::Redefines => redefines(alloc, tokens),
+        ClauseKind::Picture => picture(alloc, tokens),
+        ClauseKind::Usage => usage(tokens),
+        ClauseKind::Sign => sign(tokens),
+        ClauseKind::Occurs => occurs(alloc, tokens),
+        ClauseKind::Synchronized => synchronized(tokens),
+        ClauseKind::Justified => justified(tokens),
+        ClauseKind::BlankWhenZero => blank_when_zero(tokens),
+        ClauseKind::Value => value(alloc, tokens),
+    }
+}
+
 #[tactic(auto, unfolding(crate::specs::ClauseReading::redefines_reader))]
 fn redefines(alloc: Global, tokens: &mut Tokens<'_>) -> Result<Clause, ReadFault>
     ensures { Reads (spec.redefines_reader tokens.old) result tokens.new }
@@ -156,26 +178,4 @@ fn value(alloc: Global, tokens: &mut Tokens<'_>) -> Result<Clause, ReadFault>
     tokens.expect(Reserved::Value)?;
     tokens.skip(Reserved::Is);
     Ok(Clause::Value(literal(alloc, tokens)?))
-}
-
-/// A clause of this kind.
-#[tactic(auto, unfolding(crate::specs::ClauseReading::clause_reader))]
-pub fn clause_of_kind(
-    kind: ClauseKind,
-    alloc: Global,
-    tokens: &mut Tokens<'_>,
-) -> Result<Clause, ReadFault>
-    ensures { Reads (spec.clause_reader kind tokens.old) result tokens.new }
-{
-    match kind {
-        ClauseKind::Redefines => redefines(alloc, tokens),
-        ClauseKind::Picture => picture(alloc, tokens),
-        ClauseKind::Usage => usage(tokens),
-        ClauseKind::Sign => sign(tokens),
-        ClauseKind::Occurs => occurs(alloc, tokens),
-        ClauseKind::Synchronized => synchronized(tokens),
-        ClauseKind::Justified => justified(tokens),
-        ClauseKind::BlankWhenZero => blank_when_zero(tokens),
-        ClauseKind::Value => value(alloc, tokens),
-    }
 }

@@ -11,6 +11,19 @@ use source_tree::{ConditionEntry, Entry, Literal, ValueRange};
 use std::alloc::Global;
 use tokens::Reserved;
 
+/// What comes after level 88.
+#[tactic(auto, unfolding(crate::specs::EntryReading::condition_reader))]
+pub fn condition_entry(alloc: Global, tokens: &mut Tokens<'_>) -> Result<Entry, ReadFault>
+    ensures { Reads (spec.condition_reader tokens.old) result tokens.new }
+{
+    let name = name(alloc, tokens)?;
+    either(tokens, Reserved::Value, Reserved::Values)?;
+    skip_either(tokens, Reserved::Is, Reserved::Are)?;
+    let values = several(&Ranges, alloc, tokens)?;
+    tokens.period()?;
+    Ok(Entry::Condition(ConditionEntry { name, values }))
+}
+
 /// THRU or THROUGH comes next.
 fn begins_through(tokens: &Tokens<'_>) -> bool
     ensures { result ≡ spec.begins_through tokens.now }
@@ -19,7 +32,7 @@ fn begins_through(tokens: &Tokens<'_>) -> bool
 }
 
 /// The last value of a range, where one stands.
-#[tactic(auto, unfolding(crate::specs::EntryReading::last_value_reader, crate::specs::EntryReading::last_reader))]
+#[tactic(auto, unfolding(crate::specs::EntryReading::last_value_reader, crate::specs::EntryReading::through_literal_reader))]
 fn last_value(alloc: Global, tokens: &mut Tokens<'_>) -> Result<Option<Literal>, ReadFault>
     ensures { Reads (spec.last_value_reader tokens.old) result tokens.new }
 {
@@ -60,17 +73,4 @@ impl Part<ValueRange> for Ranges {
     fn begins(&self, tokens: &Tokens<'_>) -> bool {
         begins_literal(tokens)
     }
-}
-
-/// What comes after level 88.
-#[tactic(auto, unfolding(crate::specs::EntryReading::condition_reader))]
-pub fn condition_entry(alloc: Global, tokens: &mut Tokens<'_>) -> Result<Entry, ReadFault>
-    ensures { Reads (spec.condition_reader tokens.old) result tokens.new }
-{
-    let name = name(alloc, tokens)?;
-    either(tokens, Reserved::Value, Reserved::Values)?;
-    skip_either(tokens, Reserved::Is, Reserved::Are)?;
-    let values = several(&Ranges, alloc, tokens)?;
-    tokens.period()?;
-    Ok(Entry::Condition(ConditionEntry { name, values }))
 }

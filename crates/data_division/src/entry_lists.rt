@@ -7,7 +7,7 @@ ghost use Rattle.data_division.specs.EntryReading as entries;
 
 use crate::condition_entries::condition_entry;
 use crate::item_entries::item_entry;
-use entries::number;
+use data_entries::number;
 use expressions::{begins_integer, integer};
 use grammar::{Part, ReadFault, Tokens};
 use source_tree::{Entry, Integer};
@@ -15,25 +15,6 @@ use std::alloc::Global;
 
 /// The level of condition names.
 const CONDITION: u32 = 88;
-
-fn is_condition(level: &Integer) -> bool
-    ensures { result ≡ rule.is_condition level.now }
-{
-    number(level) == CONDITION
-}
-
-/// An entry, whose form its level decides.
-#[tactic(auto, unfolding(crate::specs::EntryReading::entry_reader, crate::specs::EntryReading::by_level))]
-fn entry(alloc: Global, tokens: &mut Tokens<'_>) -> Result<Entry, ReadFault>
-    ensures { Reads (entries.entry_reader tokens.old) result tokens.new }
-{
-    let level = integer(alloc, tokens)?;
-    if is_condition(&level) {
-        condition_entry(alloc, tokens)
-    } else {
-        item_entry(level, alloc, tokens)
-    }
-}
 
 /// Entries in a list.
 pub struct Entries;
@@ -54,5 +35,24 @@ impl Part<Entry> for Entries {
 
     fn begins(&self, tokens: &Tokens<'_>) -> bool {
         begins_integer(tokens)
+    }
+}
+
+fn is_condition(level: &Integer) -> bool
+    ensures { result ≡ rule.is_condition level.now }
+{
+    number(level) == CONDITION
+}
+
+/// An entry, whose form its level decides.
+#[tactic(auto, unfolding(crate::specs::EntryReading::entry_reader, crate::specs::EntryReading::by_level))]
+fn entry(alloc: Global, tokens: &mut Tokens<'_>) -> Result<Entry, ReadFault>
+    ensures { Reads (entries.entry_reader tokens.old) result tokens.new }
+{
+    let level = integer(alloc, tokens)?;
+    if is_condition(&level) {
+        condition_entry(alloc, tokens)
+    } else {
+        item_entry(level, alloc, tokens)
     }
 }

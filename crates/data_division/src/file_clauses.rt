@@ -33,7 +33,7 @@ pub struct FileClauses {
 impl FileClauses {
     /// No clause.
     fn none() -> FileClauses
-        ensures { result ≡ spec.none }
+        ensures { result ≡ spec.no_file_clauses }
     {
         FileClauses {
             label_records: false,
@@ -45,7 +45,7 @@ impl FileClauses {
 
     /// The clause is among them.
     fn has(&self, clause: FileClause) -> bool
-        ensures { result ≡ spec.has self.now clause }
+        ensures { result ≡ spec.has_file_clause self.now clause }
     {
         match clause {
             FileClause::LabelRecords => self.label_records,
@@ -184,7 +184,7 @@ fn file_clause(
 /// Passes clauses up to where no more can begin. One that comes a second time is refused where it stands.
 #[tactic(auto, unfolding(crate::specs::Gathering::gathering_reader, crate::specs::Gathering::gathering_turns))]
 pub fn file_clauses(alloc: Global, tokens: &mut Tokens<'_>) -> Result<FileClauses, ReadFault>
-    ensures { Reads (gathering_reader spec.file_clauses spec.file_clause_reader spec.none tokens.old) result tokens.new }
+    ensures { Reads (gathering_reader spec.file_clauses spec.file_clause_reader spec.no_file_clauses tokens.old) result tokens.new }
 {
     let mut stated = FileClauses::none();
     for _turn in 0..tokens.len() {

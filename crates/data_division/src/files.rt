@@ -12,6 +12,21 @@ use sqlite_items::Items;
 use std::alloc::Global;
 use tokens::Reserved;
 
+/// The files of the file section; none where FILE doesn't come next.
+#[tactic(auto, unfolding(crate::specs::Files::file_section_reader, crate::specs::Files::described_reader))]
+pub fn file_section(
+    alloc: Global,
+    tokens: &mut Tokens<'_>,
+) -> Result<Items<FileDescription>, ReadFault>
+    ensures { Reads (spec.file_section_reader tokens.old) result tokens.new }
+{
+    if !tokens.at_word(Reserved::File) {
+        return Ok(Items::new(alloc));
+    }
+    tokens.heading(&[Reserved::File, Reserved::Section])?;
+    several(&Files, alloc, tokens)
+}
+
 /// An FD and the entries of its records.
 #[tactic(auto, unfolding(crate::specs::Files::file_reader))]
 fn file(alloc: Global, tokens: &mut Tokens<'_>) -> Result<FileDescription, ReadFault>
@@ -44,19 +59,4 @@ impl Part<FileDescription> for Files {
     fn begins(&self, tokens: &Tokens<'_>) -> bool {
         tokens.at_word(Reserved::Fd)
     }
-}
-
-/// The files of the file section; none where FILE doesn't come next.
-#[tactic(auto, unfolding(crate::specs::Files::file_section_reader, crate::specs::Files::described_reader))]
-pub fn file_section(
-    alloc: Global,
-    tokens: &mut Tokens<'_>,
-) -> Result<Items<FileDescription>, ReadFault>
-    ensures { Reads (spec.file_section_reader tokens.old) result tokens.new }
-{
-    if !tokens.at_word(Reserved::File) {
-        return Ok(Items::new(alloc));
-    }
-    tokens.heading(&[Reserved::File, Reserved::Section])?;
-    several(&Files, alloc, tokens)
 }

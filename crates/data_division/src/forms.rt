@@ -3,10 +3,25 @@
 ghost use Rattle.std.specs.Prelude.{◌≡◌, ◌++◌, IfOk};
 ghost use Rattle.data_division.specs.Forms as spec;
 
-use entries::picture_of;
+use data_entries::picture_of;
 use lexical::Place;
 use source_tree::{Entry, FileDescription};
 use std::alloc::{AllocError, Global};
+
+/// Where the first picture stands that has no form (COBOL-85, Nucleus, the PICTURE clause), among the entries of files and,
+/// behind them, of working storage.
+pub fn first_formless(
+    alloc: Global,
+    files: &[FileDescription],
+    storage: &[Entry],
+) -> Result<Option<Place>, AllocError>
+    ensures { IfOk result (λ place. place ≡ spec.first_formless (spec.file_entries files.now ++ storage.now)) }
+{
+    match formless_file(alloc, files)? {
+        Some(place) => Ok(Some(place)),
+        None => formless_entry(alloc, storage),
+    }
+}
 
 /// Where the entry's picture stands, if it has no form.
 fn formless(alloc: Global, entry: &Entry) -> Result<Option<Place>, AllocError>
@@ -47,19 +62,4 @@ fn formless_file(alloc: Global, files: &[FileDescription]) -> Result<Option<Plac
         }
     }
     Ok(None)
-}
-
-/// Where the first picture stands that has no form (COBOL-85, Nucleus, the PICTURE clause), among the entries of files and,
-/// behind them, of working storage.
-pub fn first_formless(
-    alloc: Global,
-    files: &[FileDescription],
-    storage: &[Entry],
-) -> Result<Option<Place>, AllocError>
-    ensures { IfOk result (λ place. place ≡ spec.first_formless (spec.file_entries files.now ++ storage.now)) }
-{
-    match formless_file(alloc, files)? {
-        Some(place) => Ok(Some(place)),
-        None => formless_entry(alloc, storage),
-    }
 }

@@ -11,6 +11,21 @@ use source_tree::{Entry, Integer, ItemEntry, Name};
 use std::alloc::Global;
 use tokens::Reserved;
 
+/// What comes after the level of an item.
+#[tactic(auto, unfolding(crate::specs::EntryReading::item_reader))]
+pub fn item_entry(
+    level: Integer,
+    alloc: Global,
+    tokens: &mut Tokens<'_>,
+) -> Result<Entry, ReadFault>
+    ensures { Reads (spec.item_reader level tokens.old) result tokens.new }
+{
+    let name = named(alloc, tokens)?;
+    let (name, clauses) = beside(name, stated_clauses(alloc, tokens))?;
+    let (item, ()) = beside(item_of(level, name, clauses), tokens.period())?;
+    Ok(Entry::Item(item))
+}
+
 /// A name, FILLER, or neither.
 #[tactic(auto, unfolding(crate::specs::EntryReading::named_reader, crate::specs::EntryReading::given_reader, crate::specs::EntryReading::filler_reader))]
 fn named(alloc: Global, tokens: &mut Tokens<'_>) -> Result<Option<Name>, ReadFault>
@@ -40,19 +55,4 @@ fn item_of(level: Integer, name: Option<Name>, clauses: Stated) -> ItemEntry
         blank_when_zero: clauses.blank_when_zero,
         value: clauses.value,
     }
-}
-
-/// What comes after the level of an item.
-#[tactic(auto, unfolding(crate::specs::EntryReading::item_reader))]
-pub fn item_entry(
-    level: Integer,
-    alloc: Global,
-    tokens: &mut Tokens<'_>,
-) -> Result<Entry, ReadFault>
-    ensures { Reads (spec.item_reader level tokens.old) result tokens.new }
-{
-    let name = named(alloc, tokens)?;
-    let (name, clauses) = beside(name, stated_clauses(alloc, tokens))?;
-    let (item, ()) = beside(item_of(level, name, clauses), tokens.period())?;
-    Ok(Entry::Item(item))
 }

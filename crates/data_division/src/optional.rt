@@ -56,9 +56,9 @@ fn after_separate(tokens: &[Token]) -> Option<&[Token]>
 }
 
 /// Passes `SEPARATE [CHARACTER]`, if that comes next, and tells whether it did.
-#[tactic(auto, unfolding(grammar::specs::Reading::stands))]
+#[tactic(auto, unfolding(grammar::specs::Reading::presence_reader))]
 pub fn take_separate(tokens: &mut Tokens<'_>) -> bool
-    ensures { read.stands spec.after_separate tokens.old ≡ Ok (result, tokens.new) }
+    ensures { read.presence_reader spec.after_separate tokens.old ≡ Ok (result, tokens.new) }
 {
     match after_separate(tokens.rest()) {
         Some(rest) => {

@@ -31,7 +31,7 @@ pub struct Stated {
 impl Stated {
     /// No clause.
     pub fn none() -> Stated
-        ensures { result ≡ spec.none }
+        ensures { result ≡ spec.no_clauses }
     {
         Stated {
             redefines: None,
@@ -48,7 +48,7 @@ impl Stated {
 
     /// A clause of that kind is among them.
     pub fn has(&self, kind: ClauseKind) -> bool
-        ensures { result ≡ spec.has self.now kind }
+        ensures { result ≡ spec.has_clause self.now kind }
     {
         match kind {
             ClauseKind::Redefines => self.redefines.is_some(),

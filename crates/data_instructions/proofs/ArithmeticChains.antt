@@ -11,7 +11,7 @@ use Rattle.source_tree.specs.declared.arithmetic.DivisionOrder.{DivisionOrder}
 use Rattle.source_tree.specs.declared.arithmetic.DivisionOrder.TheVariants.{Into, By}
 use Rattle.source_tree.specs.declared.arithmetic.Operation.{Operation}
 use Rattle.source_tree.specs.declared.arithmetic.Operation.TheVariants as o
-use Rattle.source_tree.specs.Places.{Placed}
+use Rattle.source_tree.specs.Places.{LocatedItem}
 use Rattle.data_instructions.specs.declared.tables.DataTables.{DataTables}
 use Rattle.data_instructions.specs.declared.shape.Shape.{Shape}
 use Rattle.data_instructions.specs.declared.calculation.Calculation.TheVariants as calculation
@@ -20,7 +20,7 @@ use Rattle.data_instructions.specs.declared.instruction.DataInstruction.TheVaria
 use Rattle.data_instructions.specs.Shapes.{and_then, and_one, without_place, shape_with}
 use Rattle.data_instructions.specs.Codes.{IsTakingCode}
 use Rattle.data_instructions.specs.Chains.{effects, greatest, LiesAll}
-use Rattle.data_instructions.specs.ArithmeticCodes.{operator_code, duplicate, discard, Adds, StaysOver, AreAddedCode, IsTotalCode, IsUpdateCode, AreUpdatesCode, IsGiveCode, AreGivesCode, kept_code, IsRemainderCode, IsDivisionCode, IsOperationCode, IsArithmeticCode, LieOperands, LieReceivers, LiesOperation, KnowsArithmetic}
+use Rattle.data_instructions.specs.ArithmeticCodes.{operator_code, duplicate, discard, PushesNumber, StaysOver, AreAddedCode, IsTotalCode, IsUpdateCode, AreUpdatesCode, IsGiveCode, AreGivesCode, kept_code, IsRemainderCode, IsDivisionCode, IsOperationCode, IsArithmeticCode, LieOperands, LieReceivers, LiesOperation, KnowsArithmetic}
 use Rattle.data_instructions.proofs.Chains.{effects_append, within, taking_known}
 use Rattle.data_instructions.proofs.Expressions.{counting, calculated_known, operator_known, first_known, further_known, number_known, value_known}
 
@@ -49,11 +49,11 @@ module _ (tables : DataTables) where
       ∙ ap (λ r. and_then r (effects tables (discard ∷ []))) (stays (counting (s.stacks.numbers + 1) s) (omega arith))
       ∙ discard_known [] s
 
-  valued_known : (front back : List DataInstruction) → Adds tables front → Takes tables back → KnowsArithmetic tables (front ++ back)
+  valued_known : (front back : List DataInstruction) → PushesNumber tables front → Takes tables back → KnowsArithmetic tables (front ++ back)
   valued_known front back adds takes s =
       effects_append tables front back s ∙ ap (λ r. and_then r (effects tables back)) (adds s) ∙ takes s
 
-  pub valued_two_known : (front middle back : List DataInstruction) → Adds tables front → Adds tables middle → TakesTwo tables back → KnowsArithmetic tables (front ++ (middle ++ back))
+  pub valued_two_known : (front middle back : List DataInstruction) → PushesNumber tables front → PushesNumber tables middle → TakesTwo tables back → KnowsArithmetic tables (front ++ (middle ++ back))
   valued_two_known front middle back adds adds_other takes =
       valued_known front (middle ++ back) adds (λ s.
       effects_append tables middle back (counting (s.stacks.numbers + 1) s)
@@ -63,14 +63,14 @@ module _ (tables : DataTables) where
   combined_known : (one : Operator) (code : List DataInstruction) → Takes tables code → TakesTwo tables (operator_code one ∷ code)
   combined_known one code takes s = operator_known tables one code (counting (s.stacks.numbers + 1) s) (omega arith) ∙ takes s
 
-module _ (items : List Placed) (tables : DataTables) where
+module _ (items : List LocatedItem) (tables : DataTables) where
   added_known : (operands : List Operand) (code : List DataInstruction) → AreAddedCode items tables operands code → LieOperands items tables operands → StaysOver tables code
   added_known [] code is lie s some = ap (λ code. effects tables code s) is
   added_known (one ∷ more) code (front, is_front, back, is_back, is) lie s some =
       ap (λ code. effects tables code s) is
       ∙ further_known tables operator.Add front back (value_known items tables one front is_front lie.0) (added_known more back is_back lie.1) s some
 
-  total_known : (operands : List Operand) (code : List DataInstruction) → IsTotalCode items tables operands code → LieOperands items tables operands → Adds tables code
+  total_known : (operands : List Operand) (code : List DataInstruction) → IsTotalCode items tables operands code → LieOperands items tables operands → PushesNumber tables code
   total_known [] code is lie s = number_known items tables _ code is s
   total_known (one ∷ more) code (front, is_front, back, is_back, is) lie s =
       ap (λ code. effects tables code s) is

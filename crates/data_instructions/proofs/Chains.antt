@@ -17,7 +17,7 @@ use Rattle.source_tree.specs.Display.{shown_literal, line_end}
 use Rattle.source_tree.specs.Literals.{Sender}
 use Rattle.source_tree.specs.MoveRules.{may_move}
 use Rattle.source_tree.specs.Accepting.{date_sender}
-use Rattle.source_tree.specs.Places.{Placed}
+use Rattle.source_tree.specs.Places.{LocatedItem}
 use Rattle.data_instructions.specs.declared.index.ItemIndex.{ItemIndex}
 use Rattle.data_instructions.specs.declared.index.NumberIndex.{NumberIndex}
 use Rattle.data_instructions.specs.declared.tables.DataItem.{DataItem}
@@ -29,7 +29,7 @@ use Rattle.data_instructions.specs.declared.shape.PlaceShape.{PlaceShape}
 use Rattle.data_instructions.specs.declared.shape.Shape.{Shape}
 use Rattle.data_instructions.specs.declared.shape.Stacks.{Stacks}
 use Rattle.data_instructions.specs.Tables.{Lies}
-use Rattle.data_instructions.specs.Shapes.{and_then, and_one, placing, with_place, indexing, reaches, last_reach, moving_to, shape_with, effect, accepting, dating}
+use Rattle.data_instructions.specs.Shapes.{and_then, and_one, stacks_with_place, with_place, stacks_with_subscript, reaches, last_reach, moving_to, shape_with, effect, shape_after_accept, shape_after_date}
 use Rattle.data_instructions.specs.Codes.{data_item, HasInteger, IsAdjustmentCode, IsSubscriptCode, AreSubscriptsCode, index_code, IsReferenceCode, IsTakingCode, IsSenderCode, AreReceiversCode, IsMoveCode, IsTextCode, IsOperandCode, AreOperandsCode, IsLineEndCode, IsDisplayCode}
 use Rattle.data_instructions.specs.Chains.{effects, greatest, LiesAll, ShowsAll, SendsAs, MayReceive, MayReceiveEach, KnowsMove, KnowsDisplay, KnowsAccept, KnowsDate}
 
@@ -54,7 +54,7 @@ further : (offset : ℕ) (dimensions : List Dimension) → offset ≤ greatest o
 further offset [] = omega arith
 further offset (one ∷ more) = let h = further (last_reach offset one.stride one.count) more in omega (arith, h)
 
-module _ (items : List Placed) (tables : DataTables) where
+module _ (items : List LocatedItem) (tables : DataTables) where
   abbrev with_numbers : ℕ → Shape → Shape
   with_numbers n s = record s { stacks = record { numbers = n; places = s.stacks.places } }
 
@@ -64,8 +64,8 @@ module _ (items : List Placed) (tables : DataTables) where
   literal_known : (number : NumberIndex) (n : ℕ) → HasInteger tables number n → (more : List DataInstruction) (s : Shape) → effects tables (i.Literal number ∷ more) s ≡ effects tables more (with_numbers (s.stacks.numbers + 1) s)
   literal_known number n has more s = ap (λ o. and_then (shape_with (and_then o (λ x. and_one s.stacks)) (Some s.line) (Some s.sender)) (effects tables more)) has.entry
 
-  pub place_known : (index : ItemIndex) (found : Placed) → slice_get tables.items index.number ≡ Some (data_item found) → (more : List DataInstruction) (s : Shape) → effects tables (i.Place index ∷ more) s ≡ effects tables more (at index found.offset s)
-  place_known index found entry more s = ap (λ o. and_then (shape_with (and_then o (λ one. placing index one s.stacks)) (Some s.line) (Some s.sender)) (effects tables more)) entry
+  pub place_known : (index : ItemIndex) (found : LocatedItem) → slice_get tables.items index.number ≡ Some (data_item found) → (more : List DataInstruction) (s : Shape) → effects tables (i.Place index ∷ more) s ≡ effects tables more (at index found.offset s)
+  place_known index found entry more s = ap (λ o. and_then (shape_with (and_then o (λ one. stacks_with_place index one s.stacks)) (Some s.line) (Some s.sender)) (effects tables more)) entry
 
   -- two numbers become one
   combined_known : (n : ℕ) (s : Shape) → and_then (if nat_le 2 (n + 1 + 1) then Some (record { numbers = n + 1 + 1 - 2; places = s.stacks.places }) else None) and_one ≡ Some (record { numbers = n + 1; places = s.stacks.places })
@@ -89,7 +89,7 @@ module _ (items : List Placed) (tables : DataTables) where
   subscript_known (subscript.Item name adjusting) code (index, found, has, integral, more, adjusts, is) s =
       ap (λ c. effects tables c s) is ∙ place_known index found has.entry (i.Push ∷ more) s ∙ adjustment_known adjusting more adjusts s
 
-  index_known : (one : Dimension) (index : ItemIndex) (found : Placed) (reach : ℕ) → slice_get tables.items index.number ≡ Some (data_item found) → Lies tables.areas (data_item found) (last_reach reach one.stride one.count)
+  index_known : (one : Dimension) (index : ItemIndex) (found : LocatedItem) (reach : ℕ) → slice_get tables.items index.number ≡ Some (data_item found) → Lies tables.areas (data_item found) (last_reach reach one.stride one.count)
       → (more : List DataInstruction) (s : Shape) → effects tables (index_code one ∷ more) (with_numbers (s.stacks.numbers + 1) (at index reach s)) ≡ effects tables more (at index (last_reach reach one.stride one.count) s)
   index_known one index found reach entry lies more s =
       let last : ℕ = last_reach reach one.stride one.count in
@@ -97,7 +97,7 @@ module _ (items : List Placed) (tables : DataTables) where
       let placed : ℕ → Stacks = λ n. record { numbers = n; places = record { item = index; reach = last } ∷ s.stacks.places } in
       let rest : Option Stacks → Option Shape = λ o. and_then (shape_with o (Some s.line) (Some s.sender)) (effects tables more) in
       let n : ℕ = s.stacks.numbers in
-      ap (λ b. rest (and_then (if b then Some (record { numbers = n + 1 - 1; places = places }) else None) (λ t. with_place (indexing tables one.stride one.count) t.places t))) (one_there n)
+      ap (λ b. rest (and_then (if b then Some (record { numbers = n + 1 - 1; places = places }) else None) (λ t. with_place (stacks_with_subscript tables one.stride one.count) t.places t))) (one_there n)
       ∙ ap (λ o. rest (and_then o (λ it. and_then (reaches tables last it) (λ area. Some (placed (n + 1 - 1)))))) entry
       ∙ ap (λ o. rest (and_then (and_then o (λ area. if nat_le (last + found.item.length) (length area) then Some area else None)) (λ area. Some (placed (n + 1 - 1))))) lies.here
       ∙ ap (λ b. rest (and_then (if b then Some lies.area else None) (λ area. Some (placed (n + 1 - 1))))) (within (last + found.item.length) (length lies.area) lies.within)
@@ -108,7 +108,7 @@ module _ (items : List Placed) (tables : DataTables) where
   nearer one reach last h lies = record { area = lies.area; here = lies.here; within = omega (arith, lies.within, h) }
 
   pub subscripts_known : (dimensions : List Dimension) (subscripts : List written.Subscript) (code : List DataInstruction) → AreSubscriptsCode items tables dimensions subscripts code
-      → (index : ItemIndex) (found : Placed) (reach : ℕ) → slice_get tables.items index.number ≡ Some (data_item found) → Lies tables.areas (data_item found) (greatest reach dimensions)
+      → (index : ItemIndex) (found : LocatedItem) (reach : ℕ) → slice_get tables.items index.number ≡ Some (data_item found) → Lies tables.areas (data_item found) (greatest reach dimensions)
       → (s : Shape) → effects tables code (at index reach s) ≡ Some (at index (greatest reach dimensions) s)
   subscripts_known [] subscripts code is index found reach entry lies s = ap (λ c. effects tables c (at index reach s)) is
   subscripts_known (one ∷ more) [] code is index found reach entry lies s = absurd is
@@ -202,10 +202,10 @@ module _ (items : List Placed) (tables : DataTables) where
       as_it_is code (front ++ back) is (longer front back (operands_known operands front is_front lies) (line_end_known advancing back is_back))
 
   pub accept_known : (receiver : Reference) (code : List DataInstruction) → IsReferenceCode items tables receiver code → LiesAll items tables receiver → KnowsAccept items tables code
-  accept_known receiver code r lies s = ap (λ o. and_then o accepting) (reference_known receiver code r lies s)
+  accept_known receiver code r lies s = ap (λ o. and_then o shape_after_accept) (reference_known receiver code r lies s)
 
   pub date_known : (receiver : Reference) (code : List DataInstruction) → IsReferenceCode items tables receiver code → MayReceive items tables (date_sender []).taken receiver → KnowsDate items tables code
   date_known receiver code r may s =
-      ap (λ o. and_then o (dating tables)) (reference_known receiver code r may.0 s)
+      ap (λ o. and_then o (shape_after_date tables)) (reference_known receiver code r may.0 s)
       ∙ ap (λ o. and_then o (λ one. if may_move (date_sender []).taken one.item then Some s else None)) r.has.entry
       ∙ ap (λ b. if b then Some s else None) (may.1 r.found r.has.named)

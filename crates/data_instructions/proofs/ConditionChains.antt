@@ -14,7 +14,7 @@ use Rattle.source_tree.specs.declared.condition.Relation.{Relation}
 use Rattle.source_tree.specs.declared.condition.SignTest.{SignTest}
 use Rattle.source_tree.specs.declared.condition.Class.{Class}
 use Rattle.source_tree.specs.declared.condition.Side.{Side}
-use Rattle.source_tree.specs.Places.{Placed}
+use Rattle.source_tree.specs.Places.{LocatedItem}
 use Rattle.source_tree.specs.Literals.{literal_sender}
 use Rattle.source_tree.specs.Conditions.{sign_relation}
 use Rattle.data_instructions.specs.declared.tables.DataTables.{DataTables}
@@ -25,7 +25,7 @@ use Rattle.data_instructions.specs.declared.instruction.DataInstruction.TheVaria
 use Rattle.data_instructions.specs.Shapes.{and_then, shape_with, effect}
 use Rattle.data_instructions.specs.Codes.{IsSenderCode}
 use Rattle.data_instructions.specs.Chains.{effects, LiesAll, SendsAs}
-use Rattle.data_instructions.specs.ArithmeticCodes.{Adds, LiesOperand}
+use Rattle.data_instructions.specs.ArithmeticCodes.{PushesNumber, LiesOperand}
 use Rattle.data_instructions.specs.ConditionCodes.{KnowsTest, negation, IsComparedCode, IsRelationCode, IsSignCode, IsClassCode, IsRangeTest, AreValuesCode, IsNameCode, LiesAlone, LiesCondition}
 use Rattle.data_instructions.proofs.Chains.{effects_append, within, place_known, subscripts_known, taking_known, sender_known}
 use Rattle.data_instructions.proofs.Expressions.{counting, number_known}
@@ -39,7 +39,7 @@ module _ (tables : DataTables) where
       ap (λ b. and_then (shape_with (if b then Some (record s.stacks { numbers = n + 1 + 1 - 2 }) else None) (Some s.line) (Some s.sender)) (effects tables [])) (within 2 (n + 1 + 1) (omega arith))
       ∙ ap (λ m. Some (counting m s)) (omega arith)
 
-  numbers_known : (one : Relation) (front back code : List DataInstruction) → Adds tables front → Adds tables back → code ≡ front ++ (back ++ (i.Test (t.CompareNumbers one) ∷ [])) → KnowsTest tables code
+  numbers_known : (one : Relation) (front back code : List DataInstruction) → PushesNumber tables front → PushesNumber tables back → code ≡ front ++ (back ++ (i.Test (t.CompareNumbers one) ∷ [])) → KnowsTest tables code
   numbers_known one front back code adds adds_other is s = record {
     sender = s.sender;
     by = ap (λ c. effects tables c s) is ∙ valued_two_known tables front back (i.Test (t.CompareNumbers one) ∷ []) adds adds_other (compare_known one) s;
@@ -49,11 +49,11 @@ module _ (tables : DataTables) where
   inverted_known true s = refl
   inverted_known false s = refl
 
-module _ (items : List Placed) (tables : DataTables) where
+module _ (items : List LocatedItem) (tables : DataTables) where
   -- what a sender counts as
   sends_as : (sender : Operand) (code : List DataInstruction) → IsSenderCode items tables sender code → LiesOperand items tables sender → (sent : Taken) × SendsAs items tables sender sent
   sends_as (operand.Item reference) code is lies =
-      (kept.Item is.1.found.item, (lies, λ found named. ap (λ (o : Placed). kept.Item o.item) (same_Some found is.1.found (sym named ∙ is.1.has.named))))
+      (kept.Item is.1.found.item, (lies, λ found named. ap (λ (o : LocatedItem). kept.Item o.item) (same_Some found is.1.found (sym named ∙ is.1.has.named))))
   sends_as (operand.Literal literal) code is lies = ((literal_sender literal.value).taken, refl)
 
   compared_known : (one : Relation) (other : Operand) (code : List DataInstruction) → IsComparedCode items tables one other code → LiesOperand items tables other → (sent : Taken) (s : Shape)

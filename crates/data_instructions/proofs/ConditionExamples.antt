@@ -9,7 +9,7 @@ use Rattle.items.specs.declared.item.Kind.TheVariants as kind
 use Rattle.items.specs.declared.item.Item.{Item}
 use Rattle.items.specs.declared.taken.Taken.TheVariants as kept
 use Rattle.items.specs.Values.{value_of}
-use Rattle.text_ops.specs.Compare.{compared, order_of_texts}
+use Rattle.text_ops.specs.Compare.{comparison_of, order_of_texts}
 use Rattle.text_ops.specs.Classes.{is_class}
 use Rattle.source_tree.specs.declared.condition.Relation.{Relation}
 use Rattle.source_tree.specs.declared.condition.Relation.TheVariants as relation
@@ -23,7 +23,7 @@ use Rattle.data_instructions.specs.declared.shape.Shape.{Shape}
 use Rattle.data_instructions.specs.declared.test.Test.TheVariants as t
 use Rattle.data_instructions.specs.declared.instruction.DataInstruction.{DataInstruction}
 use Rattle.data_instructions.specs.declared.instruction.DataInstruction.TheVariants as i
-use Rattle.data_instructions.specs.Scratch.{Scratch, Step, Went, Faulted, Stuck, started}
+use Rattle.data_instructions.specs.Scratch.{Scratch, Step, Continues, Faulted, Stuck, initial_scratch}
 use Rattle.data_instructions.specs.Shapes.{empty, effect}
 use Rattle.data_instructions.specs.Codes.{works}
 use Rattle.data_instructions.specs.ConditionCodes.{negation}
@@ -41,7 +41,7 @@ abbrev digit : List ℕ → LiteralSender
 digit bytes = record { taken = kept.Item (number_item 1 0); bytes = bytes }
 
 computing : Unit {0}
-unfolding value_of compared order_of_texts order is_class greatest quotient
+unfolding value_of comparison_of order_of_texts order is_class greatest quotient
 computing = tt
 
 -- the literals 5, 7, 8 and 9, and a text; the numbers 1.5 and 0
@@ -72,10 +72,10 @@ abbrev against : Relation → ℕ → DataInstruction
 against one literal = i.Test (t.CompareLiteral one (record { number = literal }))
 
 abbrev begun : Scratch
-begun = started tables
+begun = initial_scratch tables
 
 abbrev truth_of : Step → Option Bool
-truth_of (Went s) = Some s.truth
+truth_of (Continues s) = Some s.truth
 truth_of _ = None
 
 abbrev asked : List DataInstruction → Option Bool

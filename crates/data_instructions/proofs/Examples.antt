@@ -5,13 +5,13 @@ use Rattle.std.specs.Prelude.{Bool, true, false, codes, slice_index_or}
 use Rattle.decimal18.specs.Fraction.{Fraction}
 use Rattle.decimal18.specs.Arithmetic.{sum, difference, product}
 use Rattle.decimal18.specs.Quotient.{greatest, quotient}
-use Rattle.decimal18.specs.Receiver.{fitted, low_digits, truncated}
+use Rattle.decimal18.specs.Receiver.{fitted_decimal, low_digits, truncated_decimal}
 use Rattle.items.specs.declared.usage.OperationalSign.TheVariants as operational
 use Rattle.items.specs.declared.usage.Usage.TheVariants as usage
 use Rattle.items.specs.declared.item.Kind.TheVariants as kind
 use Rattle.items.specs.declared.item.Item.{Item}
 use Rattle.items.specs.Values.{value_of, bytes_of}
-use Rattle.text_ops.specs.Shown.{shown}
+use Rattle.text_ops.specs.Shown.{shown_bytes}
 use Rattle.edited_move.specs.Moves as moves
 use Rattle.source_tree.specs.Evaluated.{Data, Subscript}
 use Rattle.data_instructions.specs.declared.tables.DataItem.{DataItem}
@@ -19,8 +19,8 @@ use Rattle.data_instructions.specs.declared.tables.DataTables.{DataTables}
 use Rattle.data_instructions.specs.declared.calculation.Calculation.TheVariants as calculation
 use Rattle.data_instructions.specs.declared.instruction.DataInstruction.{DataInstruction}
 use Rattle.data_instructions.specs.declared.instruction.DataInstruction.TheVariants as i
-use Rattle.data_instructions.specs.Scratch.{Scratch, Step, Went, Faulted, Stuck, started}
-use Rattle.data_instructions.specs.Table.{accepted, dated}
+use Rattle.data_instructions.specs.Scratch.{Scratch, Step, Continues, Faulted, Stuck, initial_scratch}
+use Rattle.data_instructions.specs.Table.{accept_step, date_step}
 use Rattle.data_instructions.specs.Shapes.{empty, effect}
 use Rattle.data_instructions.specs.Codes.{go_on, works}
 use Rattle.data_instructions.specs.ArithmeticCodes.{duplicate, discard, kept_code}
@@ -29,7 +29,7 @@ abbrev at_area : Item → ℕ → DataItem
 at_area item area = record { item = item; editing = None; area = area; offset = 0 }
 
 computing : Unit {0}
-unfolding low_digits fitted truncated value_of bytes_of shown moves.moved sum difference product greatest quotient
+unfolding low_digits fitted_decimal truncated_decimal value_of bytes_of shown_bytes moves.moved_bytes sum difference product greatest quotient
 computing = tt
 
 abbrev tables : DataTables
@@ -59,9 +59,9 @@ abbrev element : ℕ → List DataInstruction
 element subscript = item 0 ∷ number subscript ∷ i.Index 2 3 ∷ []
 
 abbrev begun : Scratch
-begun = started tables
+begun = initial_scratch tables
 
-second_place : works tables (element 0) begun ≡ Went (record begun { places = record { item = record { number = 0 }; offset = 2; length = 2 } ∷ [] })
+second_place : works tables (element 0) begun ≡ Continues (record begun { places = record { item = record { number = 0 }; offset = 2; length = 2 } ∷ [] })
 second_place = refl
 
 fourth_place : works tables (element 1) begun ≡ Faulted Subscript
@@ -75,15 +75,15 @@ no_subscript = refl
 
 -- the number that code leaves, and the bytes of an area, if it goes on
 abbrev numbers_of : Step → List (Option Fraction)
-numbers_of (Went s) = s.numbers
+numbers_of (Continues s) = s.numbers
 numbers_of _ = []
 
 abbrev area_of : ℕ → Step → List ℕ
-area_of k (Went s) = slice_index_or s.storage k []
+area_of k (Continues s) = slice_index_or s.storage k []
 area_of k _ = []
 
 abbrev line_of : Step → List ℕ
-line_of (Went s) = s.line
+line_of (Continues s) = s.line
 line_of _ = []
 
 second_number : numbers_of (works tables (element 0 ++ i.Push ∷ []) begun) ≡ Some (record { coefficient = pos 2; scale = 0 }) ∷ []
@@ -117,10 +117,10 @@ unfolding computing
 shown_line = refl
 
 -- ACCEPT N (2), ACCEPT M FROM DATE
-line_accepted : area_of 0 (go_on (works tables (element 0) begun) (accepted tables (codes "7"))) ≡ codes "017 x3"
+line_accepted : area_of 0 (go_on (works tables (element 0) begun) (accept_step tables (codes "7"))) ≡ codes "017 x3"
 line_accepted = refl
 
-day_moved : area_of 1 (go_on (works tables (item 2 ∷ []) begun) (dated tables (codes "991231"))) ≡ codes "231"
+day_moved : area_of 1 (go_on (works tables (item 2 ∷ []) begun) (date_step tables (codes "991231"))) ≡ codes "231"
 unfolding computing
 day_moved = refl
 
@@ -137,7 +137,7 @@ no_sender_known = refl
 
 -- whether a size error arose
 abbrev truth_of : Step → Option Bool
-truth_of (Went s) = Some s.truth
+truth_of (Continues s) = Some s.truth
 truth_of _ = None
 
 -- DIVIDE a number BY another GIVING Q REMAINDER M

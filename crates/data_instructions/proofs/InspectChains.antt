@@ -2,10 +2,10 @@
 use Rattle.std.proofs.Common.{◌≡◌, ℕ, ◌+◌, ◌≤◌, length, List, [], ◌∷◌, ◌++◌, sym, refl, ◌∙◌, ap, arith, Some, None}
 use Rattle.std.specs.Prelude.{nat_le, if◌then◌else◌}
 use Rattle.std.proofs.lemmas.List.{append_assoc}
-use Rattle.source_tree.specs.declared.inspecting.Inspecting.{Inspecting}
-use Rattle.source_tree.specs.Places.{Placed}
+use Rattle.source_tree.specs.declared.inspect_statement.InspectStatement.{InspectStatement}
+use Rattle.source_tree.specs.Places.{LocatedItem}
 use Rattle.source_tree.specs.InspectLayout as layout
-use Rattle.source_tree.specs.InspectLayout.{Bytes, Characters, Taking, Counter, Text, found_size, text_size, taken_size, takings, inspection, inspected_size}
+use Rattle.source_tree.specs.InspectLayout.{Bytes, Characters, InspectArgument, Counter, Text, found_size, text_size, taken_size, takings, inspection, inspected_size}
 use Rattle.data_instructions.specs.declared.index.InspectionIndex.{InspectionIndex}
 use Rattle.data_instructions.specs.declared.tables.Inspection.{Inspection}
 use Rattle.data_instructions.specs.declared.tables.DataTables.{DataTables}
@@ -26,7 +26,7 @@ enough : (qs rest : List PlaceShape) (numbers : ℕ) → without_places (length 
 enough [] rest numbers = refl
 enough (q ∷ qs) rest numbers = enough qs rest numbers
 
-module _ (items : List Placed) (tables : DataTables) where
+module _ (items : List LocatedItem) (tables : DataTables) where
   abbrev known : List PlaceShape → PlaceShape → ℕ → Shape → Shape
   known qs q line s = record s { stacks = record { numbers = s.stacks.numbers; places = qs ++ (q ∷ s.stacks.places) }; line = line }
 
@@ -40,7 +40,7 @@ module _ (items : List Placed) (tables : DataTables) where
       ∙ ap (λ o. and_then (shape_with (and_then o without_place) (if nat_le has.one.size line then Some 0 else None) (Some s.sender)) (effects tables [])) (enough qs (q ∷ s.stacks.places) s.stacks.numbers)
       ∙ ap (λ b. and_then (shape_with (Some s.stacks) (if b then Some 0 else None) (Some s.sender)) (effects tables [])) (within has.one.size line (omega (arith, has.size_is, long)))
 
-  takings_known : (index : InspectionIndex) (how : layout.Inspection) (size : ℕ) (has : HasInspection items tables how size index) (all : List Taking) (code : List DataInstruction) → AreTakenCode items tables all code → LieTakings items tables all
+  takings_known : (index : InspectionIndex) (how : layout.Inspection) (size : ℕ) (has : HasInspection items tables how size index) (all : List InspectArgument) (code : List DataInstruction) → AreTakenCode items tables all code → LieTakings items tables all
       → (qs : List PlaceShape) (q : PlaceShape) (line : ℕ) (s : Shape) → length qs + counters_in all ≡ length how.counters → size ≤ line + taken_size items all
       → effects tables (code ++ (i.Inspect index ∷ [])) (known qs q line s) ≡ Some (record s { line = 0 })
   takings_known index how size has [] code is lies qs q line s many long =
@@ -70,7 +70,7 @@ module _ (items : List Placed) (tables : DataTables) where
       ∙ ap (λ o. and_then o (effects tables later)) (text_known items tables text front is_text (known qs q line s))
       ∙ takings_known index how size has more back are_back lies.1 qs q (line + length text) s many (omega (arith, long))
 
-  pub inspect_leaves : (one : Inspecting) (code : List DataInstruction) → IsInspectCode items tables one code → LiesInspect items tables one → KnowsInspect items tables code
+  pub inspect_leaves : (one : InspectStatement) (code : List DataInstruction) → IsInspectCode items tables one code → LiesInspect items tables one → KnowsInspect items tables code
   inspect_leaves one code (subject, r, parts, are, index, has, is) lies s none =
       let later : List DataInstruction = parts ++ (i.Inspect index ∷ []) in
       ap (λ c. effects tables c s) is

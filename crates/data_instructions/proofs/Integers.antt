@@ -6,13 +6,13 @@ use Rattle.std.proofs.lemmas.Bool.{lt-ltb}
 use Rattle.std.proofs.lemmas.Bool.Decides.{nat_tests}
 use Rattle.std.proofs.lemmas.Option.{same_Some}
 use Rattle.decimal18.specs.Fraction.{Fraction}
-use Rattle.decimal18.specs.Digits.{whole}
-use Rattle.decimal18.specs.Arithmetic.{sum, difference, combined, intermediate, is_within, size_error}
+use Rattle.decimal18.specs.Digits.{integer_of}
+use Rattle.decimal18.specs.Arithmetic.{sum, difference, aligned_operation, intermediate, is_within, size_error}
 use Rattle.decimal18.specs.declared.size_error.Size.{Size}
 use Rattle.items.specs.declared.item.Kind.{Kind}
 use Rattle.items.specs.declared.item.Kind.TheVariants as k
 use Rattle.items.specs.Items.{IsOfLength, number_in}
-use Rattle.items.specs.Values.{value_of, integer_in, is_held, held}
+use Rattle.items.specs.Values.{value_of, integer_in, is_held, value_if_held}
 use Rattle.source_tree.specs.NameRules.{is_integer_kind}
 use Rattle.data_instructions.specs.Codes.{integer}
 use Rattle.std.specs.Prelude.{Bool, true, false, ◌==◌, ◌&&◌, int_div, unsigned_abs, nat_lt, if◌then◌else◌, Result, Ok}
@@ -40,12 +40,12 @@ within : (z : ℤ) → unsigned_abs z < 10 ^ 38 → is_within z ≡ true
 within z small = lt-ltb (unsigned_abs z) (10 ^ 38) small
 
 -- An integer is its own whole part.
-pub whole_integer : (z : ℤ) → whole (integer z) ≡ Some z
+pub whole_integer : (z : ℤ) → integer_of (integer z) ≡ Some z
 whole_integer z =
     ap (λ m. if m == 0 then Some (int_div z (pos 1)) else None) (mod-one (unsigned_abs z))
     ∙ ap (λ y. Some y) (div_one z)
 
-combined_integers : (op : ℤ → ℤ → ℤ) (a b : ℤ) → unsigned_abs a < 10 ^ 38 → unsigned_abs b < 10 ^ 38 → unsigned_abs (op a b) < 10 ^ 38 → combined op (integer a) (integer b) 0 ≡ given (op a b)
+combined_integers : (op : ℤ → ℤ → ℤ) (a b : ℤ) → unsigned_abs a < 10 ^ 38 → unsigned_abs b < 10 ^ 38 → unsigned_abs (op a b) < 10 ^ 38 → aligned_operation op (integer a) (integer b) 0 ≡ given (op a b)
 combined_integers op a b left right both =
     ap (λ x. (if is_within x && is_within (b *ℤ pos 1) then intermediate (op x (b *ℤ pos 1)) 0 else size_error)) (times_one a)
     ∙ ap (λ y. (if is_within a && is_within y then intermediate (op a y) 0 else size_error)) (times_one b)
@@ -77,7 +77,7 @@ integer_in_bytes (k.Numeric n) bytes x size form whole_kind e = by_integer (inte
     scale_none : n.scale ≡ 0
     scale_none = grind (arith, nat_tests, whole_kind)
 
-    by_integer : (o : Option ℤ) → held n o ≡ Some x → (x ≡ integer x.coefficient) × (unsigned_abs x.coefficient < 10 ^ 18)
+    by_integer : (o : Option ℤ) → value_if_held n o ≡ Some x → (x ≡ integer x.coefficient) × (unsigned_abs x.coefficient < 10 ^ 18)
     by_integer None e = absurd cc
     by_integer (Some z) e = by_test (is_held n z) refl e
       where

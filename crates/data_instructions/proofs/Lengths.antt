@@ -14,8 +14,8 @@ use Rattle.items.specs.declared.item.Kind.TheVariants as k
 use Rattle.items.specs.Numbers.{is_signed}
 use Rattle.items.specs.Display.{sign_character}
 use Rattle.items.specs.Values.{value_of, digits_of}
-use Rattle.items.specs.Texts.{padded}
-use Rattle.text_ops.specs.Shown.{point, shown, shown_sign, shown_digits, shown_number}
+use Rattle.items.specs.Texts.{padded_text}
+use Rattle.text_ops.specs.Shown.{point, shown_bytes, shown_sign, shown_digits, number_text}
 use Rattle.text_ops.specs.Lengths.{shown_length}
 
 digits_long : (count n : ℕ) → length (digit_text count n) ≡ count
@@ -34,7 +34,7 @@ point_long false at text =
     let back = length-drop at text in
     omega (arith, whole, front, back)
 
-number_long : (n : Numeric) (x : Fraction) → length (shown_number n x) ≤ n.digits + 2
+number_long : (n : Numeric) (x : Fraction) → length (number_text n x) ≤ n.digits + 2
 number_long n x =
     let whole = length-append (shown_sign n x) (shown_digits n.digits n.scale (digits_of n x)) in
     let sign = sign_long (is_signed n) (sign_character (is_negative x.coefficient)) in
@@ -43,13 +43,13 @@ number_long n x =
     omega (arith, whole, sign, digits, long)
 
 -- What is shown of an item takes no more than the room for it.
-pub shown_long : (kind : Kind) (bytes text : List ℕ) → shown kind bytes ≡ Some text → (size : ℕ) → length bytes ≤ size → length text ≤ shown_length kind size
-unfolding shown
+pub shown_long : (kind : Kind) (bytes text : List ℕ) → shown_bytes kind bytes ≡ Some text → (size : ℕ) → length bytes ≤ size → length text ≤ shown_length kind size
+unfolding shown_bytes
 shown_long (k.Numeric n) bytes text e size within = by_value (value_of n bytes) e
   where
-    by_value : (o : Option Fraction) → option_map (shown_number n) o ≡ Some text → length text ≤ n.digits + 2
+    by_value : (o : Option Fraction) → option_map (number_text n) o ≡ Some text → length text ≤ n.digits + 2
     by_value None e = absurd cc
-    by_value (Some x) e = let is = ap length (same_Some (shown_number n x) text e) in let long = number_long n x in omega (arith, is, long)
+    by_value (Some x) e = let is = ap length (same_Some (number_text n x) text e) in let long = number_long n x in omega (arith, is, long)
 shown_long k.Group bytes text e size within = let is = ap length (same_Some bytes text e) in omega (arith, is, within)
 shown_long (k.Alphabetic right) bytes text e size within = let is = ap length (same_Some bytes text e) in omega (arith, is, within)
 shown_long (k.Alphanumeric right) bytes text e size within = let is = ap length (same_Some bytes text e) in omega (arith, is, within)
@@ -59,15 +59,15 @@ shown_long (k.NumericEdited blank) bytes text e size within = let is = ap length
 pub range_long : (xs : List ℕ) (at size : ℕ) → length (slice_range xs at (at + size)) ≤ size
 range_long xs at size = let h = length-take (at + size - at) (drop at xs) in omega (arith, h)
 
-pub padded_long : (size : ℕ) (text : List ℕ) → length (padded size text) ≡ size
+pub padded_long : (size : ℕ) (text : List ℕ) → length (padded_text size text) ≡ size
 padded_long size text = omega (arith, length-append (take size text) (replicate (size - length text) 32), length-take size text, length-replicate {A = ℕ} (size - length text) 32)
 
 -- a text of this size
-pub padded_whole : (size : ℕ) (text : List ℕ) → length text ≡ size → padded size text ≡ text
+pub padded_whole : (size : ℕ) (text : List ℕ) → length text ≡ size → padded_text size text ≡ text
 padded_whole size text is =
-    subst (λ n. padded n text ≡ text) is whole
+    subst (λ n. padded_text n text ≡ text) is whole
   where
-    whole : padded (length text) text ≡ text
+    whole : padded_text (length text) text ≡ text
     whole =
         let none : length text - length text ≡ 0 = omega arith in
         ap (λ n. take (length text) text ++ replicate n 32) none ∙ append-nil (take (length text) text) ∙ take-length text

@@ -1,14 +1,14 @@
 -- The code of INITIALIZE, SET and STRING finds what it needs.
 use Rattle.std.proofs.Common.{◌≡◌, ℕ, ◌+◌, length, List, [], ◌∷◌, ◌++◌, sym, ◌∙◌, ap, Option, Some, None}
 use Rattle.std.specs.Prelude.{true}
-use Rattle.text_ops.specs.Strings.{delimited}
+use Rattle.text_ops.specs.Strings.{delimited_characters}
 use Rattle.source_tree.specs.declared.reference.Reference.{Reference}
 use Rattle.source_tree.specs.declared.expression.Operand.{Operand}
 use Rattle.source_tree.specs.declared.expression.Operand.TheVariants as operand
-use Rattle.source_tree.specs.declared.stringing.Sending.{Sending}
-use Rattle.source_tree.specs.declared.stringing.Stringing.{Stringing}
+use Rattle.source_tree.specs.declared.string_statement.Sending.{Sending}
+use Rattle.source_tree.specs.declared.string_statement.StringStatement.{StringStatement}
 use Rattle.source_tree.specs.Display.{shown_literal}
-use Rattle.source_tree.specs.Places.{Placed}
+use Rattle.source_tree.specs.Places.{LocatedItem}
 use Rattle.source_tree.specs.Initializing.{Pattern, named_pattern, set_pattern}
 use Rattle.data_instructions.specs.declared.index.TextIndex.{TextIndex}
 use Rattle.data_instructions.specs.declared.tables.DataTables.{DataTables}
@@ -23,7 +23,7 @@ use Rattle.data_instructions.specs.ArithmeticCodes.{LiesOperand, LieOperands}
 use Rattle.data_instructions.specs.TextCodes.{HasPattern, IsInitializeCode, AreInitializedCode, IsSetCode, AreSetCode, IsSentCode, AreSentCode, IsFoundCode, AreFoundCode, IsUpToPlaceCode, AreUpToPlaceCode, IsSendingBy, AreSendingsCode, IsPutCode, IsStringCode, KnowsAll, KnowsString, LieEach, LieConditions, LiesDelimiter, LieSendings, LiesPointer, LiesString}
 use Rattle.data_instructions.proofs.Chains.{effects_append, place_known, subscripts_known, reference_known, taking_known, text_known, longer, as_it_is}
 
-module _ (items : List Placed) (tables : DataTables) where
+module _ (items : List LocatedItem) (tables : DataTables) where
   abbrev above : PlaceShape → Shape → Shape
   above q s = record s { stacks = record { numbers = s.stacks.numbers; places = q ∷ s.stacks.places } }
 
@@ -77,7 +77,7 @@ module _ (items : List Placed) (tables : DataTables) where
         ∙ ap (λ o. and_then (shape_with (and_then o (λ bytes. Some s.stacks)) (Some (s.line + taking.1.found.item.length)) (Some s.sender)) (effects tables [])) has,
   )
   sent_known None (operand.Literal one) code is lies s = (_, text_known items tables (shown_literal one.value) code is s)
-  sent_known (Some delimiter) (operand.Literal one) code is lies s = (_, text_known items tables (delimited delimiter (shown_literal one.value)) code is s)
+  sent_known (Some delimiter) (operand.Literal one) code is lies s = (_, text_known items tables (delimited_characters delimiter (shown_literal one.value)) code is s)
 
   each_sent_known : (delimiter : Option (List ℕ)) (senders : List Operand) (code : List DataInstruction) → AreSentCode items tables delimiter senders code → LieOperands items tables senders → KnowsDisplay items tables code
   each_sent_known delimiter [] code is lies = λ s. (s.line, ap (λ c. effects tables c s) is)
@@ -142,7 +142,7 @@ module _ (items : List Placed) (tables : DataTables) where
   put_known None code is lies q s = ap (λ c. effects tables c (above q s)) is
   put_known (Some pointer) code is lies q s = taking_known items tables (i.String true) pointer code is lies (above q s)
 
-  pub string_known : {S : Type 0} (one : Stringing S) (code : List DataInstruction) → IsStringCode items tables one code → LiesString items tables one → KnowsString items tables code
+  pub string_known : {S : Type 0} (one : StringStatement S) (code : List DataInstruction) → IsStringCode items tables one code → LiesString items tables one → KnowsString items tables code
   string_known one code (sendings, are, receiver, r, back, is_back, is) (lie, lies, points) s empty =
       let sends = sendings_known one.sendings sendings are lie s in
       let t : Shape = record s { line = sends.0 } in

@@ -2,26 +2,26 @@
 -- FILLER PIC X(2), computed.
 use Rattle.std.proofs.Common.{◌≡◌, ℕ, List, [], ◌∷◌, ◌++◌, refl, Option, Some, None}
 use Rattle.std.specs.Prelude.{Bool, true, false, codes, slice_index_or}
-use Rattle.decimal18.specs.Receiver.{fitted, low_digits, truncated}
+use Rattle.decimal18.specs.Receiver.{fitted_decimal, low_digits, truncated_decimal}
 use Rattle.items.specs.declared.usage.OperationalSign.TheVariants as operational
 use Rattle.items.specs.declared.usage.Usage.TheVariants as usage
 use Rattle.items.specs.declared.item.Kind.TheVariants as kind
 use Rattle.items.specs.declared.item.Item.{Item}
 use Rattle.items.specs.Values.{value_of, bytes_of}
-use Rattle.text_ops.specs.Strings.{delimited, strung}
+use Rattle.text_ops.specs.Strings.{delimited_characters, string_of_senders}
 use Rattle.source_tree.specs.Evaluated.{Data}
 use Rattle.data_instructions.specs.declared.tables.DataItem.{DataItem}
 use Rattle.data_instructions.specs.declared.tables.DataTables.{DataTables}
 use Rattle.data_instructions.specs.declared.gather.Gather.TheVariants as g
 use Rattle.data_instructions.specs.declared.instruction.DataInstruction.{DataInstruction}
 use Rattle.data_instructions.specs.declared.instruction.DataInstruction.TheVariants as i
-use Rattle.data_instructions.specs.Scratch.{Step, Went, Faulted, Stuck, started}
+use Rattle.data_instructions.specs.Scratch.{Step, Continues, Faulted, Stuck, initial_scratch}
 use Rattle.data_instructions.specs.Shapes.{empty}
 use Rattle.data_instructions.specs.Codes.{works}
 use Rattle.data_instructions.specs.Chains.{effects}
 
 computing : Unit {0}
-unfolding low_digits fitted truncated value_of bytes_of delimited strung
+unfolding low_digits fitted_decimal truncated_decimal value_of bytes_of delimited_characters string_of_senders
 computing = tt
 
 abbrev text_item : ℕ → Item
@@ -69,11 +69,11 @@ record Left : Type 0 where
   line : List ℕ
 
 abbrev left_of : Step → Option Left
-left_of (Went s) = Some (record { receiver = slice_index_or s.storage 0 []; pointer = slice_index_or s.storage 1 []; overflow = s.truth; line = s.line })
+left_of (Continues s) = Some (record { receiver = slice_index_or s.storage 0 []; pointer = slice_index_or s.storage 1 []; overflow = s.truth; line = s.line })
 left_of _ = None
 
 abbrev left : List ℕ → List DataInstruction → Option Left
-left pointer code = left_of (works (tables pointer) code (started (tables pointer)))
+left pointer code = left_of (works (tables pointer) code (initial_scratch (tables pointer)))
 
 -- STRING "AB" S DELIMITED BY SPACE INTO T WITH POINTER P
 abbrev sent : List DataInstruction
@@ -99,7 +99,7 @@ behind_the_receiver : left (codes "5") (sent ++ with_pointer) ≡ Some (record {
 unfolding computing
 behind_the_receiver = refl
 
-no_pointer_there : works (tables (codes "x")) (sent ++ with_pointer) (started (tables (codes "x"))) ≡ Faulted Data
+no_pointer_there : works (tables (codes "x")) (sent ++ with_pointer) (initial_scratch (tables (codes "x"))) ≡ Faulted Data
 unfolding computing
 no_pointer_there = refl
 
@@ -114,15 +114,15 @@ by_size : left (codes "2") (item 2 ∷ i.Gather g.Bytes ∷ item 0 ∷ i.String 
 unfolding computing
 by_size = refl
 
-no_delimiter : works (tables (codes "2")) (item 2 ∷ i.Gather g.UpToPlace ∷ []) (started (tables (codes "2"))) ≡ Stuck
+no_delimiter : works (tables (codes "2")) (item 2 ∷ i.Gather g.UpToPlace ∷ []) (initial_scratch (tables (codes "2"))) ≡ Stuck
 no_delimiter = refl
 
 -- INITIALIZE G
 abbrev group_of : Step → List ℕ
-group_of (Went s) = slice_index_or s.storage 4 []
+group_of (Continues s) = slice_index_or s.storage 4 []
 group_of _ = []
 
-filler_stays : group_of (works (tables (codes "2")) (item 4 ∷ overlay 4 ∷ []) (started (tables (codes "2")))) ≡ codes "00ab"
+filler_stays : group_of (works (tables (codes "2")) (item 4 ∷ overlay 4 ∷ []) (initial_scratch (tables (codes "2")))) ≡ codes "00ab"
 filler_stays = refl
 
 -- what is known

@@ -11,10 +11,10 @@ use Rattle.source_tree.specs.declared.arithmetic.DivisionOrder.{DivisionOrder}
 use Rattle.source_tree.specs.declared.arithmetic.DivisionOrder.TheVariants.{Into, By}
 use Rattle.source_tree.specs.declared.arithmetic.Operation.{Operation}
 use Rattle.source_tree.specs.declared.arithmetic.Operation.TheVariants.{Add, AddGiving, Subtract, SubtractGiving, Multiply, MultiplyGiving, Divide, DivideGiving, DivideRemainder, Compute}
-use Rattle.source_tree.specs.Places.{Placed}
+use Rattle.source_tree.specs.Places.{LocatedItem}
 use Rattle.source_tree.specs.LookUp.{items_named, first}
 use Rattle.source_tree.specs.Evaluated.{◌>>=◌}
-use Rattle.source_tree.specs.Computed.{Computed, Reckoning, operate, negate, number_of_literal, expression_value}
+use Rattle.source_tree.specs.Computed.{ArithmeticValue, ExpressionValue, operate, negate, number_of_literal, expression_value}
 use Rattle.source_tree.specs.Arithmetic.{NumberReceiver, receiver_of, operation}
 use Rattle.data_instructions.specs.declared.index.NumberIndex.{NumberIndex}
 use Rattle.data_instructions.specs.declared.tables.DataTables.{DataTables}
@@ -22,8 +22,8 @@ use Rattle.data_instructions.specs.declared.shape.Shape.{Shape}
 use Rattle.data_instructions.specs.declared.calculation.Calculation.TheVariants as c
 use Rattle.data_instructions.specs.declared.instruction.DataInstruction.{DataInstruction}
 use Rattle.data_instructions.specs.declared.instruction.DataInstruction.TheVariants as i
-use Rattle.data_instructions.specs.Scratch.{Scratch, Went, step_with}
-use Rattle.data_instructions.specs.Table.{pushed}
+use Rattle.data_instructions.specs.Scratch.{Scratch, Continues, step_with}
+use Rattle.data_instructions.specs.Table.{push_step}
 use Rattle.data_instructions.specs.Codes.{works, IsTakingCode}
 use Rattle.data_instructions.specs.Chains.{effects, LiesAll}
 
@@ -40,35 +40,35 @@ abbrev pub discard : DataInstruction
 discard = i.Calculate c.Discard
 
 -- What is computed of storage comes on the stack of numbers, or its fault ends the code.
-abbrev pub Computes : DataTables → Reckoning → List DataInstruction → Type 0
-Computes tables value code = (s : Scratch) → works tables code s ≡ step_with (value s.storage) (λ x. pushed x s)
+abbrev pub Computes : DataTables → ExpressionValue → List DataInstruction → Type 0
+Computes tables value code = (s : Scratch) → works tables code s ≡ step_with (value s.storage) (λ x. push_step x s)
 
 -- One number more is known, and all else is as before.
-abbrev pub Adds : DataTables → List DataInstruction → Type 0
-Adds tables code = (s : Shape) → effects tables code s ≡ Some (record s { stacks = record s.stacks { numbers = s.stacks.numbers + 1 } })
+abbrev pub PushesNumber : DataTables → List DataInstruction → Type 0
+PushesNumber tables code = (s : Shape) → effects tables code s ≡ Some (record s { stacks = record s.stacks { numbers = s.stacks.numbers + 1 } })
 
 -- The same of what goes on with the newest number, in whose place the outcome comes.
-abbrev pub ComputesOn : DataTables → (Computed → Reckoning) → List DataInstruction → Type 0
+abbrev pub ComputesOn : DataTables → (ArithmeticValue → ExpressionValue) → List DataInstruction → Type 0
 ComputesOn tables next code =
-    (x : Computed) (s : Scratch) → works tables code (record s { numbers = x ∷ s.numbers }) ≡ step_with (next x s.storage) (λ y. pushed y s)
+    (x : ArithmeticValue) (s : Scratch) → works tables code (record s { numbers = x ∷ s.numbers }) ≡ step_with (next x s.storage) (λ y. push_step y s)
 
 -- a value with the other sign
-abbrev pub negating : Reckoning → Reckoning
-negating value storage = value storage >>= (λ x. Ok (negate x))
+abbrev pub negated_value : ExpressionValue → ExpressionValue
+negated_value value storage = value storage >>= (λ x. Ok (negate x))
 
 -- a value, and what goes on with it
-abbrev pub chained : Reckoning → (Computed → Reckoning) → Reckoning
-chained value next storage = value storage >>= (λ x. next x storage)
+abbrev pub value_and_then : ExpressionValue → (ArithmeticValue → ExpressionValue) → ExpressionValue
+value_and_then value next storage = value storage >>= (λ x. next x storage)
 
 -- an operator on a number and a value, its right operand, and what goes on with the outcome
-abbrev pub operating : Operator → Reckoning → (Computed → Reckoning) → Computed → Reckoning
-operating one value next x storage = value storage >>= (λ y. next (operate one x y) storage)
+abbrev pub operation_and_then : Operator → ExpressionValue → (ArithmeticValue → ExpressionValue) → ArithmeticValue → ExpressionValue
+operation_and_then one value next x storage = value storage >>= (λ y. next (operate one x y) storage)
 
 -- With a number there, all is as before.
 abbrev pub StaysOver : DataTables → List DataInstruction → Type 0
 StaysOver tables code = (s : Shape) → 1 ≤ s.stacks.numbers → effects tables code s ≡ Some s
 
-module _ (items : List Placed) (tables : DataTables) where
+module _ (items : List LocatedItem) (tables : DataTables) where
   -- a number of the table
   abbrev pub IsNumberCode : Fraction → List DataInstruction → Type 0
   IsNumberCode x code = (index : NumberIndex) × (slice_get tables.numbers index.number ≡ Some x) × (code ≡ i.Literal index ∷ [])
@@ -92,7 +92,7 @@ module _ (items : List Placed) (tables : DataTables) where
   -- the decimals that a receiver keeps
   abbrev pub HasScale : Reference → ℕ → Type 0
   HasScale reference scale =
-      (found : Placed) × (first (items_named items reference.item) ≡ Some found)
+      (found : LocatedItem) × (first (items_named items reference.item) ≡ Some found)
       × (to : NumberReceiver) × (receiver_of found.item.kind found.editing ≡ Some to) × (to.scale ≡ scale)
 
   -- `keep`: there is an ON SIZE ERROR phrase.
@@ -170,7 +170,7 @@ module _ (items : List Placed) (tables : DataTables) where
         × (last : List DataInstruction) × IsDivisionCode order back last
         × (code ≡ front ++ (other ++ last))
     IsOperationCode (Compute receivers value) code =
-        (front : List DataInstruction) × Computes tables (expression_value items value) front × Adds tables front
+        (front : List DataInstruction) × Computes tables (expression_value items value) front × PushesNumber tables front
         × (back : List DataInstruction) × AreGivesCode receivers back × (code ≡ front ++ (back ++ (discard ∷ [])))
 
     -- an arithmetic statement, up to its phrases
@@ -180,7 +180,7 @@ module _ (items : List Placed) (tables : DataTables) where
     -- Storage is as `operation` says, the truth is whether a size error arose, and all else stays.
     abbrev pub DoesArithmetic : Operation → List DataInstruction → Type 0
     DoesArithmetic one code =
-        (s : Scratch) → works tables code s ≡ step_with (operation items keep one s.storage) (λ after. Went (record s { storage = after.storage; truth = after.size_error }))
+        (s : Scratch) → works tables code s ≡ step_with (operation items keep one s.storage) (λ after. Continues (record s { storage = after.storage; truth = after.size_error }))
 
   -- Each occurrence of the items that an operation names lies in its area.
   abbrev pub LiesOperand : Operand → Type 0

@@ -9,12 +9,12 @@ use Rattle.source_tree.specs.declared.table.Dimension.{Dimension}
 use Rattle.source_tree.specs.LookUp.{items_named, first}
 use Rattle.source_tree.specs.Literals.{literal_sender}
 use Rattle.source_tree.specs.MoveRules.{may_move}
-use Rattle.source_tree.specs.Places.{Placed}
+use Rattle.source_tree.specs.Places.{LocatedItem}
 use Rattle.data_instructions.specs.declared.tables.DataTables.{DataTables}
 use Rattle.data_instructions.specs.declared.instruction.DataInstruction.{DataInstruction}
 use Rattle.data_instructions.specs.declared.shape.Shape.{Shape}
 use Rattle.data_instructions.specs.Tables.{Lies}
-use Rattle.data_instructions.specs.Shapes.{and_then, last_reach, effect, accepting, dating}
+use Rattle.data_instructions.specs.Shapes.{and_then, last_reach, effect, shape_after_accept, shape_after_date}
 use Rattle.data_instructions.specs.Codes.{data_item}
 
 -- what is known after instructions, one after the other
@@ -28,13 +28,13 @@ greatest offset [] = offset
 greatest offset (one ∷ more) = greatest (last_reach offset one.stride one.count) more
 
 -- Each occurrence of the item lies in its area.
-abbrev pub LiesWhole : DataTables → Placed → Type 0
+abbrev pub LiesWhole : DataTables → LocatedItem → Type 0
 LiesWhole tables one = Lies tables.areas (data_item one) (greatest one.offset one.dimensions)
 
-module _ (items : List Placed) (tables : DataTables) where
+module _ (items : List LocatedItem) (tables : DataTables) where
   -- so it is of the item that a reference names
   abbrev pub LiesAll : Reference → Type 0
-  LiesAll reference = (found : Placed) → first (items_named items reference.item) ≡ Some found → LiesWhole tables found
+  LiesAll reference = (found : LocatedItem) → first (items_named items reference.item) ≡ Some found → LiesWhole tables found
 
   abbrev pub ShowsAll : List Operand → Type 0
   ShowsAll [] = Unit {0}
@@ -43,12 +43,12 @@ module _ (items : List Placed) (tables : DataTables) where
 
   -- what a sender counts as
   abbrev pub SendsAs : Operand → Taken → Type 0
-  SendsAs (operand.Item reference) sent = LiesAll reference × ((found : Placed) → first (items_named items reference.item) ≡ Some found → taken.Item found.item ≡ sent)
+  SendsAs (operand.Item reference) sent = LiesAll reference × ((found : LocatedItem) → first (items_named items reference.item) ≡ Some found → taken.Item found.item ≡ sent)
   SendsAs (operand.Literal literal) sent = (literal_sender literal.value).taken ≡ sent
 
   -- the move to the item of a reference is permitted
   abbrev pub MayReceive : Taken → Reference → Type 0
-  MayReceive sent reference = LiesAll reference × ((found : Placed) → first (items_named items reference.item) ≡ Some found → may_move sent found.item ≡ true)
+  MayReceive sent reference = LiesAll reference × ((found : LocatedItem) → first (items_named items reference.item) ≡ Some found → may_move sent found.item ≡ true)
 
   abbrev pub MayReceiveEach : Taken → List Reference → Type 0
   MayReceiveEach sent [] = Unit {0}
@@ -64,7 +64,7 @@ module _ (items : List Placed) (tables : DataTables) where
 
   -- all is as before
   abbrev pub KnowsAccept : List DataInstruction → Type 0
-  KnowsAccept code = (s : Shape) → and_then (effects tables code s) accepting ≡ Some s
+  KnowsAccept code = (s : Shape) → and_then (effects tables code s) shape_after_accept ≡ Some s
 
   abbrev pub KnowsDate : List DataInstruction → Type 0
-  KnowsDate code = (s : Shape) → and_then (effects tables code s) (dating tables) ≡ Some s
+  KnowsDate code = (s : Shape) → and_then (effects tables code s) (shape_after_date tables) ≡ Some s

@@ -16,7 +16,7 @@ use Rattle.source_tree.specs.Integers.{number_of}
 use Rattle.source_tree.specs.Literals.{literal_sender}
 use Rattle.source_tree.specs.LookUp.{items_named, first}
 use Rattle.source_tree.specs.NameRules.{is_integer_kind}
-use Rattle.source_tree.specs.Places.{Placed}
+use Rattle.source_tree.specs.Places.{LocatedItem}
 use Rattle.data_instructions.specs.declared.index.ItemIndex.{ItemIndex}
 use Rattle.data_instructions.specs.declared.index.NumberIndex.{NumberIndex}
 use Rattle.data_instructions.specs.declared.index.SenderIndex.{SenderIndex}
@@ -28,21 +28,21 @@ use Rattle.data_instructions.specs.declared.calculation.Calculation.TheVariants 
 use Rattle.data_instructions.specs.declared.instruction.DataInstruction.{DataInstruction}
 use Rattle.data_instructions.specs.declared.instruction.DataInstruction.TheVariants as i
 use Rattle.data_instructions.specs.Tables.{sender_of}
-use Rattle.data_instructions.specs.Scratch.{Scratch, Step, Went, Faulted, Stuck}
+use Rattle.data_instructions.specs.Scratch.{Scratch, Step, Continues, Faulted, Stuck}
 use Rattle.data_instructions.specs.Table.{work}
 
 abbrev pub go_on : Step → (Scratch → Step) → Step
-go_on (Went s) go = go s
+go_on (Continues s) go = go s
 go_on (Faulted fault) go = Faulted fault
 go_on Stuck go = Stuck
 
 -- instructions one after the other
 abbrev pub works : DataTables → List DataInstruction → Scratch → Step
-works tables [] s = Went s
+works tables [] s = Continues s
 works tables (one ∷ more) s = go_on (work tables one s) (works tables more)
 
 -- what the tables have of an item
-abbrev pub data_item : Placed → DataItem
+abbrev pub data_item : LocatedItem → DataItem
 data_item one = record { item = one.item; editing = one.editing; area = one.area; offset = one.offset }
 
 abbrev pub integer : ℤ → Fraction
@@ -56,9 +56,9 @@ pub record HasInteger (tables : DataTables) (number : NumberIndex) (n : ℕ) : T
 abbrev pub index_code : Dimension → DataInstruction
 index_code one = i.Index one.stride one.count
 
-module _ (items : List Placed) (tables : DataTables) where
+module _ (items : List LocatedItem) (tables : DataTables) where
   -- the item that a name names
-  pub record HasItem (name : QualifiedName) (index : ItemIndex) (found : Placed) : Type 0 where
+  pub record HasItem (name : QualifiedName) (index : ItemIndex) (found : LocatedItem) : Type 0 where
     pub named : first (items_named items name) ≡ Some found
     pub entry : slice_get tables.items index.number ≡ Some (data_item found)
 
@@ -71,7 +71,7 @@ module _ (items : List Placed) (tables : DataTables) where
   abbrev pub IsSubscriptCode : written.Subscript → List DataInstruction → Type 0
   IsSubscriptCode (subscript.Literal n) code = (number : NumberIndex) × HasInteger tables number (number_of n) × (code ≡ i.Literal number ∷ [])
   IsSubscriptCode (subscript.Item name adjusting) code =
-      (index : ItemIndex) × (found : Placed) × HasItem name index found × (is_integer_kind found.item.kind ≡ true)
+      (index : ItemIndex) × (found : LocatedItem) × HasItem name index found × (is_integer_kind found.item.kind ≡ true)
       × (more : List DataInstruction) × IsAdjustmentCode adjusting more × (code ≡ i.Place index ∷ i.Push ∷ more)
 
   -- Each subscript in turn, and its range; as many as the item has dimensions.
@@ -85,7 +85,7 @@ module _ (items : List Placed) (tables : DataTables) where
   -- The place of a reference comes on the stack of places.
   pub record IsReferenceCode (reference : Reference) (code : List DataInstruction) : Type 0 where
     pub index : ItemIndex
-    pub found : Placed
+    pub found : LocatedItem
     pub has : HasItem reference.item index found
     pub subscripts : List DataInstruction
     pub each : AreSubscriptsCode found.dimensions reference.subscripts subscripts

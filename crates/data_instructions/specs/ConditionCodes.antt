@@ -11,13 +11,13 @@ use Rattle.source_tree.specs.declared.condition.Relation.{Relation}
 use Rattle.source_tree.specs.declared.condition.SignTest.{SignTest}
 use Rattle.source_tree.specs.declared.condition.Class.{Class}
 use Rattle.source_tree.specs.declared.condition.Side.{Side}
-use Rattle.source_tree.specs.Places.{Placed}
+use Rattle.source_tree.specs.Places.{LocatedItem}
 use Rattle.source_tree.specs.Literals.{Sender, literal_sender}
 use Rattle.source_tree.specs.LookUp.{NamedCondition, conditions_named, first}
 use Rattle.source_tree.specs.Evaluated.{◌>>=◌}
 use Rattle.source_tree.specs.References.{place_of}
 use Rattle.source_tree.specs.Computed.{expression_value}
-use Rattle.source_tree.specs.Conditions.{Truth, side_number, sign_relation, sign_holds, class_holds}
+use Rattle.source_tree.specs.Conditions.{ConditionValue, side_number, sign_relation, sign_holds, class_holds}
 use Rattle.data_instructions.specs.declared.index.ItemIndex.{ItemIndex}
 use Rattle.data_instructions.specs.declared.index.SenderIndex.{SenderIndex}
 use Rattle.data_instructions.specs.declared.tables.LiteralSender.{LiteralSender}
@@ -27,18 +27,18 @@ use Rattle.data_instructions.specs.declared.test.Test.TheVariants as t
 use Rattle.data_instructions.specs.declared.instruction.DataInstruction.{DataInstruction}
 use Rattle.data_instructions.specs.declared.instruction.DataInstruction.TheVariants as i
 use Rattle.data_instructions.specs.Tables.{sender_of}
-use Rattle.data_instructions.specs.Scratch.{Scratch, Went, step_with}
+use Rattle.data_instructions.specs.Scratch.{Scratch, Continues, step_with}
 use Rattle.data_instructions.specs.Codes.{works, data_item, IsTakingCode, IsSenderCode, AreSubscriptsCode}
 use Rattle.data_instructions.specs.Chains.{effects, LiesWhole}
-use Rattle.data_instructions.specs.ArithmeticCodes.{Computes, Adds, IsNumberCode, LiesOperand}
+use Rattle.data_instructions.specs.ArithmeticCodes.{Computes, PushesNumber, IsNumberCode, LiesOperand}
 
 -- The truth is what a condition says of storage, or its fault ends the code. What is taken as the sender is left open; all else stays.
-pub record Decided (tables : DataTables) (value : Truth) (code : List DataInstruction) (s : Scratch) : Type 0 where
+pub record DecidesCondition (tables : DataTables) (value : ConditionValue) (code : List DataInstruction) (s : Scratch) : Type 0 where
   pub sender : Option Sender
-  pub by : works tables code s ≡ step_with (value s.storage) (λ truth. Went (record s { truth = truth; sender = sender }))
+  pub by : works tables code s ≡ step_with (value s.storage) (λ truth. Continues (record s { truth = truth; sender = sender }))
 
-abbrev pub Decides : DataTables → Truth → List DataInstruction → Type 0
-Decides tables value code = (s : Scratch) → Decided tables value code s
+abbrev pub Decides : DataTables → ConditionValue → List DataInstruction → Type 0
+Decides tables value code = (s : Scratch) → DecidesCondition tables value code s
 
 -- All is as before, but for the sender.
 pub record KnowsTruth (tables : DataTables) (code : List DataInstruction) (s : Shape) : Type 0 where
@@ -52,7 +52,7 @@ abbrev pub negation : Bool → List DataInstruction
 negation true = i.Test t.Invert ∷ []
 negation false = []
 
-module _ (items : List Placed) (tables : DataTables) where
+module _ (items : List LocatedItem) (tables : DataTables) where
   -- the entry of a literal that is compared
   abbrev pub HasLiteral : Literal → SenderIndex → Type 0
   HasLiteral literal index = (entry : LiteralSender) × (slice_get tables.senders index.number ≡ Some entry) × (sender_of entry ≡ literal_sender literal.value)
@@ -64,7 +64,7 @@ module _ (items : List Placed) (tables : DataTables) where
 
   -- A side as a number: whatever code computes it.
   abbrev pub IsSideCode : Side → List DataInstruction → Type 0
-  IsSideCode one code = Computes tables (side_number items one) code × Adds tables code
+  IsSideCode one code = Computes tables (side_number items one) code × PushesNumber tables code
 
   -- Two operands alone are compared as what they are, others as numbers.
   abbrev pub IsRelationCode : Option Operand → Option Operand → Side → Relation → Side → List DataInstruction → Type 0
@@ -76,7 +76,7 @@ module _ (items : List Placed) (tables : DataTables) where
 
   abbrev pub IsSignCode : Expression → Bool → SignTest → List DataInstruction → Type 0
   IsSignCode value negated one code =
-      (front : List DataInstruction) × Computes tables (expression_value items value) front × Adds tables front
+      (front : List DataInstruction) × Computes tables (expression_value items value) front × PushesNumber tables front
       × (back : List DataInstruction) × IsNumberCode items tables (record { coefficient = pos 0; scale = 0 }) back
       × (code ≡ front ++ (back ++ (i.Test (t.CompareNumbers (sign_relation one negated)) ∷ [])))
 
@@ -114,8 +114,8 @@ module _ (items : List Placed) (tables : DataTables) where
   LiesCondition reference = (found : NamedCondition) → first (conditions_named items reference.item) ≡ Some found → LiesWhole tables found.item
 
 -- a sign condition, and a class condition
-abbrev pub sign_truth : List Placed → Expression → Bool → SignTest → Truth
+abbrev pub sign_truth : List LocatedItem → Expression → Bool → SignTest → ConditionValue
 sign_truth items value negated one storage = expression_value items value storage >>= (λ x. sign_holds items x negated one)
 
-abbrev pub class_truth : List Placed → Reference → Bool → Class → Truth
+abbrev pub class_truth : List LocatedItem → Reference → Bool → Class → ConditionValue
 class_truth items reference negated one storage = place_of items reference storage >>= class_holds items negated one storage

@@ -3,13 +3,13 @@ use Rattle.std.specs.Prelude.{◌≡◌, ℕ, ◌+◌, true, false, map, List, [
 use Rattle.source_tree.specs.declared.reference.Reference.{Reference}
 use Rattle.source_tree.specs.declared.expression.Operand.{Operand}
 use Rattle.source_tree.specs.declared.expression.Operand.TheVariants as operand
-use Rattle.source_tree.specs.declared.stringing.Sending.{Sending}
-use Rattle.source_tree.specs.declared.stringing.Stringing.{Stringing}
+use Rattle.source_tree.specs.declared.string_statement.Sending.{Sending}
+use Rattle.source_tree.specs.declared.string_statement.StringStatement.{StringStatement}
 use Rattle.source_tree.specs.Display.{shown_literal}
-use Rattle.source_tree.specs.Places.{Placed}
+use Rattle.source_tree.specs.Places.{LocatedItem}
 use Rattle.source_tree.specs.LookUp.{NamedCondition, items_named, conditions_named, first}
-use Rattle.source_tree.specs.Initializing.{Pattern, named_pattern, set_pattern, initialize, set}
-use Rattle.source_tree.specs.Stringing.{sent_of, all_sent, string}
+use Rattle.source_tree.specs.Initializing.{Pattern, named_pattern, set_pattern, initialize, storage_after_set}
+use Rattle.source_tree.specs.Stringing.{sent_of, all_sent, string_stores}
 use Rattle.data_instructions.specs.declared.index.ItemIndex.{ItemIndex}
 use Rattle.data_instructions.specs.declared.index.TextIndex.{TextIndex}
 use Rattle.data_instructions.specs.declared.tables.DataTables.{DataTables}
@@ -17,7 +17,7 @@ use Rattle.data_instructions.specs.declared.shape.Shape.{Shape}
 use Rattle.data_instructions.specs.declared.gather.Gather.TheVariants as g
 use Rattle.data_instructions.specs.declared.instruction.DataInstruction.{DataInstruction}
 use Rattle.data_instructions.specs.declared.instruction.DataInstruction.TheVariants as i
-use Rattle.data_instructions.specs.Scratch.{Scratch, Went, step_with}
+use Rattle.data_instructions.specs.Scratch.{Scratch, Continues, step_with}
 use Rattle.data_instructions.specs.Codes.{works, data_item, IsReferenceCode, IsTakingCode, IsTextCode, AreSubscriptsCode}
 use Rattle.data_instructions.specs.Chains.{effects, LiesAll, LiesWhole}
 use Rattle.data_instructions.specs.ArithmeticCodes.{LiesOperand, LieOperands}
@@ -40,10 +40,10 @@ pub record HasPattern (tables : DataTables) (pattern : Pattern) (text : TextInde
 
 -- ---- STRING
 
-module _ (items : List Placed) (tables : DataTables) where
+module _ (items : List LocatedItem) (tables : DataTables) where
   abbrev pub IsInitializeCode : Reference → List DataInstruction → Type 0
   IsInitializeCode one code =
-      (found : Placed) × (first (items_named items one.item) ≡ Some found)
+      (found : LocatedItem) × (first (items_named items one.item) ≡ Some found)
       × (text : TextIndex) × HasPattern tables (named_pattern found) text × IsTakingCode items tables (i.Overlay text) one code
 
   abbrev pub AreInitializedCode : List Reference → List DataInstruction → Type 0
@@ -126,7 +126,7 @@ module _ (items : List Placed) (tables : DataTables) where
   IsPutCode (Some pointer) code = (front : List DataInstruction) × IsReferenceCode items tables pointer front × (code ≡ front ++ (i.String true ∷ []))
 
   -- STRING, up to its phrases
-  abbrev pub IsStringCode : {S : Type 0} → Stringing S → List DataInstruction → Type 0
+  abbrev pub IsStringCode : {S : Type 0} → StringStatement S → List DataInstruction → Type 0
   IsStringCode one code =
       (sendings : List DataInstruction) × AreSendingsCode one.sendings sendings
       × (receiver : List DataInstruction) × IsReferenceCode items tables one.receiver receiver
@@ -137,22 +137,22 @@ module _ (items : List Placed) (tables : DataTables) where
 
   abbrev pub DoesInitialize : List Reference → List DataInstruction → Type 0
   DoesInitialize receivers code =
-      (s : Scratch) → works tables code s ≡ step_with (initialize items receivers s.storage) (λ after. Went (record s { storage = after }))
+      (s : Scratch) → works tables code s ≡ step_with (initialize items receivers s.storage) (λ after. Continues (record s { storage = after }))
 
   abbrev pub DoesSet : List Reference → List DataInstruction → Type 0
   DoesSet conditions code =
-      (s : Scratch) → works tables code s ≡ step_with (set items conditions s.storage) (λ after. Went (record s { storage = after }))
+      (s : Scratch) → works tables code s ≡ step_with (storage_after_set items conditions s.storage) (λ after. Continues (record s { storage = after }))
 
   -- What is sent is added to the line, and all else stays.
   abbrev pub DoesSend : List Sending → List DataInstruction → Type 0
   DoesSend sendings code =
-      (s : Scratch) → works tables code s ≡ step_with (all_sent items sendings s.storage) (λ text. Went (record s { line = s.line ++ text }))
+      (s : Scratch) → works tables code s ≡ step_with (all_sent items sendings s.storage) (λ text. Continues (record s { line = s.line ++ text }))
 
   -- with nothing in the line: the truth is whether there was an overflow, and the line is empty again
-  abbrev pub DoesString : {S : Type 0} → Stringing S → List DataInstruction → Type 0
+  abbrev pub DoesString : {S : Type 0} → StringStatement S → List DataInstruction → Type 0
   DoesString one code =
       (s : Scratch) → s.line ≡ []
-      → works tables code s ≡ step_with (string items one s.storage) (λ after. Went (record s { storage = after.storage; truth = after.overflow }))
+      → works tables code s ≡ step_with (string_stores items one s.storage) (λ after. Continues (record s { storage = after.storage; truth = after.overflow }))
 
   -- ---- what is known along them
 
@@ -185,5 +185,5 @@ module _ (items : List Placed) (tables : DataTables) where
   LiesPointer None = Unit {0}
   LiesPointer (Some one) = LiesAll items tables one
 
-  abbrev pub LiesString : {S : Type 0} → Stringing S → Type 0
+  abbrev pub LiesString : {S : Type 0} → StringStatement S → Type 0
   LiesString one = LieSendings one.sendings × LiesAll items tables one.receiver × LiesPointer one.pointer

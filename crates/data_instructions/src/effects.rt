@@ -27,6 +27,62 @@ pub const DATE: Item = Item {
     length: 6,
 };
 
+/// What is known after an instruction; none: it doesn't find what it needs.
+pub fn effect(
+    tables: &DataTables,
+    one: DataInstruction,
+    shape: Shape,
+) -> Result<Option<Shape>, AllocError>
+    ensures { IfOk result (λ after. after ≡ spec.effect tables.now one shape) }
+{
+    let Shape {
+        stacks,
+        line,
+        sender,
+    } = shape;
+    let newest = stacks.places.newest();
+    let sender = sender_after(tables, one, newest, sender);
+    let line = line_after(tables, one, newest, line)?;
+    let stacks = stacks_after(tables, one, stacks)?;
+    Ok(shape_with(stacks, line, sender))
+}
+
+/// What is known after `accept`, which takes a place.
+pub fn accepting(shape: Shape) -> Option<Shape>
+    ensures { result ≡ spec.shape_after_accept shape }
+{
+    let Shape {
+        stacks,
+        line,
+        sender,
+    } = shape;
+    shape_with(without_place(stacks), Some(line), Some(sender))
+}
+
+/// What is known after `date`, which takes a place to which the day may be moved.
+pub fn dating(tables: &DataTables, shape: Shape) -> Option<Shape>
+    ensures { result ≡ spec.shape_after_date tables.now shape }
+{
+    let one = item_at(tables, shape.stacks.places.newest())?;
+    if may_move(Taken::Item(DATE), one.item) {
+        accepting(shape)
+    } else {
+        None
+    }
+}
+
+/// What is known after `show`, which shows the line.
+pub fn showing(shape: Shape) -> Shape
+    ensures { result ≡ spec.shape_after_show shape }
+{
+    let Shape { stacks, sender, .. } = shape;
+    Shape {
+        stacks,
+        line: 0,
+        sender,
+    }
+}
+
 /// An item of the table.
 fn item(tables: &DataTables, item: ItemIndex) -> Option<&DataItem>
     ensures { option_copied result ≡ slice_get tables.now.items item.number }
@@ -72,7 +128,7 @@ fn last_reach(tables: &DataTables, place: PlaceShape, stride: u32, count: u32) -
 
 /// So many numbers less.
 fn without(count: usize, stacks: Stacks) -> Option<Stacks>
-    ensures { result ≡ spec.without count stacks }
+    ensures { result ≡ spec.without_numbers count stacks }
 {
     if count <= stacks.numbers {
         let Stacks { numbers, places } = stacks;
@@ -108,7 +164,7 @@ fn placing(
     index: ItemIndex,
     stacks: Stacks,
 ) -> Result<Option<Stacks>, AllocError>
-    ensures { IfOk result (λ after. after ≡ spec.and_then (slice_get tables.now.items index.number) (λ one. spec.placing index one stacks)) }
+    ensures { IfOk result (λ after. after ≡ spec.and_then (slice_get tables.now.items index.number) (λ one. spec.stacks_with_place index one stacks)) }
 {
     let Some(one) = item(tables, index) else {
         return Ok(None);
@@ -131,7 +187,7 @@ fn indexing(
     count: u32,
     stacks: Stacks,
 ) -> Result<Option<Stacks>, AllocError>
-    ensures { IfOk result (λ after. after ≡ spec.with_place (spec.indexing tables.now stride count) stacks.places stacks) }
+    ensures { IfOk result (λ after. after ≡ spec.with_place (spec.stacks_with_subscript tables.now stride count) stacks.places stacks) }
 {
     let Stacks {
         numbers,
@@ -196,7 +252,7 @@ fn put_by(calculation: Calculation) -> usize
 
 /// The numbers after a calculation.
 fn calculating(calculation: Calculation, stacks: Stacks) -> Result<Option<Stacks>, AllocError>
-    ensures { IfOk result (λ after. after ≡ spec.calculating calculation stacks) }
+    ensures { IfOk result (λ after. after ≡ spec.stacks_after_calculation calculation stacks) }
 {
     match without(taken_by(calculation), stacks) {
         Some(rest) => and_more(put_by(calculation), rest),
@@ -206,7 +262,7 @@ fn calculating(calculation: Calculation, stacks: Stacks) -> Result<Option<Stacks
 
 /// Takes the newest number and the newest place.
 fn storing(stacks: Stacks) -> Option<Stacks>
-    ensures { result ≡ spec.storing stacks }
+    ensures { result ≡ spec.stacks_after_store stacks }
 {
     without_place(without(1, stacks)?)
 }
@@ -444,7 +500,7 @@ fn moving(
 
 /// The sender, which has to be there.
 fn held(sender: Option<Taken>) -> Option<Option<Taken>>
-    ensures { result ≡ spec.and_then sender spec.held }
+    ensures { result ≡ spec.and_then sender spec.some_sender }
 {
     Some(Some(sender?))
 }
@@ -455,7 +511,7 @@ fn with_entry(
     number: usize,
     rest: Option<Option<Taken>>,
 ) -> Option<Option<Taken>>
-    ensures { result ≡ spec.with_entry tables.now number rest }
+    ensures { result ≡ spec.with_sender_entry tables.now number rest }
 {
     if number < tables.senders.len() {
         rest
@@ -516,60 +572,4 @@ fn shape_with(
         line,
         sender,
     })
-}
-
-/// What is known after an instruction; none: it doesn't find what it needs.
-pub fn effect(
-    tables: &DataTables,
-    one: DataInstruction,
-    shape: Shape,
-) -> Result<Option<Shape>, AllocError>
-    ensures { IfOk result (λ after. after ≡ spec.effect tables.now one shape) }
-{
-    let Shape {
-        stacks,
-        line,
-        sender,
-    } = shape;
-    let newest = stacks.places.newest();
-    let sender = sender_after(tables, one, newest, sender);
-    let line = line_after(tables, one, newest, line)?;
-    let stacks = stacks_after(tables, one, stacks)?;
-    Ok(shape_with(stacks, line, sender))
-}
-
-/// What is known after `accept`, which takes a place.
-pub fn accepting(shape: Shape) -> Option<Shape>
-    ensures { result ≡ spec.accepting shape }
-{
-    let Shape {
-        stacks,
-        line,
-        sender,
-    } = shape;
-    shape_with(without_place(stacks), Some(line), Some(sender))
-}
-
-/// What is known after `date`, which takes a place to which the day may be moved.
-pub fn dating(tables: &DataTables, shape: Shape) -> Option<Shape>
-    ensures { result ≡ spec.dating tables.now shape }
-{
-    let one = item_at(tables, shape.stacks.places.newest())?;
-    if may_move(Taken::Item(DATE), one.item) {
-        accepting(shape)
-    } else {
-        None
-    }
-}
-
-/// What is known after `show`, which shows the line.
-pub fn showing(shape: Shape) -> Shape
-    ensures { result ≡ spec.showing shape }
-{
-    let Shape { stacks, sender, .. } = shape;
-    Shape {
-        stacks,
-        line: 0,
-        sender,
-    }
 }

@@ -2,11 +2,23 @@
 
 ghost use Rattle.std.specs.Prelude.{◌≡◌, ◌≤◌, ◌↔◌, ℕ, length, slice_get, Some, IsTrue};
 ghost use Rattle.text_ops.specs.Entries.{AreWithin, IfSpan, IsBy, IsEntry, IsFit, IsSpan};
-ghost use Rattle.data_instructions.specs.Tables.{IsInspection, total};
+ghost use Rattle.data_instructions.specs.Tables.{IsInspection, total_length};
 ghost use Rattle.data_instructions.specs.declared.tables.Inspection.{Inspection};
 
 use crate::tables::Inspection;
 use text_ops::{Entry, Fit, Span};
+
+/// Each inspection has its texts within those that are taken, and the entries of its counters.
+pub fn has_inspections(inspections: &[Inspection]) -> bool
+    ensures { IsTrue result ↔ ((k : ℕ) (one : Inspection) → slice_get inspections.now k ≡ Some one → IsInspection one) }
+{
+    for one in inspections {
+        if !is_inspection(one) {
+            return false;
+        }
+    }
+    true
+}
 
 fn is_span(span: Span, size: u32) -> bool
     ensures { IsTrue result ↔ IsSpan size span }
@@ -64,7 +76,7 @@ fn are_within(entries: &[Entry], size: u32) -> bool
 
 /// Together the counters have no more entries than this.
 fn have_entries(counters: &[u32], entries: usize) -> bool
-    ensures { IsTrue result ↔ (total counters.now ≤ entries) }
+    ensures { IsTrue result ↔ (total_length counters.now ≤ entries) }
 {
     let mut left = entries;
     for number in 0..counters.len() {
@@ -83,16 +95,4 @@ fn is_inspection(one: &Inspection) -> bool
     are_within(one.tallying.as_slice(), one.size)
         && are_within(one.replacing.as_slice(), one.size)
         && have_entries(one.counters.as_slice(), one.tallying.len())
-}
-
-/// Each inspection has its texts within those that are taken, and the entries of its counters.
-pub fn has_inspections(inspections: &[Inspection]) -> bool
-    ensures { IsTrue result ↔ ((k : ℕ) (one : Inspection) → slice_get inspections.now k ≡ Some one → IsInspection one) }
-{
-    for one in inspections {
-        if !is_inspection(one) {
-            return false;
-        }
-    }
-    true
 }

@@ -41,6 +41,27 @@ pub const AB: SenderIndex = SenderIndex { number: 0 };
 
 pub const TWELVE: SenderIndex = SenderIndex { number: 1 };
 
+const TEXT: Kind = Kind::Alphanumeric { justified: false };
+
+/// The tables of those items and literals.
+pub fn tables(rt: &impl Abort, alloc: Global) -> DataTables {
+    let mut texts = Items::new(alloc);
+    add(rt, &mut texts, bytes(rt, alloc, b"E="));
+    add(rt, &mut texts, bytes(rt, alloc, b"|"));
+    add(rt, &mut texts, bytes(rt, alloc, b"WXYZ"));
+    add(rt, &mut texts, bytes(rt, alloc, &[1, 0, 1, 0]));
+    add(rt, &mut texts, bytes(rt, alloc, b"A"));
+    add(rt, &mut texts, bytes(rt, alloc, b"XAB  Y"));
+    DataTables {
+        areas: areas(rt, alloc),
+        items: data_items(rt, alloc),
+        numbers: numbers(rt, alloc),
+        senders: senders(rt, alloc),
+        texts,
+        inspections: inspections(rt, alloc),
+    }
+}
+
 fn number(digits: u8, scale: u8, sign: OperationalSign) -> Kind {
     Kind::Numeric(Numeric {
         digits,
@@ -48,8 +69,6 @@ fn number(digits: u8, scale: u8, sign: OperationalSign) -> Kind {
         usage: Usage::Display(sign),
     })
 }
-
-const TEXT: Kind = Kind::Alphanumeric { justified: false };
 
 fn bytes(rt: &impl Abort, alloc: Global, text: &[u8]) -> Items<u8> {
     match Items::from_slice(alloc, text) {
@@ -209,23 +228,4 @@ fn inspections(rt: &impl Abort, alloc: Global) -> Items<Inspection> {
     let mut inspections = Items::new(alloc);
     add(rt, &mut inspections, one);
     inspections
-}
-
-/// The tables of those items and literals.
-pub fn tables(rt: &impl Abort, alloc: Global) -> DataTables {
-    let mut texts = Items::new(alloc);
-    add(rt, &mut texts, bytes(rt, alloc, b"E="));
-    add(rt, &mut texts, bytes(rt, alloc, b"|"));
-    add(rt, &mut texts, bytes(rt, alloc, b"WXYZ"));
-    add(rt, &mut texts, bytes(rt, alloc, &[1, 0, 1, 0]));
-    add(rt, &mut texts, bytes(rt, alloc, b"A"));
-    add(rt, &mut texts, bytes(rt, alloc, b"XAB  Y"));
-    DataTables {
-        areas: areas(rt, alloc),
-        items: data_items(rt, alloc),
-        numbers: numbers(rt, alloc),
-        senders: senders(rt, alloc),
-        texts,
-        inspections: inspections(rt, alloc),
-    }
 }

@@ -4,9 +4,9 @@ use Rattle.std.specs.declared.cmp.Ordering.TheVariants.{Less, Equal}
 use Rattle.decimal18.specs.Fraction.{Fraction, of_parts, absolute}
 use Rattle.decimal18.specs.Arithmetic.{sum, difference, product, size_error}
 use Rattle.decimal18.specs.Quotient.{quotient, greatest}
-use Rattle.decimal18.specs.Receiver.{fitted, low_digits, truncated}
+use Rattle.decimal18.specs.Receiver.{fitted_decimal, low_digits, truncated_decimal}
 use Rattle.decimal18.specs.Order.{order}
-use Rattle.decimal18.specs.Digits.{spelled, whole, digit_text}
+use Rattle.decimal18.specs.Digits.{decimal_of_digits, integer_of, digit_text}
 use Rattle.decimal18.specs.declared.size_error.Size.{Size}
 use Rattle.decimal18.specs.declared.receiver.Rounding.TheVariants.{Truncated, Rounded}
 
@@ -69,25 +69,25 @@ unfolding quotient
 by_zero = refl
 
 -- 2.5 and -2.5 rounded; 9.96 in two digits and in one.
-half_up : fitted (number (pos 25) 1) 1 0 Rounded ≡ given (pos 3) 0
-unfolding fitted
+half_up : fitted_decimal (number (pos 25) 1) 1 0 Rounded ≡ given (pos 3) 0
+unfolding fitted_decimal
 half_up = refl
 
-half_down : fitted (number (negsuc 24) 1) 1 0 Rounded ≡ given (negsuc 2) 0
-unfolding fitted
+half_down : fitted_decimal (number (negsuc 24) 1) 1 0 Rounded ≡ given (negsuc 2) 0
+unfolding fitted_decimal
 half_down = refl
 
 -- 4.45 is rounded by its first dropped digit alone: to 4, and not by way of 4.5 to 5.
-one_digit : fitted (number (pos 445) 2) 1 0 Rounded ≡ given (pos 4) 0
-unfolding fitted
+one_digit : fitted_decimal (number (pos 445) 2) 1 0 Rounded ≡ given (pos 4) 0
+unfolding fitted_decimal
 one_digit = refl
 
-ten : fitted (number (pos 996) 2) 3 1 Rounded ≡ given (pos 100) 1
-unfolding fitted
+ten : fitted_decimal (number (pos 996) 2) 3 1 Rounded ≡ given (pos 100) 1
+unfolding fitted_decimal
 ten = refl
 
-too_many : fitted (number (pos 996) 2) 2 1 Rounded ≡ size_error
-unfolding fitted
+too_many : fitted_decimal (number (pos 996) 2) 2 1 Rounded ≡ size_error
+unfolding fitted_decimal
 too_many = refl
 
 low_two : low_digits (number (pos 996) 2) 2 1 Rounded ≡ number (pos 0) 1
@@ -111,14 +111,14 @@ less : order (number (negsuc 0) 1) (number (pos 0) 18) ≡ Less
 unfolding order
 less = refl
 
-spelling : spelled true (48 ∷ 49 ∷ 50 ∷ 53 ∷ []) 2 ≡ given (negsuc 124) 2
-unfolding spelled
+spelling : decimal_of_digits true (48 ∷ 49 ∷ 50 ∷ 53 ∷ []) 2 ≡ given (negsuc 124) 2
+unfolding decimal_of_digits
 spelling = refl
 
-integer : whole (number (negsuc 119) 1) ≡ Some (negsuc 11)
+integer : integer_of (number (negsuc 119) 1) ≡ Some (negsuc 11)
 integer = refl
 
-no_integer : whole (number (pos 125) 1) ≡ None
+no_integer : integer_of (number (pos 125) 1) ≡ None
 no_integer = refl
 
 -- -12.5 and zero, which has no sign, by their parts; -12.5 without its sign.
@@ -142,17 +142,17 @@ no_characters : digit_text 0 1234 ≡ []
 no_characters = refl
 
 -- -2.75 cut at one decimal, and at three.
-cut_short : truncated (number (negsuc 274) 2) 1 ≡ number (negsuc 26) 1
-unfolding truncated
+cut_short : truncated_decimal (number (negsuc 274) 2) 1 ≡ number (negsuc 26) 1
+unfolding truncated_decimal
 cut_short = refl
 
-cut_long : truncated (number (negsuc 274) 2) 3 ≡ number (negsuc 274) 2
-unfolding truncated
+cut_long : truncated_decimal (number (negsuc 274) 2) 3 ≡ number (negsuc 274) 2
+unfolding truncated_decimal
 cut_long = refl
 
 -- DIVIDE 100 BY 7 GIVING Q REMAINDER R, Q of one decimal: 14.2 and 0.6.
-one_decimal : truncated (number (pos 14285714285714285714) 18) 1 ≡ number (pos 142) 1
-unfolding truncated
+one_decimal : truncated_decimal (number (pos 14285714285714285714) 18) 1 ≡ number (pos 142) 1
+unfolding truncated_decimal
 one_decimal = refl
 
 -- DIVIDE 999 BY 1E-18 GIVING Q REMAINDER R, Q of 18 decimals: the quotient has 17, and keeps all its whole digits, so that
@@ -161,8 +161,8 @@ long_quotient : quotient (number (pos 999) 0) (number (pos 1) 18) ≡ given (pos
 unfolding quotient greatest
 long_quotient = refl
 
-all_whole_digits : truncated (number (pos (999 * 10 ^ 35)) 17) 18 ≡ number (pos (999 * 10 ^ 35)) 17
-unfolding truncated
+all_whole_digits : truncated_decimal (number (pos (999 * 10 ^ 35)) 17) 18 ≡ number (pos (999 * 10 ^ 35)) 17
+unfolding truncated_decimal
 all_whole_digits = refl
 
 times_divisor : product (number (pos (999 * 10 ^ 35)) 17) (number (pos 1) 18) ≡ given (pos (999 * 10 ^ 18)) 18

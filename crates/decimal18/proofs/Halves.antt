@@ -6,8 +6,8 @@ use Rattle.std.proofs.Math.Nat.{div-mul-le_self, lt-div-mul-add}
 use Rattle.std.proofs.lemmas.Bool.{cases_lt}
 use Rattle.std.proofs.lemmas.Nat.{div_below}
 use Rattle.std.proofs.lemmas.Int.{to_z-of_z, fits_signed_from_abs}
-use Rattle.decimal18.specs.Fraction.{Fraction, signed, is_negative}
-use Rattle.decimal18.specs.Halves.{joined, high_part, low_part, rejoined, less_by, sub_less, sub_more, negated_some}
+use Rattle.decimal18.specs.Fraction.{Fraction, signed_integer, is_negative}
+use Rattle.decimal18.specs.Halves.{number_of_halves, high_part, low_part, number_of_halves_law, less_by, sub_less, sub_more, negated_some}
 use Rattle.decimal18.proofs.Difference.{neg-mul}
 
 near_fits : (a b : ℕ) → b ≤ a + 2 ^ 63 → a + 2 ^ 63 < b + 2 ^ 64 → FitsSigned w64 (sub_ℕ a b)
@@ -43,11 +43,11 @@ pub units_fit : (n : ℕ) → n < 10 ^ 38 → (n + 2 ^ 63) / 2 ^ 64 < 2 ^ 63
 units_fit n h = div_below (n + 2 ^ 63) (2 ^ 64) (2 ^ 63) (omega arith) (omega (arith, h))
 
 -- The high part as code finds it, from the sign and the absolute value.
-pub high_by : (z : ℤ) (m : ℕ) (b : Bool) → b ≡ is_negative z → m ≡ unsigned_abs z → signed b (((if b then m - 1 else m) + 2 ^ 63) / 2 ^ 64) ≡ high_part z
-high_by (pos n) m b s e = ap (λ t. signed t (((if t then m - 1 else m) + 2 ^ 63) / 2 ^ 64)) s ∙ ap (λ t. pos ((t + 2 ^ 63) / 2 ^ 64)) e
+pub high_by : (z : ℤ) (m : ℕ) (b : Bool) → b ≡ is_negative z → m ≡ unsigned_abs z → signed_integer b (((if b then m - 1 else m) + 2 ^ 63) / 2 ^ 64) ≡ high_part z
+high_by (pos n) m b s e = ap (λ t. signed_integer t (((if t then m - 1 else m) + 2 ^ 63) / 2 ^ 64)) s ∙ ap (λ t. pos ((t + 2 ^ 63) / 2 ^ 64)) e
 high_by (negsuc n) m b s e =
     let less : m - 1 ≡ n = omega (arith, e) in
-    ap (λ t. signed t (((if t then m - 1 else m) + 2 ^ 63) / 2 ^ 64)) s ∙ ap (λ t. neg_ℤ (pos ((t + 2 ^ 63) / 2 ^ 64))) less
+    ap (λ t. signed_integer t (((if t then m - 1 else m) + 2 ^ 63) / 2 ^ 64)) s ∙ ap (λ t. neg_ℤ (pos ((t + 2 ^ 63) / 2 ^ 64))) less
 
 -- Numbers of 64 bits as those of 128 bits.
 wider : (z : ℤ) → FitsSigned w64 z → FitsSigned w128 z
@@ -69,11 +69,11 @@ scaled z fits =
     ap (λ t. to_z w128 (of_z w128 (t *ℤ pos (2 ^ 64)))) (widened z fits) ∙ to_z-of_z w128 (z *ℤ pos (2 ^ 64)) (scaled_fits z fits)
 
 -- The coefficient as code joins it.
-pub joined_again : (low high z : ℤ) → FitsSigned w64 low → FitsSigned w64 high → unsigned_abs (joined low high) < 10 ^ 38 → joined low high ≡ z → to_z w128 (of_z w128 (to_z w128 (of_z w128 (to_z w64 (of_z w64 low))) +ℤ to_z w128 (of_z w128 (to_z w128 (of_z w128 (to_z w64 (of_z w64 high))) *ℤ pos (2 ^ 64))))) ≡ z
+pub joined_again : (low high z : ℤ) → FitsSigned w64 low → FitsSigned w64 high → unsigned_abs (number_of_halves low high) < 10 ^ 38 → number_of_halves low high ≡ z → to_z w128 (of_z w128 (to_z w128 (of_z w128 (to_z w64 (of_z w64 low))) +ℤ to_z w128 (of_z w128 (to_z w128 (of_z w128 (to_z w64 (of_z w64 high))) *ℤ pos (2 ^ 64))))) ≡ z
 joined_again low high z f g bound e =
     ap (λ t. to_z w128 (of_z w128 (t +ℤ to_z w128 (of_z w128 (to_z w128 (of_z w128 (to_z w64 (of_z w64 high))) *ℤ pos (2 ^ 64)))))) (widened low f)
     ∙ ap (λ t. to_z w128 (of_z w128 (low +ℤ t))) (scaled high g)
-    ∙ to_z-of_z w128 (joined low high) (fits_signed_from_abs w128 (joined low high) (omega (arith, bound))) ∙ e
+    ∙ to_z-of_z w128 (number_of_halves low high) (fits_signed_from_abs w128 (number_of_halves low high) (omega (arith, bound))) ∙ e
 
 -- The low part as code finds it.
 pub low_again : (z high : ℤ) → FitsSigned w128 z → FitsSigned w64 high → high ≡ high_part z → to_z w64 (of_z w64 (to_z w128 (of_z w128 (to_z w128 (of_z w128 z) -ℤ to_z w128 (of_z w128 (to_z w128 (of_z w128 (to_z w64 (of_z w64 high))) *ℤ pos (2 ^ 64))))))) ≡ low_part z
@@ -84,15 +84,15 @@ low_again z high f g e =
     ∙ ap (λ t. to_z w64 (of_z w64 t)) (to_z-of_z w128 (low_part z) (wider (low_part z) (low_fits z)))
     ∙ to_z-of_z w64 (low_part z) (low_fits z)
 
-rejoined_by : (z l h : ℤ) → l ≡ low_part z → h ≡ high_part z → joined l h ≡ z
-rejoined_by z l h e f = ap (λ t. joined t h) e ∙ ap (joined (low_part z)) f ∙ rejoined z
+rejoined_by : (z l h : ℤ) → l ≡ low_part z → h ≡ high_part z → number_of_halves l h ≡ z
+rejoined_by z l h e f = ap (λ t. number_of_halves t h) e ∙ ap (number_of_halves (low_part z)) f ∙ number_of_halves_law z
 
-pub parts_kept : (z l h : ℤ) (scale : ℕ) → l ≡ low_part z → h ≡ high_part z → unsigned_abs z < 10 ^ 38 → scale ≤ 18 → (unsigned_abs (joined l h) < 10 ^ 38) × (scale ≤ 18) × FitsSigned w64 l
+pub parts_kept : (z l h : ℤ) (scale : ℕ) → l ≡ low_part z → h ≡ high_part z → unsigned_abs z < 10 ^ 38 → scale ≤ 18 → (unsigned_abs (number_of_halves l h) < 10 ^ 38) × (scale ≤ 18) × FitsSigned w64 l
 parts_kept z l h scale e f bound most =
     (subst (λ t. unsigned_abs t < 10 ^ 38) (sym (rejoined_by z l h e f)) bound, most, subst (FitsSigned w64) (sym e) (low_fits z))
 
 abbrev number : ℤ → ℕ → Fraction
 number z scale = record { coefficient = z; scale = scale }
 
-pub parts_view : (z l h : ℤ) (scale : ℕ) → l ≡ low_part z → h ≡ high_part z → number (joined l h) scale ≡ number z scale
+pub parts_view : (z l h : ℤ) (scale : ℕ) → l ≡ low_part z → h ≡ high_part z → number (number_of_halves l h) scale ≡ number z scale
 parts_view z l h scale e f = ap (λ t. number t scale) (rejoined_by z l h e f)

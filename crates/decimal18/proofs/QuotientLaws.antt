@@ -6,9 +6,9 @@ use Rattle.std.proofs.lemmas.Bool.Decides.{Decides-int_eq}
 use Rattle.std.proofs.lemmas.Nat.{pow-add, div-add-mod', mod_below}
 use Rattle.std.proofs.Math.Nat.{zero-mul, zero-div, mul-le-mul_right, mul-lt-mul_of_pos_right, eq-or-lt_of_le, mul_assoc}
 use mathlib.Core.Bool.{true≢false}
-use Rattle.decimal18.specs.Fraction.{Fraction, signed, is_negative}
+use Rattle.decimal18.specs.Fraction.{Fraction, signed_integer, is_negative}
 use Rattle.decimal18.specs.Arithmetic.{size_error}
-use Rattle.decimal18.specs.Quotient.{quotient, quotient_at, admits, greatest, extended}
+use Rattle.decimal18.specs.Quotient.{quotient, quotient_at, admits, greatest, extended_dividend}
 use Rattle.decimal18.specs.Laws.{IsQuotient}
 use Rattle.decimal18.specs.TotalOrder.{ten_pos}
 use Rattle.decimal18.proofs.Alignment.{raised_abs}
@@ -22,15 +22,15 @@ abs-div (negsuc a) (pos b) = abs-neg (pos (suc a / b))
 abs-div (negsuc a) (negsuc b) = refl
 
 -- A quotient's sign is the product's.
-minus : (n m : ℕ) → (n ≡ 0 → m ≡ 0) → neg_ℤ (pos m) ≡ signed (is_negative (neg_ℤ (pos n))) m
+minus : (n m : ℕ) → (n ≡ 0 → m ≡ 0) → neg_ℤ (pos m) ≡ signed_integer (is_negative (neg_ℤ (pos n))) m
 minus zero m h = ap (λ k. neg_ℤ (pos k)) (h refl) ∙ sym (ap pos (h refl))
 minus (suc n) m h = refl
 
-div-both : (n b : ℕ) → int_div (signed true n) (negsuc b) ≡ pos (n / suc b)
+div-both : (n b : ℕ) → int_div (signed_integer true n) (negsuc b) ≡ pos (n / suc b)
 div-both zero b = ap (λ m. neg_ℤ (pos m)) (zero-div (suc b)) ∙ sym (ap pos (zero-div (suc b)))
 div-both (suc n) b = refl
 
-quotient_sign : (x y : ℤ) (k : ℕ) → y ≢ pos 0 → int_div (x *ℤ pos k) y ≡ signed (is_negative (x *ℤ y)) (unsigned_abs x * k / unsigned_abs y)
+quotient_sign : (x y : ℤ) (k : ℕ) → y ≢ pos 0 → int_div (x *ℤ pos k) y ≡ signed_integer (is_negative (x *ℤ y)) (unsigned_abs x * k / unsigned_abs y)
 quotient_sign (pos a) (pos b) k h = refl
 quotient_sign (pos zero) (negsuc b) k h = minus (0 * suc b) (0 * k / suc b) (λ e. ap (λ n. n / suc b) (zero-mul k) ∙ zero-div (suc b))
 quotient_sign (pos (suc a)) (negsuc b) k h =
@@ -118,13 +118,13 @@ quotient_of x y z (Some q) h g e =
     let n = unsigned_abs x.coefficient * 10 ^ k in
     let d = unsigned_abs y.coefficient in
     let v : n / d ≡ unsigned_abs z.coefficient =
-    sym (abs-div (extended x y q) y.coefficient ∙ ap (λ m. m / d) (raised_abs x.coefficient (10 ^ k))) ∙ ap (λ (w : Fraction). unsigned_abs w.coefficient) is in
+    sym (abs-div (extended_dividend x y q) y.coefficient ∙ ap (λ m. m / d) (raised_abs x.coefficient (10 ^ k))) ∙ ap (λ (w : Fraction). unsigned_abs w.coefficient) is in
     let enough : x.scale ≤ q + y.scale = leb-true _ _ (both _ _ f.passes) in
     let widths : k + x.scale ≡ z.scale + y.scale = omega arith in
     let whole : n * 10 ^ x.scale ≡ unsigned_abs x.coefficient * 10 ^ (z.scale + y.scale) = scaled (unsigned_abs x.coefficient) x.scale k (z.scale + y.scale) widths in
     let bounds = near n d (10 ^ x.scale) (positive y.coefficient h) (ten_pos x.scale) in
     record {
-      sign = sym (ap (λ (w : Fraction). w.coefficient) is) ∙ quotient_sign x.coefficient y.coefficient (10 ^ k) h ∙ ap (signed (is_negative (x.coefficient *ℤ y.coefficient))) v;
+      sign = sym (ap (λ (w : Fraction). w.coefficient) is) ∙ quotient_sign x.coefficient y.coefficient (10 ^ k) h ∙ ap (signed_integer (is_negative (x.coefficient *ℤ y.coefficient))) v;
       not_over = subst (λ m. unsigned_abs z.coefficient * d * 10 ^ x.scale ≤ m) whole (subst (λ m. m * d * 10 ^ x.scale ≤ n * 10 ^ x.scale) v bounds.0);
       close = subst (λ m. m < (unsigned_abs z.coefficient + 1) * d * 10 ^ x.scale) whole (subst (λ m. n * 10 ^ x.scale < (m + 1) * d * 10 ^ x.scale) v bounds.1);
       admitted = subst (λ m. admits x y m ≡ true) scale f.passes;

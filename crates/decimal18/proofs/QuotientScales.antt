@@ -3,7 +3,7 @@ use Rattle.std.proofs.Common.{◌≡◌, ℕ, ◌+◌, ◌-◌, ◌^◌, ◌<◌
 use Rattle.std.proofs.lemmas.Bool.{le-leb}
 use Rattle.decimal18.specs.Fraction.{Fraction}
 use Rattle.decimal18.specs.Arithmetic.{is_within}
-use Rattle.decimal18.specs.Quotient.{admits, extended, greatest}
+use Rattle.decimal18.specs.Quotient.{admits, extended_dividend, greatest}
 use Rattle.decimal18.proofs.Alignment.{raised_within, raised_outside}
 use Rattle.decimal18.proofs.Greatest.{greatest_is, greatest_never}
 use Rattle.decimal18.proofs.Powers.{power_le}
@@ -20,7 +20,7 @@ admitted x y d q h k most below enough room =
     let few : zeros ≤ 38 = omega arith in
     let up : 10 ^ d ≤ 10 ^ (38 - zeros) = power_le d (38 - zeros) (omega arith) in
     let less : unsigned_abs x.coefficient < 10 ^ (38 - zeros) = omega (arith, below, up) in
-    ap (λ b. b && is_within (extended x y q)) (le-leb _ _ enough) ∙ raised_within x.coefficient zeros few less
+    ap (λ b. b && is_within (extended_dividend x y q)) (le-leb _ _ enough) ∙ raised_within x.coefficient zeros few less
 
 outside : (x y : Fraction) (d q : ℕ) → x.scale ≤ 18 → y.scale ≤ 18 → q ≤ 18 → Counted (unsigned_abs x.coefficient) d → 38 + x.scale < q + y.scale + d → admits x y q ≡ false
 outside x y d q h k most c over =
@@ -31,7 +31,7 @@ outside x y d q h k most c over =
     let some : 0 < d = omega arith in
     let up : 10 ^ (38 - zeros) ≤ 10 ^ (d - 1) = power_le (38 - zeros) (d - 1) (omega arith) in
     let above : 10 ^ (38 - zeros) ≤ unsigned_abs x.coefficient = omega (arith, up, c.least some) in
-    ap (λ b. b && is_within (extended x y q)) (le-leb _ _ enough) ∙ raised_outside x.coefficient zeros few above
+    ap (λ b. b && is_within (extended_dividend x y q)) (le-leb _ _ enough) ∙ raised_outside x.coefficient zeros few above
 
 pub scale_admitted : (x y : Fraction) (m d most q : ℕ) → x.scale ≤ 18 → y.scale ≤ 18 → m ≡ unsigned_abs x.coefficient → m < 10 ^ d → d ≤ 38 → most ≡ 38 - d + x.scale → y.scale ≤ most → q ≡ min (most - y.scale) 18 → admits x y q ≡ true
 scale_admitted x y m d most q h k e below full f room g =

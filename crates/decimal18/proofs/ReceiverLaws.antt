@@ -3,9 +3,9 @@ use Rattle.std.proofs.Common.{◌≡◌, ℕ, zero, suc, ◌+◌, ◌-◌, ◌*�
 use Rattle.std.proofs.lemmas.Bool.{cases_lt, leb-true, leb-false, ltb-false, le-ltb}
 use Rattle.std.proofs.lemmas.Nat.{div-add-mod', mod_below, le-div, div_below}
 use Rattle.std.proofs.Math.Nat.{mul-le-mul_right, mul-lt-mul_of_pos_right, mul_assoc, pow-suc}
-use Rattle.decimal18.specs.Fraction.{Fraction, signed, is_negative}
+use Rattle.decimal18.specs.Fraction.{Fraction, signed_integer, is_negative}
 use Rattle.decimal18.specs.Arithmetic.{size_error}
-use Rattle.decimal18.specs.Receiver.{carry, digits_at, at_scale, fitted, low_digits}
+use Rattle.decimal18.specs.Receiver.{carry, digits_at, at_scale, fitted_decimal, low_digits}
 use Rattle.decimal18.specs.Laws.{IsKept, HasLowDigits}
 use Rattle.decimal18.specs.TotalOrder.{ten_pos}
 use Rattle.decimal18.specs.declared.receiver.Rounding.{Rounding}
@@ -115,18 +115,18 @@ kept_at : (x : Fraction) (scale : ℕ) (rounding : Rounding) → IsKept rounding
 kept_at x scale Truncated =
     let m = unsigned_abs x.coefficient in
     let k = digits_at m x.scale scale Truncated in
-    let size : unsigned_abs (signed (is_negative x.coefficient) k) ≡ k = abs-signed (is_negative x.coefficient) k in
-    let bounds = cut_of m x.scale scale (unsigned_abs (signed (is_negative x.coefficient) k)) (nat_le x.scale scale) refl size in
-    record { sign = ap (signed (is_negative x.coefficient)) (sym size); not_over = bounds.under; close = bounds.over }
+    let size : unsigned_abs (signed_integer (is_negative x.coefficient) k) ≡ k = abs-signed (is_negative x.coefficient) k in
+    let bounds = cut_of m x.scale scale (unsigned_abs (signed_integer (is_negative x.coefficient) k)) (nat_le x.scale scale) refl size in
+    record { sign = ap (signed_integer (is_negative x.coefficient)) (sym size); not_over = bounds.under; close = bounds.over }
 kept_at x scale Rounded =
     let m = unsigned_abs x.coefficient in
     let k = digits_at m x.scale scale Rounded in
-    let size : unsigned_abs (signed (is_negative x.coefficient) k) ≡ k = abs-signed (is_negative x.coefficient) k in
-    let bounds = near_of m x.scale scale (unsigned_abs (signed (is_negative x.coefficient) k)) (nat_le x.scale scale) refl size in
-    record { sign = ap (signed (is_negative x.coefficient)) (sym size); not_under = bounds.under; close = bounds.over }
+    let size : unsigned_abs (signed_integer (is_negative x.coefficient) k) ≡ k = abs-signed (is_negative x.coefficient) k in
+    let bounds = near_of m x.scale scale (unsigned_abs (signed_integer (is_negative x.coefficient) k)) (nat_le x.scale scale) refl size in
+    record { sign = ap (signed_integer (is_negative x.coefficient)) (sym size); not_under = bounds.under; close = bounds.over }
 
-pub fitted_kept : (x z : Fraction) (digits scale : ℕ) (rounding : Rounding) → fitted x digits scale rounding ≡ Ok z → (z.scale ≡ scale) × IsKept rounding x z
-unfolding fitted
+pub fitted_kept : (x z : Fraction) (digits scale : ℕ) (rounding : Rounding) → fitted_decimal x digits scale rounding ≡ Ok z → (z.scale ≡ scale) × IsKept rounding x z
+unfolding fitted_decimal
 fitted_kept x z digits scale rounding e =
     let held : Fraction = record { coefficient = at_scale x scale rounding; scale = scale } in
     let is : held ≡ z = inside held z (passed (nat_lt (unsigned_abs (at_scale x scale rounding)) (10 ^ digits)) (Ok held) z e).1 in
@@ -145,8 +145,8 @@ refused_by : (n limit : ℕ) (z : Fraction) (b : Bool) → nat_lt n limit ≡ b 
 refused_by n limit z true t e = cc
 refused_by n limit z false t e = ltb-false n limit t
 
-pub fitted_size : (x : Fraction) (digits scale : ℕ) (rounding : Rounding) → scale ≤ digits → (fitted x digits scale rounding ≡ size_error → 10 ^ (digits - scale) ≤ unsigned_abs (at_scale x scale rounding) / 10 ^ scale) × (10 ^ (digits - scale) ≤ unsigned_abs (at_scale x scale rounding) / 10 ^ scale → fitted x digits scale rounding ≡ size_error)
-unfolding fitted
+pub fitted_size : (x : Fraction) (digits scale : ℕ) (rounding : Rounding) → scale ≤ digits → (fitted_decimal x digits scale rounding ≡ size_error → 10 ^ (digits - scale) ≤ unsigned_abs (at_scale x scale rounding) / 10 ^ scale) × (10 ^ (digits - scale) ≤ unsigned_abs (at_scale x scale rounding) / 10 ^ scale → fitted_decimal x digits scale rounding ≡ size_error)
+unfolding fitted_decimal
 fitted_size x digits scale rounding h =
     let n = unsigned_abs (at_scale x scale rounding) in
     let held : Fraction = record { coefficient = at_scale x scale rounding; scale = scale } in (
@@ -162,16 +162,16 @@ unfolding low_digits
 low_kept x digits scale rounding =
     let n = digits_at (unsigned_abs x.coefficient) x.scale scale rounding in
     let sign = is_negative x.coefficient in
-    let size : unsigned_abs (int_rem (signed sign n) (pos (10 ^ digits))) ≡ n % 10 ^ digits = ap unsigned_abs (rem-signed sign n (10 ^ digits)) ∙ abs-signed sign (n % 10 ^ digits) in
+    let size : unsigned_abs (int_rem (signed_integer sign n) (pos (10 ^ digits))) ≡ n % 10 ^ digits = ap unsigned_abs (rem-signed sign n (10 ^ digits)) ∙ abs-signed sign (n % 10 ^ digits) in
     record {
       below = subst (λ m. m < 10 ^ digits) (sym size) (mod_below n (10 ^ digits) (ten_pos digits));
       rest = (n / 10 ^ digits, abs-signed sign n ∙ sym (div-add-mod' n (10 ^ digits)) ∙ ap (λ m. n / 10 ^ digits * 10 ^ digits + m) (sym size));
     }
 
-pub low_sign : (x : Fraction) (digits scale : ℕ) (rounding : Rounding) → (low_digits x digits scale rounding).coefficient ≡ signed (is_negative x.coefficient) (unsigned_abs (low_digits x digits scale rounding).coefficient)
+pub low_sign : (x : Fraction) (digits scale : ℕ) (rounding : Rounding) → (low_digits x digits scale rounding).coefficient ≡ signed_integer (is_negative x.coefficient) (unsigned_abs (low_digits x digits scale rounding).coefficient)
 unfolding low_digits
 low_sign x digits scale rounding =
     let n = digits_at (unsigned_abs x.coefficient) x.scale scale rounding in
     let sign = is_negative x.coefficient in
     let is = rem-signed sign n (10 ^ digits) in
-    is ∙ ap (signed sign) (sym (ap unsigned_abs is ∙ abs-signed sign (n % 10 ^ digits)))
+    is ∙ ap (signed_integer sign) (sym (ap unsigned_abs is ∙ abs-signed sign (n % 10 ^ digits)))

@@ -3,8 +3,8 @@ use Rattle.std.proofs.Common.{◌≡◌, ℕ, zero, suc, ◌+◌, ◌-◌, ◌^�
 use Rattle.std.proofs.Math.IntN.{+ℤ_assoc, +ℤ_comm, *ℤ_comm, suc_ℤ-*ℤ, *ℤ-zero}
 use Rattle.std.proofs.Math.Nat.{div-one, add_comm, max_comm}
 use Rattle.std.proofs.lemmas.Nat.{pow-add}
-use Rattle.decimal18.specs.Fraction.{Fraction, aligned}
-use Rattle.decimal18.specs.Arithmetic.{sum, difference, product, intermediate, combined, is_within, size_error, negated}
+use Rattle.decimal18.specs.Fraction.{Fraction, aligned_coefficient}
+use Rattle.decimal18.specs.Arithmetic.{sum, difference, product, intermediate, aligned_operation, is_within, size_error, opposite_of}
 use Rattle.decimal18.specs.Laws.{IsSum, IsDifference, IsProduct}
 use Rattle.decimal18.specs.TotalOrder.{mul-mul}
 use Rattle.decimal18.specs.declared.size_error.Size.{Size}
@@ -69,13 +69,13 @@ sum_exact x y z h k e =
     let left : x.scale ≤ scale = omega arith in
     let right : y.scale ≤ scale = omega arith in
     let most : scale ≤ 18 = omega arith in
-    let kept = uncut (aligned x scale +ℤ aligned y scale) scale z most (passed (is_within (aligned x scale) && is_within (aligned y scale)) (intermediate (aligned x scale +ℤ aligned y scale) scale) z e).1 in
+    let kept = uncut (aligned_coefficient x scale +ℤ aligned_coefficient y scale) scale z most (passed (is_within (aligned_coefficient x scale) && is_within (aligned_coefficient y scale)) (intermediate (aligned_coefficient x scale +ℤ aligned_coefficient y scale) scale) z e).1 in
     ap (λ v. v *ℤ pos (10 ^ (x.scale + y.scale))) kept.0 ∙ total_is x.coefficient y.coefficient x.scale y.scale scale left right
     ∙ ap (λ n. (x.coefficient *ℤ pos (10 ^ y.scale) +ℤ y.coefficient *ℤ pos (10 ^ x.scale)) *ℤ pos (10 ^ n)) (sym kept.1)
 
 pub difference_exact : (x y z : Fraction) → x.scale ≤ 18 → y.scale ≤ 18 → difference x y ≡ Ok z → IsDifference x y z
 difference_exact x y z h k e =
-    sum_exact x (negated y) z h k (sym (as_sum x y) ∙ e)
+    sum_exact x (opposite_of y) z h k (sym (as_sum x y) ∙ e)
     ∙ ap (λ t. (x.coefficient *ℤ pos (10 ^ y.scale) +ℤ t) *ℤ pos (10 ^ z.scale)) (neg-mul y.coefficient (10 ^ x.scale))
 
 pub product_exact : (x y z : Fraction) → x.scale + y.scale ≤ 18 → product x y ≡ Ok z → IsProduct x y z
@@ -94,9 +94,9 @@ pub sum_commutes : (x y : Fraction) → sum x y ≡ sum y x
 unfolding sum
 sum_commutes x y =
     let scale = max x.scale y.scale in
-    let at : ℕ → Result Fraction Size = λ n. combined ◌+ℤ◌ y x n in
-    ap (λ b. if b then intermediate (aligned x scale +ℤ aligned y scale) scale else size_error) (and_swapped (is_within (aligned x scale)) (is_within (aligned y scale)))
-    ∙ ap (λ v. if is_within (aligned y scale) && is_within (aligned x scale) then intermediate v scale else size_error) (+ℤ_comm (aligned x scale) (aligned y scale))
+    let at : ℕ → Result Fraction Size = λ n. aligned_operation ◌+ℤ◌ y x n in
+    ap (λ b. if b then intermediate (aligned_coefficient x scale +ℤ aligned_coefficient y scale) scale else size_error) (and_swapped (is_within (aligned_coefficient x scale)) (is_within (aligned_coefficient y scale)))
+    ∙ ap (λ v. if is_within (aligned_coefficient y scale) && is_within (aligned_coefficient x scale) then intermediate v scale else size_error) (+ℤ_comm (aligned_coefficient x scale) (aligned_coefficient y scale))
     ∙ ap at (max_comm x.scale y.scale)
 
 pub product_commutes : (x y : Fraction) → product x y ≡ product y x
@@ -110,12 +110,12 @@ taken true z v e = (refl, cc)
 taken false z v e = cc
 
 -- A sum of coefficients that passed the test of alignment.
-pub sum_of_aligned : (x y : Fraction) (a b : ℤ) (scale : ℕ) (r : Result Fraction Size) → scale ≡ max x.scale y.scale → Some a ≡ (if is_within (aligned x scale) then Some (aligned x scale) else None) → Some b ≡ (if is_within (aligned y scale) then Some (aligned y scale) else None) → r ≡ intermediate (a +ℤ b) scale → r ≡ sum x y
+pub sum_of_aligned : (x y : Fraction) (a b : ℤ) (scale : ℕ) (r : Result Fraction Size) → scale ≡ max x.scale y.scale → Some a ≡ (if is_within (aligned_coefficient x scale) then Some (aligned_coefficient x scale) else None) → Some b ≡ (if is_within (aligned_coefficient y scale) then Some (aligned_coefficient y scale) else None) → r ≡ intermediate (a +ℤ b) scale → r ≡ sum x y
 unfolding sum
 sum_of_aligned x y a b scale r e f g h =
-    let p = taken (is_within (aligned x scale)) (aligned x scale) a f in
-    let q = taken (is_within (aligned y scale)) (aligned y scale) b g in
-    let total = intermediate (aligned x scale +ℤ aligned y scale) scale in
-    h ∙ ap (λ z. intermediate (z +ℤ b) scale) p.1 ∙ ap (λ z. intermediate (aligned x scale +ℤ z) scale) q.1
-    ∙ sym (ap (λ t. if t && is_within (aligned y scale) then total else size_error) p.0 ∙ ap (λ t. if t then total else size_error) q.0)
-    ∙ ap (combined ◌+ℤ◌ x y) e
+    let p = taken (is_within (aligned_coefficient x scale)) (aligned_coefficient x scale) a f in
+    let q = taken (is_within (aligned_coefficient y scale)) (aligned_coefficient y scale) b g in
+    let total = intermediate (aligned_coefficient x scale +ℤ aligned_coefficient y scale) scale in
+    h ∙ ap (λ z. intermediate (z +ℤ b) scale) p.1 ∙ ap (λ z. intermediate (aligned_coefficient x scale +ℤ z) scale) q.1
+    ∙ sym (ap (λ t. if t && is_within (aligned_coefficient y scale) then total else size_error) p.0 ∙ ap (λ t. if t then total else size_error) q.0)
+    ∙ ap (aligned_operation ◌+ℤ◌ x y) e

@@ -2,7 +2,7 @@
 use Rattle.std.specs.Prelude.{ℕ, zero, suc, Bool, ℤ, pos, List, [], ◌∷◌, ◌+◌, ◌-◌, ◌*◌, ◌/◌, ◌%◌, ◌^◌, ◌==◌, unsigned_abs, int_div, if◌then◌else◌, Option, Some, None, Result}
 use Rattle.std.specs.Char.{is_ascii_digit}
 use Rattle.std.specs.List.{list_all}
-use Rattle.decimal18.specs.Fraction.{Fraction, signed}
+use Rattle.decimal18.specs.Fraction.{Fraction, signed_integer}
 use Rattle.decimal18.specs.Arithmetic.{intermediate}
 use Rattle.decimal18.specs.declared.size_error.Size.{Size}
 
@@ -16,8 +16,8 @@ abbrev pub number_behind : ℕ → List ℕ → Option ℕ
 number_behind n cs = if list_all is_ascii_digit cs then Some (digits_behind n cs) else None
 
 -- The number with this sign and these digits, the last of them decimals.
-unfoldable pub spelled : Bool → List ℕ → ℕ → Result Fraction Size
-spelled negative digits scale = intermediate (signed negative (digits_behind 0 digits)) scale
+unfoldable pub decimal_of_digits : Bool → List ℕ → ℕ → Result Fraction Size
+decimal_of_digits negative digits scale = intermediate (signed_integer negative (digits_behind 0 digits)) scale
 
 -- The digit of n with so many digits to its right.
 abbrev pub digit_of : ℕ → ℕ → ℕ
@@ -30,8 +30,8 @@ digit_text zero n = []
 digit_text (suc count) n = (48 + digit_of n count) ∷ digit_text count n
 
 -- The integer that the number is, if it is one.
-abbrev pub whole : Fraction → Option ℤ
-whole x =
+abbrev pub integer_of : Fraction → Option ℤ
+integer_of x =
     if unsigned_abs x.coefficient % 10 ^ x.scale == 0
     then Some (int_div x.coefficient (pos (10 ^ x.scale)))
     else None

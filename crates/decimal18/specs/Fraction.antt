@@ -11,18 +11,18 @@ is_negative (pos n) = false
 is_negative (negsuc n) = true
 
 -- A number by its sign and its absolute value; zero has no sign.
-abbrev pub signed : Bool → ℕ → ℤ
-signed false n = pos n
-signed true n = neg_ℤ (pos n)
+abbrev pub signed_integer : Bool → ℕ → ℤ
+signed_integer false n = pos n
+signed_integer true n = neg_ℤ (pos n)
 
 -- The number whose coefficient has this sign and absolute value.
 abbrev pub of_parts : Bool → ℕ → ℕ → Fraction
-of_parts negative magnitude scale = record { coefficient = signed negative magnitude; scale = scale }
+of_parts negative magnitude scale = record { coefficient = signed_integer negative magnitude; scale = scale }
 
 -- The number without its sign.
 abbrev pub absolute : Fraction → Fraction
 absolute x = record { coefficient = pos (unsigned_abs x.coefficient); scale = x.scale }
 
 -- The coefficient that the same number has at a scale that is not less.
-abbrev pub aligned : Fraction → ℕ → ℤ
-aligned x scale = x.coefficient *ℤ pos (10 ^ (scale - x.scale))
+abbrev pub aligned_coefficient : Fraction → ℕ → ℤ
+aligned_coefficient x scale = x.coefficient *ℤ pos (10 ^ (scale - x.scale))

@@ -6,8 +6,8 @@ use Rattle.std.proofs.Math.IntN.{sub_ℕ, +ℤ-neg_ℤ_cancel, -ℤ-+ℤ_cancel,
 use Rattle.std.proofs.lemmas.Bool.{lt-ltb, le-ltb}
 use Rattle.std.proofs.lemmas.Nat.{div-mul-add}
 
-abbrev pub joined : ℤ → ℤ → ℤ
-joined low high = low +ℤ high *ℤ pos (2 ^ 64)
+abbrev pub number_of_halves : ℤ → ℤ → ℤ
+number_of_halves low high = low +ℤ high *ℤ pos (2 ^ 64)
 
 -- The nearest multiple of 2^64.
 abbrev pub high_part : ℤ → ℤ
@@ -17,10 +17,10 @@ high_part (negsuc n) = neg_ℤ (pos ((n + 2 ^ 63) / 2 ^ 64))
 abbrev pub low_part : ℤ → ℤ
 low_part z = z -ℤ high_part z *ℤ pos (2 ^ 64)
 
-pub rejoined : (z : ℤ) → joined (low_part z) (high_part z) ≡ z
-rejoined z = -ℤ-+ℤ_cancel z (high_part z *ℤ pos (2 ^ 64))
+pub number_of_halves_law : (z : ℤ) → number_of_halves (low_part z) (high_part z) ≡ z
+number_of_halves_law z = -ℤ-+ℤ_cancel z (high_part z *ℤ pos (2 ^ 64))
 
-pub short_joined : (low : ℤ) → joined low (pos 0) ≡ low
+pub short_joined : (low : ℤ) → number_of_halves low (pos 0) ≡ low
 short_joined low = +ℤ_idr low
 
 pub sub_less : (a b : ℕ) → a < b → sub_ℕ a b ≡ negsuc (b - suc a)
@@ -41,7 +41,7 @@ quotient_is : (n q r : ℕ) → n ≡ q * 2 ^ 64 + r → r < 2 ^ 64 → n / 2 ^ 
 quotient_is n q r e h = ap (λ t. t / 2 ^ 64) e ∙ div-mul-add q (2 ^ 64) r h
 
 -- The high part is found again.
-high_of : (low high : ℤ) → FitsSigned w64 low → high_part (joined low high) ≡ high
+high_of : (low high : ℤ) → FitsSigned w64 low → high_part (number_of_halves low high) ≡ high
 high_of (pos l) (pos h) fits =
     let small : l < 2 ^ 63 = fits.sfits in
     ap pos (quotient_is (l + h * 2 ^ 64 + 2 ^ 63) h (l + 2 ^ 63) (omega arith) (omega arith))
@@ -66,11 +66,11 @@ high_of (negsuc l) (negsuc h) fits =
     ap (λ t. high_part (negsuc l +ℤ t)) (negated_some (suc h * 2 ^ 64) some)
     ∙ ap (λ n. neg_ℤ (pos n)) (quotient_is (suc (l + (suc h * 2 ^ 64 - 1)) + 2 ^ 63) (suc h) (l + 2 ^ 63) (omega arith) (omega arith))
 
-low_of : (low high : ℤ) → FitsSigned w64 low → low_part (joined low high) ≡ low
+low_of : (low high : ℤ) → FitsSigned w64 low → low_part (number_of_halves low high) ≡ low
 low_of low high fits =
-    ap (λ t. joined low high -ℤ t *ℤ pos (2 ^ 64)) (high_of low high fits) ∙ +ℤ-neg_ℤ_cancel low (high *ℤ pos (2 ^ 64))
+    ap (λ t. number_of_halves low high -ℤ t *ℤ pos (2 ^ 64)) (high_of low high fits) ∙ +ℤ-neg_ℤ_cancel low (high *ℤ pos (2 ^ 64))
 
 -- Both parts of what they join are found again.
-pub parts_of : {X : Type 0} (kept : ℤ → ℤ → X) (low high : ℤ) → FitsSigned w64 low → kept (low_part (joined low high)) (high_part (joined low high)) ≡ kept low high
+pub parts_of : {X : Type 0} (kept : ℤ → ℤ → X) (low high : ℤ) → FitsSigned w64 low → kept (low_part (number_of_halves low high)) (high_part (number_of_halves low high)) ≡ kept low high
 parts_of kept low high fits =
-    ap (λ l. kept l (high_part (joined low high))) (low_of low high fits) ∙ ap (kept low) (high_of low high fits)
+    ap (λ l. kept l (high_part (number_of_halves low high))) (low_of low high fits) ∙ ap (kept low) (high_of low high fits)

@@ -1,7 +1,7 @@
 -- What the definitions come to, on the numbers coefficient / 10 ^ scale that fractions stand for. An equation or an order
 -- of two such numbers is stated over a common denominator.
 use Rattle.std.specs.Prelude.{◌≡◌, ℕ, ◌+◌, ◌*◌, ◌^◌, ◌<◌, ◌≤◌, true, false, ℤ, pos, ◌+ℤ◌, ◌-ℤ◌, ◌*ℤ◌, unsigned_abs}
-use Rattle.decimal18.specs.Fraction.{Fraction, signed, is_negative}
+use Rattle.decimal18.specs.Fraction.{Fraction, signed_integer, is_negative}
 use Rattle.decimal18.specs.Quotient.{admits}
 use Rattle.decimal18.specs.declared.receiver.Rounding.{Rounding}
 use Rattle.decimal18.specs.declared.receiver.Rounding.TheVariants.{Truncated, Rounded}
@@ -26,7 +26,7 @@ IsProduct x y z =
 -- z is x / y cut towards zero: it has the sign that x * y has, |x| - |z * y| is at least 0 and below |y| * 10 ^ -scale, scale
 -- being that of z, and no greater scale up to 18 is admitted.
 pub record IsQuotient (x y z : Fraction) : Type 0 where
-  pub sign : z.coefficient ≡ signed (is_negative (x.coefficient *ℤ y.coefficient)) (unsigned_abs z.coefficient)
+  pub sign : z.coefficient ≡ signed_integer (is_negative (x.coefficient *ℤ y.coefficient)) (unsigned_abs z.coefficient)
   pub not_over : unsigned_abs z.coefficient * unsigned_abs y.coefficient * 10 ^ x.scale ≤ unsigned_abs x.coefficient * 10 ^ (z.scale + y.scale)
   pub close : unsigned_abs x.coefficient * 10 ^ (z.scale + y.scale) < (unsigned_abs z.coefficient + 1) * unsigned_abs y.coefficient * 10 ^ x.scale
   pub admitted : admits x y z.scale ≡ true
@@ -39,14 +39,14 @@ times x y = record { coefficient = x.coefficient *ℤ y.coefficient; scale = x.s
 
 -- z is x cut towards zero at the scale of z: it has x's sign, and |z| ≤ |x| < |z| + 10 ^ -scale.
 pub record IsTruncation (x z : Fraction) : Type 0 where
-  pub sign : z.coefficient ≡ signed (is_negative x.coefficient) (unsigned_abs z.coefficient)
+  pub sign : z.coefficient ≡ signed_integer (is_negative x.coefficient) (unsigned_abs z.coefficient)
   pub not_over : unsigned_abs z.coefficient * 10 ^ x.scale ≤ unsigned_abs x.coefficient * 10 ^ z.scale
   pub close : unsigned_abs x.coefficient * 10 ^ z.scale < (unsigned_abs z.coefficient + 1) * 10 ^ x.scale
 
 -- z is the number nearest to x at the scale of z, a half away from zero: it has x's sign, and twice |x| is at least
 -- 2|z| - 10 ^ -scale and below 2|z| + 10 ^ -scale.
 pub record IsNearest (x z : Fraction) : Type 0 where
-  pub sign : z.coefficient ≡ signed (is_negative x.coefficient) (unsigned_abs z.coefficient)
+  pub sign : z.coefficient ≡ signed_integer (is_negative x.coefficient) (unsigned_abs z.coefficient)
   pub not_under : 2 * unsigned_abs z.coefficient * 10 ^ x.scale ≤ 2 * unsigned_abs x.coefficient * 10 ^ z.scale + 10 ^ x.scale
   pub close : 2 * unsigned_abs x.coefficient * 10 ^ z.scale < (2 * unsigned_abs z.coefficient + 1) * 10 ^ x.scale
 

@@ -1,6 +1,6 @@
 -- What a numeric receiver keeps of a result (COBOL-85, Nucleus, the ROUNDED phrase, the ON SIZE ERROR phrase, and MOVE).
 use Rattle.std.specs.Prelude.{ℕ, zero, suc, ℤ, pos, ◌+◌, ◌-◌, ◌*◌, ◌/◌, ◌%◌, ◌^◌, nat_lt, nat_le, unsigned_abs, int_div, int_rem, if◌then◌else◌, Result, Ok}
-use Rattle.decimal18.specs.Fraction.{Fraction, is_negative, signed}
+use Rattle.decimal18.specs.Fraction.{Fraction, is_negative, signed_integer}
 use Rattle.decimal18.specs.Arithmetic.{size_error}
 use Rattle.decimal18.specs.declared.size_error.Size.{Size}
 use Rattle.decimal18.specs.declared.receiver.Rounding.{Rounding}
@@ -22,11 +22,11 @@ digits_at m from scale rounding =
 -- The coefficient at the receiver's scale, truncated or rounded, by its absolute value.
 abbrev pub at_scale : Fraction → ℕ → Rounding → ℤ
 at_scale x scale rounding =
-    signed (is_negative x.coefficient) (digits_at (unsigned_abs x.coefficient) x.scale scale rounding)
+    signed_integer (is_negative x.coefficient) (digits_at (unsigned_abs x.coefficient) x.scale scale rounding)
 
 -- What a receiver of so many digits, scale of them decimals, holds: a size error where the digits are too few.
-unfoldable pub fitted : Fraction → ℕ → ℕ → Rounding → Result Fraction Size
-fitted x digits scale rounding =
+unfoldable pub fitted_decimal : Fraction → ℕ → ℕ → Rounding → Result Fraction Size
+fitted_decimal x digits scale rounding =
     if nat_lt (unsigned_abs (at_scale x scale rounding)) (10 ^ digits)
     then Ok (record { coefficient = at_scale x scale rounding; scale = scale })
     else size_error
@@ -38,8 +38,8 @@ low_digits x digits scale rounding =
 
 -- x cut towards zero at a scale, with its sign and all its whole digits: x itself where it has no more decimals than that.
 -- The quotient whose product REMAINDER takes from the dividend (own choice: not rounded).
-unfoldable pub truncated : Fraction → ℕ → Fraction
-truncated x scale =
+unfoldable pub truncated_decimal : Fraction → ℕ → Fraction
+truncated_decimal x scale =
     if nat_le x.scale scale
     then x
     else record { coefficient = int_div x.coefficient (pos (10 ^ (x.scale - scale))); scale = scale }

@@ -10,17 +10,17 @@ use Rattle.std.specs.Cmp.{IsTotalOrder, IsEquivalence, tied_itself}
 use Rattle.std.proofs.lemmas.Cmp.{int_cmp_total}
 use Rattle.std.proofs.lemmas.Bool.{cases_lt, le-ltb, lt-ltb}
 use Rattle.std.proofs.Math.Nat.{zero-mul, mul-lt-mul_of_pos_right, mul-le-mul_right, mul_comm, mul_assoc, one-le-pow}
-use Rattle.decimal18.specs.Fraction.{Fraction, signed, is_negative}
+use Rattle.decimal18.specs.Fraction.{Fraction, signed_integer, is_negative}
 use Rattle.decimal18.specs.Order.{order, equals}
 
 pub ten_pos : (k : ℕ) → 0 < 10 ^ k
 ten_pos k = one-le-pow k 10 (omega arith)
 
-pub mul-signed : (z : ℤ) (p : ℕ) → z *ℤ pos p ≡ signed (is_negative z) (unsigned_abs z * p)
+pub mul-signed : (z : ℤ) (p : ℕ) → z *ℤ pos p ≡ signed_integer (is_negative z) (unsigned_abs z * p)
 mul-signed (pos n) p = refl
 mul-signed (negsuc n) p = refl
 
-signed-mul : (b : Bool) (n k : ℕ) → signed b n *ℤ pos k ≡ signed b (n * k)
+signed-mul : (b : Bool) (n k : ℕ) → signed_integer b n *ℤ pos k ≡ signed_integer b (n * k)
 signed-mul false n k = refl
 signed-mul true zero k = ap pos (zero-mul k) ∙ sym (ap (λ m. neg_ℤ (pos m)) (zero-mul k))
 signed-mul true (suc n) k = refl
@@ -28,7 +28,7 @@ signed-mul true (suc n) k = refl
 pub mul-mul : (z : ℤ) (m n : ℕ) → z *ℤ pos m *ℤ pos n ≡ z *ℤ pos (m * n)
 mul-mul z m n =
     ap (λ t. t *ℤ pos n) (mul-signed z m) ∙ signed-mul (is_negative z) (unsigned_abs z * m) n
-    ∙ ap (signed (is_negative z)) (mul_assoc (unsigned_abs z) m n) ∙ sym (mul-signed z (m * n))
+    ∙ ap (signed_integer (is_negative z)) (mul_assoc (unsigned_abs z) m n) ∙ sym (mul-signed z (m * n))
 
 lt-scaled : (a b k : ℕ) → 0 < k → nat_lt (a * k) (b * k) ≡ nat_lt a b
 lt-scaled a b k h = elim (cases_lt a b) [
@@ -76,18 +76,18 @@ over a b p q r h =
 abbrev wide : Fraction → Fraction → Fraction → ℤ
 wide x y z = x.coefficient *ℤ pos (10 ^ y.scale * 10 ^ z.scale)
 
-first : (x y z : Fraction) → order x y ≡ int_cmp (wide x y z) (wide y x z)
+order_at_scale : (x y z : Fraction) → order x y ≡ int_cmp (wide x y z) (wide y x z)
 unfolding order
-first x y z = over x.coefficient y.coefficient (10 ^ x.scale) (10 ^ y.scale) (10 ^ z.scale) (ten_pos z.scale)
+order_at_scale x y z = over x.coefficient y.coefficient (10 ^ x.scale) (10 ^ y.scale) (10 ^ z.scale) (ten_pos z.scale)
 
 second : (x y z : Fraction) → order y z ≡ int_cmp (wide y x z) (wide z x y)
 second x y z =
-    first y z x
+    order_at_scale y z x
     ∙ ap (λ n. int_cmp (y.coefficient *ℤ pos n) (wide z y x)) (mul_comm (10 ^ z.scale) (10 ^ x.scale))
     ∙ ap (λ n. int_cmp (wide y x z) (z.coefficient *ℤ pos n)) (mul_comm (10 ^ y.scale) (10 ^ x.scale))
 
-ends : (x y z : Fraction) → order x z ≡ int_cmp (wide x y z) (wide z x y)
-ends x y z = first x z y ∙ ap (λ n. int_cmp (x.coefficient *ℤ pos n) (wide z x y)) (mul_comm (10 ^ z.scale) (10 ^ y.scale))
+outer_order : (x y z : Fraction) → order x z ≡ int_cmp (wide x y z) (wide z x y)
+outer_order x y z = order_at_scale x z y ∙ ap (λ n. int_cmp (x.coefficient *ℤ pos n) (wide z x y)) (mul_comm (10 ^ z.scale) (10 ^ y.scale))
 
 pub order_reversed : (x y : Fraction) → order x y ≡ ordering_reverse (order y x)
 unfolding order
@@ -96,25 +96,25 @@ order_reversed x y = int_cmp_total.antisymm (x.coefficient *ℤ pos (10 ^ y.scal
 pub order_total : IsTotalOrder order
 order_total = record {
   antisymm = order_reversed;
-  trans = λ x y z p q. ends x y z ∙ int_cmp_total.trans (wide x y z) (wide y x z) (wide z x y) (sym (first x y z) ∙ p) (sym (second x y z) ∙ q);
-  congr = λ x y z p. ends x y z ∙ int_cmp_total.congr (wide x y z) (wide y x z) (wide z x y) (sym (first x y z) ∙ p) ∙ sym (second x y z);
+  trans = λ x y z p q. outer_order x y z ∙ int_cmp_total.trans (wide x y z) (wide y x z) (wide z x y) (sym (order_at_scale x y z) ∙ p) (sym (second x y z) ∙ q);
+  congr = λ x y z p. outer_order x y z ∙ int_cmp_total.congr (wide x y z) (wide y x z) (wide z x y) (sym (order_at_scale x y z) ∙ p) ∙ sym (second x y z);
 }
 
-turned : (r : Ordering) → is_eq (ordering_reverse r) ≡ is_eq r
-turned Less = refl
-turned Equal = refl
-turned Greater = refl
+is_eq-reverse : (r : Ordering) → is_eq (ordering_reverse r) ≡ is_eq r
+is_eq-reverse Less = refl
+is_eq-reverse Equal = refl
+is_eq-reverse Greater = refl
 
-tied : (r : Ordering) → is_eq r ≡ true → r ≡ Equal
-tied Less e = absurd (true≢false (sym e))
-tied Equal e = refl
-tied Greater e = absurd (true≢false (sym e))
+equal-is_eq : (r : Ordering) → is_eq r ≡ true → r ≡ Equal
+equal-is_eq Less e = absurd (true≢false (sym e))
+equal-is_eq Equal e = refl
+equal-is_eq Greater e = absurd (true≢false (sym e))
 
 pub equals_equiv : IsEquivalence equals
 equals_equiv = record {
   refl = λ x. ap is_eq (tied_itself order_total x);
-  symm = λ x y. ap is_eq (order_reversed x y) ∙ turned (order y x);
-  congr = λ x y z e. ap is_eq (order_total.congr x y z (tied (order x y) e));
+  symm = λ x y. ap is_eq (order_reversed x y) ∙ is_eq-reverse (order y x);
+  congr = λ x y z e. ap is_eq (order_total.congr x y z (equal-is_eq (order x y) e));
 }
 
 -- A comparison with zeros behind the coefficient of the smaller scale.

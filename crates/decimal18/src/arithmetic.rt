@@ -1,6 +1,6 @@
 ghost use Rattle.std.specs.Prelude.{◌≡◌, ◌≤◌, ◌<◌, ◌/◌, ◌^◌, ◌+◌, ◌-◌, ◌+ℤ◌, ◌*ℤ◌, pos, if◌then◌else◌, unsigned_abs};
-ghost use Rattle.decimal18.specs.Fraction.{aligned, signed, is_negative};
-ghost use Rattle.decimal18.specs.Arithmetic.{size_error, is_within, intermediate, sum, difference, product, negated};
+ghost use Rattle.decimal18.specs.Fraction.{aligned_coefficient, signed_integer, is_negative};
+ghost use Rattle.decimal18.specs.Arithmetic.{size_error, is_within, intermediate, sum, difference, product, opposite_of};
 
 use crate::decimal::{COEFFICIENT_DIGITS, Dec, MOST_SCALE};
 use crate::power::power_of_ten;
@@ -22,7 +22,7 @@ pub fn divided(n: u128, d: u128) -> u128
 /// The number with this sign and absolute value.
 pub fn with_sign(negative: bool, magnitude: u128) -> i128
     requires { magnitude < 10 ^ 38 }
-    ensures { result ≡ signed negative magnitude }
+    ensures { result ≡ signed_integer negative magnitude }
 {
     let positive = magnitude as i128;
     if negative { -positive } else { positive }
@@ -33,7 +33,7 @@ pub fn with_sign(negative: bool, magnitude: u128) -> i128
 #[inline(never)]
 fn limited(negative: bool, magnitude: u128, scale: u8) -> Result<Dec, Size>
     requires { scale ≤ 36 }
-    ensures { result ≡ intermediate (signed negative magnitude) scale }
+    ensures { result ≡ intermediate (signed_integer negative magnitude) scale }
 {
     if magnitude >= power_of_ten(COEFFICIENT_DIGITS) {
         return Err(Size);
@@ -82,7 +82,7 @@ impl Dec {
     fn aligned(self, scale: u8) -> Option<i128>
         requires above { self.scale ≤ scale }
         requires most { scale ≤ 18 }
-        ensures { result ≡ (if is_within (aligned self scale) then Some (aligned self scale) else None) }
+        ensures { result ≡ (if is_within (aligned_coefficient self scale) then Some (aligned_coefficient self scale) else None) }
     {
         raised(self.coefficient(), scale - self.scale())
     }
@@ -155,7 +155,7 @@ impl Dec {
 impl Neg for Dec {
     type Output = Dec;
 
-    ghost neg_gives = { λ x r. r ≡ negated x };
+    ghost neg_gives = { λ x r. r ≡ opposite_of x };
 
     fn neg(self) -> Dec {
         Dec::new(-self.coefficient(), self.scale())

@@ -32,13 +32,13 @@ impl Model for Dec {
     ghost use Rattle.std.specs.Prelude.{◌<◌, ◌≤◌, ◌^◌, unsigned_abs, FitsSigned};
     ghost use Rattle.std.specs.Int.{w64};
     ghost use Rattle.decimal18.specs.Fraction.{Fraction};
-    ghost use Rattle.decimal18.specs.Halves.{joined, low_part, high_part, parts_of};
+    ghost use Rattle.decimal18.specs.Halves.{number_of_halves, low_part, high_part, parts_of};
 
     ghost Value = { Fraction };
 
-    ghost view = { λ d. record { coefficient = joined d.low d.high; scale = d.scale } };
+    ghost view = { λ d. record { coefficient = number_of_halves d.low d.high; scale = d.scale } };
 
-    ghost invariant = { λ d. (unsigned_abs (joined d.low d.high) < 10 ^ 38) × (d.scale ≤ 18) × FitsSigned w64 d.low };
+    ghost invariant = { λ d. (unsigned_abs (number_of_halves d.low d.high) < 10 ^ 38) × (d.scale ≤ 18) × FitsSigned w64 d.low };
 
     ghost inverse = { λ x. record { low = low_part x.coefficient; high = high_part x.coefficient; scale = x.scale } };
 

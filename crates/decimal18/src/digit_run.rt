@@ -13,6 +13,23 @@ const EIGHT: usize = 8;
 
 const EIGHT_ZEROS: u64 = 100_000_000;
 
+/// The number that bytes stand for behind the digits of a number, if they are ASCII digits; all together are at most 18
+/// digits.
+pub fn number_behind(front: u64, digits: &[u8]) -> Option<u64>
+    requires { (front + 1) * 10 ^ length digits.now ≤ 10 ^ 18 }
+    ensures value { result ≡ spec.number_behind front digits.now }
+    ensures bound { IfSome result (λ number. number < (front + 1) * 10 ^ length digits.now) }
+{
+    if digits.len() < EIGHT {
+        return behind_by_one(front, digits);
+    }
+    let (first, rest) = digits.split_at(EIGHT);
+    let Some(eight) = eight_digits(first) else {
+        return None;
+    };
+    behind_by_eight(EIGHT_ZEROS * front + eight, rest)
+}
+
 /// The same, a digit at a time.
 fn behind_by_one(front: u64, digits: &[u8]) -> Option<u64>
     requires { (front + 1) * 10 ^ length digits.now ≤ 10 ^ 18 }
@@ -44,21 +61,4 @@ fn behind_by_eight(front: u64, digits: &[u8]) -> Option<u64>
         return None;
     };
     behind_by_one(EIGHT_ZEROS * front + eight, rest)
-}
-
-/// The number that bytes stand for behind the digits of a number, if they are ASCII digits; all together are at most 18
-/// digits.
-pub fn number_behind(front: u64, digits: &[u8]) -> Option<u64>
-    requires { (front + 1) * 10 ^ length digits.now ≤ 10 ^ 18 }
-    ensures value { result ≡ spec.number_behind front digits.now }
-    ensures bound { IfSome result (λ number. number < (front + 1) * 10 ^ length digits.now) }
-{
-    if digits.len() < EIGHT {
-        return behind_by_one(front, digits);
-    }
-    let (first, rest) = digits.split_at(EIGHT);
-    let Some(eight) = eight_digits(first) else {
-        return None;
-    };
-    behind_by_eight(EIGHT_ZEROS * front + eight, rest)
 }

@@ -41,6 +41,20 @@ static PAIRS: [[u8; 2]; COUNT] = [
     *b"96", *b"97", *b"98", *b"99",
 ];
 
+/// Writes the last digits of a number, as many as there are bytes, in ASCII: each byte has the digit with as many places to
+/// its right as bytes follow it.
+pub fn put_digits(number: u64, bytes: &mut [u8])
+    ensures { bytes.new ≡ digit_text (length bytes.old) number }
+{
+    let count = bytes.len();
+    if count < EIGHT {
+        return put_by_four(number, bytes);
+    }
+    let (front, back) = bytes.split_at_mut(count - EIGHT);
+    put_by_eight(number / EIGHT_DIGITS, front);
+    put_eight(number % EIGHT_DIGITS, back);
+}
+
 /// Writes two digits.
 #[inline]
 fn put_two(number: u64, bytes: &mut [u8])
@@ -144,20 +158,6 @@ fn put_by_eight(number: u64, bytes: &mut [u8])
     }
     let (front, back) = bytes.split_at_mut(count - EIGHT);
     put_by_four(number / EIGHT_DIGITS, front);
-    put_eight(number % EIGHT_DIGITS, back);
-}
-
-/// Writes the last digits of a number, as many as there are bytes, in ASCII: each byte has the digit with as many places to
-/// its right as bytes follow it.
-pub fn put_digits(number: u64, bytes: &mut [u8])
-    ensures { bytes.new ≡ digit_text (length bytes.old) number }
-{
-    let count = bytes.len();
-    if count < EIGHT {
-        return put_by_four(number, bytes);
-    }
-    let (front, back) = bytes.split_at_mut(count - EIGHT);
-    put_by_eight(number / EIGHT_DIGITS, front);
     put_eight(number % EIGHT_DIGITS, back);
 }
 

@@ -1,7 +1,7 @@
 ghost use Rattle.std.specs.Prelude.{length, ◌≡◌, ◌<◌, ◌≤◌, ◌^◌, All, nat_lt, IfSome, if◌then◌else◌, unsigned_abs, Ok};
 ghost use Rattle.std.specs.Char.{IsAsciiDigit};
 ghost use Rattle.decimal18.specs.Arithmetic.{is_within, size_error};
-ghost use Rattle.decimal18.specs.Digits.{digits_behind, spelled, digit_of, whole};
+ghost use Rattle.decimal18.specs.Digits.{digits_behind, decimal_of_digits, digit_of, integer_of};
 
 use crate::arithmetic::{divided, with_sign};
 use crate::decimal::{COEFFICIENT_DIGITS, Dec};
@@ -45,11 +45,11 @@ impl Dec {
 
     /// The number with these ASCII digits, the last `scale` of them (at most 18) decimals: a size error where it has more
     /// than 38 digits, zeros in front not counted.
-    #[tactic(auto, using(crate::proofs::Intermediates::spelled_short), unfolding(crate::specs::Digits::spelled))]
+    #[tactic(auto, using(crate::proofs::Intermediates::spelled_short), unfolding(crate::specs::Digits::decimal_of_digits))]
     pub fn from_digits(negative: bool, digits: &[u8], scale: u8) -> Result<Dec, Size>
         requires digits { All IsAsciiDigit digits.now }
         requires scale { scale ≤ 18 }
-        ensures { result ≡ spelled negative digits.now scale }
+        ensures { result ≡ decimal_of_digits negative digits.now scale }
     {
         if digits.len() <= usize::from(SHORT_DIGITS) {
             if let Some(magnitude) = number_behind(0, digits) {
@@ -73,7 +73,7 @@ impl Dec {
 
     /// The integer that the number is, if it is one.
     pub fn to_integer(self) -> Option<i128>
-        ensures { result ≡ whole self }
+        ensures { result ≡ integer_of self }
     {
         let unit = power_of_ten(self.scale());
         let magnitude = self.magnitude();

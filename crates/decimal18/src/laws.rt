@@ -2,11 +2,11 @@
 ghost use Rattle.std.specs.Prelude.{◌≡◌, ◌≢◌, ◌<ℤ◌, ◌≤◌, ◌+◌, ◌-◌, ◌/◌, ◌^◌, ◌*ℤ◌, ℕ, min, false, pos, unsigned_abs, Ok};
 ghost use Rattle.std.specs.Bool.{Decides};
 ghost use Rattle.std.specs.Ordering.{MatchOrdering};
-ghost use Rattle.decimal18.specs.Fraction.{Fraction, signed, is_negative};
+ghost use Rattle.decimal18.specs.Fraction.{Fraction, signed_integer, is_negative};
 ghost use Rattle.decimal18.specs.Arithmetic.{sum, difference, product, size_error};
 ghost use Rattle.decimal18.specs.Quotient.{admits, quotient};
 ghost use Rattle.decimal18.specs.Laws.{IsSum, IsDifference, IsProduct, IsQuotient, IsTruncation, IsKept, times, HasLowDigits};
-ghost use Rattle.decimal18.specs.Receiver.{at_scale, fitted, low_digits, truncated};
+ghost use Rattle.decimal18.specs.Receiver.{at_scale, fitted_decimal, low_digits, truncated_decimal};
 ghost use Rattle.decimal18.specs.Order.{order, equals};
 ghost use Rattle.decimal18.specs.declared.receiver.Rounding.{Rounding};
 
@@ -38,18 +38,18 @@ pub fn cut_quotient()
 /// What a receiver holds is the number truncated, or the nearest to it with a half away from zero; a size error is told
 /// exactly where that has more whole digits than the receiver; and the low digits are those of the same number.
 pub fn receivers()
-    ensures kept { (x z : Fraction) (digits scale : ℕ) (rounding : Rounding) → fitted x digits scale rounding ≡ Ok z → (z.scale ≡ scale) × IsKept rounding x z }
-    ensures size { (x : Fraction) (digits scale : ℕ) (rounding : Rounding) → scale ≤ digits → (fitted x digits scale rounding ≡ size_error → 10 ^ (digits - scale) ≤ unsigned_abs (at_scale x scale rounding) / 10 ^ scale) × (10 ^ (digits - scale) ≤ unsigned_abs (at_scale x scale rounding) / 10 ^ scale → fitted x digits scale rounding ≡ size_error) }
+    ensures kept { (x z : Fraction) (digits scale : ℕ) (rounding : Rounding) → fitted_decimal x digits scale rounding ≡ Ok z → (z.scale ≡ scale) × IsKept rounding x z }
+    ensures size { (x : Fraction) (digits scale : ℕ) (rounding : Rounding) → scale ≤ digits → (fitted_decimal x digits scale rounding ≡ size_error → 10 ^ (digits - scale) ≤ unsigned_abs (at_scale x scale rounding) / 10 ^ scale) × (10 ^ (digits - scale) ≤ unsigned_abs (at_scale x scale rounding) / 10 ^ scale → fitted_decimal x digits scale rounding ≡ size_error) }
     ensures low { (x : Fraction) (digits scale : ℕ) (rounding : Rounding) → HasLowDigits digits (at_scale x scale rounding) (low_digits x digits scale rounding).coefficient }
-    ensures sign { (x : Fraction) (digits scale : ℕ) (rounding : Rounding) → (low_digits x digits scale rounding).coefficient ≡ signed (is_negative x.coefficient) (unsigned_abs (low_digits x digits scale rounding).coefficient) }
+    ensures sign { (x : Fraction) (digits scale : ℕ) (rounding : Rounding) → (low_digits x digits scale rounding).coefficient ≡ signed_integer (is_negative x.coefficient) (unsigned_abs (low_digits x digits scale rounding).coefficient) }
 {}
 
 /// A number that is cut at a scale is itself where it has no more decimals, and else is cut towards zero there, with its sign
 /// and all its whole digits.
 pub fn truncations()
-    ensures same { (x : Fraction) (scale : ℕ) → x.scale ≤ scale → truncated x scale ≡ x }
-    ensures cut { (x : Fraction) (scale : ℕ) → ((truncated x scale).scale ≡ min x.scale scale) × IsTruncation x (truncated x scale) }
-    ensures whole { (x : Fraction) (scale : ℕ) → unsigned_abs (truncated x scale).coefficient / 10 ^ (truncated x scale).scale ≡ unsigned_abs x.coefficient / 10 ^ x.scale }
+    ensures same { (x : Fraction) (scale : ℕ) → x.scale ≤ scale → truncated_decimal x scale ≡ x }
+    ensures cut { (x : Fraction) (scale : ℕ) → ((truncated_decimal x scale).scale ≡ min x.scale scale) × IsTruncation x (truncated_decimal x scale) }
+    ensures whole { (x : Fraction) (scale : ℕ) → unsigned_abs (truncated_decimal x scale).coefficient / 10 ^ (truncated_decimal x scale).scale ≡ unsigned_abs x.coefficient / 10 ^ x.scale }
 {}
 
 /// Numbers are ordered as their values, whatever their scales, and equal exactly where their values are.

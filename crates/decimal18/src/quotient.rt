@@ -1,5 +1,5 @@
 ghost use Rattle.std.specs.Prelude.{◌≡◌, ◌≢◌, ◌≤◌, pos, true, int_div, IfSome};
-ghost use Rattle.decimal18.specs.Quotient.{admits, extended, greatest, quotient};
+ghost use Rattle.decimal18.specs.Quotient.{admits, extended_dividend, greatest, quotient};
 
 use crate::arithmetic::{divided, with_sign};
 use crate::decimal::{COEFFICIENT_DIGITS, Dec, MOST_SCALE};
@@ -31,7 +31,7 @@ impl Dec {
         requires divisor { divisor.coefficient ≢ pos 0 }
         requires scale { scale ≤ 18 }
         requires admitted { admits self divisor scale ≡ true }
-        ensures { result ≡ record { coefficient = int_div (extended self divisor scale) divisor.coefficient; scale = scale } }
+        ensures { result ≡ record { coefficient = int_div (extended_dividend self divisor scale) divisor.coefficient; scale = scale } }
     {
         let zeros = scale + divisor.scale() - self.scale();
         let dividend = self.magnitude() * power_of_ten(zeros);

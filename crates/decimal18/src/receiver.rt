@@ -1,5 +1,5 @@
 ghost use Rattle.std.specs.Prelude.{◌≡◌, ◌<◌, ◌≤◌, ◌+◌, ◌*◌, ◌/◌, ◌%◌, ◌^◌, nat_lt, IfSome, IfOk, unsigned_abs, if◌then◌else◌};
-ghost use Rattle.decimal18.specs.Receiver.{carry, digits_at, fitted, low_digits, truncated};
+ghost use Rattle.decimal18.specs.Receiver.{carry, digits_at, fitted_decimal, low_digits, truncated_decimal};
 
 use crate::arithmetic::divided;
 use crate::decimal::Dec;
@@ -122,7 +122,7 @@ impl Dec {
         requires digits { digits ≤ 38 }
         requires scale { scale ≤ 18 }
         requires decimals { scale ≤ digits }
-        ensures { result ≡ fitted self digits scale rounding }
+        ensures { result ≡ fitted_decimal self digits scale rounding }
     {
         match fitted_digits(self.magnitude(), self.scale(), digits, scale, rounding) {
             Some(kept) => Ok(Dec::from_parts(self.is_negative(), kept, scale)),
@@ -152,7 +152,7 @@ impl Dec {
         requires digits { digits ≤ 38 }
         requires scale { scale ≤ 18 }
         requires decimals { scale ≤ digits }
-        ensures value { result ≡ fitted self digits scale rounding }
+        ensures value { result ≡ fitted_decimal self digits scale rounding }
         ensures bound { IfOk result (λ kept. unsigned_abs kept.coefficient < 10 ^ digits) }
         ensures at { IfOk result (λ kept. kept.scale ≡ scale) }
     {
@@ -187,7 +187,7 @@ impl Dec {
     /// more decimals than that (COBOL-85, Nucleus, the REMAINDER phrase).
     #[tactic(auto, using(crate::proofs::Receivers::truncated_by, crate::proofs::Receivers::truncated_same))]
     pub fn truncated(self, scale: u8) -> Dec
-        ensures { result ≡ truncated self scale }
+        ensures { result ≡ truncated_decimal self scale }
     {
         if self.scale() <= scale {
             return self;

@@ -1,6 +1,6 @@
 //! Sums, differences and products in 64 bits, where the coefficients that they take fit these.
 ghost use Rattle.std.specs.Prelude.{◌≡◌, ◌≤◌, IfSome, Ok};
-ghost use Rattle.decimal18.specs.Fraction.{aligned};
+ghost use Rattle.decimal18.specs.Fraction.{aligned_coefficient};
 ghost use Rattle.decimal18.specs.Arithmetic.{sum, difference, product};
 
 use crate::decimal::{Dec, MOST_SCALE};
@@ -13,7 +13,7 @@ impl Dec {
     fn short_aligned(self, scale: u8) -> Option<i64>
         requires above { self.scale ≤ scale }
         requires most { scale ≤ 18 }
-        ensures { IfSome result (λ coefficient. coefficient ≡ aligned self scale) }
+        ensures { IfSome result (λ coefficient. coefficient ≡ aligned_coefficient self scale) }
     {
         let Some(coefficient) = self.short_coefficient() else {
             return None;

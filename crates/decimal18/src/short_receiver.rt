@@ -1,7 +1,7 @@
 //! What receivers of at most 18 digits keep of a coefficient of 64 bits, in 64 bits.
 ghost use Rattle.std.specs.Prelude.{◌≡◌, ◌<◌, ◌≤◌, ◌+◌, ◌*◌, ◌/◌, ◌%◌, ◌^◌, nat_lt, IfSome, if◌then◌else◌};
 ghost use Rattle.decimal18.specs.Fraction.{of_parts};
-ghost use Rattle.decimal18.specs.Receiver.{carry, digits_at, fitted, low_digits};
+ghost use Rattle.decimal18.specs.Receiver.{carry, digits_at, fitted_decimal, low_digits};
 
 use crate::decimal::Dec;
 use crate::power::short_power;
@@ -13,6 +13,18 @@ pub const SHORT_DIGITS: u8 = 18;
 
 /// The first of the dropped digits from which on a number is rounded up.
 const ROUNDED_UP: u64 = 5;
+
+/// The number with this scale whose coefficient has this sign and absolute value.
+#[tactic(auto, using(crate::proofs::Powers::power_le))]
+pub fn short_parts(negative: bool, magnitude: u64, digits: u8, scale: u8) -> Dec
+    requires digits { digits ≤ 18 }
+    requires magnitude { magnitude < 10 ^ digits }
+    requires scale { scale ≤ 18 }
+    ensures { result ≡ of_parts negative magnitude scale }
+{
+    let positive = magnitude as i64;
+    Dec::short(if negative { -positive } else { positive }, scale)
+}
 
 /// What is left of a number whose last digits, `dropped` of them, are dropped.
 #[tactic(auto, using(crate::proofs::Rounds::shortened_up, crate::proofs::Rounds::shortened_same, crate::proofs::Powers::short_half))]
@@ -98,18 +110,6 @@ fn low_part(magnitude: u64, from: u8, digits: u8, scale: u8, rounding: Rounding)
     }
 }
 
-/// The number with this scale whose coefficient has this sign and absolute value.
-#[tactic(auto, using(crate::proofs::Powers::power_le))]
-pub fn short_parts(negative: bool, magnitude: u64, digits: u8, scale: u8) -> Dec
-    requires digits { digits ≤ 18 }
-    requires magnitude { magnitude < 10 ^ digits }
-    requires scale { scale ≤ 18 }
-    ensures { result ≡ of_parts negative magnitude scale }
-{
-    let positive = magnitude as i64;
-    Dec::short(if negative { -positive } else { positive }, scale)
-}
-
 impl Dec {
     /// What a receiver holds of this number, whose coefficient is known to fit 64 bits.
     #[tactic(auto, using(crate::proofs::Receivers::fitted_by))]
@@ -123,7 +123,7 @@ impl Dec {
         requires same { coefficient ≡ self.coefficient }
         requires digits { digits ≤ 18 }
         requires decimals { scale ≤ digits }
-        ensures { result ≡ fitted self digits scale rounding }
+        ensures { result ≡ fitted_decimal self digits scale rounding }
     {
         let magnitude = coefficient.unsigned_abs();
         match fitted_digits(magnitude, self.scale(), digits, scale, rounding) {

@@ -4,14 +4,14 @@ use Rattle.std.specs.Prelude.{Option, map, slice_get}
 use Rattle.std.specs.Option.{option_map}
 use Rattle.std.proofs.lemmas.List.{length-map}
 use Rattle.std.proofs.lemmas.Option.{slice_get-map, slice_get_within}
-use Rattle.source_tree.specs.Places.{Placed}
+use Rattle.source_tree.specs.Places.{LocatedItem}
 use Rattle.source_tree.specs.LookUp.{NamedCondition, all_conditions}
 use Rattle.layout.specs.declared.placed.PlacedItem.{PlacedItem}
 use Rattle.layout.specs.Placing.{placed_item}
-use Rattle.names.specs.declared.conditions.DeclaredCondition.{DeclaredCondition}
-use Rattle.names.specs.Conditions.{found_at}
+use Rattle.name_table.specs.declared.conditions.DeclaredCondition.{DeclaredCondition}
+use Rattle.name_table.specs.Conditions.{found_at}
 
-module _ (items : List Placed) (declared : List DeclaredCondition) (found : map (found_at items) declared ≡ map Some (all_conditions items))
+module _ (items : List LocatedItem) (declared : List DeclaredCondition) (found : map (found_at items) declared ≡ map Some (all_conditions items))
     (n : ℕ) (one : NamedCondition) (is : slice_get (all_conditions items) n ≡ Some one) where
   told : option_map (found_at items) (slice_get declared n) ≡ Some (Some one)
   told = sym (slice_get-map (found_at items) declared n) ∙ ap (λ l. slice_get l n) found ∙ slice_get-map Some (all_conditions items) n ∙ ap (option_map Some) is
@@ -28,7 +28,7 @@ module _ (items : List Placed) (declared : List DeclaredCondition) (found : map 
   of_item : (d : DeclaredCondition) → slice_get declared n ≡ Some d → found_at items d ≡ Some one
   of_item d at = let e : Some (found_at items d) ≡ Some (Some one) = sym (ap (option_map (found_at items)) at) ∙ told in cc
 
-  by_item : (d : DeclaredCondition) (item : Option Placed) → option_map (λ (p : Placed). record { condition = d.condition.now; item = p }) item ≡ Some one → item ≡ Some one.item
+  by_item : (d : DeclaredCondition) (item : Option LocatedItem) → option_map (λ (p : LocatedItem). record { condition = d.condition.now; item = p }) item ≡ Some one → item ≡ Some one.item
   by_item d None e = cc
   by_item d (Some item) e =
       let same : (record { condition = d.condition.now; item = item }) ≡ one = (cc) in

@@ -7,18 +7,18 @@ use Rattle.source_tree.specs.declared.program.Section.{Section}
 use Rattle.source_tree.specs.declared.select.FileDescription.{FileDescription}
 use Rattle.source_tree.specs.declared.select.Select.{Select}
 use Rattle.source_tree.specs.FileRules.{program_file_rules}
-use Rattle.source_tree.specs.Places.{Placed}
+use Rattle.source_tree.specs.Places.{LocatedItem}
 use Rattle.source_tree.specs.ProgramFiles.{files_from}
 use Rattle.source_tree.specs.Procedures.{Procedure, procedures_of}
 use Rattle.source_tree.specs.Records.{program_items, storage_areas}
 use Rattle.source_tree.specs.Rules.{all_permitted, sections_rules}
 use Rattle.source_tree.specs.Setting.{Scope, scope}
 use Rattle.layout.specs.Placing.{placed_item}
-use Rattle.names.specs.Conditions.{AreConditions}
-use Rattle.names.specs.Items.{called_item}
-use Rattle.names.specs.Procedures.{AreProcedures}
-use Rattle.names.specs.Table.{IsTable, calls_in}
-use Rattle.program_files.specs.Files.{AreFiles}
+use Rattle.name_table.specs.Conditions.{AreConditions}
+use Rattle.name_table.specs.Items.{called_item}
+use Rattle.name_table.specs.Procedures.{AreProcedures}
+use Rattle.name_table.specs.Table.{IsTable, calls_in}
+use Rattle.file_descriptions.specs.Files.{AreFiles}
 use Rattle.declarations.specs.declared.declarations.Declarations.{Declarations}
 use Rattle.declarations.specs.Data.{with_data}
 use Rattle.declarations.specs.Named.{Declares, IsDeclared, data_in, items_in, procedures_in, scope_in}
@@ -59,7 +59,7 @@ module _ (program : Program) (all : Declarations) (h : Declares program all) whe
         table = table;
         calls = calls ∙ ap (map called_item) (sym same_items);
         items = items ∙ ap (map placed_item) (sym same_items);
-        conditions = subst (λ (l : List Placed). AreConditions l all.conditions) (sym same_items) conditions;
+        conditions = subst (λ (l : List LocatedItem). AreConditions l all.conditions) (sym same_items) conditions;
         files = subst (λ (p : Program). AreFiles (program_items p) p all.files) (sym same_data) own;
         file_rules = ap (λ (p : Program). program_file_rules (program_items p) p) same_data ∙ rules;
         procedures = subst (λ (l : List Procedure). AreProcedures l all.procedures) (sym h.procedures) procedures;

@@ -4,36 +4,36 @@ use Rattle.std.specs.Prelude.{◌==◌, cond, filter, map, Option}
 use Rattle.std.specs.Borrow.{Bor}
 use Rattle.lexical.specs.declared.place.Place.{Place}
 use Rattle.source_tree.specs.declared.program.Program.{Program}
-use Rattle.source_tree.specs.Broken.{Broken, each}
-use Rattle.source_tree.specs.FileRules.{select_names, description_names, most_files, broken_at, unmatched, file_name_rules, descriptions_rules, select_rules, program_file_rules}
+use Rattle.source_tree.specs.Broken.{RuleBreach, each}
+use Rattle.source_tree.specs.FileRules.{select_names, description_names, most_files, broken_at, broken_match_rule, file_name_rules, descriptions_rules, select_rules, program_file_rules}
 use Rattle.source_tree.specs.LookUp.{first}
-use Rattle.source_tree.specs.NameRules.{named}
+use Rattle.source_tree.specs.NameRules.{unique_name_rules}
 use Rattle.source_tree.specs.PerformRules.{given_once}
-use Rattle.source_tree.specs.Places.{Placed}
+use Rattle.source_tree.specs.Places.{LocatedItem}
 use Rattle.source_tree.specs.ProgramFiles as tree
 use Rattle.source_tree.specs.Records.{storage_areas}
-use Rattle.program_files.specs.declared.file.ProgramFile.{ProgramFile}
-use Rattle.program_files.specs.Files.{file_in}
+use Rattle.file_descriptions.specs.declared.file.ProgramFile.{ProgramFile}
+use Rattle.file_descriptions.specs.Files.{file_in}
 use Rattle.declarations.proofs.Firsts.{left_none, right_none}
 
 -- where the rules of files are kept, each name is given to one SELECT
-pub once : (items : List Placed) (program : Program) → program_file_rules items program ≡ [] → given_once [] (select_names program.selects) ≡ []
+pub once : (items : List LocatedItem) (program : Program) → program_file_rules items program ≡ [] → given_once [] (select_names program.selects) ≡ []
 once items program e =
     let ones = select_names program.selects in
     let others = description_names program.files in
     let few = each (broken_at 69) (drop most_files ones) in
     let own = few ++ given_once [] ones in
     let both = own ++ given_once [] others in
-    let matched = both ++ each (unmatched others) ones in
+    let matched = both ++ each (broken_match_rule others) ones in
     let names = file_name_rules ones others in
     let entries = descriptions_rules program.storage program.files in
     let selects = each (select_rules items (storage_areas program.storage) program.files) program.selects in
     right_none few (given_once [] ones)
-    (left_none own (given_once [] others) (left_none both (each (unmatched others) ones) (left_none matched (each (unmatched ones) others) (left_none names entries (left_none (names ++ entries) selects e)))))
+    (left_none own (given_once [] others) (left_none both (each (broken_match_rule others) ones) (left_none matched (each (broken_match_rule ones) others) (left_none names entries (left_none (names ++ entries) selects e)))))
 
 -- ---- those of a record area, one after another
 
-module _ (items : List Placed) (area : ℕ) where
+module _ (items : List LocatedItem) (area : ℕ) where
   abbrev has_area : tree.ProgramFile → Bool
   has_area one = one.places.area == area
 
@@ -79,19 +79,19 @@ module _ (items : List Placed) (area : ℕ) where
 
 -- ---- what is told of none, and of several
 
-pub unnamed_none : (place : Place) (found : List tree.ProgramFile) → found ≡ [] → (rules : tree.ProgramFile → List Broken) → first (named place rules found) ≡ Some (record { rule = 40; place = place })
-unnamed_none place found e rules = ap (λ (l : List tree.ProgramFile). first (named place rules l)) e
+pub unnamed_none : (place : Place) (found : List tree.ProgramFile) → found ≡ [] → (rules : tree.ProgramFile → List RuleBreach) → first (unique_name_rules place rules found) ≡ Some (record { rule = 40; place = place })
+unnamed_none place found e rules = ap (λ (l : List tree.ProgramFile). first (unique_name_rules place rules l)) e
 
 pub unnamed_two : (place : Place) (found : List tree.ProgramFile) (one other : tree.ProgramFile) (more : List tree.ProgramFile) → found ≡ one ∷ other ∷ more
-    → (rules : tree.ProgramFile → List Broken) → first (named place rules found) ≡ Some (record { rule = 41; place = place })
-unnamed_two place found one other more e rules = ap (λ (l : List tree.ProgramFile). first (named place rules l)) e
+    → (rules : tree.ProgramFile → List RuleBreach) → first (unique_name_rules place rules found) ≡ Some (record { rule = 41; place = place })
+unnamed_two place found one other more e rules = ap (λ (l : List tree.ProgramFile). first (unique_name_rules place rules l)) e
 
 pub none_first : (found : List tree.ProgramFile) → first found ≡ None → found ≡ []
 none_first [] e = refl
 none_first (one ∷ more) e = absurd cc
 
 -- the files of a program, as they are sought
-pub of_program : (items : List Placed) (program : Program) (all files : List ProgramFile) (area : ℕ) (l : List tree.ProgramFile) → map (file_in items) all ≡ tree.files_of items program → files ≡ all
+pub of_program : (items : List LocatedItem) (program : Program) (all files : List ProgramFile) (area : ℕ) (l : List tree.ProgramFile) → map (file_in items) all ≡ tree.files_of items program → files ≡ all
     → filter (λ (one : tree.ProgramFile). one.places.area == area) (map (file_in items) files) ≡ l → tree.files_with (tree.files_of items program) area ≡ l
 of_program items program all files area l e is h =
     ap (λ (s : List tree.ProgramFile). tree.files_with s area) (sym e) ∙ ap (λ (s : List ProgramFile). tree.files_with (map (file_in items) s) area) (sym is) ∙ h

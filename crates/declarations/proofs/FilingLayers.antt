@@ -6,13 +6,13 @@ use Rattle.lexical.specs.declared.place.Place.{Place}
 use Rattle.source_tree.specs.declared.phrases.Phrases.{Phrases}
 use Rattle.source_tree.specs.declared.phrases.FilePhrases.{FilePhrases}
 use Rattle.source_tree.specs.declared.phrases.FilePhrases.TheVariants.{Absent, AtEnd, InvalidKey}
-use Rattle.source_tree.specs.declared.filing.Filing.{Filing}
-use Rattle.source_tree.specs.declared.filing.Filing.TheVariants.{Open, Close, Read, Write, Rewrite, Delete, Start}
+use Rattle.source_tree.specs.declared.file_statement.FileStatement.{FileStatement}
+use Rattle.source_tree.specs.declared.file_statement.FileStatement.TheVariants.{Open, Close, Read, Write, Rewrite, Delete, Start}
 use Rattle.source_tree.specs.declared.statement.Verb.TheVariants as verb
 use Rattle.source_tree.specs.declared.statement.Statement.TheFolds.{map-Statement}
 use Rattle.source_tree.specs.Filing.{phrases_of}
 use Rattle.source_tree.specs.FilingRules.{filing_rules}
-use Rattle.source_tree.specs.Places.{Placed}
+use Rattle.source_tree.specs.Places.{LocatedItem}
 use Rattle.source_tree.specs.ProgramFiles.{ProgramFile}
 
 -- each form of phrases
@@ -48,7 +48,7 @@ module _ {A B : Type 0} (f : A → B) where
   mapped_phrases (AtEnd one) = AtEnd (pair (option_map (map f) one.arose) (option_map (map f) one.did_not))
   mapped_phrases (InvalidKey one) = InvalidKey (pair (option_map (map f) one.arose) (option_map (map f) one.did_not))
 
-  abbrev pub mapped_filing : Filing A → Filing B
+  abbrev pub mapped_filing : FileStatement A → FileStatement B
   mapped_filing (Open all) = Open all
   mapped_filing (Close all) = Close all
   mapped_filing (Read file next into key phrases) = Read file next into key (mapped_phrases phrases)
@@ -57,11 +57,11 @@ module _ {A B : Type 0} (f : A → B) where
   mapped_filing (Delete file phrases) = Delete file (mapped_phrases phrases)
   mapped_filing (Start file key phrases) = Start file key (mapped_phrases phrases)
 
-  abbrev IsMapped : Place → Filing A → Type 0
-  IsMapped place one = (map-Statement A B f (record { place = place; verb = verb.Filing one })).verb ≡ verb.Filing (mapped_filing one)
+  abbrev IsMapped : Place → FileStatement A → Type 0
+  IsMapped place one = (map-Statement A B f (record { place = place; verb = verb.FileStatement one })).verb ≡ verb.FileStatement (mapped_filing one)
 
   -- where the statements in it are mapped
-  pub filing_mapped : (place : Place) (one : Filing A) → (map-Statement A B f (record { place = place; verb = verb.Filing one })).verb ≡ verb.Filing (mapped_filing one)
+  pub filing_mapped : (place : Place) (one : FileStatement A) → (map-Statement A B f (record { place = place; verb = verb.FileStatement one })).verb ≡ verb.FileStatement (mapped_filing one)
   filing_mapped place (Open all) = refl
   filing_mapped place (Close all) = refl
   filing_mapped place (Read file next into key phrases) =
@@ -75,7 +75,7 @@ module _ {A B : Type 0} (f : A → B) where
   filing_mapped place (Start file key phrases) =
       by_form (λ p. IsMapped place (Start file key p)) refl refl (λ x. refl) (λ y. refl) (λ x y. refl) refl (λ x. refl) (λ y. refl) (λ x y. refl) phrases
 
-  pub phrases_mapped : (one : Filing A) → phrases_of (mapped_filing one) ≡ mapped_phrases (phrases_of one)
+  pub phrases_mapped : (one : FileStatement A) → phrases_of (mapped_filing one) ≡ mapped_phrases (phrases_of one)
   phrases_mapped (Open all) = refl
   phrases_mapped (Close all) = refl
   phrases_mapped (Read file next into key phrases) = refl
@@ -85,7 +85,7 @@ module _ {A B : Type 0} (f : A → B) where
   phrases_mapped (Start file key phrases) = refl
 
   -- Its own rules look at no statement in it.
-  pub own_rules_same : (items : List Placed) (files : List ProgramFile) (one : Filing A) → filing_rules items files (mapped_filing one) ≡ filing_rules items files one
+  pub own_rules_same : (items : List LocatedItem) (files : List ProgramFile) (one : FileStatement A) → filing_rules items files (mapped_filing one) ≡ filing_rules items files one
   own_rules_same items files (Open all) = refl
   own_rules_same items files (Close all) = refl
   own_rules_same items files (Read file next into key Absent) = refl

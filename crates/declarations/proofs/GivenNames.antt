@@ -5,7 +5,7 @@ use Rattle.source_tree.specs.declared.name.Name.{Name}
 use Rattle.source_tree.specs.Broken.{each}
 use Rattle.source_tree.specs.FileRules.{broken_at}
 use Rattle.source_tree.specs.LookUp.{first}
-use Rattle.names.specs.Table.{names_of}
+use Rattle.name_table.specs.Table.{names_of}
 
 pub past : (n : ℕ) (all : List (Bor Name)) (d : Bor Name) → n < length all
     → first (each (broken_at 69) (drop n (names_of all))) ≡ Some (record { rule = 69; place = (get_or all n d).now.place })

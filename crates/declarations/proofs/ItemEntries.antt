@@ -13,13 +13,13 @@ use Rattle.source_tree.specs.declared.entry.Entry.TheVariants as entry
 use Rattle.source_tree.specs.declared.select.FileDescription.{FileDescription}
 use Rattle.source_tree.specs.declared.program.Program.{Program}
 use Rattle.source_tree.specs.Clauses.{occurrences}
-use Rattle.source_tree.specs.Levels.{Forest, End, Tree, level_of, deeper, beyond, nested}
-use Rattle.source_tree.specs.Places.{Placed, Surroundings, within, places, top, storage_places, items_of}
+use Rattle.source_tree.specs.Levels.{Forest, End, Tree, level_of, deeper, beyond, forest_of}
+use Rattle.source_tree.specs.Places.{LocatedItem, Surroundings, within, places, top, storage_places, items_of}
 use Rattle.source_tree.specs.Records.{storage_areas, record_places, file_places, program_items}
 use Rattle.source_tree.specs.Rooms.{redefines, item_with}
 use Rattle.declarations.specs.Entries.{items_among, items_of_files}
 
-abbrev entry_of : Placed → ItemEntry
+abbrev entry_of : LocatedItem → ItemEntry
 entry_of one = one.entry
 
 -- those of a tree, each before those in it
@@ -38,9 +38,9 @@ split : (level : ℕ) (F : Forest) → in_forest (deeper level F) ++ in_forest (
 split level End = refl
 split level (Tree one conditions inner next) = split_by (nat_lt level (level_of one)) level one conditions inner next refl (split level next)
 
-in_entries : (entries : List Entry) → in_forest (nested entries) ≡ items_among entries
+in_entries : (entries : List Entry) → in_forest (forest_of entries) ≡ items_among entries
 in_entries [] = refl
-in_entries (entry.Item one ∷ more) = ap (λ l. one ∷ l) (split (level_of one) (nested more) ∙ in_entries more)
+in_entries (entry.Item one ∷ more) = ap (λ l. one ∷ l) (split (level_of one) (forest_of more) ∙ in_entries more)
 in_entries (entry.Condition one ∷ more) = in_entries more
 
 in_places : (around : Surroundings) (last here : ℕ) (F : Forest) → map entry_of (places around last here F) ≡ in_forest F
@@ -53,7 +53,7 @@ in_places around last here (Tree one conditions inner next) =
     ∙ ap (λ l. l ++ map entry_of (places around at behind next)) (in_places (within around one item) at at inner)
     ∙ ap (λ l. in_forest inner ++ l) (in_places around at behind next))
 
-one_tree : (around : Surroundings) (one : ItemEntry) (conditions : List ConditionEntry) (inner next : Forest) (rest : List Placed) → map entry_of rest ≡ in_forest next
+one_tree : (around : Surroundings) (one : ItemEntry) (conditions : List ConditionEntry) (inner next : Forest) (rest : List LocatedItem) → map entry_of rest ≡ in_forest next
     → map entry_of (places around 0 0 (Tree one conditions inner End) ++ rest) ≡ in_forest (Tree one conditions inner next)
 one_tree around one conditions inner next rest h =
     let tree = places around 0 0 (Tree one conditions inner End) in
@@ -73,18 +73,18 @@ in_records area file (Tree one conditions inner next) = one_tree (top area (file
 in_files : (area : ℕ) (files : List FileDescription) → map entry_of (file_places area files) ≡ items_of_files files
 in_files area [] = refl
 in_files area (one ∷ more) =
-    map-append entry_of (record_places area one.name (nested one.entries)) (file_places (area + 1) more)
-    ∙ ap (λ l. l ++ map entry_of (file_places (area + 1) more)) (in_records area one.name (nested one.entries) ∙ in_entries one.entries)
+    map-append entry_of (record_places area one.name (forest_of one.entries)) (file_places (area + 1) more)
+    ∙ ap (λ l. l ++ map entry_of (file_places (area + 1) more)) (in_records area one.name (forest_of one.entries) ∙ in_entries one.entries)
     ∙ ap (λ l. items_among one.entries ++ l) (in_files (area + 1) more)
 
 in_program : (program : Program) → map entry_of (program_items program) ≡ items_among program.storage ++ items_of_files program.files
 in_program program =
     map-append entry_of (items_of program.storage) (file_places (storage_areas program.storage) program.files)
-    ∙ ap (λ l. l ++ map entry_of (file_places (storage_areas program.storage) program.files)) (in_storage 0 (nested program.storage) ∙ in_entries program.storage)
+    ∙ ap (λ l. l ++ map entry_of (file_places (storage_areas program.storage) program.files)) (in_storage 0 (forest_of program.storage) ∙ in_entries program.storage)
     ∙ ap (λ l. items_among program.storage ++ l) (in_files (storage_areas program.storage) program.files)
 
 -- the entry of the item of this number
-pub entry_at : (program : Program) (number : ℕ) (one : Placed) → slice_get (program_items program) number ≡ Some one
+pub entry_at : (program : Program) (number : ℕ) (one : LocatedItem) → slice_get (program_items program) number ≡ Some one
     → slice_get (items_among program.storage ++ items_of_files program.files) number ≡ Some one.entry
 entry_at program number one e =
     ap (λ l. slice_get l number) (sym (in_program program)) ∙ slice_get-map entry_of (program_items program) number ∙ ap (option_map entry_of) e

@@ -9,7 +9,7 @@ use Rattle.source_tree.specs.declared.program.Paragraph.{Paragraph}
 use Rattle.source_tree.specs.declared.program.Section.{Section}
 use Rattle.source_tree.specs.Procedures as tree
 use Rattle.source_tree.specs.Procedures.{one_range, paragraph_procedures, paragraphs_or_one, procedures_from}
-use Rattle.names.specs.Noting.{section_procedures}
+use Rattle.name_table.specs.Noting.{section_procedures}
 use Rattle.declarations.specs.declared.listed.Procedure.{Procedure}
 use Rattle.declarations.specs.Listed.{procedure_of}
 

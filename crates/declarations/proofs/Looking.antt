@@ -5,20 +5,20 @@ use Rattle.source_tree.specs.declared.reference.Reference.{Reference}
 use Rattle.source_tree.specs.declared.expression.Operand.{Operand}
 use Rattle.source_tree.specs.declared.expression.Operand.TheVariants as operand
 use Rattle.source_tree.specs.declared.condition.Condition.TheVariants.{Name}
-use Rattle.source_tree.specs.declared.evaluate.Subject.{Subject}
-use Rattle.source_tree.specs.declared.evaluate.Choice.{Choice}
-use Rattle.source_tree.specs.declared.evaluate.Choice.TheVariants as choice
-use Rattle.source_tree.specs.Places.{Placed}
+use Rattle.source_tree.specs.declared.evaluate_statement.Subject.{Subject}
+use Rattle.source_tree.specs.declared.evaluate_statement.Choice.{Choice}
+use Rattle.source_tree.specs.declared.evaluate_statement.Choice.TheVariants as choice
+use Rattle.source_tree.specs.Places.{LocatedItem}
 use Rattle.source_tree.specs.LookUp.{NamedCondition, conditions_named}
-use Rattle.source_tree.specs.Evaluate.{Looked, Value, Asking, told_as, looked_name, looked_operand, looked_subject, asked, fits}
+use Rattle.source_tree.specs.Evaluate.{ResolvedOperand, Value, Asking, told_as, looked_name, looked_operand, looked_subject, selection_condition, fits}
 use Rattle.declarations.specs.Looking.{named_so, condition_alone, choice_looked, asked_of_looked, fit_looked}
 
 -- a value, or a condition name
-abbrev pub looked_by : {V : Type 0} → V → Bool → Option Reference → Looked V
+abbrev pub looked_by : {V : Type 0} → V → Bool → Option Reference → ResolvedOperand V
 looked_by value negated None = Value value
 looked_by value negated (Some one) = Asking (told_as (not negated) (Name one))
 
-module _ {V : Type 0} (items : List Placed) (value : V) (negated : Bool) where
+module _ {V : Type 0} (items : List LocatedItem) (value : V) (negated : Bool) where
   name_is : (one : Reference) (found : List NamedCondition) → looked_name value negated one found ≡ looked_by value negated (named_so one found)
   name_is one [] = refl
   name_is one (first ∷ more) = refl
@@ -28,9 +28,9 @@ module _ {V : Type 0} (items : List Placed) (value : V) (negated : Bool) where
   operand_is (Some (operand.Literal one)) = refl
   operand_is None = refl
 
-module _ (items : List Placed) (subject : Subject) where
+module _ (items : List LocatedItem) (subject : Subject) where
   -- what an object asks of its subject
-  pub asked_is : (one : Choice) → asked items subject one ≡ asked_of_looked (looked_subject items subject) (choice_looked items one)
+  pub asked_is : (one : Choice) → selection_condition items subject one ≡ asked_of_looked (looked_subject items subject) (choice_looked items one)
   asked_is choice.Any = refl
   asked_is (choice.Value negated first last) = refl
   asked_is (choice.Condition one) = refl

@@ -5,17 +5,17 @@ use Rattle.std.specs.Option.{option_map}
 use Rattle.lexical.specs.declared.place.Place.{Place}
 use Rattle.source_tree.specs.declared.arithmetic.Operation.{Operation}
 use Rattle.source_tree.specs.declared.reference.Reference.{Reference}
-use Rattle.source_tree.specs.declared.stringing.Sending.{Sending}
+use Rattle.source_tree.specs.declared.string_statement.Sending.{Sending}
 use Rattle.source_tree.specs.declared.condition.Condition.{Condition}
-use Rattle.source_tree.specs.declared.branching.Branching.TheVariants.{If, Evaluate}
-use Rattle.source_tree.specs.declared.evaluate.Subject.{Subject}
-use Rattle.source_tree.specs.declared.evaluate.Selected.{Selected}
-use Rattle.source_tree.specs.declared.filing.Filing.{Filing}
+use Rattle.source_tree.specs.declared.conditional_statement.ConditionalStatement.TheVariants.{If, Evaluate}
+use Rattle.source_tree.specs.declared.evaluate_statement.Subject.{Subject}
+use Rattle.source_tree.specs.declared.evaluate_statement.Selected.{Selected}
+use Rattle.source_tree.specs.declared.file_statement.FileStatement.{FileStatement}
 use Rattle.source_tree.specs.declared.phrases.FilePhrases.{FilePhrases}
 use Rattle.source_tree.specs.declared.phrases.FilePhrases.TheVariants.{Absent, AtEnd, InvalidKey}
-use Rattle.source_tree.specs.declared.performing.Performed.{Performed}
-use Rattle.source_tree.specs.declared.performing.Performed.TheVariants.{Procedures, Statements}
-use Rattle.source_tree.specs.declared.performing.Turns.{Turns}
+use Rattle.source_tree.specs.declared.perform_statement.Performed.{Performed}
+use Rattle.source_tree.specs.declared.perform_statement.Performed.TheVariants.{Procedures, Statements}
+use Rattle.source_tree.specs.declared.perform_statement.Repetition.{Repetition}
 use Rattle.source_tree.specs.declared.statement.Verb.{Verb}
 use Rattle.source_tree.specs.declared.statement.Verb.TheVariants as verb
 use Rattle.source_tree.specs.declared.statement.Statement.{Statement, out-Statement, roll-Statement}
@@ -31,15 +31,15 @@ module _ {A B : Type 0} (f : A → B) (performs : B → List Performance) where
   each_map [] = refl
   each_map (one ∷ more) = ap (λ l. performs (f one) ++ l) (each_map more)
 
-  performing_map : (procedures : List Procedure) (place : Place) (often : Turns) (what : Performed A)
-      → verb_performs procedures performs (map-Statement A B f (record { place = place; verb = verb.Performing (record { performed = what; turns = often }) })).verb
-      ≡ verb_performs procedures (λ a. performs (f a)) (verb.Performing (record { performed = what; turns = often }))
+  performing_map : (procedures : List Procedure) (place : Place) (often : Repetition) (what : Performed A)
+      → verb_performs procedures performs (map-Statement A B f (record { place = place; verb = verb.PerformStatement (record { performed = what; turns = often }) })).verb
+      ≡ verb_performs procedures (λ a. performs (f a)) (verb.PerformStatement (record { performed = what; turns = often }))
   performing_map procedures place often (Procedures first last) = refl
   performing_map procedures place often (Statements inside) = each_map inside
 
   branching_map : (procedures : List Procedure) (place : Place) (condition : Condition) (statements : List A) (otherwise : Option (List A))
-      → verb_performs procedures performs (map-Statement A B f (record { place = place; verb = verb.Branching (If condition statements otherwise) })).verb
-      ≡ verb_performs procedures (λ a. performs (f a)) (verb.Branching (If condition statements otherwise))
+      → verb_performs procedures performs (map-Statement A B f (record { place = place; verb = verb.ConditionalStatement (If condition statements otherwise) })).verb
+      ≡ verb_performs procedures (λ a. performs (f a)) (verb.ConditionalStatement (If condition statements otherwise))
   branching_map procedures place condition statements None = ap (λ l. l ++ []) (each_map statements)
   branching_map procedures place condition statements (Some other) =
       ap (λ l. l ++ each_performs performs (map f other)) (each_map statements)
@@ -57,8 +57,8 @@ module _ {A B : Type 0} (f : A → B) (performs : B → List Performance) where
 
   evaluate_map : (procedures : List Procedure) (place : Place) (subjects : List Subject) (selected : List (Selected A)) (other : Option (List A))
       → verb_performs procedures performs
-      (map-Statement A B f (record { place = place; verb = verb.Branching (Evaluate (record { subjects = subjects; selected = selected; other = other })) })).verb
-      ≡ verb_performs procedures (λ a. performs (f a)) (verb.Branching (Evaluate (record { subjects = subjects; selected = selected; other = other })))
+      (map-Statement A B f (record { place = place; verb = verb.ConditionalStatement (Evaluate (record { subjects = subjects; selected = selected; other = other })) })).verb
+      ≡ verb_performs procedures (λ a. performs (f a)) (verb.ConditionalStatement (Evaluate (record { subjects = subjects; selected = selected; other = other })))
   evaluate_map procedures place subjects selected None = ap (λ l. l ++ []) (selected_map selected)
   evaluate_map procedures place subjects selected (Some statements) =
       ap (λ l. l ++ each_performs performs (map f statements)) (selected_map selected)
@@ -76,8 +76,8 @@ module _ {A B : Type 0} (f : A → B) (performs : B → List Performance) where
 
   strung_map : (procedures : List Procedure) (place : Place) (sendings : List Sending) (receiver : Reference) (pointer : Option Reference) (arose did_not : Option (List A))
       → verb_performs procedures performs
-      (map-Statement A B f (record { place = place; verb = verb.Stringing (record { sendings = sendings; receiver = receiver; pointer = pointer; phrases = record { arose = arose; did_not = did_not } }) })).verb
-      ≡ verb_performs procedures (λ a. performs (f a)) (verb.Stringing (record { sendings = sendings; receiver = receiver; pointer = pointer; phrases = record { arose = arose; did_not = did_not } }))
+      (map-Statement A B f (record { place = place; verb = verb.StringStatement (record { sendings = sendings; receiver = receiver; pointer = pointer; phrases = record { arose = arose; did_not = did_not } }) })).verb
+      ≡ verb_performs procedures (λ a. performs (f a)) (verb.StringStatement (record { sendings = sendings; receiver = receiver; pointer = pointer; phrases = record { arose = arose; did_not = did_not } }))
   strung_map procedures place sendings receiver pointer None None = refl
   strung_map procedures place sendings receiver pointer (Some inside) None = ap (λ l. l ++ []) (each_map inside)
   strung_map procedures place sendings receiver pointer None (Some other) = each_map other
@@ -101,22 +101,22 @@ module _ {A B : Type 0} (f : A → B) (performs : B → List Performance) where
   filing_phrases (AtEnd one) = pair_map one.arose one.did_not
   filing_phrases (InvalidKey one) = pair_map one.arose one.did_not
 
-  filed_map : (procedures : List Procedure) (place : Place) (one : Filing A)
-      → verb_performs procedures performs (map-Statement A B f (record { place = place; verb = verb.Filing one })).verb ≡ verb_performs procedures (λ a. performs (f a)) (verb.Filing one)
+  filed_map : (procedures : List Procedure) (place : Place) (one : FileStatement A)
+      → verb_performs procedures performs (map-Statement A B f (record { place = place; verb = verb.FileStatement one })).verb ≡ verb_performs procedures (λ a. performs (f a)) (verb.FileStatement one)
   filed_map procedures place one =
       ap (verb_performs procedures performs) (filing_mapped f place one) ∙ ap (file_phrases_performs performs) (phrases_mapped f one) ∙ filing_phrases (phrases_of one)
 
   pub verb_map : (procedures : List Procedure) (place : Place) (one : Verb A)
       → verb_performs procedures performs (map-Statement A B f (record { place = place; verb = one })).verb ≡ verb_performs procedures (λ a. performs (f a)) one
-  verb_map procedures place (verb.Moving one) = refl
+  verb_map procedures place (verb.DataStatement one) = refl
   verb_map procedures place (verb.Arithmetic one) = phrases_map procedures place one.operation one.phrases.arose one.phrases.did_not
-  verb_map procedures place (verb.Branching (If condition statements otherwise)) = branching_map procedures place condition statements otherwise
-  verb_map procedures place (verb.Branching (Evaluate one)) = evaluate_map procedures place one.subjects one.selected one.other
-  verb_map procedures place (verb.Performing one) = performing_map procedures place one.turns one.performed
+  verb_map procedures place (verb.ConditionalStatement (If condition statements otherwise)) = branching_map procedures place condition statements otherwise
+  verb_map procedures place (verb.ConditionalStatement (Evaluate one)) = evaluate_map procedures place one.subjects one.selected one.other
+  verb_map procedures place (verb.PerformStatement one) = performing_map procedures place one.turns one.performed
   verb_map procedures place (verb.Text one) = refl
-  verb_map procedures place (verb.Stringing one) = strung_map procedures place one.sendings one.receiver one.pointer one.phrases.arose one.phrases.did_not
-  verb_map procedures place (verb.Filing one) = filed_map procedures place one
-  verb_map procedures place (verb.Ending one) = refl
+  verb_map procedures place (verb.StringStatement one) = strung_map procedures place one.sendings one.receiver one.pointer one.phrases.arose one.phrases.did_not
+  verb_map procedures place (verb.FileStatement one) = filed_map procedures place one
+  verb_map procedures place (verb.ControlStatement one) = refl
 
 -- one layer of what a statement performs
 pub statement_is : (procedures : List Procedure) (one : Statement)

@@ -4,12 +4,12 @@ use Rattle.std.specs.Prelude.{nat_lt, Bool, not, Option, All}
 use Rattle.std.specs.List.{AllByRecursion}
 use Rattle.std.proofs.lemmas.List.Elements.{recursion_from_All}
 use Rattle.source_tree.specs.declared.name.Name.{Name}
-use Rattle.source_tree.specs.declared.branching.Branching.{Branching}
-use Rattle.source_tree.specs.declared.branching.Branching.TheVariants.{If, Evaluate}
-use Rattle.source_tree.specs.declared.evaluate.Subject.{Subject}
-use Rattle.source_tree.specs.declared.evaluate.Selected.{Selected}
-use Rattle.source_tree.specs.declared.performing.Performed.{Performed}
-use Rattle.source_tree.specs.declared.performing.Performed.TheVariants.{Procedures, Statements}
+use Rattle.source_tree.specs.declared.conditional_statement.ConditionalStatement.{ConditionalStatement}
+use Rattle.source_tree.specs.declared.conditional_statement.ConditionalStatement.TheVariants.{If, Evaluate}
+use Rattle.source_tree.specs.declared.evaluate_statement.Subject.{Subject}
+use Rattle.source_tree.specs.declared.evaluate_statement.Selected.{Selected}
+use Rattle.source_tree.specs.declared.perform_statement.Performed.{Performed}
+use Rattle.source_tree.specs.declared.perform_statement.Performed.TheVariants.{Procedures, Statements}
 use Rattle.source_tree.specs.declared.phrases.Phrases.{Phrases}
 use Rattle.source_tree.specs.declared.phrases.FilePhrases.{FilePhrases}
 use Rattle.source_tree.specs.declared.phrases.FilePhrases.TheVariants.{Absent, AtEnd, InvalidKey}
@@ -19,7 +19,7 @@ use Rattle.source_tree.specs.declared.statement.Statement.{Statement, roll-State
 use Rattle.source_tree.specs.declared.statement.Statement.TheOpen.{Statement-F}
 use Rattle.source_tree.specs.declared.statement.Statement.TheFolds.{map-Statement, ind-Statement}
 use Rattle.source_tree.specs.ArithmeticRules.{operation_rules}
-use Rattle.source_tree.specs.Broken.{Broken, where_so, each}
+use Rattle.source_tree.specs.Broken.{RuleBreach, where_so, each}
 use Rattle.source_tree.specs.ConditionRules.{condition_rules}
 use Rattle.source_tree.specs.Filing.{phrases_of}
 use Rattle.source_tree.specs.FilingRules.{filing_rules}
@@ -60,10 +60,10 @@ module _ (scope : Scope) (permits : Range → Bool) where
       ap (λ l. procedure_named scope.procedures first ++ last_named scope.procedures last ++ l) (found_same first last (range_of scope.procedures first last) h)
 
   -- rules of the statements inside that are the same, where what they perform may be
-  record AreSame {S : Type 0} (rules others : S → List Broken) (performs : S → List Performance) : Type 0 where
+  record AreSame {S : Type 0} (rules others : S → List RuleBreach) (performs : S → List Performance) : Type 0 where
     by : (one : S) → ArePermitted (performs one) → rules one ≡ others one
 
-  module _ {S : Type 0} (rules others : S → List Broken) (performs : S → List Performance) (same : AreSame rules others performs) where
+  module _ {S : Type 0} (rules others : S → List RuleBreach) (performs : S → List Performance) (same : AreSame rules others performs) where
     each_same : (all : List S) → ArePermitted (each_performs performs all) → each rules all ≡ each others all
     each_same [] h = refl
     each_same (one ∷ more) h =
@@ -101,7 +101,7 @@ module _ (scope : Scope) (permits : Range → Bool) where
         let back = selected_same subjects more (all_back IsPermitted (each_performs performs one.statements) (each_performs (selected_performs performs) more) h) in
         ap (λ l. asks ++ l ++ each (selected_rules scope.items rules subjects) more) front ∙ ap (λ l. asks ++ each others one.statements ++ l) back
 
-    branching_same : (one : Branching S) → ArePermitted (branching_performs performs one) → branching_rules scope.items rules one ≡ branching_rules scope.items others one
+    branching_same : (one : ConditionalStatement S) → ArePermitted (branching_performs performs one) → branching_rules scope.items rules one ≡ branching_rules scope.items others one
     branching_same (If condition statements otherwise) h =
         let asks = condition_rules scope.items condition in
         let front = each_same statements (all_front IsPermitted (each_performs performs statements) (phrase_performs performs otherwise) h) in
@@ -114,14 +114,14 @@ module _ (scope : Scope) (permits : Range → Bool) where
         ap (λ l. asks ++ l ++ phrase_rules rules one.other) front ∙ ap (λ l. asks ++ each (selected_rules scope.items others one.subjects) one.selected ++ l) back
 
     verb_same : (one : Verb S) → ArePermitted (verb_performs scope.procedures performs one) → verb_rules scope permits rules one ≡ verb_rules scope all_permitted others one
-    verb_same (verb.Moving one) h = refl
+    verb_same (verb.DataStatement one) h = refl
     verb_same (verb.Arithmetic one) h = ap (λ l. operation_rules scope.items one.operation ++ l) (phrases_same one.phrases h)
-    verb_same (verb.Branching one) h = branching_same one h
-    verb_same (verb.Performing one) h = ap (λ l. turns_rules scope.items one.turns ++ l) (performed_same one.performed h)
+    verb_same (verb.ConditionalStatement one) h = branching_same one h
+    verb_same (verb.PerformStatement one) h = ap (λ l. turns_rules scope.items one.turns ++ l) (performed_same one.performed h)
     verb_same (verb.Text one) h = refl
-    verb_same (verb.Stringing one) h = ap (λ l. string_rules scope.items one ++ l) (phrases_same one.phrases h)
-    verb_same (verb.Filing one) h = ap (λ l. filing_rules scope.items scope.files one ++ l) (file_phrases_same (phrases_of one) h)
-    verb_same (verb.Ending one) h = refl
+    verb_same (verb.StringStatement one) h = ap (λ l. string_rules scope.items one ++ l) (phrases_same one.phrases h)
+    verb_same (verb.FileStatement one) h = ap (λ l. filing_rules scope.items scope.files one ++ l) (file_phrases_same (phrases_of one) h)
+    verb_same (verb.ControlStatement one) h = refl
 
   record IsSame (one : Statement) : Type 0 where
     by : ArePermitted (statement_performs scope.procedures one) → statement_rules scope permits one ≡ statement_rules scope all_permitted one
@@ -132,8 +132,8 @@ module _ (scope : Scope) (permits : Range → Bool) where
   same_inside : (l : Statement-F Same) → IsSame (roll-Statement (map-Statement Same Statement (λ m. m.0) l))
   same_inside l = record {
     by = λ h.
-        let rules : Same → List Broken = λ m. statement_rules scope permits m.0 in
-        let others : Same → List Broken = λ m. statement_rules scope all_permitted m.0 in
+        let rules : Same → List RuleBreach = λ m. statement_rules scope permits m.0 in
+        let others : Same → List RuleBreach = λ m. statement_rules scope all_permitted m.0 in
         let performs : Same → List Performance = λ m. statement_performs scope.procedures m.0 in
         mapped_rules scope permits (λ (m : Same). m.0) l
         ∙ verb_same rules others performs (record { by = λ m keep. m.1.by keep }) l.verb (subst ArePermitted (mapped_performs scope.procedures (λ (m : Same). m.0) l) h)

@@ -15,9 +15,9 @@ abbrev pub items_of_files : List FileDescription → List ItemEntry
 items_of_files [] = []
 items_of_files (one ∷ more) = items_among one.entries ++ items_of_files more
 
-abbrev pub told : Result (Bor ItemEntry) ℕ → Result ItemEntry ℕ
-told (Ok one) = Ok one.now
-told (Err left) = Err left
+abbrev pub result_now : Result (Bor ItemEntry) ℕ → Result ItemEntry ℕ
+result_now (Ok one) = Ok one.now
+result_now (Err left) = Err left
 
 -- The one of this number; or there are fewer, and this number is left.
 abbrev pub IsAmong : List ItemEntry → ℕ → Result ItemEntry ℕ → Type 0

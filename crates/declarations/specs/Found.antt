@@ -2,38 +2,38 @@
 use Rattle.std.specs.Prelude.{◌≡◌, ℕ, List, [], ◌∷◌, map, slice_get, Some, Result, Ok, Err}
 use Rattle.std.specs.Borrow.{Bor}
 use Rattle.lexical.specs.declared.place.Place.{Place}
-use Rattle.source_tree.specs.Broken.{Broken}
+use Rattle.source_tree.specs.Broken.{RuleBreach}
 use Rattle.source_tree.specs.LookUp.{first}
-use Rattle.source_tree.specs.NameRules.{named}
-use Rattle.source_tree.specs.Places.{Placed}
+use Rattle.source_tree.specs.NameRules.{unique_name_rules}
+use Rattle.source_tree.specs.Places.{LocatedItem}
 use Rattle.source_tree.specs.Records.{program_items}
 use Rattle.layout.specs.declared.placed.PlacedItem.{PlacedItem}
 use Rattle.layout.specs.Placing.{placed_item}
-use Rattle.names.specs.Items.{called_item}
-use Rattle.names.specs.Table.{IsTable, calls_in}
+use Rattle.name_table.specs.Items.{called_item}
+use Rattle.name_table.specs.Table.{IsTable, calls_in}
 use Rattle.entry_rules.specs.declared.rule.BrokenRule.{BrokenRule}
 use Rattle.entry_rules.specs.Checks.{broken_of}
 use Rattle.declarations.specs.declared.declared_items.DeclaredItems.{DeclaredItems}
 
 -- What a name breaks that names nothing, or several things.
 abbrev pub IsUnnamed : {A : Type 0} → Place → BrokenRule → List A → Type 0
-IsUnnamed {A} place broken found = (rules : A → List Broken) → first (named place rules found) ≡ Some (broken_of broken)
+IsUnnamed {A} place broken found = (rules : A → List RuleBreach) → first (unique_name_rules place rules found) ≡ Some (broken_of broken)
 
 -- The number of the only item.
-abbrev pub IsNumbered : List Placed → Place → Result ℕ BrokenRule → List Placed → Type 0
-IsNumbered items place (Ok number) found = (one : Placed) × (found ≡ one ∷ []) × (slice_get items number ≡ Some one)
+abbrev pub IsNumbered : List LocatedItem → Place → Result ℕ BrokenRule → List LocatedItem → Type 0
+IsNumbered items place (Ok number) found = (one : LocatedItem) × (found ≡ one ∷ []) × (slice_get items number ≡ Some one)
 IsNumbered items place (Err broken) found = IsUnnamed place broken found
 
-abbrev pub told : Result (Bor PlacedItem) BrokenRule → Result PlacedItem BrokenRule
-told (Ok item) = Ok item.now
-told (Err broken) = Err broken
+abbrev pub result_now : Result (Bor PlacedItem) BrokenRule → Result PlacedItem BrokenRule
+result_now (Ok item) = Ok item.now
+result_now (Err broken) = Err broken
 
 -- The only item, as it is placed.
-abbrev pub IsItemNamed : Place → Result PlacedItem BrokenRule → List Placed → Type 0
-IsItemNamed place (Ok item) found = (one : Placed) × (found ≡ one ∷ []) × (item ≡ placed_item one)
+abbrev pub IsItemNamed : Place → Result PlacedItem BrokenRule → List LocatedItem → Type 0
+IsItemNamed place (Ok item) found = (one : LocatedItem) × (found ≡ one ∷ []) × (item ≡ placed_item one)
 IsItemNamed place (Err broken) found = IsUnnamed place broken found
 
-abbrev pub items_of : DeclaredItems → List Placed
+abbrev pub items_of : DeclaredItems → List LocatedItem
 items_of all = program_items all.program.now
 
 -- Names and places are those of the program's items.

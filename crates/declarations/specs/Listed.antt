@@ -1,6 +1,6 @@
 -- Procedures in a list.
 use Rattle.std.specs.Option.{option_copied}
-use Rattle.names.specs.Noting.{procedure}
+use Rattle.name_table.specs.Noting.{procedure}
 use Rattle.source_tree.specs.Procedures as tree
 use Rattle.declarations.specs.declared.listed.Procedure.{Procedure}
 

@@ -6,12 +6,12 @@ use Rattle.source_tree.specs.declared.expression.Operand.TheVariants as operand
 use Rattle.source_tree.specs.declared.condition.Side.{Side}
 use Rattle.source_tree.specs.declared.condition.Condition.{Condition}
 use Rattle.source_tree.specs.declared.condition.Condition.TheVariants.{Name}
-use Rattle.source_tree.specs.declared.evaluate.Choice.{Choice}
-use Rattle.source_tree.specs.declared.evaluate.Choice.TheVariants as choice
-use Rattle.source_tree.specs.Places.{Placed}
+use Rattle.source_tree.specs.declared.evaluate_statement.Choice.{Choice}
+use Rattle.source_tree.specs.declared.evaluate_statement.Choice.TheVariants as choice
+use Rattle.source_tree.specs.Places.{LocatedItem}
 use Rattle.source_tree.specs.LookUp.{NamedCondition, conditions_named}
-use Rattle.source_tree.specs.Evaluate.{Wanted, Looked, Value, Truth, Asking, constant, told_as, alike, value_asked, looked_wanted, looked_choice, fit, asked_of}
-use Rattle.source_tree.specs.Broken.{Broken}
+use Rattle.source_tree.specs.Evaluate.{ObjectValues, ResolvedOperand, Value, Truth, Asking, constant, told_as, alike, value_asked, looked_wanted, looked_choice, are_comparable, asked_of}
+use Rattle.source_tree.specs.Broken.{RuleBreach}
 use Rattle.entry_rules.specs.declared.rule.BrokenRule.{BrokenRule}
 use Rattle.entry_rules.specs.Checks.{broken_of}
 use Rattle.declarations.specs.declared.looked.AskedCondition.{AskedCondition}
@@ -41,12 +41,12 @@ abbrev pub named_so : Reference → List NamedCondition → Option Reference
 named_so one [] = None
 named_so one (found ∷ more) = Some one
 
-abbrev pub condition_named : List Placed → Option Reference → Option Reference
+abbrev pub condition_named : List LocatedItem → Option Reference → Option Reference
 condition_named items None = None
 condition_named items (Some one) = named_so one (conditions_named items one.item)
 
 -- the condition name that an operand is
-abbrev pub condition_alone : List Placed → Option Operand → Option Reference
+abbrev pub condition_alone : List LocatedItem → Option Operand → Option Reference
 condition_alone items one = condition_named items (item_of one)
 
 -- ---- what is looked up
@@ -55,25 +55,25 @@ abbrev pub condition_meant : AskedCondition → Condition
 condition_meant (asked.Name negated one) = told_as (not negated) (Name one.now)
 condition_meant (asked.Other one) = one.now
 
-abbrev pub wanted_meant : WantedValue → Wanted
+abbrev pub wanted_meant : WantedValue → ObjectValues
 wanted_meant one = record { negated = one.negated; first = one.first.now; last = one.last.now }
 
-abbrev pub subject_meant : LookedSubject → Looked Side
+abbrev pub subject_meant : LookedSubject → ResolvedOperand Side
 subject_meant (subject.Value one) = Value one.now
 subject_meant (subject.Truth one) = Truth one
 subject_meant (subject.Condition one) = Asking (condition_meant one)
 
 -- ANY names nothing.
-abbrev pub object_meant : LookedObject → Option (Looked Wanted)
+abbrev pub object_meant : LookedObject → Option (ResolvedOperand ObjectValues)
 object_meant object.Any = None
 object_meant (object.Value one) = Some (Value (wanted_meant one))
 object_meant (object.Truth one) = Some (Truth one)
 object_meant (object.Condition one) = Some (Asking (condition_meant one))
 
-abbrev pub wanted_looked : List Placed → Wanted → Option (Looked Wanted)
+abbrev pub wanted_looked : List LocatedItem → ObjectValues → Option (ResolvedOperand ObjectValues)
 wanted_looked items one = Some (looked_wanted items one one.last)
 
-abbrev pub choice_looked : List Placed → Choice → Option (Looked Wanted)
+abbrev pub choice_looked : List LocatedItem → Choice → Option (ResolvedOperand ObjectValues)
 choice_looked items choice.Any = None
 choice_looked items other = Some (looked_choice items other)
 
@@ -92,17 +92,17 @@ is_fit question.Unfit = false
 is_fit _ = true
 
 -- ANY fits each subject, and asks nothing.
-abbrev pub asked_of_looked : Looked Side → Option (Looked Wanted) → Condition
+abbrev pub asked_of_looked : ResolvedOperand Side → Option (ResolvedOperand ObjectValues) → Condition
 asked_of_looked subject None = constant true
 asked_of_looked subject (Some object) = asked_of subject object
 
-abbrev pub fit_looked : Looked Side → Option (Looked Wanted) → Bool
+abbrev pub fit_looked : ResolvedOperand Side → Option (ResolvedOperand ObjectValues) → Bool
 fit_looked subject None = true
-fit_looked subject (Some object) = fit subject object
+fit_looked subject (Some object) = are_comparable subject object
 
 -- ---- what is told
 
 -- the rule that is broken
-abbrev pub broken_in : {A : Type 0} → Result A BrokenRule → Option Broken
+abbrev pub broken_in : {A : Type 0} → Result A BrokenRule → Option RuleBreach
 broken_in (Ok value) = None
 broken_in (Err one) = Some (broken_of one)

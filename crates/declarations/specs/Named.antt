@@ -2,23 +2,23 @@
 use Rattle.std.specs.Prelude.{◌≡◌, List, [], ◌∷◌, map, Some, Result, Ok, Err}
 use Rattle.std.specs.Borrow.{Bor}
 use Rattle.lexical.specs.declared.place.Place.{Place}
-use Rattle.source_tree.specs.Broken.{Broken}
+use Rattle.source_tree.specs.Broken.{RuleBreach}
 use Rattle.source_tree.specs.declared.program.Program.{Program}
 use Rattle.source_tree.specs.LookUp.{first}
-use Rattle.source_tree.specs.NameRules.{named}
+use Rattle.source_tree.specs.NameRules.{unique_name_rules}
 use Rattle.source_tree.specs.FileRules.{program_file_rules}
-use Rattle.source_tree.specs.Places.{Placed}
+use Rattle.source_tree.specs.Places.{LocatedItem}
 use Rattle.source_tree.specs.ProgramFiles.{ProgramFile, files_of}
 use Rattle.source_tree.specs.Records.{program_items}
 use Rattle.source_tree.specs.Procedures.{Procedure, procedures_of}
 use Rattle.source_tree.specs.Setting.{Scope}
 use Rattle.layout.specs.declared.placed.PlacedItem.{PlacedItem}
 use Rattle.layout.specs.Placing.{placed_item}
-use Rattle.names.specs.Items.{called_item}
-use Rattle.names.specs.Conditions.{AreConditions}
-use Rattle.names.specs.Procedures.{AreProcedures}
-use Rattle.names.specs.Table.{IsTable, calls_in}
-use Rattle.program_files.specs.Files.{AreFiles}
+use Rattle.name_table.specs.Items.{called_item}
+use Rattle.name_table.specs.Conditions.{AreConditions}
+use Rattle.name_table.specs.Procedures.{AreProcedures}
+use Rattle.name_table.specs.Table.{IsTable, calls_in}
+use Rattle.file_descriptions.specs.Files.{AreFiles}
 use Rattle.entry_rules.specs.declared.rule.BrokenRule.{BrokenRule}
 use Rattle.entry_rules.specs.Checks.{broken_of}
 use Rattle.declarations.specs.declared.declarations.Declarations.{Declarations}
@@ -29,7 +29,7 @@ use Rattle.declarations.specs.Listed.{procedure_of}
 abbrev pub data_in : Declarations → Program
 data_in all = with_data all.selects.now all.descriptions.now all.storage.now
 
-abbrev pub items_in : Declarations → List Placed
+abbrev pub items_in : Declarations → List LocatedItem
 items_in all = program_items (data_in all)
 
 abbrev pub files_in : Declarations → List ProgramFile
@@ -60,11 +60,11 @@ pub record IsDeclared (all : Declarations) : Type 0 where
   pub file_rules : program_file_rules (items_in all) (data_in all) ≡ []
   pub procedures : AreProcedures (procedures_in all) all.procedures
 
-abbrev pub told : Result (Bor PlacedItem) BrokenRule → Result PlacedItem BrokenRule
-told (Ok item) = Ok item.now
-told (Err broken) = Err broken
+abbrev pub result_now : Result (Bor PlacedItem) BrokenRule → Result PlacedItem BrokenRule
+result_now (Ok item) = Ok item.now
+result_now (Err broken) = Err broken
 
 -- The only item, as it is placed; or what a name breaks that names nothing, or several things.
-abbrev pub IsItemNamed : Place → Result PlacedItem BrokenRule → List Placed → Type 0
-IsItemNamed place (Ok item) found = (one : Placed) × (found ≡ one ∷ []) × (item ≡ placed_item one)
-IsItemNamed place (Err broken) found = (rules : Placed → List Broken) → first (named place rules found) ≡ Some (broken_of broken)
+abbrev pub IsItemNamed : Place → Result PlacedItem BrokenRule → List LocatedItem → Type 0
+IsItemNamed place (Ok item) found = (one : LocatedItem) × (found ≡ one ∷ []) × (item ≡ placed_item one)
+IsItemNamed place (Err broken) found = (rules : LocatedItem → List RuleBreach) → first (unique_name_rules place rules found) ≡ Some (broken_of broken)

@@ -1,13 +1,13 @@
 //! What is declared in a program.
 
 ghost use Rattle.std.specs.Prelude.{◌≡◌, [], IfOk, OnOk};
-ghost use Rattle.entry_rules.specs.Checks.{Tells};
+ghost use Rattle.entry_rules.specs.Checks.{IsFirstFault};
 ghost use Rattle.source_tree.specs.EntryRules.{entry_rules};
 ghost use Rattle.source_tree.specs.FileRules.{program_file_rules};
 ghost use Rattle.source_tree.specs.LookUp.{items_named};
 ghost use Rattle.source_tree.specs.PerformRules.{procedure_name_rules};
 ghost use Rattle.declarations.specs.Declaring.{declaration_rules, data_rules};
-ghost use Rattle.names.specs.Table.{calls_in};
+ghost use Rattle.name_table.specs.Table.{calls_in};
 ghost use Rattle.declarations.specs.Found.{AreDeclared, items_of};
 ghost use Rattle.declarations.specs.FoundFiles.{IsNumberedItem};
 ghost use Rattle.declarations.specs.Named as spec;
@@ -17,9 +17,9 @@ use crate::declared_items::{DeclaredItems, item_number};
 use crate::listed::{Procedure, listed_procedures};
 use crate::procedures::named_procedures;
 use entry_rules::{BrokenRule, CheckError};
+use file_descriptions::ProgramFiles;
 use layout::{Layout, PlacedItem};
-use names::{ConditionNames, NameTable, ProcedureNames, condition_names};
-use program_files::ProgramFiles;
+use name_table::{ConditionNames, NameTable, ProcedureNames, condition_names};
 use source_tree::{Entry, FileDescription, Program, QualifiedName, Select};
 use std::alloc::Global;
 
@@ -46,7 +46,7 @@ impl<'a> Declarations<'a> {
     pub fn of(alloc: Global, program: &'a Program) -> Result<Declarations<'a>, CheckError>
         ensures declared { IfOk result IsDeclared }
         ensures program { IfOk result (Declares program.now) }
-        ensures rules { Tells result (declaration_rules program.now) }
+        ensures rules { IsFirstFault result (declaration_rules program.now) }
     {
         let items = DeclaredItems::checked(alloc, program)?;
         Declarations::with_items(alloc, items)
@@ -59,7 +59,7 @@ impl<'a> Declarations<'a> {
         requires files { program_file_rules (items_of items) items.program.now ≡ [] }
         ensures declared { IfOk result IsDeclared }
         ensures program { IfOk result (Declares items.entry.program.now) }
-        ensures names { Tells result (procedure_name_rules items.entry.program.now.sections) }
+        ensures names { IsFirstFault result (procedure_name_rules items.entry.program.now.sections) }
     {
         let DeclaredItems {
             program,
@@ -90,7 +90,7 @@ impl<'a> Declarations<'a> {
     /// The item that a name names: rule 40 where there is none, 41 where there are several.
     pub fn item_named(&self, name: &QualifiedName) -> Result<&PlacedItem, BrokenRule>
         requires { IsDeclared self.now }
-        ensures { IsItemNamed name.now.name.place (spec.told result) (items_named (items_in self.now) name.now) }
+        ensures { IsItemNamed name.now.name.place (spec.result_now result) (items_named (items_in self.now) name.now) }
     {
         let number = item_number(&self.names, name)?;
         Ok(&self.layout.items.as_slice()[number])

@@ -3,15 +3,15 @@
 ghost use Rattle.std.specs.Prelude.{◌≡◌, List, [], IfOk, OnOk, map, sum};
 ghost use Rattle.source_tree.specs.EntryRules.{entry_rules};
 ghost use Rattle.source_tree.specs.FileRules.{descriptions_rules, program_file_rules};
-ghost use Rattle.source_tree.specs.Levels.{nested};
+ghost use Rattle.source_tree.specs.Levels.{forest_of};
 ghost use Rattle.source_tree.specs.LookUp.{items_named};
-ghost use Rattle.source_tree.specs.Places.{Placed};
+ghost use Rattle.source_tree.specs.Places.{LocatedItem};
 ghost use Rattle.source_tree.specs.Records.{program_items};
 ghost use Rattle.source_tree.specs.Rooms.{area_lengths};
-ghost use Rattle.entry_rules.specs.Checks.{Tells};
+ghost use Rattle.entry_rules.specs.Checks.{IsFirstFault};
 ghost use Rattle.entry_rules.specs.RecordAreas.{length_of};
-ghost use Rattle.names.specs.Items.{called_item};
-ghost use Rattle.names.specs.Table.{IsTable, calls_in};
+ghost use Rattle.name_table.specs.Items.{called_item};
+ghost use Rattle.name_table.specs.Table.{IsTable, calls_in};
 ghost use Rattle.declarations.specs.Declaring as declaring;
 ghost use Rattle.declarations.specs.Found as spec;
 ghost use Rattle.declarations.specs.Found.{AreDeclared, IsItemNamed, IsNumbered};
@@ -20,29 +20,9 @@ use crate::file_names::file_name_rules;
 use answers::beside;
 use entry_rules::{BrokenRule, CheckError, Rule, check_descriptions, check_entries};
 use layout::{Layout, PlacedItem};
-use names::{LookUp, NameTable, item_names};
+use name_table::{LookUp, NameTable, item_names};
 use source_tree::{Program, QualifiedName};
 use std::alloc::{AllocError, Global};
-
-/// The number of the item that a name names: rule 40 where there is none, 41 where there are several.
-pub(crate) fn item_number(names: &NameTable<'_>, name: &QualifiedName) -> Result<usize, BrokenRule>
-    requires { IsTable names.now }
-    ensures { (items : List Placed) → calls_in names.now ≡ map called_item items → IsNumbered items name.now.name.place result (items_named items name.now) }
-{
-    names::items_named();
-    let place = name.name.place;
-    match names.look_up(name) {
-        LookUp::One(number) => Ok(number),
-        LookUp::Unknown => Err(BrokenRule {
-            rule: Rule::UnknownName,
-            place,
-        }),
-        LookUp::Several => Err(BrokenRule {
-            rule: Rule::AmbiguousName,
-            place,
-        }),
-    }
-}
 
 /// The items of working storage and of records: their names, and where they stand.
 #[derive(Drop)]
@@ -50,32 +30,6 @@ pub(crate) struct DeclaredItems<'a> {
     pub(crate) program: &'a Program,
     pub(crate) names: NameTable<'a>,
     pub(crate) layout: Layout,
-}
-
-/// The rules of the names of files and of the entries of their records, behind so many bytes of working storage. Answers the bytes of each
-/// record area.
-fn file_rules(alloc: Global, program: &Program, bytes: u64) -> Result<Vec<u32>, CheckError>
-    requires storage { entry_rules program.now.storage ≡ [] }
-    requires bytes { bytes ≡ sum (area_lengths (nested program.now.storage)) }
-    ensures rules { Tells result (declaring.file_rules program.now) }
-    ensures files { OnOk result (descriptions_rules program.now.storage program.now.files ≡ []) }
-    ensures lengths { IfOk result (λ lengths. lengths.items ≡ map length_of program.now.files) }
-{
-    file_name_rules(alloc, program)?;
-    let storage = program.storage.as_slice();
-    check_descriptions(alloc, storage, bytes, program.files.as_slice())
-}
-
-/// The rules of all entries, and of the names of files between those of working storage and those of records. Answers the bytes of each
-/// record area.
-fn data_rules(alloc: Global, program: &Program) -> Result<Vec<u32>, CheckError>
-    ensures rules { Tells result (declaring.data_rules program.now) }
-    ensures storage { OnOk result (entry_rules program.now.storage ≡ []) }
-    ensures files { OnOk result (descriptions_rules program.now.storage program.now.files ≡ []) }
-    ensures lengths { IfOk result (λ lengths. lengths.items ≡ map length_of program.now.files) }
-{
-    let bytes = check_entries(alloc, program.storage.as_slice())?;
-    file_rules(alloc, program, bytes)
 }
 
 impl<'a> DeclaredItems<'a> {
@@ -86,7 +40,7 @@ impl<'a> DeclaredItems<'a> {
     ) -> Result<DeclaredItems<'a>, CheckError>
         ensures declared { IfOk result AreDeclared }
         ensures program { IfOk result (λ all. all.program.now ≡ program.now) }
-        ensures rules { Tells result (declaring.item_rules program.now) }
+        ensures rules { IsFirstFault result (declaring.item_rules program.now) }
         ensures storage { OnOk result (entry_rules program.now.storage ≡ []) }
         ensures files { OnOk result (program_file_rules (program_items program.now) program.now ≡ []) }
     {
@@ -116,9 +70,55 @@ impl<'a> DeclaredItems<'a> {
     /// The item that a name names: rule 40 where there is none, 41 where there are several.
     pub(crate) fn item_named(&self, name: &QualifiedName) -> Result<&PlacedItem, BrokenRule>
         requires { AreDeclared self.now }
-        ensures { IsItemNamed name.now.name.place (spec.told result) (items_named (spec.items_of self.now) name.now) }
+        ensures { IsItemNamed name.now.name.place (spec.result_now result) (items_named (spec.items_of self.now) name.now) }
     {
         let number = item_number(&self.names, name)?;
         Ok(&self.layout.items.as_slice()[number])
     }
+}
+
+/// The number of the item that a name names: rule 40 where there is none, 41 where there are several.
+pub(crate) fn item_number(names: &NameTable<'_>, name: &QualifiedName) -> Result<usize, BrokenRule>
+    requires { IsTable names.now }
+    ensures { (items : List LocatedItem) → calls_in names.now ≡ map called_item items → IsNumbered items name.now.name.place result (items_named items name.now) }
+{
+    name_table::items_named();
+    let place = name.name.place;
+    match names.look_up(name) {
+        LookUp::One(number) => Ok(number),
+        LookUp::Unknown => Err(BrokenRule {
+            rule: Rule::UnknownName,
+            place,
+        }),
+        LookUp::Several => Err(BrokenRule {
+            rule: Rule::AmbiguousName,
+            place,
+        }),
+    }
+}
+
+/// The rules of the names of files and of the entries of their records, behind so many bytes of working storage. Answers the bytes of each
+/// record area.
+fn file_rules(alloc: Global, program: &Program, bytes: u64) -> Result<Vec<u32>, CheckError>
+    requires storage { entry_rules program.now.storage ≡ [] }
+    requires bytes { bytes ≡ sum (area_lengths (forest_of program.now.storage)) }
+    ensures rules { IsFirstFault result (declaring.file_rules program.now) }
+    ensures files { OnOk result (descriptions_rules program.now.storage program.now.files ≡ []) }
+    ensures lengths { IfOk result (λ lengths. lengths.items ≡ map length_of program.now.files) }
+{
+    file_name_rules(alloc, program)?;
+    let storage = program.storage.as_slice();
+    check_descriptions(alloc, storage, bytes, program.files.as_slice())
+}
+
+/// The rules of all entries, and of the names of files between those of working storage and those of records. Answers the bytes of each
+/// record area.
+fn data_rules(alloc: Global, program: &Program) -> Result<Vec<u32>, CheckError>
+    ensures rules { IsFirstFault result (declaring.data_rules program.now) }
+    ensures storage { OnOk result (entry_rules program.now.storage ≡ []) }
+    ensures files { OnOk result (descriptions_rules program.now.storage program.now.files ≡ []) }
+    ensures lengths { IfOk result (λ lengths. lengths.items ≡ map length_of program.now.files) }
+{
+    let bytes = check_entries(alloc, program.storage.as_slice())?;
+    file_rules(alloc, program, bytes)
 }

@@ -1,8 +1,8 @@
 //! The names of files: 69 of their number, 42 a name that is given twice, 57 a SELECT without FD or an FD without SELECT.
 
 ghost use Rattle.std.specs.Prelude.{◌≡◌, [], IfOk, drop};
-ghost use Rattle.entry_rules.specs.Checks.{Finds, Tells};
-ghost use Rattle.names.specs.Table.{names_of};
+ghost use Rattle.entry_rules.specs.Checks.{IsFirstBreach, IsFirstFault};
+ghost use Rattle.name_table.specs.Table.{names_of};
 ghost use Rattle.source_tree.specs.Broken.{each};
 ghost use Rattle.source_tree.specs.FileRules as spec;
 ghost use Rattle.source_tree.specs.PerformRules as given;
@@ -13,6 +13,16 @@ use std::alloc::{AllocError, Global};
 
 /// The most files of a program (own choice).
 const MOST_FILES: usize = 15;
+
+/// The names of a program's files.
+pub(crate) fn file_name_rules(alloc: Global, program: &Program) -> Result<(), CheckError>
+    ensures { IsFirstFault result (spec.file_name_rules (spec.select_names program.now.selects) (spec.description_names program.now.files)) }
+{
+    let selected = select_names(alloc, program.selects.as_slice())?;
+    let described = description_names(alloc, program.files.as_slice())?;
+    name_rules(&selected, &described)?;
+    Ok(())
+}
 
 fn select_names(alloc: Global, selects: &[Select]) -> Result<Vec<&Name>, AllocError>
     ensures { IfOk result (λ names. names_of names.items ≡ spec.select_names selects.now) }
@@ -50,7 +60,7 @@ fn is_among(name: &Name, others: &[&Name]) -> bool
 
 /// There are no more files than may be.
 fn count_rules(names: &[&Name]) -> Result<(), BrokenRule>
-    ensures { Finds result (each (spec.broken_at 69) (drop spec.most_files (names_of names.now))) }
+    ensures { IsFirstBreach result (each (spec.broken_at 69) (drop spec.most_files (names_of names.now))) }
 {
     match names.get(MOST_FILES) {
         Some(one) => Rule::Limit.broken_if(true, one.place),
@@ -60,7 +70,7 @@ fn count_rules(names: &[&Name]) -> Result<(), BrokenRule>
 
 /// Each name is given once.
 fn once_rules(names: &[&Name]) -> Result<(), BrokenRule>
-    ensures { Finds result (given.given_once [] (names_of names.now)) }
+    ensures { IsFirstBreach result (given.given_once [] (names_of names.now)) }
 {
     for (i, one) in names.iter().enumerate() {
         let is_given = is_among(one, &names[..i]);
@@ -71,7 +81,7 @@ fn once_rules(names: &[&Name]) -> Result<(), BrokenRule>
 
 /// Each name is among the others.
 fn matched_rules(names: &[&Name], others: &[&Name]) -> Result<(), BrokenRule>
-    ensures { Finds result (each (spec.unmatched (names_of others.now)) (names_of names.now)) }
+    ensures { IsFirstBreach result (each (spec.broken_match_rule (names_of others.now)) (names_of names.now)) }
 {
     for one in names {
         Rule::UnmatchedFile.broken_if(!is_among(one, others), one.place)?;
@@ -81,21 +91,11 @@ fn matched_rules(names: &[&Name], others: &[&Name]) -> Result<(), BrokenRule>
 
 /// The names of SELECTs and of FDs.
 fn name_rules(selected: &[&Name], described: &[&Name]) -> Result<(), BrokenRule>
-    ensures { Finds result (spec.file_name_rules (names_of selected.now) (names_of described.now)) }
+    ensures { IsFirstBreach result (spec.file_name_rules (names_of selected.now) (names_of described.now)) }
 {
     count_rules(selected)?;
     once_rules(selected)?;
     once_rules(described)?;
     matched_rules(selected, described)?;
     matched_rules(described, selected)
-}
-
-/// The names of a program's files.
-pub(crate) fn file_name_rules(alloc: Global, program: &Program) -> Result<(), CheckError>
-    ensures { Tells result (spec.file_name_rules (spec.select_names program.now.selects) (spec.description_names program.now.files)) }
-{
-    let selected = select_names(alloc, program.selects.as_slice())?;
-    let described = description_names(alloc, program.files.as_slice())?;
-    name_rules(&selected, &described)?;
-    Ok(())
 }

@@ -3,12 +3,12 @@
 ghost use Rattle.std.specs.Prelude.{◌≡◌, ◌<◌, length, Some, slice_get};
 ghost use Rattle.source_tree.specs.LookUp.{conditions_named};
 ghost use Rattle.declarations.specs.FoundConditions.{IsConditionNamed};
-ghost use Rattle.declarations.specs.Named.{IsDeclared, items_in, told};
+ghost use Rattle.declarations.specs.Named.{IsDeclared, items_in, result_now};
 
 use crate::declarations::Declarations;
 use entry_rules::{BrokenRule, Rule};
 use layout::PlacedItem;
-use names::LookUp;
+use name_table::LookUp;
 use source_tree::QualifiedName;
 
 impl<'a> Declarations<'a> {
@@ -23,9 +23,9 @@ impl<'a> Declarations<'a> {
     /// The item of the condition name that a name names: rule 40 where there is none, 41 where there are several.
     pub fn condition_named(&self, name: &QualifiedName) -> Result<&PlacedItem, BrokenRule>
         requires { IsDeclared self.now }
-        ensures { IsConditionNamed name.now.name.place (told result) (conditions_named (items_in self.now) name.now) }
+        ensures { IsConditionNamed name.now.name.place (result_now result) (conditions_named (items_in self.now) name.now) }
     {
-        names::conditions_named();
+        name_table::conditions_named();
         let place = name.name.place;
         match self.conditions.names.look_up(name) {
             LookUp::One(number) => {

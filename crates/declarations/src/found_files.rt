@@ -7,7 +7,7 @@ ghost use Rattle.declarations.specs.FoundFiles.{IsFileFound};
 
 use crate::declarations::Declarations;
 use entry_rules::{BrokenRule, Rule};
-use program_files::ProgramFile;
+use file_descriptions::ProgramFile;
 use source_tree::{Name, Place};
 
 impl<'a> Declarations<'a> {
@@ -16,7 +16,7 @@ impl<'a> Declarations<'a> {
         requires { IsDeclared self.now }
         ensures { IsFileFound (items_in self.now) name.now.place result (files_named (files_in self.now) name.now) }
     {
-        names::files_named_once();
+        name_table::files_named_once();
         match self.files.file_named(name) {
             Some(file) => Ok(file),
             None => Err(BrokenRule {

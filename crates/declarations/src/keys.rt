@@ -1,7 +1,7 @@
 //! What the items of a SELECT's clauses are: 58 of keys, 59 of FILE STATUS, 60 of RELATIVE KEY, 69 of the bytes of a key.
 
 ghost use Rattle.std.specs.Prelude.{◌≡◌, IfOk};
-ghost use Rattle.entry_rules.specs.Checks.{Finds};
+ghost use Rattle.entry_rules.specs.Checks.{IsFirstBreach};
 ghost use Rattle.source_tree.specs.FileRules as spec;
 ghost use Rattle.source_tree.specs.ProgramFiles.{key_place};
 ghost use Rattle.declarations.specs.Found.{AreDeclared, items_of};
@@ -83,7 +83,7 @@ impl<'a> DeclaredItems<'a> {
         key: &Reference,
     ) -> Result<u32, BrokenRule>
         requires { AreDeclared self.now }
-        ensures rules { Finds result (spec.clause_item (items_of self.now) (spec.key_item (selecting.described_of there.entry) before.now) key.now) }
+        ensures rules { IsFirstBreach result (spec.clause_item (items_of self.now) (spec.key_item (selecting.described_of there.entry) before.now) key.now) }
         ensures offset { IfOk result (λ offset. offset ≡ (key_place (items_of self.now) key.now).offset) }
     {
         let place = key.item.name.place;
@@ -101,7 +101,7 @@ impl<'a> DeclaredItems<'a> {
         key: &Reference,
     ) -> Result<(), BrokenRule>
         requires { AreDeclared self.now }
-        ensures { Finds result (spec.clause_item (items_of self.now) (spec.relative_item (selecting.described_of there.entry)) key.now) }
+        ensures { IsFirstBreach result (spec.clause_item (items_of self.now) (spec.relative_item (selecting.described_of there.entry)) key.now) }
     {
         let found = self.item_named(&key.item)?;
         let is_number = is_plain(key, found)
@@ -117,7 +117,7 @@ impl<'a> DeclaredItems<'a> {
         status: &Option<Reference>,
     ) -> Result<(), BrokenRule>
         requires { AreDeclared self.now }
-        ensures { Finds result (spec.in_clause (spec.clause_item (items_of self.now) (spec.status_item areas)) status.now) }
+        ensures { IsFirstBreach result (spec.in_clause (spec.clause_item (items_of self.now) (spec.status_item areas)) status.now) }
     {
         let Some(one) = status else {
             return Ok(());

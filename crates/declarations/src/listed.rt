@@ -1,11 +1,11 @@
 //! The procedures of a program, in their order.
 
 ghost use Rattle.std.specs.Prelude.{◌≡◌, ◌+◌, ◌<◌, ◌^◌, ◌++◌, length, map, IfOk, OnOk};
-ghost use Rattle.names.specs.Noting.{section_procedures};
+ghost use Rattle.name_table.specs.Noting.{section_procedures};
 ghost use Rattle.source_tree.specs.Procedures.{paragraph_procedures, paragraphs_or_one, procedures_of};
 ghost use Rattle.declarations.specs.Listed.{procedure_of};
 
-use names::ParagraphRange;
+use name_table::ParagraphRange;
 use source_tree::{Name, Paragraph, Section};
 use std::alloc::{AllocError, Global};
 

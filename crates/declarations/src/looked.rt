@@ -11,7 +11,7 @@ ghost use Rattle.declarations.specs.Looking as spec;
 
 use crate::alone::operand_alone;
 use crate::declarations::Declarations;
-use names::LookUp;
+use name_table::LookUp;
 use source_tree::{Choice, Condition, Operand, QualifiedName, Reference, Side, Subject};
 
 /// A condition that a subject or an object is.
@@ -110,7 +110,7 @@ impl<'a> Declarations<'a> {
         requires { IsDeclared self.now }
         ensures { result ≡ spec.are_some (conditions_named (items_in self.now) name.now) }
     {
-        names::conditions_named();
+        name_table::conditions_named();
         match self.conditions.names.look_up(name) {
             LookUp::Unknown => false,
             LookUp::One(_) => true,
@@ -192,7 +192,7 @@ impl<'a> Declarations<'a> {
     #[tactic(auto, using(crate::proofs::Looking::asked_is, crate::proofs::Looking::fits_is))]
     pub fn question<'b>(&self, subject: &'b Subject, choice: &'b Choice) -> Question<'b>
         requires { IsDeclared self.now }
-        ensures asked { spec.question_meant result ≡ tree.asked (items_in self.now) subject.now choice.now }
+        ensures asked { spec.question_meant result ≡ tree.selection_condition (items_in self.now) subject.now choice.now }
         ensures fit { spec.is_fit result ≡ tree.fits (items_in self.now) subject.now choice.now }
     {
         question_of(self.looked_subject(subject), self.looked_object(choice))

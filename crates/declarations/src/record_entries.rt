@@ -2,12 +2,12 @@
 
 ghost use Rattle.std.specs.Prelude.{◌≡◌, ◌==◌, Some, slice_get};
 ghost use Rattle.source_tree.specs.Levels.{level_of};
-ghost use Rattle.source_tree.specs.Places.{Placed};
+ghost use Rattle.source_tree.specs.Places.{LocatedItem};
 ghost use Rattle.declarations.specs.Entries as spec;
 ghost use Rattle.declarations.specs.Named.{items_in};
 
 use crate::declarations::Declarations;
-use entries::number;
+use data_entries::number;
 use source_tree::{Entry, FileDescription, ItemEntry};
 
 /// The level of a record.
@@ -26,7 +26,7 @@ fn is_outermost(one: &ItemEntry) -> bool
 
 /// The item of that number among these entries; where they have fewer, the number behind them.
 fn item_among(entries: &[Entry], number: usize) -> Result<&ItemEntry, usize>
-    ensures { spec.IsAmong (spec.items_among entries.now) number (spec.told result) }
+    ensures { spec.IsAmong (spec.items_among entries.now) number (spec.result_now result) }
 {
     let mut left = number;
     for entry in entries {
@@ -42,7 +42,7 @@ fn item_among(entries: &[Entry], number: usize) -> Result<&ItemEntry, usize>
 
 /// The item of that number among the records of files.
 fn record_among(files: &[FileDescription], number: usize) -> Result<&ItemEntry, usize>
-    ensures { spec.IsAmong (spec.items_of_files files.now) number (spec.told result) }
+    ensures { spec.IsAmong (spec.items_of_files files.now) number (spec.result_now result) }
 {
     let mut left = number;
     for file in files {
@@ -57,7 +57,7 @@ fn record_among(files: &[FileDescription], number: usize) -> Result<&ItemEntry, 
 impl<'a> Declarations<'a> {
     /// The item of that number is a record of a file, or one that stands by itself.
     pub fn is_record(&self, number: usize) -> bool
-        ensures { (one : Placed) → slice_get (items_in self.now) number ≡ Some one → result ≡ (level_of one.entry == 1) }
+        ensures { (one : LocatedItem) → slice_get (items_in self.now) number ≡ Some one → result ≡ (level_of one.entry == 1) }
     {
         let behind = match item_among(self.storage, number) {
             Ok(one) => return is_outermost(one),

@@ -3,14 +3,14 @@
 
 ghost use Rattle.std.specs.Prelude.{◌≡◌, ◌<◌, ◌+◌, ◌^◌, [], ◌∷◌, ◌++◌, drop, length, map};
 ghost use Rattle.std.specs.List.{list_all};
-ghost use Rattle.entry_rules.specs.Checks.{Finds, Tells};
+ghost use Rattle.entry_rules.specs.Checks.{IsFirstBreach, IsFirstFault};
 ghost use Rattle.entry_rules.specs.RecordAreas.{length_of};
 ghost use Rattle.records.specs.Spec.{is_letter, is_name};
 ghost use Rattle.records.specs.Tests.{is_sequential};
 ghost use Rattle.source_tree.specs.Broken.{each};
 ghost use Rattle.source_tree.specs.EntryRules.{entry_rules};
 ghost use Rattle.source_tree.specs.FileRules as spec;
-ghost use Rattle.source_tree.specs.ProgramFiles.{described};
+ghost use Rattle.source_tree.specs.ProgramFiles.{described_file};
 ghost use Rattle.source_tree.specs.Records.{storage_areas};
 ghost use Rattle.declarations.specs.Found.{AreDeclared, items_of};
 ghost use Rattle.declarations.specs.Selecting as selecting;
@@ -64,7 +64,7 @@ fn described<'a>(
 ) -> RecordArea<'a>
     requires lengths { lengths.now ≡ map length_of descriptions.now }
     requires areas { first + length descriptions.now < 2 ^ 32 }
-    ensures { selecting.described_of result ≡ described first name.now descriptions.now }
+    ensures { selecting.described_of result ≡ described_file first name.now descriptions.now }
 {
     for (i, one) in descriptions.iter().enumerate() {
         if name.characters.as_slice() == one.name.characters.as_slice() {
@@ -84,7 +84,7 @@ fn described<'a>(
 
 /// A key clause of another organization.
 fn other_clause_rules(clause: &Option<Reference>) -> Result<(), BrokenRule>
-    ensures { Finds result (spec.in_clause spec.another_clause clause.now) }
+    ensures { IsFirstBreach result (spec.in_clause spec.another_clause clause.now) }
 {
     match clause {
         None => Ok(()),
@@ -94,7 +94,7 @@ fn other_clause_rules(clause: &Option<Reference>) -> Result<(), BrokenRule>
 
 /// Alternate keys of another organization.
 fn other_keys_rules(keys: &[AlternateKeyClause]) -> Result<(), BrokenRule>
-    ensures { Finds result (each spec.another_key keys.now) }
+    ensures { IsFirstBreach result (each spec.another_key keys.now) }
 {
     match keys {
         [] => Ok(()),
@@ -104,7 +104,7 @@ fn other_keys_rules(keys: &[AlternateKeyClause]) -> Result<(), BrokenRule>
 
 /// There are no more alternate keys than may be.
 fn excess_rules(keys: &[AlternateKeyClause]) -> Result<(), BrokenRule>
-    ensures { Finds result (each spec.excess_key (drop spec.most_alternate_keys keys.now)) }
+    ensures { IsFirstBreach result (each spec.excess_key (drop spec.most_alternate_keys keys.now)) }
 {
     match keys.get(MOST_ALTERNATE_KEYS) {
         Some(one) => Rule::Limit.broken_if(true, one.key.item.name.place),
@@ -114,7 +114,7 @@ fn excess_rules(keys: &[AlternateKeyClause]) -> Result<(), BrokenRule>
 
 /// A sequential file has sequential access, and no keys.
 fn sequential_rules(one: &Select) -> Result<(), BrokenRule>
-    ensures { Finds result (selecting.sequential_rules one.now) }
+    ensures { IsFirstBreach result (selecting.sequential_rules one.now) }
 {
     Rule::FileKey.broken_if(!is_sequential(one.access), one.name.place)?;
     other_clause_rules(&one.relative_key)?;
@@ -126,7 +126,7 @@ impl<'a> DeclaredItems<'a> {
     /// With random or dynamic access a relative file has RELATIVE KEY.
     fn relative_rules(&self, there: RecordArea<'_>, one: &Select) -> Result<(), BrokenRule>
         requires { AreDeclared self.now }
-        ensures { Finds result (spec.relative_rules (items_of self.now) (selecting.described_of there.entry) one.now one.now.relative_key) }
+        ensures { IsFirstBreach result (spec.relative_rules (items_of self.now) (selecting.described_of there.entry) one.now one.now.relative_key) }
     {
         match &one.relative_key {
             None => Rule::RelativeKey.broken_if(!is_sequential(one.access), one.name.place),
@@ -137,7 +137,7 @@ impl<'a> DeclaredItems<'a> {
     /// A relative file has no other keys.
     fn relative_file_rules(&self, there: RecordArea<'_>, one: &Select) -> Result<(), BrokenRule>
         requires { AreDeclared self.now }
-        ensures { Finds result (selecting.relative_file_rules (items_of self.now) (selecting.described_of there.entry) one.now) }
+        ensures { IsFirstBreach result (selecting.relative_file_rules (items_of self.now) (selecting.described_of there.entry) one.now) }
     {
         self.relative_rules(there, one)?;
         other_clause_rules(&one.record_key)?;
@@ -153,7 +153,7 @@ impl<'a> DeclaredItems<'a> {
         all: &[AlternateKeyClause],
     ) -> Result<(), CheckError>
         requires { AreDeclared self.now }
-        ensures { Tells result (spec.alternate_rules (items_of self.now) (selecting.described_of there.entry) (first ∷ []) all.now) }
+        ensures { IsFirstFault result (spec.alternate_rules (items_of self.now) (selecting.described_of there.entry) (first ∷ []) all.now) }
     {
         let mut before = Vec::new(alloc);
         before.push(first)?;
@@ -173,7 +173,7 @@ impl<'a> DeclaredItems<'a> {
         alternates: &[AlternateKeyClause],
     ) -> Result<(), CheckError>
         requires { AreDeclared self.now }
-        ensures { Tells result (selecting.keys_rules (items_of self.now) (selecting.described_of there.entry) prime.now alternates.now) }
+        ensures { IsFirstFault result (selecting.keys_rules (items_of self.now) (selecting.described_of there.entry) prime.now alternates.now) }
     {
         let first = self.key_rules(there, &[], prime)?;
         self.alternates_rules(alloc, there, first, alternates)
@@ -187,7 +187,7 @@ impl<'a> DeclaredItems<'a> {
         one: &Select,
     ) -> Result<(), CheckError>
         requires { AreDeclared self.now }
-        ensures { Tells result (spec.indexed_rules (items_of self.now) (selecting.described_of there.entry) one.now.name one.now.record_key one.now.alternate_keys) }
+        ensures { IsFirstFault result (spec.indexed_rules (items_of self.now) (selecting.described_of there.entry) one.now.name one.now.record_key one.now.alternate_keys) }
     {
         match &one.record_key {
             None => Ok(Rule::FileKey.broken_if(true, one.name.place)?),
@@ -203,7 +203,7 @@ impl<'a> DeclaredItems<'a> {
         one: &Select,
     ) -> Result<(), CheckError>
         requires { AreDeclared self.now }
-        ensures { Tells result (selecting.indexed_file_rules (items_of self.now) (selecting.described_of there.entry) one.now) }
+        ensures { IsFirstFault result (selecting.indexed_file_rules (items_of self.now) (selecting.described_of there.entry) one.now) }
     {
         other_clause_rules(&one.relative_key)?;
         self.indexed_rules(alloc, there, one)
@@ -217,7 +217,7 @@ impl<'a> DeclaredItems<'a> {
         one: &Select,
     ) -> Result<(), CheckError>
         requires { AreDeclared self.now }
-        ensures { Tells result (spec.organization_rules (items_of self.now) (selecting.described_of there.entry) one.now.organization one.now) }
+        ensures { IsFirstFault result (spec.organization_rules (items_of self.now) (selecting.described_of there.entry) one.now.organization one.now) }
     {
         match one.organization {
             OrganizationClause::Sequential => Ok(sequential_rules(one)?),
@@ -229,7 +229,7 @@ impl<'a> DeclaredItems<'a> {
     /// What stands behind the keys: their number, and FILE STATUS in one of so many areas.
     fn later_rules(&self, areas: u32, one: &Select) -> Result<(), BrokenRule>
         requires { AreDeclared self.now }
-        ensures { Finds result (selecting.later_rules (items_of self.now) areas one.now) }
+        ensures { IsFirstBreach result (selecting.later_rules (items_of self.now) areas one.now) }
     {
         excess_rules(one.alternate_keys.as_slice())?;
         self.status_rules(areas, &one.status)
@@ -244,7 +244,7 @@ impl<'a> DeclaredItems<'a> {
         one: &Select,
     ) -> Result<(), CheckError>
         requires { AreDeclared self.now }
-        ensures { Tells result (selecting.select_rules_in (items_of self.now) areas (selecting.described_of there.entry) one.now) }
+        ensures { IsFirstFault result (selecting.select_rules_in (items_of self.now) areas (selecting.described_of there.entry) one.now) }
     {
         let assigned = &one.assigned;
         Rule::AssignedName.broken_if(!is_name(assigned.characters.as_slice()), assigned.place)?;
@@ -259,7 +259,7 @@ impl<'a> DeclaredItems<'a> {
         requires storage { entry_rules self.now.program.now.storage ≡ [] }
         requires files { spec.descriptions_rules self.now.program.now.storage self.now.program.now.files ≡ [] }
         requires lengths { lengths.now ≡ map length_of self.now.program.now.files }
-        ensures { Tells result (each (spec.select_rules (items_of self.now) (storage_areas self.now.program.now.storage) self.now.program.now.files) self.now.program.now.selects) }
+        ensures { IsFirstFault result (each (spec.select_rules (items_of self.now) (storage_areas self.now.program.now.storage) self.now.program.now.files) self.now.program.now.selects) }
     {
         let areas = storage_areas(self.program.storage.as_slice());
         let descriptions = self.program.files.as_slice();

@@ -6,7 +6,7 @@ use Rattle.tokens.specs.declared.reserved.Reserved.TheVariants as w
 use Rattle.tokens.specs.declared.token.Token.{Token}
 use Rattle.source_tree.specs.declared.select.Select.{Select}
 use Rattle.grammar.specs.declared.fault.Halt.{Halt}
-use Rattle.grammar.specs.Parts.{Part, ◌then◌, some_of, any, several, tested, telling, is_told, heading}
+use Rattle.grammar.specs.Parts.{Part, ◌then◌, some_of, any, several, lookahead, token_with, is_told, heading}
 use Rattle.grammar.specs.Reading as read
 use Rattle.grammar.specs.Reading.{Parser, ◌>>◌, begins_word}
 use Rattle.grammar.proofs.Outcomes.{Reached, step, unstep, after}
@@ -17,7 +17,7 @@ use Rattle.data_division.proofs.Exact.Listed.{BeginsWith, heading_begins, unless
 use Rattle.file_control.proofs.Exact.Selects.{input_output_sound, input_output_complete}
 use Rattle.file_control.specs.Selects.{input_output_reader}
 use Rattle.divisions.specs.Environment as g
-use Rattle.divisions.specs.Environment.{unless, described_in, begins_description, ends_description, past_description}
+use Rattle.divisions.specs.Environment.{something_unless, described_in, begins_description, ends_description, past_description}
 
 -- ---- one part after another
 
@@ -31,13 +31,13 @@ module _ {p q : Part} {first second : Parser (Unit {0})} where
 -- ---- descriptions
 
 abbrev described : List (Unit {0}) → Part
-described = any (telling described_in) (tested begins_description)
+described = any (token_with described_in) (lookahead begins_description)
 
-ends : (b : Bool) → is_told (unless b) ≡ false → b ≡ true
+ends : (b : Bool) → is_told (something_unless b) ≡ false → b ≡ true
 ends true e = refl
 ends false e = cc
 
-goes_on : (b : Bool) → unless b ≡ Some tt → b ≡ false
+goes_on : (b : Bool) → something_unless b ≡ Some tt → b ≡ false
 goes_on true e = absurd (none_not e)
 goes_on false e = refl
 
@@ -48,13 +48,13 @@ passed (first ∷ more) = go (passed more) (ends_description first.kind) refl
   where
     go : some_of described more (past_description more) → (b : Bool) → ends_description first.kind ≡ b
         → some_of described (first ∷ more) (if b then first ∷ more else past_description more)
-    go others true is = ([], (refl, λ after e. true_not_false (begins_description (first ∷ more)) (ap (λ b. is_told (unless b)) is) e))
-    go others false is = (tt ∷ others.0, (more, (first, refl, ap unless is), others.1))
+    go others true is = ([], (refl, λ after e. true_not_false (begins_description (first ∷ more)) (ap (λ b. is_told (something_unless b)) is) e))
+    go others false is = (tt ∷ others.0, (more, (first, refl, ap something_unless is), others.1))
 
-some_passed : (i : List Token) → begins_description i ≡ true → some_of (several (telling described_in) (tested begins_description)) i (past_description i)
+some_passed : (i : List Token) → begins_description i ≡ true → some_of (several (token_with described_in) (lookahead begins_description)) i (past_description i)
 some_passed i begins = go (passed i).0 (passed i).1
   where
-    go : (all : List (Unit {0})) → described all i (past_description i) → some_of (several (telling described_in) (tested begins_description)) i (past_description i)
+    go : (all : List (Unit {0})) → described all i (past_description i) → some_of (several (token_with described_in) (lookahead begins_description)) i (past_description i)
     go [] s = absurd (s.1 i begins)
     go (u ∷ more) s = (u ∷ more, s)
 
@@ -73,14 +73,14 @@ description_sound u i rest e = go (begins_description i) refl e
     go : (b : Bool) → begins_description i ≡ b → (if b then g.some_description i else Ok (tt, i)) ≡ Ok (u, rest) → g.description i rest
     go true is e =
         unstep (g.pass_description i) _ e (λ v i1 is1 e1.
-        inl (i1, subst (λ j. some_of (several (telling described_in) (tested begins_description)) i j) (after is1) (some_passed i is), period_sound u i1 rest e1))
+        inl (i1, subst (λ j. some_of (several (token_with described_in) (lookahead begins_description)) i j) (after is1) (some_passed i is), period_sound u i1 rest e1))
     go false is e = inr (after e, (tests_tested begins_description).fails i is)
 
 description_complete : {Allowed : Halt → Type 0} → Complete Allowed (λ u. g.description) g.description_reader
 unfolding g.description_reader g.some_description
 description_complete u i rest (inl (i1, ([], s), end)) = absurd s
 description_complete u i rest (inl (i1, (v ∷ more, s), end)) =
-    rw (several_starts (telling described_in) (tested begins_description) begins_description (telling_starts described_in) (v ∷ more) i i1 s)
+    rw (several_starts (token_with described_in) (lookahead begins_description) begins_description (telling_starts described_in) (v ∷ more) i i1 s)
     (rw (only_passed (v ∷ more) i i1 s) (period_complete u i1 rest end))
 description_complete u i rest (inr (same, absent)) = rw ((tests_tested begins_description).refuses i absent) (Reached (ap (λ j. Ok (tt, j)) same))
 
@@ -114,14 +114,14 @@ environment_words = w.Environment ∷ w.Division ∷ []
 sections_sound : Sound g.sections g.environment_sections_reader
 unfolding g.environment_sections_reader
 sections_sound x i rest e =
-    unstep (read.heading environment_words i) _ e (λ u i1 is1 e1.
+    unstep (read.heading_reader environment_words i) _ e (λ u i1 is1 e1.
     unstep (g.configuration_reader i1) _ e1 (λ v i2 is2 e2.
     (i1, heading_sound environment_words u i i1 is1, (i2, configuration_sound v i1 i2 is2, input_output_sound x i2 rest e2))))
 
 sections_complete : {Allowed : Halt → Type 0} → Complete Allowed g.sections g.environment_sections_reader
 unfolding g.environment_sections_reader
 sections_complete x i rest (i1, words, (i2, around, selects)) =
-    step (read.heading environment_words i) _ (heading_complete environment_words tt i i1 words)
+    step (read.heading_reader environment_words i) _ (heading_complete environment_words tt i i1 words)
     (step (g.configuration_reader i1) _ (configuration_complete tt i1 i2 around) (input_output_complete x i2 rest selects))
 
 sections_begin : (x : List Select) → BeginsWith w.Environment (g.sections x)

@@ -9,9 +9,9 @@ use Rattle.tokens.specs.declared.token.Token.{Token}
 use Rattle.lexical.specs.declared.number.Sign.TheVariants as sign
 use Rattle.lexical.specs.declared.place.Place.{Place}
 use Rattle.source_tree.specs.declared.name.Name.{Name}
-use Rattle.source_tree.specs.declared.performing.Performed.TheVariants.{Procedures, Statements}
-use Rattle.source_tree.specs.declared.performing.Turns.TheVariants.{Once, Times}
-use Rattle.source_tree.specs.declared.ending.Ending.TheVariants as ending
+use Rattle.source_tree.specs.declared.perform_statement.Performed.TheVariants.{Procedures, Statements}
+use Rattle.source_tree.specs.declared.perform_statement.Repetition.TheVariants.{Once, Times}
+use Rattle.source_tree.specs.declared.control_statement.ControlStatement.TheVariants as ending
 use Rattle.source_tree.specs.declared.statement.Verb.{Verb}
 use Rattle.source_tree.specs.declared.statement.Verb.TheVariants as verb
 use Rattle.source_tree.specs.declared.statement.Statement.{Statement, roll-Statement}
@@ -69,17 +69,17 @@ main_para = 77 ∷ 65 ∷ 73 ∷ 78 ∷ 45 ∷ 80 ∷ 65 ∷ 82 ∷ 65 ∷ []
 -- every step of reading, so that a program's tree is computed
 unfoldable computing : Unit {0}
 unfolding
-    same_word read.after_word read.past_word read.expect read.left_out read.period read.heading read.nothing read.here read.one_token read.name
+    same_word read.after_word read.past_word read.expect read.left_out read.period read.heading_reader read.end_reader read.here read.one_token read.name
     read.several_from read.several read.any
     literals.literal_reader subscripts.integer_reader subscripts.qualified_reader references.subscripts_reader references.reference_reader operands.literal_operand_reader operands.operand_reader
-    display_rule.after_no_advancing display_rule.display_reader exiting_rule.exiting_reader stop_run_rule.stop_run_reader
-    performing_rule.performing_reader performing_rule.procedures_reader performing_rule.last_reader performing_rule.through_reader
+    display_rule.after_no_advancing display_rule.display_reader exiting_rule.exit_reader stop_run_rule.stop_run_reader
+    performing_rule.perform_reader performing_rule.procedures_reader performing_rule.through_name_reader performing_rule.through_reader
     performing_rule.in_line_reader turning_rule.turns_reader turning_rule.times_reader turning_rule.counted_reader
     statements.statements statements.verb statements.line statements.statement statements.sentence
     environment.configuration_reader environment.environment_sections_reader environment.environment_reader selects.input_output_reader
     files.file_section_reader division.working_storage_reader division.sections_reader division.data_division_reader forms.first_formless
-    r.program r.identification r.procedure r.all_sections r.outer_body r.after_body r.following r.sections r.section r.section_paragraphs
-    r.body r.opening r.sentences r.any_sentences r.paragraph r.paragraphs r.any_paragraphs r.ending
+    r.program r.identification r.procedure r.all_sections r.outer_body r.after_body r.sections_after r.sections r.section r.section_paragraphs
+    r.body r.first_paragraphs_reader r.sentences r.any_sentences r.paragraph r.paragraphs r.any_paragraphs r.optional_end_reader
 computing = tt
 
 -- the six lines of HELLO
@@ -140,10 +140,10 @@ nested_statements :
         name = None;
         paragraphs = unnamed (record {
           statements =
-              statement 4 12 (verb.Performing (record {
+              statement 4 12 (verb.PerformStatement (record {
                 performed = Statements (
-                    statement 5 16 (verb.Performing (record { performed = Procedures (named 5 24 80) (Some (named 5 31 81)); turns = Once }))
-                    ∷ statement 6 16 (verb.Ending ending.Exit) ∷ []);
+                    statement 5 16 (verb.PerformStatement (record { performed = Procedures (named 5 24 80) (Some (named 5 31 81)); turns = Once }))
+                    ∷ statement 6 16 (verb.ControlStatement ending.Exit) ∷ []);
                 turns = Times (record { digits = 50 ∷ []; place = place 4 20 });
               }))
               ∷ stop_run (place 8 12) ∷ [];

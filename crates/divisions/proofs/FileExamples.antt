@@ -12,8 +12,8 @@ use Rattle.source_tree.specs.declared.expression.Operand.TheVariants as operand
 use Rattle.source_tree.specs.declared.arithmetic.Operation.TheVariants.{Add}
 use Rattle.source_tree.specs.declared.phrases.Phrases.{Phrases}
 use Rattle.source_tree.specs.declared.phrases.FilePhrases.TheVariants.{Absent, AtEnd}
-use Rattle.source_tree.specs.declared.filing.Filing.TheVariants.{Read}
-use Rattle.source_tree.specs.declared.ending.Ending.TheVariants as ending
+use Rattle.source_tree.specs.declared.file_statement.FileStatement.TheVariants.{Read}
+use Rattle.source_tree.specs.declared.control_statement.ControlStatement.TheVariants as ending
 use Rattle.source_tree.specs.declared.entry.Entry.{Entry}
 use Rattle.source_tree.specs.declared.entry.Entry.TheVariants as entry_as
 use Rattle.source_tree.specs.declared.select.OrganizationClause.TheVariants as organization
@@ -50,22 +50,22 @@ use Rattle.divisions.proofs.Examples.{place, at, word, period, stop_tokens, lett
 -- every step of reading, so that a program's tree is computed
 unfoldable computing : Unit {0}
 unfolding
-    same_word read.after_word read.past_word read.expect read.skip read.stands read.period read.heading read.nothing read.here read.one_token read.name
+    same_word read.after_word read.past_word read.expect read.skip read.presence_reader read.period read.heading_reader read.end_reader read.here read.one_token read.name
     read.several_from read.several read.any phrases.two_sided_reader phrases.phrase_reader
     subscripts.integer_reader subscripts.qualified_reader references.subscripts_reader references.reference_reader
     operands.item_reader operands.number_literal_reader operands.number_operand_reader
     receivers_rule.numbers_reader receivers_rule.receiver_reader receivers_rule.receivers_reader receivers_rule.receivers_alone_reader receivers_rule.target_reader
-    adding_rule.adding_to_reader adding_rule.added_reader adding_rule.adding_reader arithmetic_rule.arithmetic_reader
-    continuing_rule.continuing_reader stop_run_rule.stop_run_reader
+    adding_rule.adding_to_reader adding_rule.added_reader adding_rule.add_reader arithmetic_rule.arithmetic_reader
+    continuing_rule.continue_reader stop_run_rule.stop_run_reader
     file_phrases.key_phrases_reader file_phrases.read_phrases_reader
-    filing_rule.item_behind_reader filing_rule.after_key_is filing_rule.reading_reader filing_rule.filing_reader
+    filing_rule.item_behind_reader filing_rule.after_key_is filing_rule.read_reader filing_rule.file_reader
     statements.statements statements.verb statements.line statements.statement statements.sentence
     gathering.gathering_turns gathering.gathering_reader stated.stated_reader entries.given_reader entries.named_reader entries.item_reader
     entries.by_level entries.entry_reader files.file_reader files.described_reader files.file_section_reader
     division.working_storage_reader division.sections_reader division.data_division_reader forms.first_formless
     selects.assigned_reader selects.select_reader selects.file_control_reader selects.input_output_reader
     environment.configuration_reader environment.environment_sections_reader environment.environment_reader
-    r.program r.identification r.procedure r.all_sections r.outer_body r.after_body r.body r.opening r.sentences r.any_paragraphs r.ending
+    r.program r.identification r.procedure r.all_sections r.outer_body r.after_body r.body r.first_paragraphs_reader r.sentences r.any_paragraphs r.optional_end_reader
 computing = tt
 
 -- 1 at a line and column
@@ -142,9 +142,9 @@ not_behind_an_add :
     ∷ word 14 12 w.Not ∷ word 14 16 w.At ∷ word 14 19 w.End ∷ word 14 23 w.Continue ∷ word 15 12 w.EndRead
     ∷ stop_tokens 16))
     ≡ Ok (with_file (
-    statement 12 12 (verb.Filing (Read (named 12 17 70) false None None (AtEnd (record {
+    statement 12 12 (verb.FileStatement (Read (named 12 17 70) false None None (AtEnd (record {
       arose = Some (add ∷ []);
-      did_not = Some (statement 14 23 (verb.Ending ending.Continue) ∷ []);
+      did_not = Some (statement 14 23 (verb.ControlStatement ending.Continue) ∷ []);
     }))))
     ∷ stop_run (place 16 12) ∷ []))
 unfolding computing
@@ -153,6 +153,6 @@ not_behind_an_add = refl
 -- READ F STOP RUN.: without phrases they are absent
 without_phrases :
     parse_of (headings (word 12 12 w.Read ∷ letter 12 17 70 ∷ stop_tokens 13))
-    ≡ Ok (with_file (statement 12 12 (verb.Filing (Read (named 12 17 70) false None None Absent)) ∷ stop_run (place 13 12) ∷ []))
+    ≡ Ok (with_file (statement 12 12 (verb.FileStatement (Read (named 12 17 70) false None None Absent)) ∷ stop_run (place 13 12) ∷ []))
 unfolding computing
 without_phrases = refl

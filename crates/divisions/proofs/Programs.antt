@@ -18,13 +18,13 @@ use Rattle.grammar.proofs.Lists.{Sound, Complete}
 use Rattle.grammar.proofs.Parts.{name_sound, name_complete, word_sound, word_complete, period_sound, period_complete, heading_sound, heading_complete, nothing_sound}
 use Rattle.statements.specs.Spelling.{max_nesting}
 use Rattle.divisions.specs.Spelling as g
-use Rattle.divisions.specs.Spelling.{Spells}
+use Rattle.divisions.specs.Spelling.{SpellsProgram}
 use Rattle.divisions.specs.Reading as r
 use Rattle.data_division.specs.Forms.{first_formless, program_entries}
 use Rattle.data_division.specs.Division.{data_division_reader}
 use Rattle.data_division.proofs.Exact.Division.{data_division_sound, data_division_complete}
 use Rattle.divisions.specs.Environment.{environment_reader}
-use Rattle.divisions.specs.Faults.{fault_at, fault_of, formed_by, formed, IsAnswer, IsRefusal, FormlessInTree}
+use Rattle.divisions.specs.Faults.{fault_at, fault_of, formed_by, result_of_tree, IsAnswer, IsParseRefusal, FormlessInTree}
 use Rattle.divisions.specs.declared.fault.FaultKind.TheVariants.{PictureWithoutForm}
 use Rattle.divisions.specs.declared.fault.ParseFault.{ParseFault}
 use Rattle.divisions.specs.declared.fault.ParseError.{ParseError}
@@ -40,8 +40,8 @@ identification_words = w.Identification ∷ w.Division ∷ []
 identification_sound : Sound g.identification r.identification
 unfolding r.identification
 identification_sound x i rest e =
-    unstep (read.heading identification_words i) _ e (λ u1 i1 is1 e1.
-    unstep (read.heading (w.ProgramId ∷ []) i1) _ e1 (λ u2 i2 is2 e2.
+    unstep (read.heading_reader identification_words i) _ e (λ u1 i1 is1 e1.
+    unstep (read.heading_reader (w.ProgramId ∷ []) i1) _ e1 (λ u2 i2 is2 e2.
     unstep (read.name i2) _ e2 (λ given i3 is3 e3.
     unstep (read.period i3) _ e3 (λ u4 i4 is4 e4.
     subst (λ y. g.identification y i rest) (value e4)
@@ -50,8 +50,8 @@ identification_sound x i rest e =
 identification_complete : {Allowed : Halt → Type 0} → Complete Allowed g.identification r.identification
 unfolding r.identification
 identification_complete x i rest (i1, first, (i2, second, (i3, given, end))) =
-    step (read.heading identification_words i) _ (heading_complete identification_words tt i i1 first)
-    (step (read.heading (w.ProgramId ∷ []) i1) _ (heading_complete (w.ProgramId ∷ []) tt i1 i2 second)
+    step (read.heading_reader identification_words i) _ (heading_complete identification_words tt i i1 first)
+    (step (read.heading_reader (w.ProgramId ∷ []) i1) _ (heading_complete (w.ProgramId ∷ []) tt i1 i2 second)
     (step (read.name i2) _ (name_complete x i2 i3 given)
     (step (read.period i3) _ (period_complete tt i3 rest end) (Reached refl))))
 
@@ -63,13 +63,13 @@ procedure_words = w.Procedure ∷ w.Division ∷ []
 procedure_sound : (depth : ℕ) → Sound (g.procedure depth) (r.procedure depth)
 unfolding r.procedure
 procedure_sound depth x i rest e =
-    unstep (read.heading procedure_words i) _ e (λ u1 i1 is1 e1.
+    unstep (read.heading_reader procedure_words i) _ e (λ u1 i1 is1 e1.
     (i1, heading_sound procedure_words u1 i i1 is1, all_sections_sound depth x i1 rest e1))
 
 procedure_complete : (depth depth' : ℕ) → Complete (Deeper depth depth') (g.procedure depth') (r.procedure depth)
 unfolding r.procedure
 procedure_complete depth depth' x i rest (i1, first, all) =
-    step (read.heading procedure_words i) _ (heading_complete procedure_words tt i i1 first)
+    step (read.heading_reader procedure_words i) _ (heading_complete procedure_words tt i i1 first)
     (all_sections_complete depth depth' x i1 rest all)
 
 -- ---- END PROGRAM, and the end
@@ -94,8 +94,8 @@ end_program_complete i rest (i1, first, (i2, second, (i3, (other, given), end)))
 no_end : (i : List Token) → begins_word w.End i ≡ false → (rest : List Token) → g.end_program i rest → ⊥
 no_end i not rest s = let is = word_begins w.End i s.0 s.1 in cc
 
-ending_sound : (u : Unit {0}) (i rest : List Token) → r.ending i ≡ Ok (u, rest) → optional g.end_program i rest
-unfolding r.ending
+ending_sound : (u : Unit {0}) (i rest : List Token) → r.optional_end_reader i ≡ Ok (u, rest) → optional g.end_program i rest
+unfolding r.optional_end_reader
 ending_sound u i rest e = go (begins_word w.End i) refl e
   where
     go : (b : Bool) → begins_word w.End i ≡ b → (if b then r.end_program i else Ok (tt, i)) ≡ Ok (u, rest) → optional g.end_program i rest
@@ -103,23 +103,23 @@ ending_sound u i rest e = go (begins_word w.End i) refl e
     go false is e = inr (after e, no_end i is)
 
 -- what is left at the end is END PROGRAM or nothing
-ending_complete : {Allowed : Halt → Type 0} (i rest : List Token) → optional g.end_program i rest → rest ≡ [] → Answers Allowed (r.ending i) tt rest
-unfolding r.ending
+ending_complete : {Allowed : Halt → Type 0} (i rest : List Token) → optional g.end_program i rest → rest ≡ [] → Answers Allowed (r.optional_end_reader i) tt rest
+unfolding r.optional_end_reader
 ending_complete i rest (inl s) end = rw (word_begins w.End i s.0 s.1) (end_program_complete i rest s)
-ending_complete i rest (inr s) end = let none : i ≡ [] = s.0 ∙ end in Reached (ap r.ending none ∙ ap (λ j. Ok (tt, j)) (sym end))
+ending_complete i rest (inr s) end = let none : i ≡ [] = s.0 ∙ end in Reached (ap r.optional_end_reader none ∙ ap (λ j. Ok (tt, j)) (sym end))
 
 -- ---- programs
 
-pub program_sound : (depth : ℕ) (tree : Program) (i : List Token) → r.program depth i ≡ Ok (tree, []) → Spells depth tree i
+pub program_sound : (depth : ℕ) (tree : Program) (i : List Token) → r.program depth i ≡ Ok (tree, []) → SpellsProgram depth tree i
 unfolding r.program
 program_sound depth tree i e =
     unstep (r.identification i) _ e (λ given i1 is1 e1.
     unstep (environment_reader i1) _ e1 (λ selects i2 is2 e2.
     unstep (data_division_reader i2) _ e2 (λ described i3 is3 e3.
     unstep (r.procedure depth i3) _ e3 (λ found i4 is4 e4.
-    unstep (r.ending i4) _ e4 (λ u i5 is5 e5.
-    unstep (read.nothing i5) _ e5 (λ v i6 is6 e6.
-    subst (λ y. Spells depth y i) (value e6) (
+    unstep (r.optional_end_reader i4) _ e4 (λ u i5 is5 e5.
+    unstep (read.end_reader i5) _ e5 (λ v i6 is6 e6.
+    subst (λ y. SpellsProgram depth y i) (value e6) (
       i1,
       identification_sound given i i1 is1,
       (
@@ -133,14 +133,14 @@ program_sound depth tree i e =
       ),
     )))))))
 
-pub program_complete : (depth depth' : ℕ) (tree : Program) (i : List Token) → Spells depth' tree i → Answers (Deeper depth depth') (r.program depth i) tree []
-unfolding r.program read.nothing
+pub program_complete : (depth depth' : ℕ) (tree : Program) (i : List Token) → SpellsProgram depth' tree i → Answers (Deeper depth depth') (r.program depth i) tree []
+unfolding r.program read.end_reader
 program_complete depth depth' tree i (i1, given, (i2, around, (i3, items, (i4, procedure, (i5, end, over))))) =
     step (r.identification i) _ (identification_complete tree.name i i1 given)
     (step (environment_reader i1) _ (environment_complete tree.selects i1 i2 around)
-    (step (data_division_reader i2) _ (data_division_complete (g.described tree) i2 i3 items)
+    (step (data_division_reader i2) _ (data_division_complete (g.data_division_of tree) i2 i3 items)
     (step (r.procedure depth i3) _ (procedure_complete depth depth' tree.sections i3 i4 procedure)
-    (step (r.ending i4) _ (ending_complete i4 i5 end over.0)
+    (step (r.optional_end_reader i4) _ (ending_complete i4 i5 end over.0)
     (rw over.0 (Reached refl))))))
 
 -- ---- what may be answered
@@ -169,7 +169,7 @@ told tree None fault e = cc
 told tree (Some place) fault e = let same = same_fault e in (sym (ap (λ f. f.kind) same), ap (λ f. Some f.place) same)
 
 -- the tree that was read is the one that spells the tokens
-one_read : (depth : ℕ) (tree tree' : Program) (i : List Token) → r.program max_nesting i ≡ Ok (tree, []) → Spells depth tree' i → tree ≡ tree'
+one_read : (depth : ℕ) (tree tree' : Program) (i : List Token) → r.program max_nesting i ≡ Ok (tree, []) → SpellsProgram depth tree' i → tree ≡ tree'
 one_read depth tree tree' i e spelled = go (program_complete max_nesting depth tree' i spelled)
   where
     go : Answers (Deeper max_nesting depth) (r.program max_nesting i) tree' [] → tree ≡ tree'
@@ -178,36 +178,36 @@ one_read depth tree tree' i e spelled = go (program_complete max_nesting depth t
 
 -- what is answered where a tree was read
 module _ (i : List Token) (tree : Program) (e : r.program max_nesting i ≡ Ok (tree, [])) where
-  pub formed_spelled : (result : Result Program ParseError) → Gives (λ (t : Program). t) fault_of result (formed tree) → IfOk result (λ t. Spells max_nesting t i)
-  formed_spelled (Ok answer) g = subst (λ t. Spells max_nesting t i) (sym (kept tree (first_formless (program_entries tree)) answer g)) (program_sound max_nesting tree i e)
+  pub formed_spelled : (result : Result Program ParseError) → Gives (λ (t : Program). t) fault_of result (result_of_tree tree) → IfOk result (λ t. SpellsProgram max_nesting t i)
+  formed_spelled (Ok answer) g = subst (λ t. SpellsProgram max_nesting t i) (sym (kept tree (first_formless (program_entries tree)) answer g)) (program_sound max_nesting tree i e)
   formed_spelled (Err error) g = tt
 
-  pub formed_only : (result : Result Program ParseError) → Gives (λ (t : Program). t) fault_of result (formed tree)
-      → (depth : ℕ) (tree' : Program) → Spells depth tree' i → IsAnswer depth tree' result
+  pub formed_only : (result : Result Program ParseError) → Gives (λ (t : Program). t) fault_of result (result_of_tree tree)
+      → (depth : ℕ) (tree' : Program) → SpellsProgram depth tree' i → IsAnswer depth tree' result
   formed_only (Ok answer) g depth tree' spelled = kept tree (first_formless (program_entries tree)) answer g ∙ one_read depth tree tree' i e spelled
   formed_only (Err Memory) g depth tree' spelled = tt
   formed_only (Err (Refused fault)) g depth tree' spelled =
       let t = told tree (first_formless (program_entries tree)) fault g in
       inr (t.0, ap (λ x. first_formless (program_entries x)) (sym (one_read depth tree tree' i e spelled)) ∙ t.1)
 
-  pub formed_formless : (result : Result Program ParseError) → Gives (λ (t : Program). t) fault_of result (formed tree) → FormlessInTree i result
+  pub formed_formless : (result : Result Program ParseError) → Gives (λ (t : Program). t) fault_of result (result_of_tree tree) → FormlessInTree i result
   formed_formless result g fault is kind =
-      let t = told tree (first_formless (program_entries tree)) fault (subst (λ x. Gives (λ (t : Program). t) fault_of x (formed tree)) is g) in
+      let t = told tree (first_formless (program_entries tree)) fault (subst (λ x. Gives (λ (t : Program). t) fault_of x (result_of_tree tree)) is g) in
       (tree, program_sound max_nesting tree i e, t.1)
 
 -- what is answered where reading halted
-pub halted_only : (i : List Token) (halt : Halt) → r.program max_nesting i ≡ Err halt → (depth : ℕ) (tree : Program) → Spells depth tree i → IsRefusal depth tree (fault_at i halt)
+pub halted_only : (i : List Token) (halt : Halt) → r.program max_nesting i ≡ Err halt → (depth : ℕ) (tree : Program) → SpellsProgram depth tree i → IsParseRefusal depth tree (fault_at i halt)
 unfolding halted
 halted_only i halt e depth tree spelled = go (program_complete max_nesting depth tree i spelled)
   where
-    go : Answers (Deeper max_nesting depth) (r.program max_nesting i) tree [] → IsRefusal depth tree (fault_at i halt)
+    go : Answers (Deeper max_nesting depth) (r.program max_nesting i) tree [] → IsParseRefusal depth tree (fault_at i halt)
     go (Reached is) = cc
     go (Halts (Unexpected left) none is) = absurd none
     go (Halts (TooDeep left) deep is) = inl (ap (λ h. (fault_at i h).kind) (same_halt (sym e ∙ is)), deep)
 
 -- ---- one tree
 
-pub one : (depth depth' : ℕ) (tree tree' : Program) (i : List Token) → Spells depth tree i → Spells depth' tree' i → tree ≡ tree'
+pub one : (depth depth' : ℕ) (tree tree' : Program) (i : List Token) → SpellsProgram depth tree i → SpellsProgram depth' tree' i → tree ≡ tree'
 one depth depth' tree tree' i s s' = go (program_complete (depth + depth') depth tree i s) (program_complete (depth + depth') depth' tree' i s')
   where
     go : Answers (Deeper (depth + depth') depth) (r.program (depth + depth') i) tree [] → Answers (Deeper (depth + depth') depth') (r.program (depth + depth') i) tree' []

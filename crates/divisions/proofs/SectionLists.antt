@@ -9,7 +9,7 @@ use Rattle.source_tree.specs.declared.name.Name.{Name}
 use Rattle.source_tree.specs.declared.program.Paragraph.{Paragraph}
 use Rattle.source_tree.specs.declared.program.Section.{Section}
 use Rattle.grammar.specs.Parts as parts
-use Rattle.grammar.specs.Parts.{several, tested, begins_name}
+use Rattle.grammar.specs.Parts.{several, lookahead, begins_name}
 use Rattle.grammar.specs.Reading as read
 use Rattle.grammar.specs.Reading.{Outcome, Parser, begins_word, is_kind, is_word, is_period}
 use Rattle.grammar.proofs.Looking.{tests_tested, true_not_false, is_kind_of}
@@ -112,7 +112,7 @@ section_shrinks depth x i rest (i1, name, (i2, word, (i3, period, all))) =
 section_starts : (depth : ℕ) → Starts g.begins_section (g.section depth)
 section_starts depth x i rest s = go x.name s.0 s.2.0 s.1 s.2.1
   where
-    go : (given : Option Name) (i1 i2 : List Token) → g.named given i i1 → parts.word w.Section i1 i2 → g.begins_section i ≡ true
+    go : (given : Option Name) (i1 i2 : List Token) → g.optional_name given i i1 → parts.word w.Section i1 i2 → g.begins_section i ≡ true
     go None i1 i2 given word = absurd given
     go (Some given) i1 i2 (first, is, tell) (next, after, kind) =
         ap g.begins_section (is ∙ ap (λ j. first ∷ j) after)
@@ -121,22 +121,22 @@ section_starts depth x i rest s = go x.name s.0 s.2.0 s.1 s.2.1
 
 -- ---- sections
 
-sections_sound : (depth : ℕ) → Sound (several (g.section depth) (tested g.begins_section)) (r.sections depth)
+sections_sound : (depth : ℕ) → Sound (several (g.section depth) (lookahead g.begins_section)) (r.sections depth)
 unfolding r.sections
-sections_sound depth = Lists.several_sound (g.section depth) (r.section depth) (tested g.begins_section) g.begins_section (tests_tested g.begins_section) (section_sound depth)
+sections_sound depth = Lists.several_sound (g.section depth) (r.section depth) (lookahead g.begins_section) g.begins_section (tests_tested g.begins_section) (section_sound depth)
 
-sections_complete : (depth depth' : ℕ) → Complete (Deeper depth depth') (several (g.section depth') (tested g.begins_section)) (r.sections depth)
+sections_complete : (depth depth' : ℕ) → Complete (Deeper depth depth') (several (g.section depth') (lookahead g.begins_section)) (r.sections depth)
 unfolding r.sections
 sections_complete depth depth' =
-    Lists.several_complete (g.section depth') (r.section depth) (tested g.begins_section) g.begins_section (tests_tested g.begins_section) (Deeper depth depth') (section_complete depth depth') (section_shrinks depth') (section_starts depth')
+    Lists.several_complete (g.section depth') (r.section depth) (lookahead g.begins_section) g.begins_section (tests_tested g.begins_section) (Deeper depth depth') (section_complete depth depth') (section_shrinks depth') (section_starts depth')
 
 -- each section that is read has a name
-named_sections : (depth : ℕ) (x : List Section) (i rest : List Token) → several (g.section depth) (tested g.begins_section) x i rest → g.sections depth x i rest
+named_sections : (depth : ℕ) (x : List Section) (i rest : List Token) → several (g.section depth) (lookahead g.begins_section) x i rest → g.sections depth x i rest
 named_sections depth [] i rest s = absurd s
 named_sections depth (first ∷ more) i rest s = go first.name first.paragraphs s
   where
     go : (given : Option Name) (found : List Paragraph)
-        → several (g.section depth) (tested g.begins_section) (record { name = given; paragraphs = found } ∷ more) i rest
+        → several (g.section depth) (lookahead g.begins_section) (record { name = given; paragraphs = found } ∷ more) i rest
         → g.sections depth (record { name = given; paragraphs = found } ∷ more) i rest
     go None found s = absurd s.1.1
     go (Some given) found s = s
@@ -148,15 +148,15 @@ After depth found alone x i rest = (more : List Section) × (x ≡ r.outside fou
 
 after_body_sound : (depth : ℕ) (found : List Paragraph) (x : List Section) (i rest : List Token) → r.after_body depth found i ≡ Ok (x, rest)
     → After depth found (g.is_alone found) x i rest
-unfolding r.after_body r.following After
+unfolding r.after_body r.sections_after After
 after_body_sound depth found x i rest e = go (g.begins_section i) refl (g.is_alone found) e
   where
-    follow : (more : List Section) → several (g.section depth) (tested g.begins_section) more i rest → g.more_sections depth true more i rest
+    follow : (more : List Section) → several (g.section depth) (lookahead g.begins_section) more i rest → g.more_sections depth true more i rest
     follow [] s = absurd s
     follow (one ∷ more) s = s
 
     go : (b : Bool) → g.begins_section i ≡ b → (alone : Bool)
-        → (if b then (if alone then r.following depth found i else read.refuse i) else Ok (r.outside found ∷ [], i)) ≡ Ok (x, rest)
+        → (if b then (if alone then r.sections_after depth found i else read.refuse i) else Ok (r.outside found ∷ [], i)) ≡ Ok (x, rest)
         → After depth found alone x i rest
     go true is true e = unstep (r.sections depth i) _ e (λ more i1 is1 e1. (more, sym (value e1), follow more (sections_sound depth more i rest (last is1 e1))))
     go true is false e = cc
@@ -164,7 +164,7 @@ after_body_sound depth found x i rest e = go (g.begins_section i) refl (g.is_alo
 
 after_body_complete : (depth depth' : ℕ) (found : List Paragraph) (more : List Section) (i rest : List Token) → g.more_sections depth' (g.is_alone found) more i rest
     → Answers (Deeper depth depth') (r.after_body depth found i) (r.outside found ∷ more) rest
-unfolding r.after_body r.following
+unfolding r.after_body r.sections_after
 after_body_complete depth depth' found more i rest s = go (g.is_alone found) refl more s
   where
     go : (alone : Bool) → g.is_alone found ≡ alone → (more : List Section) → g.more_sections depth' alone more i rest

@@ -7,7 +7,7 @@ use Rattle.tokens.specs.declared.token.Kind.{Kind}
 use Rattle.tokens.specs.declared.token.Kind.TheVariants as k
 use Rattle.tokens.specs.declared.token.Token.{Token}
 use Rattle.source_tree.specs.declared.select.Select.{Select}
-use Rattle.grammar.specs.Parts.{Part, ◌then◌, ◌or◌, without, some_of, several, tested, telling, begins_telling, period, heading}
+use Rattle.grammar.specs.Parts.{Part, ◌then◌, ◌or◌, absence_of, some_of, several, lookahead, token_with, begins_telling, period, heading}
 use Rattle.grammar.specs.Reading as r
 use Rattle.grammar.specs.Reading.{Parser, ◌>>=◌, ◌>>◌}
 use Rattle.data_division.specs.Listed.{◌unless_no◌, listed_from, unless_none, list_from}
@@ -26,20 +26,20 @@ ends_description k.Period = true
 ends_description (k.Reserved one) = comes_after one
 ends_description _ = false
 
-abbrev pub unless : Bool → Option (Unit {0})
-unless true = None
-unless false = Some tt
+abbrev pub something_unless : Bool → Option (Unit {0})
+something_unless true = None
+something_unless false = Some tt
 
 -- any token but a period and these words
 abbrev pub described_in : Token → Option (Unit {0})
-described_in one = unless (ends_description one.kind)
+described_in one = something_unless (ends_description one.kind)
 
 abbrev pub begins_description : List Token → Bool
 begins_description = begins_telling described_in
 
 -- [any... .]
 abbrev pub description : Part
-description = (some_of (several (telling described_in) (tested begins_description)) then period) or without (tested begins_description)
+description = (some_of (several (token_with described_in) (lookahead begins_description)) then period) or absence_of (lookahead begins_description)
 
 -- [SOURCE-COMPUTER . [any... .]], and the same for OBJECT-COMPUTER
 abbrev pub computer : Reserved → Part
@@ -77,15 +77,15 @@ unfoldable pub description_reader : Parser (Unit {0})
 description_reader i = if begins_description i then some_description i else Ok (tt, i)
 
 unfoldable pub computer_reader : Reserved → Parser (Unit {0})
-computer_reader one = unless_none one (r.heading (one ∷ []) >> description_reader)
+computer_reader one = unless_none one (r.heading_reader (one ∷ []) >> description_reader)
 
 unfoldable pub configuration_reader : Parser (Unit {0})
 configuration_reader =
-    unless_none w.Configuration (r.heading (w.Configuration ∷ w.Section ∷ []) >> (computer_reader w.SourceComputer >> computer_reader w.ObjectComputer))
+    unless_none w.Configuration (r.heading_reader (w.Configuration ∷ w.Section ∷ []) >> (computer_reader w.SourceComputer >> computer_reader w.ObjectComputer))
 
 unfoldable pub environment_sections_reader : Parser (List Select)
 environment_sections_reader = do
-  r.heading (w.Environment ∷ w.Division ∷ [])
+  r.heading_reader (w.Environment ∷ w.Division ∷ [])
   configuration_reader
   input_output_reader
 

@@ -8,7 +8,7 @@ use Rattle.grammar.specs.declared.fault.Halt.TheVariants.{Unexpected, TooDeep}
 use Rattle.grammar.specs.Reading.{Outcome}
 use Rattle.statements.specs.Spelling.{max_nesting}
 use Rattle.data_division.specs.Forms.{first_formless, program_entries}
-use Rattle.divisions.specs.Spelling.{Spells}
+use Rattle.divisions.specs.Spelling.{SpellsProgram}
 use Rattle.divisions.specs.Reading.{program}
 use Rattle.divisions.specs.declared.fault.FaultKind.{FaultKind}
 use Rattle.divisions.specs.declared.fault.FaultKind.TheVariants.{PictureWithoutForm, UnexpectedToken, NestedTooDeep}
@@ -47,29 +47,29 @@ abbrev pub formed_by : Program → Option Place → Result Program ParseFault
 formed_by tree None = Ok tree
 formed_by tree (Some place) = Err (record { kind = PictureWithoutForm; place = place })
 
-abbrev pub formed : Program → Result Program ParseFault
-formed tree = formed_by tree (first_formless (program_entries tree))
+abbrev pub result_of_tree : Program → Result Program ParseFault
+result_of_tree tree = formed_by tree (first_formless (program_entries tree))
 
-abbrev pub placed : List Token → Outcome Program → Result Program ParseFault
-placed tokens (Ok read) = formed read.0
-placed tokens (Err halt) = Err (fault_at tokens halt)
+abbrev pub result_of_reading : List Token → Outcome Program → Result Program ParseFault
+result_of_reading tokens (Ok read) = result_of_tree read.0
+result_of_reading tokens (Err halt) = Err (fault_at tokens halt)
 
 -- the tree of the tokens, or the fault at the token where reading stops, or at the first picture of the tree without a form
 abbrev pub parse_of : List Token → Result Program ParseFault
-parse_of tokens = placed tokens (program max_nesting tokens)
+parse_of tokens = result_of_reading tokens (program max_nesting tokens)
 
 -- The tree nests too deep, or its first picture without a form stands here.
-abbrev pub IsRefusal : ℕ → Program → ParseFault → Type 0
-IsRefusal depth tree fault =
+abbrev pub IsParseRefusal : ℕ → Program → ParseFault → Type 0
+IsParseRefusal depth tree fault =
     ((fault.kind ≡ NestedTooDeep) × (max_nesting < depth)) ⊎ ((fault.kind ≡ PictureWithoutForm) × (first_formless (program_entries tree) ≡ Some fault.place))
 
 -- What may be answered where a tree of that depth spells the tokens: it, or such a refusal.
 abbrev pub IsAnswer : ℕ → Program → Result Program ParseError → Type 0
 IsAnswer depth tree (Ok answer) = answer ≡ tree
 IsAnswer depth tree (Err Memory) = Unit {0}
-IsAnswer depth tree (Err (Refused fault)) = IsRefusal depth tree fault
+IsAnswer depth tree (Err (Refused fault)) = IsParseRefusal depth tree fault
 
 -- Where a picture without a form is told, a tree spells the tokens, and it is the first such picture of the tree.
 abbrev pub FormlessInTree : List Token → Result Program ParseError → Type 0
 FormlessInTree tokens result = (fault : ParseFault) → result ≡ Err (Refused fault) → fault.kind ≡ PictureWithoutForm
-    → (tree : Program) × Spells max_nesting tree tokens × (first_formless (program_entries tree) ≡ Some fault.place)
+    → (tree : Program) × SpellsProgram max_nesting tree tokens × (first_formless (program_entries tree) ≡ Some fault.place)

@@ -6,7 +6,7 @@ use Rattle.source_tree.specs.declared.program.Sentence.{Sentence}
 use Rattle.source_tree.specs.declared.program.Paragraph.{Paragraph}
 use Rattle.source_tree.specs.declared.program.Section.{Section}
 use Rattle.source_tree.specs.declared.program.Program.{Program}
-use Rattle.grammar.specs.Reading.{Parser, ◌>>=◌, ◌>>◌, pure, refuse, begins_word, expect, period, heading, nothing, name, several, any}
+use Rattle.grammar.specs.Reading.{Parser, ◌>>=◌, ◌>>◌, pure, refuse, begins_word, expect, period, heading_reader, end_reader, name, several, any}
 use Rattle.statements.specs.Verbs.{begins_statement}
 use Rattle.statements.specs.Reading.{sentence}
 use Rattle.data_division.specs.Division.{data_division_reader}
@@ -15,8 +15,8 @@ use Rattle.divisions.specs.Spelling.{begins_paragraph, begins_section, begins_bo
 
 unfoldable pub identification : Parser Name
 identification = do
-  heading (w.Identification ∷ w.Division ∷ [])
-  heading (w.ProgramId ∷ [])
+  heading_reader (w.Identification ∷ w.Division ∷ [])
+  heading_reader (w.ProgramId ∷ [])
   given ← name
   period
   pure given
@@ -28,8 +28,8 @@ end_program = do
   other ← name
   period
 
-unfoldable pub ending : Parser (Unit {0})
-ending i = if begins_word w.End i then end_program i else Ok (tt, i)
+unfoldable pub optional_end_reader : Parser (Unit {0})
+optional_end_reader i = if begins_word w.End i then end_program i else Ok (tt, i)
 
 unfoldable pub sentences : ℕ → Parser (List Sentence)
 sentences depth = several (sentence depth) begins_statement
@@ -51,15 +51,15 @@ unfoldable pub any_paragraphs : ℕ → Parser (List Paragraph)
 any_paragraphs depth = any (paragraph depth) begins_paragraph
 
 -- sentences that belong to no paragraph, and the paragraphs after them
-unfoldable pub opening : ℕ → Parser (List Paragraph)
-opening depth = do
+unfoldable pub first_paragraphs_reader : ℕ → Parser (List Paragraph)
+first_paragraphs_reader depth = do
   found ← sentences depth
   more ← any_paragraphs depth
   pure (record { name = None; sentences = found } ∷ more)
 
 -- what begins neither a statement nor a paragraph is refused where it stands
 unfoldable pub body : ℕ → Parser (List Paragraph)
-body depth i = if begins_statement i then opening depth i else if begins_paragraph i then paragraphs depth i else refuse i
+body depth i = if begins_statement i then first_paragraphs_reader depth i else if begins_paragraph i then paragraphs depth i else refuse i
 
 -- ---- sections
 
@@ -81,14 +81,14 @@ sections depth = several (section depth) begins_section
 abbrev pub outside : List Paragraph → Section
 outside found = record { name = None; paragraphs = found }
 
-unfoldable pub following : ℕ → List Paragraph → Parser (List Section)
-following depth found = do
+unfoldable pub sections_after : ℕ → List Paragraph → Parser (List Section)
+sections_after depth found = do
   more ← sections depth
   pure (outside found ∷ more)
 
 -- a section after paragraphs that belong to none is refused where it stands
 unfoldable pub after_body : ℕ → List Paragraph → Parser (List Section)
-after_body depth found i = if begins_section i then (if is_alone found then following depth found i else refuse i) else Ok (outside found ∷ [], i)
+after_body depth found i = if begins_section i then (if is_alone found then sections_after depth found i else refuse i) else Ok (outside found ∷ [], i)
 
 unfoldable pub outer_body : ℕ → Parser (List Section)
 outer_body depth = do
@@ -100,7 +100,7 @@ all_sections depth i = if begins_section i then sections depth i else outer_body
 
 unfoldable pub procedure : ℕ → Parser (List Section)
 procedure depth = do
-  heading (w.Procedure ∷ w.Division ∷ [])
+  heading_reader (w.Procedure ∷ w.Division ∷ [])
   all_sections depth
 
 unfoldable pub program : ℕ → Parser Program
@@ -109,6 +109,6 @@ program depth = do
   selects ← environment_reader
   described ← data_division_reader
   found ← procedure depth
-  ending
-  nothing
+  optional_end_reader
+  end_reader
   pure (record { name = given; selects = selects; files = described.files; storage = described.storage; sections = found })

@@ -12,22 +12,6 @@ use sqlite_items::Items;
 use statements::begins_statement;
 use std::alloc::Global;
 
-/// Sentences that belong to no paragraph, and the paragraphs after them.
-#[tactic(auto, unfolding(crate::specs::Reading::opening, crate::specs::Reading::sentences, crate::specs::Reading::any_paragraphs))]
-fn opening(alloc: Global, tokens: &mut Tokens<'_>) -> Result<Items<Paragraph>, ReadFault>
-    ensures { Reads (spec.opening max_nesting tokens.old) result tokens.new }
-{
-    let sentences = several(&Sentences, alloc, tokens)?;
-    let more = any(&Paragraphs, alloc, tokens)?;
-    let mut found = Items::new(alloc);
-    found.push(Paragraph {
-        name: None,
-        sentences,
-    })?;
-    found.append(more)?;
-    Ok(found)
-}
-
 /// Sentences and paragraphs, not both left out.
 #[tactic(auto, unfolding(crate::specs::Reading::body, crate::specs::Reading::paragraphs))]
 pub fn body(alloc: Global, tokens: &mut Tokens<'_>) -> Result<Items<Paragraph>, ReadFault>
@@ -40,4 +24,20 @@ pub fn body(alloc: Global, tokens: &mut Tokens<'_>) -> Result<Items<Paragraph>, 
     } else {
         Err(tokens.refuse())
     }
+}
+
+/// Sentences that belong to no paragraph, and the paragraphs after them.
+#[tactic(auto, unfolding(crate::specs::Reading::first_paragraphs_reader, crate::specs::Reading::sentences, crate::specs::Reading::any_paragraphs))]
+fn opening(alloc: Global, tokens: &mut Tokens<'_>) -> Result<Items<Paragraph>, ReadFault>
+    ensures { Reads (spec.first_paragraphs_reader max_nesting tokens.old) result tokens.new }
+{
+    let sentences = several(&Sentences, alloc, tokens)?;
+    let more = any(&Paragraphs, alloc, tokens)?;
+    let mut found = Items::new(alloc);
+    found.push(Paragraph {
+        name: None,
+        sentences,
+    })?;
+    found.append(more)?;
+    Ok(found)
 }

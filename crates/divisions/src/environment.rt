@@ -11,6 +11,18 @@ use sqlite_items::Items;
 use std::alloc::Global;
 use tokens::{Kind, Reserved, Token};
 
+/// The SELECTs of the environment division (COBOL-85, Nucleus, "Environment division"); none where ENVIRONMENT doesn't come next.
+#[tactic(auto, unfolding(crate::specs::Environment::environment_reader))]
+pub fn environment(alloc: Global, tokens: &mut Tokens<'_>) -> Result<Items<Select>, ReadFault>
+    ensures { Reads (spec.environment_reader tokens.old) result tokens.new }
+{
+    if tokens.at_word(Reserved::Environment) {
+        sections(alloc, tokens)
+    } else {
+        Ok(Items::new(alloc))
+    }
+}
+
 /// The token is a period, or a word of what may come after a description.
 fn ends_description(token: &Token) -> bool
     ensures { result ≡ spec.ends_description token.now.kind }
@@ -94,16 +106,4 @@ fn sections(alloc: Global, tokens: &mut Tokens<'_>) -> Result<Items<Select>, Rea
     tokens.heading(&[Reserved::Environment, Reserved::Division])?;
     configuration(tokens)?;
     input_output(alloc, tokens)
-}
-
-/// The SELECTs of the environment division (COBOL-85, Nucleus, "Environment division"); none where ENVIRONMENT doesn't come next.
-#[tactic(auto, unfolding(crate::specs::Environment::environment_reader))]
-pub fn environment(alloc: Global, tokens: &mut Tokens<'_>) -> Result<Items<Select>, ReadFault>
-    ensures { Reads (spec.environment_reader tokens.old) result tokens.new }
-{
-    if tokens.at_word(Reserved::Environment) {
-        sections(alloc, tokens)
-    } else {
-        Ok(Items::new(alloc))
-    }
 }

@@ -22,9 +22,9 @@ pub fn identification(alloc: Global, tokens: &mut Tokens<'_>) -> Result<Name, Re
 }
 
 /// END PROGRAM with any name, where END comes next.
-#[tactic(auto, unfolding(crate::specs::Reading::ending, crate::specs::Reading::end_program))]
+#[tactic(auto, unfolding(crate::specs::Reading::optional_end_reader, crate::specs::Reading::end_program))]
 pub fn ending(alloc: Global, tokens: &mut Tokens<'_>) -> Result<(), ReadFault>
-    ensures { Reads (spec.ending tokens.old) result tokens.new }
+    ensures { Reads (spec.optional_end_reader tokens.old) result tokens.new }
 {
     if !tokens.at_word(Reserved::End) {
         return Ok(());

@@ -12,17 +12,6 @@ use statements::{begins_statement, sentence};
 use std::alloc::Global;
 use tokens::Kind;
 
-/// The next token is a user-defined word and the one after it a period: a paragraph's name, since statements begin with
-/// verbs, which are reserved.
-pub fn begins_paragraph(tokens: &Tokens<'_>) -> bool
-    ensures { result ≡ rule.begins_paragraph tokens.now }
-{
-    match tokens.rest() {
-        [_, next, ..] => begins_name(tokens) && matches!(next.kind, Kind::Period),
-        _ => false,
-    }
-}
-
 /// Sentences in a list.
 pub struct Sentences;
 
@@ -46,20 +35,6 @@ impl Part<Sentence> for Sentences {
     }
 }
 
-/// A paragraph by its name.
-#[tactic(auto, unfolding(crate::specs::Reading::paragraph, crate::specs::Reading::any_sentences))]
-fn paragraph(alloc: Global, tokens: &mut Tokens<'_>) -> Result<Paragraph, ReadFault>
-    ensures { Reads (spec.paragraph max_nesting tokens.old) result tokens.new }
-{
-    let given = name(alloc, tokens)?;
-    tokens.period()?;
-    let sentences = any(&Sentences, alloc, tokens)?;
-    Ok(Paragraph {
-        name: Some(given),
-        sentences,
-    })
-}
-
 /// Paragraphs with names, in a list.
 pub struct Paragraphs;
 
@@ -81,4 +56,29 @@ impl Part<Paragraph> for Paragraphs {
     fn begins(&self, tokens: &Tokens<'_>) -> bool {
         begins_paragraph(tokens)
     }
+}
+
+/// The next token is a user-defined word and the one after it a period: a paragraph's name, since statements begin with
+/// verbs, which are reserved.
+pub fn begins_paragraph(tokens: &Tokens<'_>) -> bool
+    ensures { result ≡ rule.begins_paragraph tokens.now }
+{
+    match tokens.rest() {
+        [_, next, ..] => begins_name(tokens) && matches!(next.kind, Kind::Period),
+        _ => false,
+    }
+}
+
+/// A paragraph by its name.
+#[tactic(auto, unfolding(crate::specs::Reading::paragraph, crate::specs::Reading::any_sentences))]
+fn paragraph(alloc: Global, tokens: &mut Tokens<'_>) -> Result<Paragraph, ReadFault>
+    ensures { Reads (spec.paragraph max_nesting tokens.old) result tokens.new }
+{
+    let given = name(alloc, tokens)?;
+    tokens.period()?;
+    let sentences = any(&Sentences, alloc, tokens)?;
+    Ok(Paragraph {
+        name: Some(given),
+        sentences,
+    })
 }

@@ -6,7 +6,7 @@ ghost use Rattle.grammar.specs.Reading.{Reads};
 ghost use Rattle.statements.specs.Spelling.{max_nesting};
 ghost use Rattle.tokens.specs.declared.token.Token.{Token};
 ghost use Rattle.source_tree.specs.declared.program.Program.{Program};
-ghost use Rattle.divisions.specs.Spelling.{Spells};
+ghost use Rattle.divisions.specs.Spelling.{SpellsProgram};
 ghost use Rattle.divisions.specs.Reading as spec;
 ghost use Rattle.data_division.specs.Forms.{HasForms, program_entries};
 ghost use Rattle.divisions.specs.Faults as faults;
@@ -21,6 +21,35 @@ use grammar::{ReadFault, Tokens, beside};
 use source_tree::Program;
 use std::alloc::Global;
 use tokens::Token;
+
+/// The tree of a source text, by its tokens (COBOL-85, Nucleus, "Structure of a program").
+///
+/// `Refused` with number 30 where no tree spells the tokens, at the token where reading stopped; with 31 where
+/// statements stand in one another more than 64 deep, at the statement that is one too deep; with 20 where a tree spells
+/// them, at its first picture that has no form.
+pub fn parse(alloc: Global, tokens: &[Token]) -> Result<Program, ParseError>
+    // What is answered spells the tokens.
+    ensures spelled { IfOk result (λ tree. SpellsProgram max_nesting tree tokens.now) }
+    // Its pictures have forms.
+    ensures forms { IfOk result (λ tree. HasForms (program_entries tree)) }
+    // What spells the tokens is answered, unless it nests too deep, has a picture without a form, or memory runs out.
+    ensures only { (depth : ℕ) (tree : Program) → SpellsProgram depth tree tokens.now → IsAnswer depth tree result }
+    // A picture without a form is one of a tree that spells the tokens.
+    ensures formless { FormlessInTree tokens.now result }
+    // The tree or the fault, with its place, is what reading gives.
+    ensures reads { Gives (λ (tree : Program). tree) fault_of result (parse_of tokens.now) }
+{
+    match program(alloc, tokens) {
+        Ok(tree) => formed(alloc, tree),
+        Err(ReadFault::Memory) => Err(ParseError::Memory),
+        Err(ReadFault::Halted(halt)) => Err(ParseError::Refused(refusal(tokens, halt))),
+    }
+}
+
+/// No tokens are spelled by two trees, however deep they nest.
+pub fn one_tree()
+    ensures { (depth depth' : ℕ) (tree tree' : Program) (tokens : List Token) → SpellsProgram depth tree tokens → SpellsProgram depth' tree' tokens → tree ≡ tree' }
+{}
 
 /// A program that is all of the tokens.
 #[tactic(auto, unfolding(crate::specs::Reading::program))]
@@ -45,7 +74,7 @@ fn program(alloc: Global, tokens: &[Token]) -> Result<Program, ReadFault>
 
 /// The tree, if each of its pictures has a form.
 fn formed(alloc: Global, tree: Program) -> Result<Program, ParseError>
-    ensures { Gives (λ (tree : Program). tree) fault_of result (faults.formed tree) }
+    ensures { Gives (λ (tree : Program). tree) fault_of result (faults.result_of_tree tree) }
 {
     match first_formless(alloc, tree.files.as_slice(), tree.storage.as_slice())? {
         None => Ok(tree),
@@ -55,32 +84,3 @@ fn formed(alloc: Global, tree: Program) -> Result<Program, ParseError>
         })),
     }
 }
-
-/// The tree of a source text, by its tokens (COBOL-85, Nucleus, "Structure of a program").
-///
-/// `Refused` with number 30 where no tree spells the tokens, at the token where reading stopped; with 31 where
-/// statements stand in one another more than 64 deep, at the statement that is one too deep; with 20 where a tree spells
-/// them, at its first picture that has no form.
-pub fn parse(alloc: Global, tokens: &[Token]) -> Result<Program, ParseError>
-    // What is answered spells the tokens.
-    ensures spelled { IfOk result (λ tree. Spells max_nesting tree tokens.now) }
-    // Its pictures have forms.
-    ensures forms { IfOk result (λ tree. HasForms (program_entries tree)) }
-    // What spells the tokens is answered, unless it nests too deep, has a picture without a form, or memory runs out.
-    ensures only { (depth : ℕ) (tree : Program) → Spells depth tree tokens.now → IsAnswer depth tree result }
-    // A picture without a form is one of a tree that spells the tokens.
-    ensures formless { FormlessInTree tokens.now result }
-    // The tree or the fault, with its place, is what reading gives.
-    ensures reads { Gives (λ (tree : Program). tree) fault_of result (parse_of tokens.now) }
-{
-    match program(alloc, tokens) {
-        Ok(tree) => formed(alloc, tree),
-        Err(ReadFault::Memory) => Err(ParseError::Memory),
-        Err(ReadFault::Halted(halt)) => Err(ParseError::Refused(refusal(tokens, halt))),
-    }
-}
-
-/// No tokens are spelled by two trees, however deep they nest.
-pub fn one_tree()
-    ensures { (depth depth' : ℕ) (tree tree' : Program) (tokens : List Token) → Spells depth tree tokens → Spells depth' tree' tokens → tree ≡ tree' }
-{}

@@ -17,6 +17,15 @@ use statements::begins_statement;
 use std::alloc::Global;
 use tokens::Reserved;
 
+/// The procedure division.
+#[tactic(auto, unfolding(crate::specs::Reading::procedure))]
+pub fn procedure(alloc: Global, tokens: &mut Tokens<'_>) -> Result<Items<Section>, ReadFault>
+    ensures { Reads (spec.procedure max_nesting tokens.old) result tokens.new }
+{
+    tokens.heading(&[Reserved::Procedure, Reserved::Division])?;
+    all_sections(alloc, tokens)
+}
+
 /// The next token is a user-defined word and the one after it SECTION.
 fn begins_section(tokens: &Tokens<'_>) -> bool
     ensures { result ≡ rule.begins_section tokens.now }
@@ -112,7 +121,7 @@ fn outside(
 }
 
 /// The sections after what belongs to none. They follow sentences alone.
-#[tactic(auto, unfolding(crate::specs::Reading::after_body, crate::specs::Reading::following))]
+#[tactic(auto, unfolding(crate::specs::Reading::after_body, crate::specs::Reading::sections_after))]
 fn after_body(
     found: Items<Paragraph>,
     alloc: Global,
@@ -140,13 +149,4 @@ fn all_sections(alloc: Global, tokens: &mut Tokens<'_>) -> Result<Items<Section>
     }
     let found = body(alloc, tokens)?;
     after_body(found, alloc, tokens)
-}
-
-/// The procedure division.
-#[tactic(auto, unfolding(crate::specs::Reading::procedure))]
-pub fn procedure(alloc: Global, tokens: &mut Tokens<'_>) -> Result<Items<Section>, ReadFault>
-    ensures { Reads (spec.procedure max_nesting tokens.old) result tokens.new }
-{
-    tokens.heading(&[Reserved::Procedure, Reserved::Division])?;
-    all_sections(alloc, tokens)
 }

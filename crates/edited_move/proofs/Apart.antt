@@ -3,10 +3,10 @@ use Rattle.std.proofs.Common.{◌≡◌, ◌≤◌, ◌<◌, ◌+◌, ◌-◌, �
 use Rattle.std.proofs.lemmas.List.{drop_all}
 use borrow.Rule.Slice.PartMut.{put_mid}
 use Rattle.picture.specs.declared.run.Run.{Run}
-use Rattle.picture.specs.Runs.{total}
+use Rattle.picture.specs.Runs.{symbol_count}
 use Rattle.picture.specs.Symbols.{is_alphanumeric}
-use Rattle.items.specs.Texts.{space, padded}
-use Rattle.edited_move.specs.EditedCharacters.{inserted, edited_characters, spread}
+use Rattle.items.specs.Texts.{space, padded_text}
+use Rattle.edited_move.specs.EditedCharacters.{inserted_character, edited_characters, spread_characters}
 
 take_take : (m n : ℕ) (text : List ℕ) → m ≤ n → take m (take n text) ≡ take m text
 take_take zero n text h = refl
@@ -47,25 +47,25 @@ no_spaces n text e = subst (λ k. text ++ replicate k space ≡ text) (sym e) (e
     end (c ∷ text) = ap (λ l. c ∷ l) (end text)
 
 -- where there are enough of them, none is added
-pub padded_front : (n : ℕ) (text : List ℕ) → n ≤ length text → padded n text ≡ take n text
+pub padded_front : (n : ℕ) (text : List ℕ) → n ≤ length text → padded_text n text ≡ take n text
 padded_front n text h = no_spaces (n - length text) (take n text) (omega arith)
 
 -- only as many characters count as there are places
-pub front_counts : (runs : List Run) (n : ℕ) (text : List ℕ) → total runs ≤ n → n ≤ length text → edited_characters runs (take n text) ≡ edited_characters runs text
-unfolding edited_characters total
+pub front_counts : (runs : List Run) (n : ℕ) (text : List ℕ) → symbol_count runs ≤ n → n ≤ length text → edited_characters runs (take n text) ≡ edited_characters runs text
+unfolding edited_characters symbol_count
 front_counts [] n text h e = refl
 front_counts (run ∷ more) n text h e = go (λ n text h e. front_counts more n text h e) (is_alphanumeric run.symbol)
   where
-    go : ((n : ℕ) (text : List ℕ) → total more ≤ n → n ≤ length text → edited_characters more (take n text) ≡ edited_characters more text) → (b : Bool)
-        → (if b then padded run.count (take n text) ++ edited_characters more (drop run.count (take n text)) else replicate run.count (inserted run.symbol) ++ edited_characters more (take n text))
-        ≡ (if b then padded run.count text ++ edited_characters more (drop run.count text) else replicate run.count (inserted run.symbol) ++ edited_characters more text)
+    go : ((n : ℕ) (text : List ℕ) → symbol_count more ≤ n → n ≤ length text → edited_characters more (take n text) ≡ edited_characters more text) → (b : Bool)
+        → (if b then padded_text run.count (take n text) ++ edited_characters more (drop run.count (take n text)) else replicate run.count (inserted_character run.symbol) ++ edited_characters more (take n text))
+        ≡ (if b then padded_text run.count text ++ edited_characters more (drop run.count text) else replicate run.count (inserted_character run.symbol) ++ edited_characters more text)
     go less true =
         let long = take_length n text e in
         let dropped = drop_length run.count text in
         let front = padded_front run.count (take n text) (omega arith) ∙ take_take run.count n text (omega arith) ∙ sym (padded_front run.count text (omega arith)) in
         let rest = ap (edited_characters more) (drop_take run.count n text (omega arith)) ∙ less (n - run.count) (drop run.count text) (omega arith) (omega arith) in
-        ap (λ l. l ++ edited_characters more (drop run.count (take n text))) front ∙ ap (λ l. padded run.count text ++ l) rest
-    go less false = ap (λ l. replicate run.count (inserted run.symbol) ++ l) (less n text (omega arith) e)
+        ap (λ l. l ++ edited_characters more (drop run.count (take n text))) front ∙ ap (λ l. padded_text run.count text ++ l) rest
+    go less false = ap (λ l. replicate run.count (inserted_character run.symbol) ++ l) (less n text (omega arith) e)
 
 -- ---- one run more
 
@@ -97,19 +97,19 @@ length_replicate : (n c : ℕ) → length (replicate n c) ≡ n
 length_replicate zero c = refl
 length_replicate (suc n) c = ap suc (length_replicate n c)
 
-one_run : (run : Run) (more : List Run) (text : List ℕ) → run.count + total more ≤ length text
-    → edited_characters (run ∷ more) text ≡ take run.count (spread run text) ++ edited_characters more (drop run.count (spread run text))
+one_run : (run : Run) (more : List Run) (text : List ℕ) → run.count + symbol_count more ≤ length text
+    → edited_characters (run ∷ more) text ≡ take run.count (spread_characters run text) ++ edited_characters more (drop run.count (spread_characters run text))
 unfolding edited_characters
 one_run run more text fits = go (is_alphanumeric run.symbol)
   where
     spaces : List ℕ
-    spaces = replicate run.count (inserted run.symbol)
+    spaces = replicate run.count (inserted_character run.symbol)
 
     rest : List ℕ
     rest = take (length text - run.count) text
 
     long : length spaces ≡ run.count
-    long = length_replicate run.count (inserted run.symbol)
+    long = length_replicate run.count (inserted_character run.symbol)
 
     first : take run.count (spaces ++ rest) ≡ spaces
     first =
@@ -119,7 +119,7 @@ one_run run more text fits = go (is_alphanumeric run.symbol)
     second = ap (λ n. drop n (spaces ++ rest)) (let e : run.count ≡ length spaces + 0 = omega (arith, long) in e) ∙ drop_past spaces rest 0
 
     go : (b : Bool)
-        → (if b then padded run.count text ++ edited_characters more (drop run.count text) else spaces ++ edited_characters more text)
+        → (if b then padded_text run.count text ++ edited_characters more (drop run.count text) else spaces ++ edited_characters more text)
         ≡ take run.count (if b then text else spaces ++ rest) ++ edited_characters more (drop run.count (if b then text else spaces ++ rest))
     go true = ap (λ l. l ++ edited_characters more (drop run.count text)) (padded_front run.count text (omega arith))
     go false =
@@ -130,30 +130,30 @@ joined : (a b c : List ℕ) → a ++ (b ++ c) ≡ (a ++ b) ++ c
 joined [] b c = refl
 joined (x ∷ a) b c = ap (λ l. x ∷ l) (joined a b c)
 
-pub next_total : (runs : List Run) (i : ℕ) (d : Run) → i < length runs → total (drop i runs) ≡ (get_or runs i d).count + total (drop (i + 1) runs)
-unfolding total
+pub next_total : (runs : List Run) (i : ℕ) (d : Run) → i < length runs → symbol_count (drop i runs) ≡ (get_or runs i d).count + symbol_count (drop (i + 1) runs)
+unfolding symbol_count
 next_total runs i d h = rw (add-one, drop-cons runs i d) refl
 
 pub record Spread (runs : List Run) (old : List ℕ) (i at : ℕ) (bytes : List ℕ) : Type 0 where
-  pub places : at + total (drop i runs) ≡ length bytes
+  pub places : at + symbol_count (drop i runs) ≡ length bytes
   pub text : edited_characters runs old ≡ take at bytes ++ edited_characters (drop i runs) (drop at bytes)
 
-pub spread_start : (runs : List Run) (old : List ℕ) → length old ≡ total runs → Spread runs old 0 0 old
+pub spread_start : (runs : List Run) (old : List ℕ) → length old ≡ symbol_count runs → Spread runs old 0 0 old
 spread_start runs old e = record { places = omega arith; text = refl }
 
 pub record Next (runs : List Run) (old : List ℕ) (i at : ℕ) (length_before : ℕ) (bytes : List ℕ) : Type 0 where
   pub size : length bytes ≡ length_before
   pub spread : Spread runs old i at bytes
 
-spread_length : (run : Run) (text : List ℕ) → run.count ≤ length text → length (spread run text) ≡ length text
+spread_length : (run : Run) (text : List ℕ) → run.count ≤ length text → length (spread_characters run text) ≡ length text
 spread_length run text h = go (is_alphanumeric run.symbol)
   where
-    go : (b : Bool) → length (if b then text else replicate run.count (inserted run.symbol) ++ take (length text - run.count) text) ≡ length text
+    go : (b : Bool) → length (if b then text else replicate run.count (inserted_character run.symbol) ++ take (length text - run.count) text) ≡ length text
     go true = refl
     go false = omega (
       arith,
-      length-append (replicate run.count (inserted run.symbol)) (take (length text - run.count) text),
-      length_replicate run.count (inserted run.symbol),
+      length-append (replicate run.count (inserted_character run.symbol)) (take (length text - run.count) text),
+      length_replicate run.count (inserted_character run.symbol),
       take_length (length text - run.count) text (omega arith),
     )
 
@@ -166,7 +166,7 @@ put_whole bytes part at =
     ∙ ap (λ l. take at bytes ++ l) (ends part)
 
 -- the places of a run are there
-pub run_fits : (runs : List Run) (i at : ℕ) (d : Run) (bytes : List ℕ) → i < length runs → at + total (drop i runs) ≡ length bytes
+pub run_fits : (runs : List Run) (i at : ℕ) (d : Run) (bytes : List ℕ) → i < length runs → at + symbol_count (drop i runs) ≡ length bytes
     → ((get_or runs i d).count ≤ length (take (length bytes - at) (drop at bytes))) × ((get_or runs i d).count + at ≤ length bytes)
 run_fits runs i at d bytes h e =
     let all = next_total runs i d h in
@@ -174,7 +174,7 @@ run_fits runs i at d bytes h e =
     let same = ap length (rest_is at bytes) in (omega arith, omega arith)
 
 pub spread_next : (runs : List Run) (old bytes part whole : List ℕ) (i at : ℕ) (d : Run) → i < length runs → Spread runs old i at bytes
-    → part ≡ spread (get_or runs i d) (take (length bytes - at) (drop at bytes)) → whole ≡ put_mid at (length bytes - at) bytes part
+    → part ≡ spread_characters (get_or runs i d) (take (length bytes - at) (drop at bytes)) → whole ≡ put_mid at (length bytes - at) bytes part
     → Next runs old (i + 1) (at + (get_or runs i d).count) (length bytes) whole
 spread_next runs old bytes part whole i at d h s given put =
     let run = get_or runs i d in
@@ -184,7 +184,7 @@ spread_next runs old bytes part whole i at d h s given put =
     let places = s.places in
     let front : drop i runs ≡ run ∷ more = drop-cons runs i d h ∙ ap (λ n. run ∷ drop n runs) (let e : suc i ≡ i + 1 = omega arith in e) in
     let at_is = take_length at bytes (omega arith) in
-    let is : part ≡ spread run (drop at bytes) = given ∙ ap (spread run) (rest_is at bytes) in
+    let is : part ≡ spread_characters run (drop at bytes) = given ∙ ap (spread_characters run) (rest_is at bytes) in
     let is_whole : whole ≡ take at bytes ++ part = put ∙ put_whole bytes part at in
     let part_long = ap length is ∙ spread_length run (drop at bytes) (omega arith) in
     let size = ap length is_whole ∙ length-append (take at bytes) part in
@@ -205,9 +205,9 @@ spread_next runs old bytes part whole i at d h s given put =
     record { size = omega arith; spread = next }
 
 pub spread_end : (runs : List Run) (old bytes : List ℕ) (i at : ℕ) → length runs ≤ i → Spread runs old i at bytes → bytes ≡ edited_characters runs old
-unfolding edited_characters total
+unfolding edited_characters symbol_count
 spread_end runs old bytes i at h s =
     let none = drop_all i runs h in
     let places = s.places in
-    let all : at ≡ length bytes = (let e = ap total none in omega arith) in
+    let all : at ≡ length bytes = (let e = ap symbol_count none in omega arith) in
     sym (s.text ∙ ap (λ l. take at bytes ++ edited_characters l (drop at bytes)) none ∙ ends (take at bytes) ∙ ap (λ n. take n bytes) all ∙ take_whole bytes)

@@ -9,8 +9,8 @@ use Rattle.items.specs.declared.item.Kind.{Kind}
 use Rattle.items.specs.declared.item.Kind.TheVariants as k
 use Rattle.items.specs.declared.taken.Taken.{Taken}
 use Rattle.items.specs.Numbers.{IsNumeric, length_of}
-use Rattle.items.specs.Items.{IsItem, IsOfLength, IsOf}
-use Rattle.items.specs.Values.{integer_in, is_held, held, value_of}
+use Rattle.items.specs.Items.{IsItem, IsOfLength, HasLengthOf}
+use Rattle.items.specs.Values.{integer_in, is_held, value_if_held, value_of}
 use Rattle.edited_move.specs.Moves.{is_readable, is_group, is_group_kind, has_group, wants_number, is_number_sender, is_short}
 
 split : (a b : Bool) → (a && b) ≡ true → (a ≡ true) × (b ≡ true)
@@ -20,7 +20,7 @@ split false b e = cc
 some_is : {A : Type 0} {a b : A} → Some a ≡ Some b → a ≡ b
 some_is e = cc
 
-below : (n : Numeric) (z : ℤ) (x : Fraction) → held n (Some z) ≡ Some x → unsigned_abs x.coefficient < 10 ^ n.digits
+below : (n : Numeric) (z : ℤ) (x : Fraction) → value_if_held n (Some z) ≡ Some x → unsigned_abs x.coefficient < 10 ^ n.digits
 below n z x e = go (is_held n z) refl e
   where
     go : (b : Bool) → is_held n z ≡ b → (if b then Some (record { coefficient = z; scale = n.scale }) else None) ≡ Some x → unsigned_abs x.coefficient < 10 ^ n.digits
@@ -35,7 +35,7 @@ pub read_small : (n : Numeric) (bytes : List ℕ) (x : Fraction) → value_of n 
 unfolding value_of
 read_small n bytes x e = go (integer_in n.usage bytes) e
   where
-    go : (o : Option ℤ) → held n o ≡ Some x → unsigned_abs x.coefficient < 10 ^ n.digits
+    go : (o : Option ℤ) → value_if_held n o ≡ Some x → unsigned_abs x.coefficient < 10 ^ n.digits
     go None e = cc
     go (Some z) e = below n z x e
 
@@ -51,7 +51,7 @@ readable_form (k.Alphanumeric right) size form short other = (form.0, leb-true s
 readable_form k.AlphanumericEdited size form short other = (form.0, leb-true size 18 short)
 readable_form (k.NumericEdited blank) size form short other = (form.0, leb-true size 18 short)
 
-pub readable : (item : Item) (bytes : List ℕ) → IsOf item bytes → is_readable item.kind item.length ≡ true → ((n : Numeric) → item.kind ≡ k.Numeric n → ⊥) → (1 ≤ length bytes) × (length bytes ≤ 18)
+pub readable : (item : Item) (bytes : List ℕ) → HasLengthOf item bytes → is_readable item.kind item.length ≡ true → ((n : Numeric) → item.kind ≡ k.Numeric n → ⊥) → (1 ≤ length bytes) × (length bytes ≤ 18)
 readable item bytes h short other =
     let f = readable_form item.kind item.length h.form short other in
     let size = h.size in (omega arith, omega arith)

@@ -1,11 +1,26 @@
 //! Alphanumeric editing.
 
 ghost use Rattle.std.specs.Prelude.{◌≡◌, ◌≤◌, ◌-◌, ◌++◌, length, take, replicate};
-ghost use Rattle.picture.specs.Runs.{total};
+ghost use Rattle.picture.specs.Runs.{symbol_count};
 ghost use Rattle.picture.specs.Symbols as symbols;
 ghost use Rattle.edited_move.specs.EditedCharacters as spec;
 
 use picture::{Run, Symbol};
+
+/// Edits characters in place: those of an item, from the left, move apart for insertions, and the last ones go (COBOL-85,
+/// Nucleus, the PICTURE clause, simple insertion).
+pub fn edit_characters(runs: &[Run], bytes: &mut [u8])
+    requires { length bytes.old ≡ symbol_count runs.now }
+    ensures { bytes.new ≡ spec.edited_characters runs.now bytes.old }
+{
+    let size = bytes.len();
+    let mut left = size;
+    for run in runs {
+        let at = size - left;
+        let count = put_run(*run, &mut bytes[at..]);
+        left -= count;
+    }
+}
 
 /// A place of the symbol takes a character of the sender.
 fn is_alphanumeric(symbol: Symbol) -> bool
@@ -16,7 +31,7 @@ fn is_alphanumeric(symbol: Symbol) -> bool
 
 /// The character that B, 0 or / inserts.
 fn inserted(symbol: Symbol) -> u8
-    ensures { result ≡ spec.inserted symbol }
+    ensures { result ≡ spec.inserted_character symbol }
 {
     match symbol {
         Symbol::Zero => b'0',
@@ -39,26 +54,11 @@ fn insert_front(character: u8, count: usize, bytes: &mut [u8])
 fn put_run(run: Run, bytes: &mut [u8]) -> usize
     requires { run.count ≤ length bytes.old }
     ensures count { result ≡ run.count }
-    ensures bytes { bytes.new ≡ spec.spread run bytes.old }
+    ensures bytes { bytes.new ≡ spec.spread_characters run bytes.old }
 {
     let count = run.count as usize;
     if !is_alphanumeric(run.symbol) {
         insert_front(inserted(run.symbol), count, bytes);
     }
     count
-}
-
-/// Edits characters in place: those of an item, from the left, move apart for insertions, and the last ones go (COBOL-85,
-/// Nucleus, the PICTURE clause, simple insertion).
-pub fn edit_characters(runs: &[Run], bytes: &mut [u8])
-    requires { length bytes.old ≡ total runs.now }
-    ensures { bytes.new ≡ spec.edited_characters runs.now bytes.old }
-{
-    let size = bytes.len();
-    let mut left = size;
-    for run in runs {
-        let at = size - left;
-        let count = put_run(*run, &mut bytes[at..]);
-        left -= count;
-    }
 }

@@ -5,7 +5,7 @@ ghost use Rattle.std.specs.Option.{option_map};
 ghost use Rattle.items.specs.Numbers.{IsNumeric, length_of};
 ghost use Rattle.items.specs.Values as values;
 ghost use Rattle.items.specs.Texts.{characters_in};
-ghost use Rattle.items.specs.Items.{IsOf, IsTaken};
+ghost use Rattle.items.specs.Items.{HasLengthOf, IsTaken};
 ghost use Rattle.items.specs.Faults.{Writes};
 ghost use Rattle.edited_move.specs.Moves as spec;
 
@@ -18,44 +18,11 @@ use items::{
 /// The digits that a number has at the most.
 const MOST_DIGITS: usize = 18;
 
-fn is_group_kind(kind: Kind) -> bool
-    ensures { result ≡ spec.is_group_kind kind }
-{
-    matches!(kind, Kind::Group)
-}
-
-fn is_group(taken: Taken) -> bool
-    ensures { result ≡ spec.is_group taken }
-{
-    match taken {
-        Taken::Item(item) => is_group_kind(item.kind),
-        _ => false,
-    }
-}
-
 /// With a group on either side bytes are copied.
 pub fn has_group(receiver: Item, taken: Taken) -> bool
     ensures { result ≡ spec.has_group receiver taken }
 {
     is_group(taken) || is_group_kind(receiver.kind)
-}
-
-fn wants_number(kind: Kind) -> bool
-    ensures { result ≡ spec.wants_number kind }
-{
-    matches!(kind, Kind::Numeric(_) | Kind::NumericEdited { .. })
-}
-
-fn is_number_sender(taken: Taken) -> bool
-    ensures { result ≡ spec.is_number_sender taken }
-{
-    match taken {
-        Taken::Item(item) => match item.kind {
-            Kind::Numeric(_) => true,
-            _ => item.length <= MOST_DIGITS as u32,
-        },
-        _ => true,
-    }
 }
 
 /// Where the receiver wants a number, the sender has at most 18 characters (COBOL-85, Nucleus, the MOVE statement: a number
@@ -66,40 +33,12 @@ pub fn is_short(receiver: Item, taken: Taken) -> bool
     !wants_number(receiver.kind) || is_group(taken) || is_number_sender(taken)
 }
 
-/// The unsigned integer whose digits the characters are, if they are digits.
-#[inline(never)]
-fn characters_number(bytes: &[u8]) -> Option<Dec>
-    requires some { 1 ≤ length bytes.now }
-    requires most { length bytes.now ≤ 18 }
-    ensures { result ≡ values.value_of (spec.unsigned_integer (length bytes.now)) bytes.now }
-{
-    let integer = Numeric {
-        digits: bytes.len() as u8,
-        scale: 0,
-        usage: Usage::Display(OperationalSign::Unsigned),
-    };
-    number(integer, bytes)
-}
-
-/// The number of an item's bytes, where they hold one.
-#[inline]
-fn item_number(item: Item, bytes: &[u8]) -> Option<Dec>
-    requires of { IsOf item bytes.now }
-    requires short { spec.is_readable item.kind item.length ≡ true }
-    ensures { result ≡ spec.number_in item.kind bytes.now }
-{
-    match item.kind {
-        Kind::Numeric(numeric) => number(numeric, bytes),
-        _ => characters_number(bytes),
-    }
-}
-
 /// The number that a sender is, where its bytes hold one.
 #[inline]
 pub fn sender_number(taken: Taken, from: &[u8]) -> Option<Dec>
     requires taken { IsTaken taken from.now }
     requires short { spec.is_number_sender taken ≡ true }
-    ensures { result ≡ spec.number taken from.now }
+    ensures { result ≡ spec.sender_number taken from.now }
 {
     match taken {
         Taken::Item(item) => item_number(item, from),
@@ -109,42 +48,12 @@ pub fn sender_number(taken: Taken, from: &[u8]) -> Option<Dec>
 
 /// Writes characters from the left, or with JUSTIFIED from the right.
 pub fn put_text(right: bool, text: &[u8], bytes: &mut [u8])
-    ensures { bytes.new ≡ spec.placed right (length bytes.old) text.now }
+    ensures { bytes.new ≡ spec.aligned_characters right (length bytes.old) text.now }
 {
     if right {
         put_justified(text, bytes);
     } else {
         put_padded(text, bytes);
-    }
-}
-
-/// Writes the digits of a numeric item's number, without sign.
-fn put_number(item: Numeric, from: &[u8], right: bool, bytes: &mut [u8]) -> Result<(), DataFault>
-    requires item { IsNumeric item }
-    requires length { length from.now ≡ length_of item }
-    ensures { Writes result bytes.old bytes.new (option_map (spec.placed right (length bytes.old)) (option_map (values.digits_of item) (values.value_of item from.now))) }
-{
-    let Some(value) = number(item, from) else {
-        return Err(DataFault);
-    };
-    let mut digits = [0; MOST_DIGITS];
-    let text = &mut digits[..item.digits as usize];
-    value.digits_into(text);
-    put_text(right, text, bytes);
-    Ok(())
-}
-
-/// Writes an item's characters.
-fn put_item(item: Item, from: &[u8], right: bool, bytes: &mut [u8]) -> Result<(), DataFault>
-    requires { IsOf item from.now }
-    ensures { Writes result bytes.old bytes.new (option_map (spec.placed right (length bytes.old)) (characters_in item.kind from.now)) }
-{
-    match item.kind {
-        Kind::Numeric(numeric) => put_number(numeric, from, right, bytes),
-        _ => {
-            put_text(right, from, bytes);
-            Ok(())
-        }
     }
 }
 
@@ -174,6 +83,97 @@ pub fn put_characters(
         Taken::Item(item) => put_item(item, from, right, bytes),
         _ => {
             put_plain(taken, from, right, bytes);
+            Ok(())
+        }
+    }
+}
+
+fn is_group_kind(kind: Kind) -> bool
+    ensures { result ≡ spec.is_group_kind kind }
+{
+    matches!(kind, Kind::Group)
+}
+
+fn is_group(taken: Taken) -> bool
+    ensures { result ≡ spec.is_group taken }
+{
+    match taken {
+        Taken::Item(item) => is_group_kind(item.kind),
+        _ => false,
+    }
+}
+
+fn wants_number(kind: Kind) -> bool
+    ensures { result ≡ spec.wants_number kind }
+{
+    matches!(kind, Kind::Numeric(_) | Kind::NumericEdited { .. })
+}
+
+fn is_number_sender(taken: Taken) -> bool
+    ensures { result ≡ spec.is_number_sender taken }
+{
+    match taken {
+        Taken::Item(item) => match item.kind {
+            Kind::Numeric(_) => true,
+            _ => item.length <= MOST_DIGITS as u32,
+        },
+        _ => true,
+    }
+}
+
+/// The unsigned integer whose digits the characters are, if they are digits.
+#[inline(never)]
+fn characters_number(bytes: &[u8]) -> Option<Dec>
+    requires some { 1 ≤ length bytes.now }
+    requires most { length bytes.now ≤ 18 }
+    ensures { result ≡ values.value_of (spec.unsigned_integer (length bytes.now)) bytes.now }
+{
+    let integer = Numeric {
+        digits: bytes.len() as u8,
+        scale: 0,
+        usage: Usage::Display(OperationalSign::Unsigned),
+    };
+    number(integer, bytes)
+}
+
+/// The number of an item's bytes, where they hold one.
+#[inline]
+fn item_number(item: Item, bytes: &[u8]) -> Option<Dec>
+    requires of { HasLengthOf item bytes.now }
+    requires short { spec.is_readable item.kind item.length ≡ true }
+    ensures { result ≡ spec.number_in item.kind bytes.now }
+{
+    match item.kind {
+        Kind::Numeric(numeric) => number(numeric, bytes),
+        _ => characters_number(bytes),
+    }
+}
+
+/// Writes the digits of a numeric item's number, without sign.
+fn put_number(item: Numeric, from: &[u8], right: bool, bytes: &mut [u8]) -> Result<(), DataFault>
+    requires item { IsNumeric item }
+    requires length { length from.now ≡ length_of item }
+    ensures { Writes result bytes.old bytes.new (option_map (spec.aligned_characters right (length bytes.old)) (option_map (values.digits_of item) (values.value_of item from.now))) }
+{
+    let Some(value) = number(item, from) else {
+        return Err(DataFault);
+    };
+    let mut digits = [0; MOST_DIGITS];
+    let text = &mut digits[..item.digits as usize];
+    value.digits_into(text);
+    put_text(right, text, bytes);
+    Ok(())
+}
+
+/// Writes an item's characters.
+fn put_item(item: Item, from: &[u8], right: bool, bytes: &mut [u8]) -> Result<(), DataFault>
+    requires { HasLengthOf item from.now }
+    ensures { Writes result bytes.old bytes.new (option_map (spec.aligned_characters right (length bytes.old)) (characters_in item.kind from.now)) }
+{
+    match item.kind {
+        Kind::Numeric(numeric) => put_number(numeric, from, right, bytes),
+        _ => {
+            put_text(right, from, bytes);
             Ok(())
         }
     }

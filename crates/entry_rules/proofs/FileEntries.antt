@@ -8,7 +8,7 @@ use Rattle.source_tree.specs.declared.entry.Entry.{Entry}
 use Rattle.source_tree.specs.declared.entry.ItemEntry.{ItemEntry}
 use Rattle.source_tree.specs.declared.entry.ConditionEntry.{ConditionEntry}
 use Rattle.source_tree.specs.declared.select.FileDescription.{FileDescription}
-use Rattle.source_tree.specs.Broken.{Broken, where_so, each}
+use Rattle.source_tree.specs.Broken.{RuleBreach, where_so, each}
 use Rattle.source_tree.specs.Clauses.{nothing_around}
 use Rattle.source_tree.specs.EntryRules.{most_storage, excess}
 use Rattle.source_tree.specs.FileRules.{file_entries, record_storage_rules}
@@ -18,7 +18,7 @@ use Rattle.source_tree.specs.Records.{record_length}
 use Rattle.source_tree.specs.Rooms.{longest}
 use Rattle.entry_rules.specs.declared.record_areas.RecordAreas.{RecordAreas}
 use Rattle.entry_rules.specs.Areas.{past_rules}
-use Rattle.entry_rules.specs.RecordAreas.{with, IsWithin}
+use Rattle.entry_rules.specs.RecordAreas.{with, IsWithinLimit}
 use Rattle.entry_rules.specs.Trees.{extent}
 
 -- ---- the entries of all files
@@ -38,7 +38,7 @@ behind left xs ys h =
     let same : left ≡ length xs + (left - length xs) = omega arith in
     ap (λ n. drop n (xs ++ ys)) same ∙ drop-append-add xs ys (left - length xs)
 
-excess_front : (left : ℕ) (xs ys : List Entry) (b : Broken) → first (each excess (drop left xs)) ≡ Some b → first (each excess (drop left (xs ++ ys))) ≡ Some b
+excess_front : (left : ℕ) (xs ys : List Entry) (b : RuleBreach) → first (each excess (drop left xs)) ≡ Some b → first (each excess (drop left (xs ++ ys))) ≡ Some b
 excess_front zero [] ys b e = cc
 excess_front zero (x ∷ xs) ys b e = e
 excess_front (suc n) [] ys b e = cc
@@ -62,7 +62,7 @@ counted_next {most} {left} {all} {i} d entries h is before few =
     let count = before.count in
     record { rules = before.rules ∙ ap (drop left) split ∙ behind left entries rest few; count = omega (arith, long, both, count) }
 
-pub counted_found : {most left : ℕ} {all : List FileDescription} {i : ℕ} (d : FileDescription) (entries : List Entry) (b : Broken) → i < length all → entries ≡ (get_or all i d).entries
+pub counted_found : {most left : ℕ} {all : List FileDescription} {i : ℕ} (d : FileDescription) (entries : List Entry) (b : RuleBreach) → i < length all → entries ≡ (get_or all i d).entries
     → AreCounted most left all i → first (each excess (drop left entries)) ≡ Some b → first (each excess (drop most (file_entries all))) ≡ Some b
 counted_found {most} {left} {all} {i} d entries b h is before found =
     let rest = file_entries (drop (i + 1) all) in
@@ -89,12 +89,12 @@ step : (past : Option Place) (bytes : ℕ) (place : Place) (size : ℕ) (more : 
 step (Some at) bytes place size more = refl
 step None bytes place size more = ap (λ l. first (l ++ record_storage_rules (bytes + size) more)) (sym (same_rule (nat_lt most_storage (bytes + size)) place))
 
-within_by : (b : Bool) (n : ℕ) (place : Place) → nat_lt most_storage n ≡ b → IsWithin (if b then Some place else None) n
+within_by : (b : Bool) (n : ℕ) (place : Place) → nat_lt most_storage n ≡ b → IsWithinLimit (if b then Some place else None) n
 within_by true n place e = tt
 within_by false n place e = grind arith
 
 within_step : (past : Option Place) (bytes : ℕ) (place : Place) (size : ℕ)
-    → IsWithin (with (record { bytes = bytes; past = past }) place size).past (with (record { bytes = bytes; past = past }) place size).bytes
+    → IsWithinLimit (with (record { bytes = bytes; past = past }) place size).past (with (record { bytes = bytes; past = past }) place size).bytes
 within_step (Some at) bytes place size = tt
 within_step None bytes place size = within_by (nat_lt most_storage (bytes + size)) (bytes + size) place refl
 
@@ -109,7 +109,7 @@ areas_at all i d bytes h =
 -- the record areas of some files, which are the first of these
 pub record AreAdded (storage : ℕ) (all : List FileDescription) (i : ℕ) (areas : RecordAreas) : Type 0 where
   pub rules : first (record_storage_rules storage all) ≡ first (past_rules areas.past ++ record_storage_rules areas.bytes (drop i all))
-  pub within : IsWithin areas.past areas.bytes
+  pub within : IsWithinLimit areas.past areas.bytes
 
 pub added_none : (storage : ℕ) (all : List FileDescription) (areas : RecordAreas) → areas ≡ record { bytes = storage; past = None } → storage ≤ most_storage → AreAdded storage all 0 areas
 added_none storage all areas e few = subst (AreAdded storage all 0) (sym e) (record { rules = refl; within = few })

@@ -7,9 +7,9 @@ use Rattle.source_tree.specs.declared.entry.Entry.{Entry}
 use Rattle.source_tree.specs.declared.entry.Entry.TheVariants.{Item, Condition}
 use Rattle.source_tree.specs.Broken.{where_so, each}
 use Rattle.source_tree.specs.Integers.{number_of}
-use Rattle.source_tree.specs.Levels.{Forest, End, Tree, level_of, deeper, beyond, nested}
+use Rattle.source_tree.specs.Levels.{Forest, End, Tree, level_of, deeper, beyond, forest_of}
 use Rattle.source_tree.specs.EntryRules.{is_level, level_rules}
-use Rattle.entries.specs.Nesting.{HasLevel}
+use Rattle.data_entries.specs.Nesting.{HasLevel}
 use Rattle.entry_rules.specs.Walk.{HasLevels, HasFirstLevel}
 
 levels_if : (b : Bool) (F G : Forest) → HasLevels F → HasLevels G → HasLevels (if b then F else G)
@@ -62,11 +62,11 @@ known one e =
     known_by (number_of one.level == 77) (number_of one.level) refl (true_where (is_level (number_of one.level)) (kept (not (is_level (number_of one.level))) 43 one.level.place e))
 
 -- Entries whose level numbers are some have levels that are told as they are.
-pub levels : (entries : List Entry) → each level_rules entries ≡ [] → HasLevels (nested entries)
+pub levels : (entries : List Entry) → each level_rules entries ≡ [] → HasLevels (forest_of entries)
 levels [] e = tt
 levels (Item one ∷ more) e =
     let rest = levels more (back_nil (level_rules (Item one)) (each level_rules more) e) in
-    (known one (front_nil (level_rules (Item one)) (each level_rules more) e), levels_deeper (level_of one) (nested more) rest, levels_beyond (level_of one) (nested more) rest)
+    (known one (front_nil (level_rules (Item one)) (each level_rules more) e), levels_deeper (level_of one) (forest_of more) rest, levels_beyond (level_of one) (forest_of more) rest)
 levels (Condition one ∷ more) e = levels more e
 
 pub first_levels : (F : Forest) → HasLevels F → HasFirstLevel F

@@ -7,7 +7,7 @@ use Rattle.source_tree.specs.declared.entry.ConditionEntry.{ConditionEntry}
 use Rattle.source_tree.specs.Levels.{Forest}
 use Rattle.source_tree.specs.Clauses.{occurrences}
 use Rattle.source_tree.specs.Rooms.{redefines}
-use Rattle.source_tree.specs.Broken.{Broken, each}
+use Rattle.source_tree.specs.Broken.{RuleBreach, each}
 use Rattle.source_tree.specs.LookUp.{first}
 use Rattle.source_tree.specs.RedefinitionRules.{Redefinable}
 use Rattle.source_tree.specs.ValueRules.{value_rules, condition_rules}
@@ -17,11 +17,11 @@ use Rattle.entry_rules.specs.Walk.{is_outermost}
 use Rattle.entry_rules.specs.Own.{form_rules, later_rules, entry_rules}
 use Rattle.entry_rules.proofs.Firsts.{first_front}
 
-pub own_found : (at : Position) (one : ItemEntry) (item : Item) (inner : Forest) (last : Option Redefinable) (b : Broken) → first (form_rules at one item inner) ≡ Some b → first (later_rules at one item inner last) ≡ Some b
+pub own_found : (at : Position) (one : ItemEntry) (item : Item) (inner : Forest) (last : Option Redefinable) (b : RuleBreach) → first (form_rules at one item inner) ≡ Some b → first (later_rules at one item inner last) ≡ Some b
 own_found at one item inner last b h =
-    let redefinition : List Broken = redefinition_rules (is_outermost at && at.in_file) one (occurrences one * item.length) one.redefines last in
+    let redefinition : List RuleBreach = redefinition_rules (is_outermost at && at.in_file) one (occurrences one * item.length) one.redefines last in
     first_front (form_rules at one item inner ++ redefinition) (value_rules (at.in_file || at.has_no_value || redefines one) item one.value) b (first_front (form_rules at one item inner) redefinition b h)
 
-pub entry_found : (at : Position) (one : ItemEntry) (conditions : List ConditionEntry) (item : Item) (inner : Forest) (last : Option Redefinable) (b : Broken) → first (later_rules at one item inner last) ≡ Some b
+pub entry_found : (at : Position) (one : ItemEntry) (conditions : List ConditionEntry) (item : Item) (inner : Forest) (last : Option Redefinable) (b : RuleBreach) → first (later_rules at one item inner last) ≡ Some b
     → first (entry_rules at one conditions item inner last) ≡ Some b
 entry_found at one conditions item inner last b h = first_front (later_rules at one item inner last) (each (condition_rules item) conditions) b h

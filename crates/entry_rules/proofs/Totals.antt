@@ -5,15 +5,15 @@ use Rattle.std.proofs.lemmas.List.Sums.{sum_by-cons}
 use Rattle.lexical.specs.declared.place.Place.{Place}
 use Rattle.source_tree.specs.declared.entry.ItemEntry.{ItemEntry}
 use Rattle.source_tree.specs.declared.entry.ConditionEntry.{ConditionEntry}
-use Rattle.source_tree.specs.Levels.{Forest, End, Tree, nested, leading}
+use Rattle.source_tree.specs.Levels.{Forest, End, Tree, forest_of, leading_conditions}
 use Rattle.source_tree.specs.Clauses.{nothing_around}
-use Rattle.source_tree.specs.Rooms.{redefines, longest, redefining, area_length, area_lengths}
+use Rattle.source_tree.specs.Rooms.{redefines, longest, leading_redefinitions, area_length, area_lengths}
 use Rattle.source_tree.specs.Broken.{where_so, each}
 use Rattle.source_tree.specs.declared.entry.Entry.{Entry}
 use Rattle.source_tree.specs.EntryRules.{most_entries, most_storage, outermost, excess, level_rules, homeless, forest_rules, storage_rules, entry_rules}
 use Rattle.entry_rules.specs.declared.storage.Area.{Area}
 use Rattle.entry_rules.specs.declared.storage.Areas.{Areas}
-use Rattle.entry_rules.specs.Areas.{bytes_of_last, bytes_in, redefined, with}
+use Rattle.entry_rules.specs.Areas.{bytes_of_last, bytes_in, redefined_area, with}
 use Rattle.entry_rules.specs.Trees.{extent}
 use Rattle.entry_rules.proofs.LevelLaws.{kept, front_nil, back_nil}
 
@@ -21,14 +21,14 @@ use Rattle.entry_rules.proofs.LevelLaws.{kept, front_nil, back_nil}
 abbrev pub total : ℕ → Option Area → Forest → ℕ
 total before last End = before + bytes_of_last last
 total before last (Tree one conditions inner next) =
-    if redefines one then total before (redefined (extent nothing_around one inner) last) next
+    if redefines one then total before (redefined_area (extent nothing_around one inner) last) next
     else total (before + bytes_of_last last) (Some (record { place = one.level.place; longest = extent nothing_around one inner })) next
 
 sum_cons : (x : ℕ) (xs : List ℕ) → sum (x ∷ xs) ≡ x + sum xs
 sum_cons x xs = sum_by-cons (λ y. y) x xs
 
 abbrev front : Forest → ℕ
-front F = longest nothing_around (redefining F)
+front F = longest nothing_around (leading_redefinitions F)
 
 area_tree : (b : Bool) (before bytes : ℕ) (place : Place) (one : ItemEntry) (conditions : List ConditionEntry) (inner next : Forest) → redefines one ≡ b
     → total before (Some (record { place = place; longest = max bytes (extent nothing_around one inner) })) next ≡ before + max (max bytes (extent nothing_around one inner)) (front next) + sum (area_lengths next)
@@ -106,11 +106,11 @@ most_bytes before (Tree one conditions inner next) h e =
     (λ k fits. most_bytes (before + area_length one conditions inner next) next fits k) e
 
 -- Working storage that keeps its rules keeps the limit.
-pub storage_within : (entries : List Entry) → entry_rules entries ≡ [] → sum (area_lengths (nested entries)) ≤ most_storage
+pub storage_within : (entries : List Entry) → entry_rules entries ≡ [] → sum (area_lengths (forest_of entries)) ≤ most_storage
 storage_within entries e =
-    let F = nested entries in
+    let F = forest_of entries in
     let trees = forest_rules (outermost false) None F in
-    let homes = each homeless (leading entries) in
+    let homes = each homeless (leading_conditions entries) in
     let levels = each level_rules entries in
     let behind = storage_rules 0 F in
     let own = back_nil trees behind (back_nil homes (trees ++ behind) (back_nil levels (homes ++ (trees ++ behind)) (back_nil (each excess (drop most_entries entries)) (levels ++ (homes ++ (trees ++ behind))) e))) in

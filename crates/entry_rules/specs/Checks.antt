@@ -1,6 +1,6 @@
 -- What a check answers of rules that are looked for in order: the first one that is broken, or that none is.
 use Rattle.std.specs.Prelude.{◌≡◌, ℕ, List, [], Option, Some, None, Result, Ok, Err}
-use Rattle.source_tree.specs.Broken.{Broken}
+use Rattle.source_tree.specs.Broken.{RuleBreach}
 use Rattle.source_tree.specs.LookUp.{first}
 use Rattle.entry_rules.specs.declared.rule.Rule.{Rule}
 use Rattle.entry_rules.specs.declared.rule.Rule.TheVariants as rule
@@ -42,23 +42,23 @@ number_of rule.AllLiteral = 67
 number_of rule.NoCondition = 68
 number_of rule.Limit = 69
 
-abbrev pub broken_of : BrokenRule → Broken
+abbrev pub broken_of : BrokenRule → RuleBreach
 broken_of one = record { rule = number_of one.rule; place = one.place }
 
-abbrev pub fault_of : CheckError → Option Broken
+abbrev pub fault_of : CheckError → Option RuleBreach
 fault_of Memory = None
 fault_of (Refused one) = Some (broken_of one)
 
 -- A check that takes no memory: none of the rules is broken, or this is the first that is.
-abbrev pub Finds : {A : Type 0} → Result A BrokenRule → List Broken → Type 0
-Finds (Ok value) rules = rules ≡ []
-Finds (Err one) rules = first rules ≡ Some (broken_of one)
+abbrev pub IsFirstBreach : {A : Type 0} → Result A BrokenRule → List RuleBreach → Type 0
+IsFirstBreach (Ok value) rules = rules ≡ []
+IsFirstBreach (Err one) rules = first rules ≡ Some (broken_of one)
 
-abbrev pub IsFirst : Option Broken → List Broken → Type 0
+abbrev pub IsFirst : Option RuleBreach → List RuleBreach → Type 0
 IsFirst None rules = Unit {0}
 IsFirst (Some one) rules = first rules ≡ Some one
 
 -- The same of a check that may be out of memory, of which the rules say nothing.
-abbrev pub Tells : {A : Type 0} → Result A CheckError → List Broken → Type 0
-Tells (Ok value) rules = rules ≡ []
-Tells (Err e) rules = IsFirst (fault_of e) rules
+abbrev pub IsFirstFault : {A : Type 0} → Result A CheckError → List RuleBreach → Type 0
+IsFirstFault (Ok value) rules = rules ≡ []
+IsFirstFault (Err e) rules = IsFirst (fault_of e) rules

@@ -16,9 +16,9 @@ is_numeral (literal.Numeric one) = true
 is_numeral (literal.Figurative figurative.Zero) = true
 is_numeral _ = false
 
-abbrev pub is_text : LiteralValue → Bool
-is_text (literal.Numeric one) = false
-is_text _ = true
+abbrev pub is_text_literal : LiteralValue → Bool
+is_text_literal (literal.Numeric one) = false
+is_text_literal _ = true
 
 pub record IsNumeral (value : LiteralValue) : Type 0 where
   pub form : has_form value ≡ true
@@ -26,11 +26,11 @@ pub record IsNumeral (value : LiteralValue) : Type 0 where
 
 pub record IsText (value : LiteralValue) : Type 0 where
   pub form : has_form value ≡ true
-  pub class : is_text value ≡ true
+  pub class : is_text_literal value ≡ true
 
-abbrev pub number : LiteralValue → Fraction
-number (literal.Numeric one) = literal_number one
-number _ = record { coefficient = pos 0; scale = 0 }
+abbrev pub number_of_literal : LiteralValue → Fraction
+number_of_literal (literal.Numeric one) = literal_number one
+number_of_literal _ = record { coefficient = pos 0; scale = 0 }
 
 abbrev pub text_taken : List ℕ → Taken
 text_taken bytes = taken.Item (record { kind = kind.Alphanumeric false; length = length bytes })

@@ -10,8 +10,8 @@ use Rattle.entry_rules.specs.declared.record_areas.RecordAreas.{RecordAreas}
 abbrev pub length_of : FileDescription → ℕ
 length_of one = record_length one.entries
 
-abbrev pub after : ℕ → RecordAreas
-after bytes = record { bytes = bytes; past = None }
+abbrev pub areas_of_bytes : ℕ → RecordAreas
+areas_of_bytes bytes = record { bytes = bytes; past = None }
 
 abbrev pub past_at : ℕ → Place → Option Place
 past_at bytes place = if nat_lt most_storage bytes then Some place else None
@@ -25,6 +25,6 @@ abbrev pub with : RecordAreas → Place → ℕ → RecordAreas
 with areas place bytes = with_past areas.past areas place bytes
 
 -- what is counted: no more than the limit, but where an area went past it
-abbrev pub IsWithin : Option Place → ℕ → Type 0
-IsWithin (Some past) bytes = Unit {0}
-IsWithin None bytes = bytes ≤ most_storage
+abbrev pub IsWithinLimit : Option Place → ℕ → Type 0
+IsWithinLimit (Some past) bytes = Unit {0}
+IsWithinLimit None bytes = bytes ≤ most_storage

@@ -8,11 +8,11 @@ use Rattle.source_tree.specs.Levels.{Forest}
 use Rattle.source_tree.specs.Clauses.{occurrences, picture_in}
 use Rattle.source_tree.specs.Rooms.{redefines, item_with}
 use Rattle.source_tree.specs.ClauseRules.{most_item_bytes, most_occurrences}
-use Rattle.source_tree.specs.Broken.{Broken, each}
+use Rattle.source_tree.specs.Broken.{RuleBreach, each}
 use Rattle.source_tree.specs.RedefinitionRules.{Redefinable}
 use Rattle.source_tree.specs.ValueRules.{condition_rules}
 use Rattle.source_tree.specs.EntryRules.{below, own_rules, forest_rules}
-use Rattle.entries.specs.Forms.{IsKind}
+use Rattle.data_entries.specs.Forms.{IsKind}
 use Rattle.entry_rules.specs.declared.described.Described.{Described}
 use Rattle.entry_rules.specs.declared.position.Position.{Position}
 use Rattle.entry_rules.specs.Walk.{at_of}
@@ -25,11 +25,11 @@ extent around one inner = occurrences one * (item_with around one inner).length
 abbrev pub most_extent : ℕ
 most_extent = 4294836225
 
-abbrev pub taken : ItemEntry → ℕ → ℕ
-taken one bytes = if redefines one then 0 else bytes
+abbrev pub own_bytes : ItemEntry → ℕ → ℕ
+own_bytes one bytes = if redefines one then 0 else bytes
 
 -- The entry with its picture and its item, which keeps the limits of sizes.
-pub record IsOf (around : Around) (wanted : ItemEntry) (inner : Forest) (one : Described) : Type 0 where
+pub record DescribesEntry (around : Around) (wanted : ItemEntry) (inner : Forest) (one : Described) : Type 0 where
   pub entry : one.entry.now ≡ wanted
   pub picture : one.picture ≡ picture_in wanted
   pub item : one.item ≡ item_with around wanted inner
@@ -38,7 +38,7 @@ pub record IsOf (around : Around) (wanted : ItemEntry) (inner : Forest) (one : D
   pub bytes : one.item.length ≤ most_item_bytes
 
 -- Those in it, its own, and those of its condition names.
-abbrev pub item_rules : Position → ItemEntry → List ConditionEntry → Forest → Option Redefinable → List Broken
+abbrev pub item_rules : Position → ItemEntry → List ConditionEntry → Forest → Option Redefinable → List RuleBreach
 item_rules at one conditions inner last =
     let item : Item = item_with at.around one inner in
     forest_rules (below (at_of at) one inner) None inner ++ (own_rules (at_of at) one item inner last ++ each (condition_rules item) conditions)

@@ -3,7 +3,7 @@ use Rattle.std.specs.Prelude.{◌≡◌, ℕ, ◌+◌, ◌≤◌, ◌<◌, Bool,
 use Rattle.source_tree.specs.declared.entry.ItemEntry.{ItemEntry}
 use Rattle.source_tree.specs.declared.entry.Entry.{Entry}
 use Rattle.source_tree.specs.Integers.{number_of}
-use Rattle.source_tree.specs.Levels.{Forest, End, Tree, nested}
+use Rattle.source_tree.specs.Levels.{Forest, End, Tree, forest_of}
 use Rattle.source_tree.specs.EntryRules as rules
 use Rattle.source_tree.specs.RedefinitionRules as redefinition
 use Rattle.entry_rules.specs.declared.position.Position.{Position}
@@ -48,5 +48,5 @@ IsOfTree End one = ⊥
 IsOfTree (Tree other conditions inner next) one = other ≡ one
 
 abbrev pub IsFirstItem : List Entry → Option ItemEntry → Type 0
-IsFirstItem entries None = nested entries ≡ End
-IsFirstItem entries (Some one) = IsOfTree (nested entries) one
+IsFirstItem entries None = forest_of entries ≡ End
+IsFirstItem entries (Some one) = IsOfTree (forest_of entries) one

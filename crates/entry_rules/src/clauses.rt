@@ -7,13 +7,25 @@ ghost use Rattle.entry_rules.specs.Walk.{is_outermost};
 
 use crate::described::Described;
 use crate::position::Position;
-use entries::{occurrences, usage};
+use data_entries::{occurrences, usage};
 use items::{Kind, Usage};
 use picture::{Category, Picture, Suppression};
 use source_tree::{Around, ItemEntry, UsageClause};
 
 /// Dimensions of one table.
 const MOST_DIMENSIONS: u32 = 7;
+
+/// A clause is wrong where it stands.
+pub fn wrong_clause(at: Position, one: &Described<'_>) -> bool
+    requires { one.now.picture ≡ picture_in one.now.entry.now }
+    ensures { result ≡ spec.wrong_clause (is_outermost at) at.nesting at.around one.now.entry.now one.now.item }
+{
+    wrong_occurs(at.is_outermost(), at.nesting, one.entry)
+        || (one.entry.justified && !may_be_justified(one.item.kind))
+        || wrong_blank(at.around, one)
+        || wrong_form(at.around, one)
+        || another_usage(one.entry.usage, at.around.usage)
+}
 
 fn wrong_occurs(is_outermost: bool, nesting: u32, entry: &ItemEntry) -> bool
     ensures { result ≡ spec.wrong_occurs is_outermost nesting entry.now }
@@ -94,16 +106,4 @@ fn another_usage(own: Option<UsageClause>, other: Option<UsageClause>) -> bool
         (Some(one), Some(two)) => one != two,
         _ => false,
     }
-}
-
-/// A clause is wrong where it stands.
-pub fn wrong_clause(at: Position, one: &Described<'_>) -> bool
-    requires { one.now.picture ≡ picture_in one.now.entry.now }
-    ensures { result ≡ spec.wrong_clause (is_outermost at) at.nesting at.around one.now.entry.now one.now.item }
-{
-    wrong_occurs(at.is_outermost(), at.nesting, one.entry)
-        || (one.entry.justified && !may_be_justified(one.item.kind))
-        || wrong_blank(at.around, one)
-        || wrong_form(at.around, one)
-        || another_usage(one.entry.usage, at.around.usage)
 }

@@ -5,13 +5,13 @@ ghost use Rattle.std.specs.Prelude.{◌≡◌, ◌≤◌, ◌∷◌, [], length,
 ghost use Rattle.std.specs.Option.{option_copied};
 ghost use Rattle.items.specs.Items.{IsTaken};
 ghost use Rattle.items.specs.Texts.{character_of};
-ghost use Rattle.text_ops.specs.Compare.{compared};
+ghost use Rattle.text_ops.specs.Compare.{comparison_of};
 ghost use Rattle.source_tree.specs.Broken.{each};
-ghost use Rattle.source_tree.specs.Levels.{leading};
+ghost use Rattle.source_tree.specs.Levels.{leading_conditions};
 ghost use Rattle.source_tree.specs.Literals as literals;
 ghost use Rattle.source_tree.specs.ValueRules as spec;
-ghost use Rattle.entries.specs.Forms.{IsKind};
-ghost use Rattle.entry_rules.specs.Checks.{Finds};
+ghost use Rattle.data_entries.specs.Forms.{IsKind};
+ghost use Rattle.entry_rules.specs.Checks.{IsFirstBreach};
 ghost use Rattle.entry_rules.specs.Ranges as ranges;
 ghost use Rattle.entry_rules.specs.Ranges.{IsNumeral, IsText};
 
@@ -24,10 +24,23 @@ use source_tree::{Entry, Figurative, LiteralValue, ValueRange};
 use std::cmp::Ordering;
 use text_ops::compare;
 
+/// The values of an item's condition names, which stand at the front of the entries behind it.
+pub fn conditions_rules(item: Item, entries: &[Entry]) -> Result<(), BrokenRule>
+    requires { IsKind item.kind }
+    ensures { IsFirstBreach result (each (spec.condition_rules item) (leading_conditions entries.now)) }
+{
+    let mut rest = entries;
+    'conditions: while let [Entry::Condition(one), more @ ..] = rest {
+        condition_rules(item, one.values.as_slice())?;
+        rest = more;
+    }
+    Ok(())
+}
+
 /// The number of a numeric literal, or of ZERO.
 fn number(value: &LiteralValue) -> Dec
     requires { IsNumeral value.now }
-    ensures { result ≡ ranges.number value.now }
+    ensures { result ≡ ranges.number_of_literal value.now }
 {
     match value {
         LiteralValue::Numeric(one) => literal_number(one).unwrap_or(Dec::new(0, 0)),
@@ -49,7 +62,7 @@ fn is_greater_number(first: &LiteralValue, last: &LiteralValue) -> bool
 fn is_greater_text(one: Taken, ones: &[u8], other: Taken, others: &[u8]) -> bool
     requires one { IsTaken one ones.now }
     requires other { IsTaken other others.now }
-    ensures { result ≡ spec.is_greater (compared one ones.now other others.now) }
+    ensures { result ≡ spec.is_greater (comparison_of one ones.now other others.now) }
 {
     matches!(compare(one, ones, other, others), Ok(Ordering::Greater))
 }
@@ -144,7 +157,7 @@ fn is_backwards(item: Item, first: &LiteralValue, last: &LiteralValue) -> bool
 /// The values of a range.
 fn range_rules(item: Item, one: &ValueRange) -> Result<(), BrokenRule>
     requires { IsKind item.kind }
-    ensures { Finds result (spec.range_rules item one.now) }
+    ensures { IsFirstBreach result (spec.range_rules item one.now) }
 {
     let first = &one.first;
     let wrong_first = wrong_value(item, &first.value);
@@ -160,23 +173,10 @@ fn range_rules(item: Item, one: &ValueRange) -> Result<(), BrokenRule>
 /// The values of a condition name.
 fn condition_rules(item: Item, ranges: &[ValueRange]) -> Result<(), BrokenRule>
     requires { IsKind item.kind }
-    ensures { Finds result (each (spec.range_rules item) ranges.now) }
+    ensures { IsFirstBreach result (each (spec.range_rules item) ranges.now) }
 {
     for range in ranges {
         range_rules(item, range)?;
-    }
-    Ok(())
-}
-
-/// The values of an item's condition names, which stand at the front of the entries behind it.
-pub fn conditions_rules(item: Item, entries: &[Entry]) -> Result<(), BrokenRule>
-    requires { IsKind item.kind }
-    ensures { Finds result (each (spec.condition_rules item) (leading entries.now)) }
-{
-    let mut rest = entries;
-    'conditions: while let [Entry::Condition(one), more @ ..] = rest {
-        condition_rules(item, one.values.as_slice())?;
-        rest = more;
     }
     Ok(())
 }

@@ -4,12 +4,12 @@ ghost use Rattle.std.specs.Prelude.{◌≡◌, ◌≤◌, ◌*◌, ◌++◌, ◌
 ghost use Rattle.source_tree.specs.Broken.{where_so};
 ghost use Rattle.source_tree.specs.Clauses as clauses;
 ghost use Rattle.source_tree.specs.ClauseRules.{most_item_bytes, most_occurrences, too_many};
-ghost use Rattle.entries.specs.Forms.{IsKind};
-ghost use Rattle.entry_rules.specs.Checks.{Finds};
+ghost use Rattle.data_entries.specs.Forms.{IsKind};
+ghost use Rattle.entry_rules.specs.Checks.{IsFirstBreach};
 ghost use Rattle.entry_rules.specs.Described as spec;
 
 use crate::rule::{BrokenRule, Rule};
-use entries::{elementary, elementary_length, occurrences};
+use data_entries::{elementary, elementary_length, occurrences};
 use items::{Item, Kind};
 use picture::Picture;
 use source_tree::{Around, ItemEntry};
@@ -55,7 +55,7 @@ fn item(around: Around, entry: &ItemEntry, picture: &Option<Picture>, within: u6
 
 /// How often an entry occurs, and how many bytes its item has.
 fn sizes(entry: &ItemEntry, length: u128) -> Result<(), BrokenRule>
-    ensures rules { Finds result (where_so (too_many entry.now) 69 entry.now.level.place ++ where_so (spec.is_above most_item_bytes length) 48 entry.now.level.place) }
+    ensures rules { IsFirstBreach result (where_so (too_many entry.now) 69 entry.now.level.place ++ where_so (spec.is_above most_item_bytes length) 48 entry.now.level.place) }
     ensures times { OnOk result (clauses.occurrences entry.now ≤ most_occurrences) }
     ensures bytes { OnOk result (length ≤ most_item_bytes) }
 {
@@ -72,7 +72,7 @@ impl<'a> Described<'a> {
         picture: Option<Picture>,
         within: u64,
     ) -> Result<Described<'a>, BrokenRule>
-        ensures rules { Finds result (spec.size_rules entry.now (clauses.item_by around entry.now picture within)) }
+        ensures rules { IsFirstBreach result (spec.size_rules entry.now (clauses.item_by around entry.now picture within)) }
         ensures item { IfOk result (λ one. spec.IsDescribed around entry.now picture within one) }
         ensures times { OnOk result (clauses.occurrences entry.now ≤ most_occurrences) }
         ensures bytes { OnOk result ((clauses.item_by around entry.now picture within).length ≤ most_item_bytes) }

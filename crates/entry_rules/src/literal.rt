@@ -18,26 +18,6 @@ const MOST_DIGITS: usize = 18;
 /// The most characters of a nonnumeric literal (own choice).
 const MOST_CHARACTERS: usize = 160;
 
-/// The number that 1 to 18 digits write, if they are digits.
-fn digits_number(whole: &[u8], decimals: &[u8]) -> Option<u64>
-    requires { length whole.now + length decimals.now ≤ 18 }
-    ensures value { result ≡ (if list_all is_ascii_digit whole.now && list_all is_ascii_digit decimals.now then Some (digits_behind 0 (whole.now ++ decimals.now)) else None) }
-    ensures bound { IfSome result (λ n. n < 10 ^ 18) }
-{
-    let front = number_behind(0, whole)?;
-    number_behind(front, decimals)
-}
-
-/// There are 1 to 18 digits.
-fn is_digit_count(whole: usize, decimals: usize) -> bool
-    ensures { result ≡ spec.are_some spec.most_literal_digits (whole + decimals) }
-{
-    whole <= MOST_DIGITS
-        && decimals <= MOST_DIGITS
-        && 0 < whole + decimals
-        && whole + decimals <= MOST_DIGITS
-}
-
 /// The number of a literal that has the form of one.
 pub fn literal_number(one: &NumericLiteral) -> Option<Dec>
     ensures { result ≡ (if spec.has_form (literal.Numeric one.now) then Some (literals.literal_number one.now) else None) }
@@ -70,16 +50,36 @@ pub fn has_form(value: &LiteralValue) -> bool
     }
 }
 
-fn are_digits(bytes: &[u8]) -> bool
-    ensures { result ≡ list_all is_ascii_digit bytes.now }
-{
-    bytes.iter().all(|byte| byte.is_ascii_digit())
-}
-
 /// An integer has its form: 1 to 18 digits.
 pub fn is_integer(one: &Integer) -> bool
     ensures { result ≡ names.is_integer one.now }
 {
     let digits = one.digits.as_slice();
     are_digits(digits) && 1 <= digits.len() && digits.len() <= MOST_DIGITS
+}
+
+/// The number that 1 to 18 digits write, if they are digits.
+fn digits_number(whole: &[u8], decimals: &[u8]) -> Option<u64>
+    requires { length whole.now + length decimals.now ≤ 18 }
+    ensures value { result ≡ (if list_all is_ascii_digit whole.now && list_all is_ascii_digit decimals.now then Some (digits_behind 0 (whole.now ++ decimals.now)) else None) }
+    ensures bound { IfSome result (λ n. n < 10 ^ 18) }
+{
+    let front = number_behind(0, whole)?;
+    number_behind(front, decimals)
+}
+
+/// There are 1 to 18 digits.
+fn is_digit_count(whole: usize, decimals: usize) -> bool
+    ensures { result ≡ spec.are_some spec.most_literal_digits (whole + decimals) }
+{
+    whole <= MOST_DIGITS
+        && decimals <= MOST_DIGITS
+        && 0 < whole + decimals
+        && whole + decimals <= MOST_DIGITS
+}
+
+fn are_digits(bytes: &[u8]) -> bool
+    ensures { result ≡ list_all is_ascii_digit bytes.now }
+{
+    bytes.iter().all(|byte| byte.is_ascii_digit())
 }

@@ -4,13 +4,13 @@ ghost use Rattle.std.specs.Prelude.{◌≡◌, ◌&&◌, ◌||◌, ◌<◌};
 ghost use Rattle.std.specs.Option.{option_copied};
 ghost use Rattle.source_tree.specs.EntryRules as rules;
 ghost use Rattle.source_tree.specs.Integers.{number_of};
-ghost use Rattle.source_tree.specs.Levels.{nested};
+ghost use Rattle.source_tree.specs.Levels.{forest_of};
 ghost use Rattle.source_tree.specs.ClauseRules.{has_items};
 ghost use Rattle.source_tree.specs.Clauses.{nothing_around};
 ghost use Rattle.source_tree.specs.Rooms.{redefines};
 ghost use Rattle.entry_rules.specs.Walk as spec;
 
-use entries::{inside, number};
+use data_entries::{inside, number};
 use source_tree::{Around, Entry, ItemEntry};
 
 /// The level of a record.
@@ -46,15 +46,15 @@ fn first_item(entries: &[Entry]) -> Option<&ItemEntry>
 
 /// There is an item among the entries.
 pub fn has_item(entries: &[Entry]) -> bool
-    ensures { result ≡ has_items (nested entries.now) }
+    ensures { result ≡ has_items (forest_of entries.now) }
 {
     first_item(entries).is_some()
 }
 
 /// The level of the first item, and 0 where there is none.
 fn first_level(entries: &[Entry]) -> u32
-    requires { spec.HasFirstLevel (nested entries.now) }
-    ensures { result ≡ rules.first_level (nested entries.now) }
+    requires { spec.HasFirstLevel (forest_of entries.now) }
+    ensures { result ≡ rules.first_level (forest_of entries.now) }
 {
     match first_item(entries) {
         Some(one) => number(&one.level),
@@ -101,9 +101,9 @@ impl Position {
 
     /// Of the entries in a group that stands here.
     pub fn below(self, group: &ItemEntry, inner: &[Entry]) -> Position
-        requires level { spec.HasFirstLevel (nested inner.now) }
+        requires level { spec.HasFirstLevel (forest_of inner.now) }
         requires nesting { self.nesting < 5000 }
-        ensures value { spec.at_of result ≡ rules.below (spec.at_of self) group.now (nested inner.now) }
+        ensures value { spec.at_of result ≡ rules.below (spec.at_of self) group.now (forest_of inner.now) }
         ensures nesting { spec.IsBelow self.nesting result.nesting }
     {
         Position {
@@ -118,7 +118,7 @@ impl Position {
     /// An entry of this level can't stand here: 01 and 77 stand outermost; 77 is no record of a file, and holds no items; the
     /// items of a group have one level.
     pub fn is_wrong_level(self, level: u32, inner: &[Entry]) -> bool
-        ensures { result ≡ rules.wrong_level self.in_file self.level level (nested inner.now) }
+        ensures { result ≡ rules.wrong_level self.in_file self.level level (forest_of inner.now) }
     {
         match self.level {
             None => {

@@ -2,7 +2,7 @@
 
 ghost use Rattle.std.specs.Prelude.{◌≡◌};
 ghost use Rattle.entry_rules.specs.Areas.{past_rules};
-ghost use Rattle.entry_rules.specs.Checks.{Finds};
+ghost use Rattle.entry_rules.specs.Checks.{IsFirstBreach};
 ghost use Rattle.entry_rules.specs.RecordAreas as spec;
 
 use crate::rule::{BrokenRule, Rule};
@@ -21,7 +21,7 @@ pub struct RecordAreas {
 impl RecordAreas {
     /// No record area, behind so many bytes of working storage.
     pub fn after(bytes: u64) -> RecordAreas
-        ensures { result ≡ spec.after bytes }
+        ensures { result ≡ spec.areas_of_bytes bytes }
     {
         RecordAreas { bytes, past: None }
     }
@@ -29,7 +29,7 @@ impl RecordAreas {
     /// With the record area of one more file, which is described at that place. Behind the first that goes past the limit
     /// nothing is counted.
     pub fn with(self, place: Place, bytes: u32) -> RecordAreas
-        requires { spec.IsWithin self.past self.bytes }
+        requires { spec.IsWithinLimit self.past self.bytes }
         ensures { result ≡ spec.with self place bytes }
     {
         if self.past.is_some() {
@@ -48,7 +48,7 @@ impl RecordAreas {
 
     /// No area goes past the limit.
     pub fn rules(self) -> Result<(), BrokenRule>
-        ensures { Finds result (past_rules self.past) }
+        ensures { IsFirstBreach result (past_rules self.past) }
     {
         match self.past {
             Some(place) => Rule::Size.broken_if(true, place),

@@ -5,11 +5,11 @@ ghost use Rattle.source_tree.specs.EntryRules.{redefinition_rules};
 ghost use Rattle.source_tree.specs.Integers.{number_of};
 ghost use Rattle.source_tree.specs.Names as names;
 ghost use Rattle.source_tree.specs.RedefinitionRules as spec;
-ghost use Rattle.entry_rules.specs.Checks.{Finds};
+ghost use Rattle.entry_rules.specs.Checks.{IsFirstBreach};
 ghost use Rattle.entry_rules.specs.Walk.{HasLevelLast, redefinable_of};
 
 use crate::rule::{BrokenRule, Rule};
-use entries::number;
+use data_entries::number;
 use source_tree::{ItemEntry, Name};
 
 /// The level of records, which may be redefined by longer ones.
@@ -29,7 +29,7 @@ pub fn remembered<'a>(
     bytes: u64,
     last: Option<Redefinable<'a>>,
 ) -> Option<Redefinable<'a>>
-    ensures { redefinable_of result ≡ spec.remembered entry.now bytes (redefinable_of last.entry) }
+    ensures { redefinable_of result ≡ spec.redefinable_after entry.now bytes (redefinable_of last.entry) }
 {
     if entry.redefines.is_some() {
         last
@@ -72,7 +72,7 @@ pub fn redefinition_rules(
 ) -> Result<(), BrokenRule>
     requires own { number_of entry.now.level < 100000 }
     requires level { HasLevelLast last }
-    ensures { Finds result (redefinition_rules is_record entry.now bytes entry.now.redefines (redefinable_of last.entry)) }
+    ensures { IsFirstBreach result (redefinition_rules is_record entry.now bytes entry.now.redefines (redefinable_of last.entry)) }
 {
     match &entry.redefines {
         Some(name) => {

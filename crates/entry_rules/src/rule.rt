@@ -2,7 +2,7 @@
 
 ghost use Rattle.std.specs.Prelude.{◌≡◌};
 ghost use Rattle.source_tree.specs.Broken.{where_so};
-ghost use Rattle.entry_rules.specs.Checks.{Finds, number_of};
+ghost use Rattle.entry_rules.specs.Checks.{IsFirstBreach, number_of};
 
 use source_tree::Place;
 use std::alloc::{AllocError, AllocFailed};
@@ -119,7 +119,7 @@ impl Rule {
 
     /// The rule is broken at a place, if the test says so.
     pub fn broken_if(self, test: bool, place: Place) -> Result<(), BrokenRule>
-        ensures { Finds result (where_so test (number_of self) place) }
+        ensures { IsFirstBreach result (where_so test (number_of self) place) }
     {
         if test {
             Err(BrokenRule { rule: self, place })

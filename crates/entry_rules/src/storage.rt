@@ -2,10 +2,10 @@
 
 ghost use Rattle.std.specs.Prelude.{◌≡◌, ◌+◌, ◌≤◌, ◌++◌, ◌*◌, ◌<◌, [], false, None, length, ◌^◌, sum, IfOk, OnOk, if◌then◌else◌, max};
 ghost use Rattle.source_tree.specs.EntryRules as rules;
-ghost use Rattle.source_tree.specs.Levels.{nested};
+ghost use Rattle.source_tree.specs.Levels.{forest_of};
 ghost use Rattle.source_tree.specs.Rooms.{area_lengths};
 ghost use Rattle.entry_rules.specs.Areas as spec;
-ghost use Rattle.entry_rules.specs.Checks.{Finds, Tells};
+ghost use Rattle.entry_rules.specs.Checks.{IsFirstBreach, IsFirstFault};
 ghost use Rattle.entry_rules.specs.Trees.{most_extent};
 ghost use Rattle.entry_rules.specs.Walk.{HasLevels, at_of};
 
@@ -14,12 +14,26 @@ use crate::position::Position;
 use crate::redefinition::remembered;
 use crate::rule::{BrokenRule, CheckError, Rule};
 use crate::walk::check_item;
-use entries::next_item;
+use data_entries::next_item;
 use source_tree::{Entry, ItemEntry, Place};
 use std::alloc::Global;
 
 /// The most bytes of working storage and of record areas together (own choice).
 pub const MOST_STORAGE: u64 = 1_000_000;
+
+/// Whether the entries of working storage keep the rules of entries: 43 to 48, 55 and 69. Otherwise the answer is the
+/// first that they break, in the order of the definition: the number of entries, level numbers, each entry after those in
+/// it, and the bytes of all areas; those are the answer of entries that are accepted.
+pub fn check_entries(alloc: Global, entries: &[Entry]) -> Result<u64, CheckError>
+    // The answer is the definition's: none is broken, or this is the first, unless memory runs out.
+    ensures rules { IsFirstFault result (rules.entry_rules entries.now) }
+    ensures bytes { IfOk result (λ bytes. bytes ≡ sum (area_lengths (forest_of entries.now))) }
+{
+    count_rules(MOST_ENTRIES, entries)?;
+    level_rules(entries)?;
+    home_rules(entries)?;
+    check_storage(alloc, entries)
+}
 
 /// The last area so far: where the 01 or 77 that begins it stands, and the bytes of the longest one that stands there.
 #[derive(Clone, Copy)]
@@ -64,7 +78,7 @@ impl Area {
 
 impl Areas {
     fn none() -> Areas
-        ensures { result ≡ spec.none }
+        ensures { result ≡ spec.no_areas }
     {
         Areas {
             before: 0,
@@ -117,7 +131,7 @@ impl Areas {
     /// No area goes past the limit.
     fn rules(self) -> Result<(), BrokenRule>
         requires { spec.bytes_in self < 2 ^ 64 }
-        ensures { Finds result (spec.past_rules (spec.first_past self)) }
+        ensures { IsFirstBreach result (spec.past_rules (spec.first_past self)) }
     {
         match self.first_past() {
             Some(place) => Rule::Size.broken_if(true, place),
@@ -128,10 +142,10 @@ impl Areas {
 
 /// The rules of each entry, and then of the areas together. Answers the bytes of all areas.
 fn check_storage(alloc: Global, entries: &[Entry]) -> Result<u64, CheckError>
-    requires levels { HasLevels (nested entries.now) }
+    requires levels { HasLevels (forest_of entries.now) }
     requires few { length entries.now ≤ rules.most_entries }
-    ensures rules { Tells result (rules.forest_rules (rules.outermost false) None (nested entries.now) ++ rules.storage_rules 0 (nested entries.now)) }
-    ensures bytes { IfOk result (λ bytes. bytes ≡ sum (area_lengths (nested entries.now))) }
+    ensures rules { IsFirstFault result (rules.forest_rules (rules.outermost false) None (forest_of entries.now) ++ rules.storage_rules 0 (forest_of entries.now)) }
+    ensures bytes { IfOk result (λ bytes. bytes ≡ sum (area_lengths (forest_of entries.now))) }
 {
     let mut areas = Areas::none();
     let mut last = None;
@@ -144,18 +158,4 @@ fn check_storage(alloc: Global, entries: &[Entry]) -> Result<u64, CheckError>
     }
     areas.rules()?;
     Ok(areas.bytes())
-}
-
-/// Whether the entries of working storage keep the rules of entries: 43 to 48, 55 and 69. Otherwise the answer is the
-/// first that they break, in the order of the definition: the number of entries, level numbers, each entry after those in
-/// it, and the bytes of all areas; those are the answer of entries that are accepted.
-pub fn check_entries(alloc: Global, entries: &[Entry]) -> Result<u64, CheckError>
-    // The answer is the definition's: none is broken, or this is the first, unless memory runs out.
-    ensures rules { Tells result (rules.entry_rules entries.now) }
-    ensures bytes { IfOk result (λ bytes. bytes ≡ sum (area_lengths (nested entries.now))) }
-{
-    count_rules(MOST_ENTRIES, entries)?;
-    level_rules(entries)?;
-    home_rules(entries)?;
-    check_storage(alloc, entries)
 }

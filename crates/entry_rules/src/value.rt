@@ -4,14 +4,39 @@ ghost use Rattle.std.specs.Prelude.{◌≡◌, ◌||◌, not};
 ghost use Rattle.items.specs.Numbers.{IsNumeric};
 ghost use Rattle.source_tree.specs.declared.literal.LiteralValue.TheVariants as literal;
 ghost use Rattle.source_tree.specs.ValueRules as spec;
-ghost use Rattle.entries.specs.Forms.{IsKind};
-ghost use Rattle.entry_rules.specs.Checks.{Finds};
+ghost use Rattle.data_entries.specs.Forms.{IsKind};
+ghost use Rattle.entry_rules.specs.Checks.{IsFirstBreach};
 
 use crate::literal::{is_text, literal_number};
 use crate::rule::{BrokenRule, Rule};
 use decimal18::{Dec, Rounding};
 use items::{Item, Kind, Numeric};
 use source_tree::{Figurative, Literal, LiteralValue, NumericLiteral};
+
+/// An item can't hold a literal as it is.
+pub fn wrong_value(item: Item, value: &LiteralValue) -> bool
+    requires { IsKind item.kind }
+    ensures { result ≡ spec.wrong_value item.kind item.length value.now }
+{
+    match item.kind {
+        Kind::Numeric(numeric) => wrong_number(numeric, value),
+        _ => wrong_text(item.length, value),
+    }
+}
+
+/// VALUE of an entry, which may stand under REDEFINES or in a group with VALUE.
+pub fn value_rules(forbidden: bool, item: Item, value: &Option<Literal>) -> Result<(), BrokenRule>
+    requires { IsKind item.kind }
+    ensures { IsFirstBreach result (spec.value_rules forbidden item value.now) }
+{
+    match value {
+        Some(one) => {
+            let wrong = forbidden || wrong_value(item, &one.value);
+            Rule::Value.broken_if(wrong, one.place)
+        }
+        None => Ok(()),
+    }
+}
 
 /// Zeros in front of the digits that the item keeps, and behind them, aren't cut.
 fn is_cut(numeric: Numeric, x: Dec) -> bool
@@ -56,30 +81,5 @@ fn wrong_text(size: u32, value: &LiteralValue) -> bool
         }
         LiteralValue::Figurative(_) => false,
         LiteralValue::All(bytes) => !is_text(bytes.as_slice()),
-    }
-}
-
-/// An item can't hold a literal as it is.
-pub fn wrong_value(item: Item, value: &LiteralValue) -> bool
-    requires { IsKind item.kind }
-    ensures { result ≡ spec.wrong_value item.kind item.length value.now }
-{
-    match item.kind {
-        Kind::Numeric(numeric) => wrong_number(numeric, value),
-        _ => wrong_text(item.length, value),
-    }
-}
-
-/// VALUE of an entry, which may stand under REDEFINES or in a group with VALUE.
-pub fn value_rules(forbidden: bool, item: Item, value: &Option<Literal>) -> Result<(), BrokenRule>
-    requires { IsKind item.kind }
-    ensures { Finds result (spec.value_rules forbidden item value.now) }
-{
-    match value {
-        Some(one) => {
-            let wrong = forbidden || wrong_value(item, &one.value);
-            Rule::Value.broken_if(wrong, one.place)
-        }
-        None => Ok(()),
     }
 }

@@ -9,29 +9,29 @@ use Rattle.source_tree.specs.declared.expression.Expression.{Expression}
 use Rattle.source_tree.specs.declared.expression.Expression.TheVariants as e
 use Rattle.grammar.specs.declared.fault.Halt.TheVariants.{TooDeep}
 use Rattle.grammar.specs.Parts as g
-use Rattle.grammar.specs.Parts.{Part, ◌then◌, ◌or◌, tested, telling, begins_telling}
+use Rattle.grammar.specs.Parts.{Part, ◌then◌, ◌or◌, lookahead, token_with, begins_telling}
 use Rattle.grammar.specs.Reading as r
 use Rattle.grammar.specs.Reading.{Parser, ◌>>=◌, ◌>>◌, pure, one_token}
 use Rattle.expressions.specs.declared.marks.PlusOrMinus.{PlusOrMinus}
 use Rattle.expressions.specs.declared.marks.PlusOrMinus.TheVariants.{Plus, Minus}
-use Rattle.expressions.specs.Marks.{left, right, left_in, right_in, begins_left, sign_in, begins_sign, sum_in, product_in}
+use Rattle.expressions.specs.Marks.{left_parenthesis, right_parenthesis, left_in, right_in, begins_left, sign_in, begins_sign, sum_in, product_in}
 use Rattle.expressions.specs.Operands.{number_operand, number_operand_reader}
 
 -- ---- levels
 
 -- without an operator the first operand is all
-abbrev pub joined : Expression → List (Operator × Expression) → Expression
-joined first [] = first
-joined first (one ∷ more) = e.Chain first (one ∷ more)
+abbrev pub operator_chain : Expression → List (Operator × Expression) → Expression
+operator_chain first [] = first
+operator_chain first (one ∷ more) = e.Chain first (one ∷ more)
 
 -- an operator and the operand behind it
-abbrev pub further : (Token → Option Operator) → (Expression → Part) → Operator × Expression → Part
-further tells lower one = telling tells one.0 then lower one.1
+abbrev pub further_operand : (Token → Option Operator) → (Expression → Part) → Operator × Expression → Part
+further_operand tells lower one = token_with tells one.0 then lower one.1
 
 -- operands with operators of one precedence between, up to where none of these follows
 abbrev pub level : (Token → Option Operator) → (Expression → Part) → Expression → Part
-level tells lower whole = λ from rest. (first : Expression) × (more : List (Operator × Expression)) × (whole ≡ joined first more)
-    × (lower first then g.any (further tells lower) (tested (begins_telling tells)) more) from rest
+level tells lower whole = λ from rest. (first : Expression) × (more : List (Operator × Expression)) × (whole ≡ operator_chain first more)
+    × (lower first then g.any (further_operand tells lower) (lookahead (begins_telling tells)) more) from rest
 
 abbrev pub product : (Expression → Part) → Expression → Part
 product factor = level product_in factor
@@ -41,8 +41,8 @@ sum factor = level sum_in (product factor)
 
 -- ---- factors
 
-abbrev pub plain : Expression → Part
-plain whole = λ from rest. (one : Operand) × (whole ≡ e.Operand one) × number_operand one from rest
+abbrev pub primary : Expression → Part
+primary whole = λ from rest. (one : Operand) × (whole ≡ e.Operand one) × number_operand one from rest
 
 -- a unary plus leaves no node
 abbrev pub signed_by : PlusOrMinus → Expression → Expression
@@ -50,17 +50,17 @@ signed_by Plus inner = inner
 signed_by Minus inner = e.Negated inner
 
 -- {+|-} e
-abbrev pub signed : (Expression → Part) → Expression → Part
-signed factor whole = λ from rest. (sign : PlusOrMinus) × (inner : Expression) × (whole ≡ signed_by sign inner) × (telling sign_in sign then factor inner) from rest
+abbrev pub signed_expression : (Expression → Part) → Expression → Part
+signed_expression factor whole = λ from rest. (sign : PlusOrMinus) × (inner : Expression) × (whole ≡ signed_by sign inner) × (token_with sign_in sign then factor inner) from rest
 
 -- ( e )
-abbrev pub enclosed : (Expression → Part) → Expression → Part
-enclosed factor whole = left then sum factor whole then right
+abbrev pub parenthesized_expression : (Expression → Part) → Expression → Part
+parenthesized_expression factor whole = left_parenthesis then sum factor whole then right_parenthesis
 
 -- A factor with at most this many signs and parentheses in one another.
 abbrev pub factor : ℕ → Expression → Part
-factor zero whole = plain whole
-factor (suc depth) whole = plain whole or (signed (factor depth) whole or enclosed (factor depth) whole)
+factor zero whole = primary whole
+factor (suc depth) whole = primary whole or (signed_expression (factor depth) whole or parenthesized_expression (factor depth) whole)
 
 abbrev pub expression : ℕ → Expression → Part
 expression depth = sum (factor depth)
@@ -70,8 +70,8 @@ expression depth = sum (factor depth)
 abbrev pub begins_nested : List Token → Bool
 begins_nested i = begins_left i || begins_sign i
 
-unfoldable pub further_reader : (Token → Option Operator) → Parser Expression → Parser (Operator × Expression)
-further_reader tells lower = do
+unfoldable pub further_operand_reader : (Token → Option Operator) → Parser Expression → Parser (Operator × Expression)
+further_operand_reader tells lower = do
   by ← one_token tells
   one ← lower
   pure (by, one)
@@ -79,8 +79,8 @@ further_reader tells lower = do
 unfoldable pub level_reader : (Token → Option Operator) → Parser Expression → Parser Expression
 level_reader tells lower = do
   first ← lower
-  more ← r.any (further_reader tells lower) (begins_telling tells)
-  pure (joined first more)
+  more ← r.any (further_operand_reader tells lower) (begins_telling tells)
+  pure (operator_chain first more)
 
 unfoldable pub product_reader : Parser Expression → Parser Expression
 product_reader factor = level_reader product_in factor

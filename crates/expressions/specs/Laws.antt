@@ -5,13 +5,13 @@ use Rattle.source_tree.specs.declared.expression.Expression.{Expression}
 use Rattle.grammar.specs.declared.fault.Halt.TheVariants.{TooDeep}
 use Rattle.grammar.specs.Parts.{Part, ◌then◌}
 use Rattle.grammar.specs.Reading.{Parser, Words}
-use Rattle.expressions.specs.Marks.{left, right}
+use Rattle.expressions.specs.Marks.{left_parenthesis, right_parenthesis}
 use Rattle.expressions.specs.Looking.{past_parentheses}
 use Rattle.expressions.specs.Expressions.{expression, expression_reader}
 
 -- what is read is spelled
-abbrev pub Spelled : {A : Type 0} → (A → Part) → Parser A → Type 0
-Spelled {A = A} p reader = (one : A) (from rest : List Token) → reader from ≡ Ok (one, rest) → p one from rest
+abbrev pub IsSoundReader : {A : Type 0} → (A → Part) → Parser A → Type 0
+IsSoundReader {A = A} p reader = (one : A) (from rest : List Token) → reader from ≡ Ok (one, rest) → p one from rest
 
 -- what is spelled is read: so no tokens are spelled by two trees, and none end in two ways
 abbrev pub Only : {A : Type 0} → (A → Part) → Parser A → Type 0
@@ -28,4 +28,4 @@ Passes p words = (from rest : List Token) → (words from ≡ Some rest → p fr
 
 -- the parenthesis that closes one around this part is found
 abbrev pub Closes : {A : Type 0} → (A → Part) → Type 0
-Closes {A = A} p = (one : A) (from rest : List Token) → (left then p one then right) from rest → past_parentheses from ≡ Some rest
+Closes {A = A} p = (one : A) (from rest : List Token) → (left_parenthesis then p one then right_parenthesis) from rest → past_parentheses from ≡ Some rest

@@ -12,7 +12,7 @@ use Rattle.source_tree.specs.declared.literal.Figurative.TheVariants as figurati
 use Rattle.source_tree.specs.declared.literal.LiteralValue.{LiteralValue}
 use Rattle.source_tree.specs.declared.literal.LiteralValue.TheVariants as value
 use Rattle.source_tree.specs.declared.literal.Literal.{Literal}
-use Rattle.grammar.specs.Parts.{Part, ◌then◌, ◌or◌, here, word, telling, begins_telling}
+use Rattle.grammar.specs.Parts.{Part, ◌then◌, ◌or◌, here, word, token_with, begins_telling}
 use Rattle.grammar.specs.Reading as r
 use Rattle.grammar.specs.Reading.{Parser, ◌>>=◌, ◌>>◌, pure, expect, one_token, begins_word}
 
@@ -54,11 +54,11 @@ bytes_in one = bytes_by one.kind
 
 -- ALL alit
 abbrev pub all_literal : Literal → Part
-all_literal one = λ from rest. (bytes : List ℕ) × (one ≡ literal_at one.place (value.All bytes)) × (here one.place then word w.All then telling bytes_in bytes) from rest
+all_literal one = λ from rest. (bytes : List ℕ) × (one ≡ literal_at one.place (value.All bytes)) × (here one.place then word w.All then token_with bytes_in bytes) from rest
 
 -- nlit|alit|fig
 abbrev pub literal : Literal → Part
-literal one = telling plain_in one or all_literal one
+literal one = token_with plain_in one or all_literal one
 
 abbrev pub begins_literal : List Token → Bool
 begins_literal i = begins_word w.All i || begins_telling plain_in i

@@ -5,7 +5,7 @@ use Rattle.tokens.specs.declared.token.Kind.{Kind}
 use Rattle.tokens.specs.declared.token.Kind.TheVariants as k
 use Rattle.tokens.specs.declared.token.Token.{Token}
 use Rattle.grammar.specs.Parts.{Part, ◌then◌, some_of, word, begins_telling, begins_name}
-use Rattle.grammar.specs.Reading.{Words, past, also_after}
+use Rattle.grammar.specs.Reading.{Words, tokens_past, also_after}
 use Rattle.expressions.specs.Marks.{sum_in, product_in}
 use Rattle.expressions.specs.Literals.{number_literal_in}
 use Rattle.expressions.specs.References.{reference, reference_reader}
@@ -21,7 +21,7 @@ past_first true (first ∷ more) = Some more
 
 -- the tokens after a reference, where one stands
 abbrev pub past_reference : Words
-past_reference = past reference_reader
+past_reference = tokens_past reference_reader
 
 -- a reference and this word, as in `d FOR` and `d TIMES`
 abbrev pub reference_before : Reserved → Part

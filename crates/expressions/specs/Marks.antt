@@ -7,7 +7,7 @@ use Rattle.tokens.specs.declared.token.Operator.{Operator as Written}
 use Rattle.tokens.specs.declared.token.Operator.TheVariants as written
 use Rattle.source_tree.specs.declared.expression.Operator.{Operator}
 use Rattle.source_tree.specs.declared.expression.Operator.TheVariants.{Add, Subtract, Multiply, Divide}
-use Rattle.grammar.specs.Parts.{Part, telling, begins_telling}
+use Rattle.grammar.specs.Parts.{Part, token_with, begins_telling}
 use Rattle.expressions.specs.declared.marks.PlusOrMinus.{PlusOrMinus}
 use Rattle.expressions.specs.declared.marks.PlusOrMinus.TheVariants.{Plus, Minus}
 
@@ -25,11 +25,11 @@ right_of _ = None
 abbrev pub right_in : Token → Option (Unit {0})
 right_in one = right_of one.kind
 
-abbrev pub left : Part
-left = telling left_in tt
+abbrev pub left_parenthesis : Part
+left_parenthesis = token_with left_in tt
 
-abbrev pub right : Part
-right = telling right_in tt
+abbrev pub right_parenthesis : Part
+right_parenthesis = token_with right_in tt
 
 abbrev pub sign_of : Written → Option PlusOrMinus
 sign_of written.Plus = Some Plus

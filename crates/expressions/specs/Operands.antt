@@ -3,7 +3,7 @@ use Rattle.std.specs.Prelude.{◌||◌, if◌then◌else◌, Bool, List}
 use Rattle.tokens.specs.declared.token.Token.{Token}
 use Rattle.source_tree.specs.declared.expression.Operand.{Operand}
 use Rattle.source_tree.specs.declared.expression.Operand.TheVariants as operand_as
-use Rattle.grammar.specs.Parts.{Part, telling, begins_telling, begins_name}
+use Rattle.grammar.specs.Parts.{Part, token_with, begins_telling, begins_name}
 use Rattle.grammar.specs.Reading.{Parser, ◌>>=◌, pure, one_token}
 use Rattle.expressions.specs.Literals.{literal, begins_literal, literal_reader, number_literal_in}
 use Rattle.expressions.specs.References.{reference, reference_reader}
@@ -19,7 +19,7 @@ begins_operand i = begins_name i || begins_literal i
 -- d|nlit|ZERO
 abbrev pub number_operand : Operand → Part
 number_operand (operand_as.Item one) = reference one
-number_operand (operand_as.Literal one) = telling number_literal_in one
+number_operand (operand_as.Literal one) = token_with number_literal_in one
 
 abbrev pub begins_number_operand : List Token → Bool
 begins_number_operand i = begins_name i || begins_telling number_literal_in i

@@ -2,20 +2,20 @@
 use Rattle.std.specs.Prelude.{if◌then◌else◌, List, [], ◌∷◌, Ok}
 use Rattle.source_tree.specs.declared.reference.Subscript.{Subscript}
 use Rattle.source_tree.specs.declared.reference.Reference.{Reference}
-use Rattle.grammar.specs.Parts.{Part, ◌then◌, without, several, tested}
+use Rattle.grammar.specs.Parts.{Part, ◌then◌, absence_of, several, lookahead}
 use Rattle.grammar.specs.Reading as r
 use Rattle.grammar.specs.Reading.{Parser, ◌>>=◌, ◌>>◌, pure, one_token}
-use Rattle.expressions.specs.Marks.{left, right, left_in, right_in, begins_left}
-use Rattle.expressions.specs.Subscripts.{qualified, qualified_reader, subscript, begins_subscript, subscript_reader}
+use Rattle.expressions.specs.Marks.{left_parenthesis, right_parenthesis, left_in, right_in, begins_left}
+use Rattle.expressions.specs.Subscripts.{qualified_name, qualified_reader, subscript, begins_subscript, subscript_reader}
 
 -- [( sub... )]
 abbrev pub subscripts : List Subscript → Part
-subscripts [] = without (tested begins_left)
-subscripts (one ∷ more) = left then several subscript (tested begins_subscript) (one ∷ more) then right
+subscripts [] = absence_of (lookahead begins_left)
+subscripts (one ∷ more) = left_parenthesis then several subscript (lookahead begins_subscript) (one ∷ more) then right_parenthesis
 
 -- n [{IN|OF} n]... [( sub... )]
 abbrev pub reference : Reference → Part
-reference one = qualified one.item then subscripts one.subscripts
+reference one = qualified_name one.item then subscripts one.subscripts
 
 unfoldable pub enclosed_subscripts_reader : Parser (List Subscript)
 enclosed_subscripts_reader = do

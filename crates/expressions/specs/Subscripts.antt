@@ -17,7 +17,7 @@ use Rattle.source_tree.specs.declared.reference.Adjustment.TheVariants as adjust
 use Rattle.source_tree.specs.declared.reference.Subscript.{Subscript}
 use Rattle.source_tree.specs.declared.reference.Subscript.TheVariants as subscript_as
 use Rattle.grammar.specs.Parts as g
-use Rattle.grammar.specs.Parts.{Part, ◌then◌, ◌or◌, without, tested, telling, begins_telling, word, name, begins_name}
+use Rattle.grammar.specs.Parts.{Part, ◌then◌, ◌or◌, absence_of, lookahead, token_with, begins_telling, word, name, begins_name}
 use Rattle.grammar.specs.Reading as r
 use Rattle.grammar.specs.Reading.{Parser, ◌>>=◌, ◌>>◌, pure, expect, one_token, begins_word}
 use Rattle.expressions.specs.declared.marks.PlusOrMinus.{PlusOrMinus}
@@ -34,8 +34,8 @@ abbrev pub begins_qualifier : List Token → Bool
 begins_qualifier i = begins_word w.In i || begins_word w.Of i
 
 -- n [{IN|OF} n]...
-abbrev pub qualified : QualifiedName → Part
-qualified q = name q.name then g.any qualifier (tested begins_qualifier) q.qualifiers
+abbrev pub qualified_name : QualifiedName → Part
+qualified_name q = name q.name then g.any qualifier (lookahead begins_qualifier) q.qualifiers
 
 unfoldable pub qualifier_reader : Parser Name
 qualifier_reader i = if begins_word w.In i then (expect w.In >> r.name) i else (expect w.Of >> r.name) i
@@ -74,7 +74,7 @@ abbrev pub integer_in : Token → Option Integer
 integer_in one = integer_by one.kind one.place
 
 abbrev pub integer : Integer → Part
-integer = telling integer_in
+integer = token_with integer_in
 
 abbrev pub begins_integer : List Token → Bool
 begins_integer = begins_telling integer_in
@@ -85,15 +85,15 @@ integer_reader = one_token integer_in
 -- ---- subscripts
 
 -- [{+|-} int]
-abbrev pub adjusted : Adjustment → Part
-adjusted adjustment.Nothing = without (tested begins_sign)
-adjusted (adjustment.Plus n) = telling sign_in Plus then integer n
-adjusted (adjustment.Minus n) = telling sign_in Minus then integer n
+abbrev pub adjustment : Adjustment → Part
+adjustment adjustment.Nothing = absence_of (lookahead begins_sign)
+adjustment (adjustment.Plus n) = token_with sign_in Plus then integer n
+adjustment (adjustment.Minus n) = token_with sign_in Minus then integer n
 
 -- int | n [{IN|OF} n]... [{+|-} int]
 abbrev pub subscript : Subscript → Part
 subscript (subscript_as.Literal n) = integer n
-subscript (subscript_as.Item item by) = qualified item then adjusted by
+subscript (subscript_as.Item item by) = qualified_name item then adjustment by
 
 abbrev pub begins_subscript : List Token → Bool
 begins_subscript i = begins_integer i || begins_name i

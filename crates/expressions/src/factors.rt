@@ -47,11 +47,11 @@ impl<F: Fn(Global, &mut Tokens<'_>, usize) -> Result<Expression, ReadFault>> Par
 
     ghost ready = { λ n. Nests n.factors.now.depth (F.pre n.factors.now.factor) (F.post n.factors.now.factor) };
 
-    ghost reading = { λ n. spec.further_reader product_in (spec.factor_reader n.factors.now.depth) };
+    ghost reading = { λ n. spec.further_operand_reader product_in (spec.factor_reader n.factors.now.depth) };
 
     ghost beginning = { λ _. begins_telling product_in };
 
-    #[tactic(auto, unfolding(crate::specs::Expressions::further_reader))]
+    #[tactic(auto, unfolding(crate::specs::Expressions::further_operand_reader))]
     fn read(
         &self,
         _alloc: Global,
@@ -77,11 +77,11 @@ impl<F: Fn(Global, &mut Tokens<'_>, usize) -> Result<Expression, ReadFault>> Par
 
     ghost ready = { λ n. Nests n.factors.now.depth (F.pre n.factors.now.factor) (F.post n.factors.now.factor) };
 
-    ghost reading = { λ n. spec.further_reader sum_in (spec.product_reader (spec.factor_reader n.factors.now.depth)) };
+    ghost reading = { λ n. spec.further_operand_reader sum_in (spec.product_reader (spec.factor_reader n.factors.now.depth)) };
 
     ghost beginning = { λ _. begins_telling sum_in };
 
-    #[tactic(auto, unfolding(crate::specs::Expressions::further_reader))]
+    #[tactic(auto, unfolding(crate::specs::Expressions::further_operand_reader))]
     fn read(
         &self,
         _alloc: Global,
@@ -103,7 +103,7 @@ fn joined(
     first: Expression,
     more: Items<(Operator, Expression)>,
 ) -> Result<Expression, AllocError>
-    ensures { IfOk result (λ whole. whole ≡ spec.joined first more) }
+    ensures { IfOk result (λ whole. whole ≡ spec.operator_chain first more) }
 {
     if more.is_empty() {
         return Ok(first);

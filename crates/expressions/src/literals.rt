@@ -12,6 +12,65 @@ use sqlite_items::Items;
 use std::alloc::Global;
 use tokens::{Kind, Reserved, Token};
 
+/// The next token begins a literal.
+pub fn begins_literal(tokens: &Tokens<'_>) -> bool
+    ensures { result ≡ spec.begins_literal tokens.now }
+{
+    match tokens.rest() {
+        [next, ..] => tokens.at_word(Reserved::All) || is_plain(next),
+        [] => false,
+    }
+}
+
+/// A literal or a figurative constant.
+#[tactic(auto, unfolding(crate::specs::Literals::literal_reader))]
+pub fn literal(alloc: Global, tokens: &mut Tokens<'_>) -> Result<Literal, ReadFault>
+    ensures { Reads (spec.literal_reader tokens.old) result tokens.new }
+{
+    if tokens.at_word(Reserved::All) {
+        all_literal(alloc, tokens)
+    } else {
+        plain_literal(alloc, tokens)
+    }
+}
+
+/// The next token is a numeric literal or ZERO.
+pub fn begins_number(tokens: &Tokens<'_>) -> bool
+    ensures { result ≡ begins_telling spec.number_literal_in tokens.now }
+{
+    match tokens.rest() {
+        [next, ..] => match next.kind {
+            Kind::Numeric(_) => true,
+            Kind::Reserved(word) => is_zero(word),
+            _ => false,
+        },
+        [] => false,
+    }
+}
+
+/// A numeric literal or ZERO.
+#[tactic(auto, unfolding(grammar::specs::Reading::one_token, grammar::specs::Reading::here))]
+pub fn number_literal(alloc: Global, tokens: &mut Tokens<'_>) -> Result<Literal, ReadFault>
+    ensures { Reads (read.one_token spec.number_literal_in tokens.old) result tokens.new }
+{
+    let place = tokens.here()?;
+    let [next, rest @ ..] = tokens.rest() else {
+        return Err(tokens.refuse());
+    };
+    let value = match &next.kind {
+        Kind::Numeric(written) => LiteralValue::Numeric(written.copy(alloc)?),
+        Kind::Reserved(word) => {
+            if !is_zero(*word) {
+                return Err(tokens.refuse());
+            }
+            LiteralValue::Figurative(Figurative::Zero)
+        }
+        _ => return Err(tokens.refuse()),
+    };
+    tokens.go_to(rest);
+    Ok(Literal { value, place })
+}
+
 /// The figurative constant that a word is.
 fn figurative_of(word: Reserved) -> Option<Figurative>
     ensures { result ≡ spec.figurative_of word }
@@ -34,16 +93,6 @@ fn is_plain(token: &Token) -> bool
         Kind::Numeric(_) | Kind::Nonnumeric(_) => true,
         Kind::Reserved(word) => matches!(figurative_of(*word), Some(_)),
         _ => false,
-    }
-}
-
-/// The next token begins a literal.
-pub fn begins_literal(tokens: &Tokens<'_>) -> bool
-    ensures { result ≡ spec.begins_literal tokens.now }
-{
-    match tokens.rest() {
-        [next, ..] => tokens.at_word(Reserved::All) || is_plain(next),
-        [] => false,
     }
 }
 
@@ -91,58 +140,9 @@ fn plain_literal(alloc: Global, tokens: &mut Tokens<'_>) -> Result<Literal, Read
     Ok(Literal { value, place })
 }
 
-/// A literal or a figurative constant.
-#[tactic(auto, unfolding(crate::specs::Literals::literal_reader))]
-pub fn literal(alloc: Global, tokens: &mut Tokens<'_>) -> Result<Literal, ReadFault>
-    ensures { Reads (spec.literal_reader tokens.old) result tokens.new }
-{
-    if tokens.at_word(Reserved::All) {
-        all_literal(alloc, tokens)
-    } else {
-        plain_literal(alloc, tokens)
-    }
-}
-
 /// The word is ZERO.
 fn is_zero(word: Reserved) -> bool
     ensures { result ≡ spec.is_zero word }
 {
     matches!(figurative_of(word), Some(Figurative::Zero))
-}
-
-/// The next token is a numeric literal or ZERO.
-pub fn begins_number(tokens: &Tokens<'_>) -> bool
-    ensures { result ≡ begins_telling spec.number_literal_in tokens.now }
-{
-    match tokens.rest() {
-        [next, ..] => match next.kind {
-            Kind::Numeric(_) => true,
-            Kind::Reserved(word) => is_zero(word),
-            _ => false,
-        },
-        [] => false,
-    }
-}
-
-/// A numeric literal or ZERO.
-#[tactic(auto, unfolding(grammar::specs::Reading::one_token, grammar::specs::Reading::here))]
-pub fn number_literal(alloc: Global, tokens: &mut Tokens<'_>) -> Result<Literal, ReadFault>
-    ensures { Reads (read.one_token spec.number_literal_in tokens.old) result tokens.new }
-{
-    let place = tokens.here()?;
-    let [next, rest @ ..] = tokens.rest() else {
-        return Err(tokens.refuse());
-    };
-    let value = match &next.kind {
-        Kind::Numeric(written) => LiteralValue::Numeric(written.copy(alloc)?),
-        Kind::Reserved(word) => {
-            if !is_zero(*word) {
-                return Err(tokens.refuse());
-            }
-            LiteralValue::Figurative(Figurative::Zero)
-        }
-        _ => return Err(tokens.refuse()),
-    };
-    tokens.go_to(rest);
-    Ok(Literal { value, place })
 }

@@ -10,65 +10,6 @@ use grammar::{Part, ReadFault, Tokens, begins_name};
 use source_tree::Operand;
 use std::alloc::Global;
 
-#[tactic(auto, unfolding(crate::specs::Operands::item_reader))]
-fn item(alloc: Global, tokens: &mut Tokens<'_>) -> Result<Operand, ReadFault>
-    ensures { Reads (spec.item_reader tokens.old) result tokens.new }
-{
-    Ok(Operand::Item(reference(alloc, tokens)?))
-}
-
-#[tactic(auto, unfolding(crate::specs::Operands::literal_operand_reader))]
-fn literal_operand(alloc: Global, tokens: &mut Tokens<'_>) -> Result<Operand, ReadFault>
-    ensures { Reads (spec.literal_operand_reader tokens.old) result tokens.new }
-{
-    Ok(Operand::Literal(literal(alloc, tokens)?))
-}
-
-#[tactic(auto, unfolding(crate::specs::Operands::number_literal_reader))]
-fn number_literal_operand(alloc: Global, tokens: &mut Tokens<'_>) -> Result<Operand, ReadFault>
-    ensures { Reads (spec.number_literal_reader tokens.old) result tokens.new }
-{
-    Ok(Operand::Literal(number_literal(alloc, tokens)?))
-}
-
-/// A reference or a literal.
-#[tactic(auto, unfolding(crate::specs::Operands::operand_reader))]
-pub fn operand(alloc: Global, tokens: &mut Tokens<'_>) -> Result<Operand, ReadFault>
-    ensures { Reads (spec.operand_reader tokens.old) result tokens.new }
-{
-    if begins_name(tokens) {
-        item(alloc, tokens)
-    } else {
-        literal_operand(alloc, tokens)
-    }
-}
-
-/// The next token begins an operand.
-pub fn begins_operand(tokens: &Tokens<'_>) -> bool
-    ensures { result ≡ spec.begins_operand tokens.now }
-{
-    begins_name(tokens) || begins_literal(tokens)
-}
-
-/// A reference, a numeric literal or ZERO.
-#[tactic(auto, unfolding(crate::specs::Operands::number_operand_reader))]
-pub fn number_operand(alloc: Global, tokens: &mut Tokens<'_>) -> Result<Operand, ReadFault>
-    ensures { Reads (spec.number_operand_reader tokens.old) result tokens.new }
-{
-    if begins_name(tokens) {
-        item(alloc, tokens)
-    } else {
-        number_literal_operand(alloc, tokens)
-    }
-}
-
-/// The next token begins an operand that is a number.
-pub fn begins_number_operand(tokens: &Tokens<'_>) -> bool
-    ensures { result ≡ spec.begins_number_operand tokens.now }
-{
-    begins_name(tokens) || begins_number(tokens)
-}
-
 /// Operands in a list.
 pub struct Operands;
 
@@ -109,4 +50,63 @@ impl Part<Operand> for NumberOperands {
     fn begins(&self, tokens: &Tokens<'_>) -> bool {
         begins_number_operand(tokens)
     }
+}
+
+/// A reference or a literal.
+#[tactic(auto, unfolding(crate::specs::Operands::operand_reader))]
+pub fn operand(alloc: Global, tokens: &mut Tokens<'_>) -> Result<Operand, ReadFault>
+    ensures { Reads (spec.operand_reader tokens.old) result tokens.new }
+{
+    if begins_name(tokens) {
+        item(alloc, tokens)
+    } else {
+        literal_operand(alloc, tokens)
+    }
+}
+
+/// The next token begins an operand.
+pub fn begins_operand(tokens: &Tokens<'_>) -> bool
+    ensures { result ≡ spec.begins_operand tokens.now }
+{
+    begins_name(tokens) || begins_literal(tokens)
+}
+
+/// A reference, a numeric literal or ZERO.
+#[tactic(auto, unfolding(crate::specs::Operands::number_operand_reader))]
+pub fn number_operand(alloc: Global, tokens: &mut Tokens<'_>) -> Result<Operand, ReadFault>
+    ensures { Reads (spec.number_operand_reader tokens.old) result tokens.new }
+{
+    if begins_name(tokens) {
+        item(alloc, tokens)
+    } else {
+        number_literal_operand(alloc, tokens)
+    }
+}
+
+/// The next token begins an operand that is a number.
+pub fn begins_number_operand(tokens: &Tokens<'_>) -> bool
+    ensures { result ≡ spec.begins_number_operand tokens.now }
+{
+    begins_name(tokens) || begins_number(tokens)
+}
+
+#[tactic(auto, unfolding(crate::specs::Operands::item_reader))]
+fn item(alloc: Global, tokens: &mut Tokens<'_>) -> Result<Operand, ReadFault>
+    ensures { Reads (spec.item_reader tokens.old) result tokens.new }
+{
+    Ok(Operand::Item(reference(alloc, tokens)?))
+}
+
+#[tactic(auto, unfolding(crate::specs::Operands::literal_operand_reader))]
+fn literal_operand(alloc: Global, tokens: &mut Tokens<'_>) -> Result<Operand, ReadFault>
+    ensures { Reads (spec.literal_operand_reader tokens.old) result tokens.new }
+{
+    Ok(Operand::Literal(literal(alloc, tokens)?))
+}
+
+#[tactic(auto, unfolding(crate::specs::Operands::number_literal_reader))]
+fn number_literal_operand(alloc: Global, tokens: &mut Tokens<'_>) -> Result<Operand, ReadFault>
+    ensures { Reads (spec.number_literal_reader tokens.old) result tokens.new }
+{
+    Ok(Operand::Literal(number_literal(alloc, tokens)?))
 }

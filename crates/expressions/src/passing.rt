@@ -16,129 +16,6 @@ use crate::subscripts::{begins_integer, begins_qualifier};
 use grammar::{Passing, Tokens, after_word, begins_name, past_any, past_several};
 use tokens::{Kind, Reserved, Token};
 
-/// The tokens after the first, where it passed a test.
-fn past_first(tokens: &[Token], passed: bool) -> Option<&[Token]>
-    ensures { option_copied result ≡ spec.past_first passed tokens.now }
-{
-    if !passed {
-        return None;
-    }
-    match tokens {
-        [_, rest @ ..] => Some(rest),
-        [] => None,
-    }
-}
-
-/// The tokens after a user-defined word.
-#[tactic(auto, using(crate::proofs::Past::name_passes))]
-fn past_name(tokens: &[Token]) -> Option<&[Token]>
-    ensures { option_copied result ≡ read.past read.name tokens.now }
-{
-    past_first(tokens, begins_name(&Tokens::new(tokens)))
-}
-
-/// The tokens after IN or OF and a name.
-#[tactic(auto, using(crate::proofs::Past::qualifier_passes))]
-fn past_qualifier(tokens: &[Token]) -> Option<&[Token]>
-    ensures { option_copied result ≡ read.past subscripts.qualifier_reader tokens.now }
-{
-    match after_word(tokens, Reserved::In) {
-        Some(rest) => past_name(rest),
-        None => {
-            let rest = after_word(tokens, Reserved::Of)?;
-            past_name(rest)
-        }
-    }
-}
-
-struct Qualifiers;
-
-impl Passing for Qualifiers {
-    ghost use Rattle.grammar.specs.Reading as read;
-    ghost use Rattle.expressions.specs.Subscripts as subscripts;
-
-    ghost passing = { λ _. read.past subscripts.qualifier_reader };
-
-    ghost beginning = { λ _. subscripts.begins_qualifier };
-
-    fn pass<'a>(&self, tokens: &'a [Token]) -> Option<&'a [Token]> {
-        past_qualifier(tokens)
-    }
-
-    fn begins(&self, tokens: &[Token]) -> bool {
-        begins_qualifier(&Tokens::new(tokens))
-    }
-}
-
-/// The tokens after a name and its qualifiers.
-#[tactic(auto, using(crate::proofs::Past::qualified_passes))]
-fn past_qualified(tokens: &[Token]) -> Option<&[Token]>
-    ensures { option_copied result ≡ read.past subscripts.qualified_reader tokens.now }
-{
-    let rest = past_name(tokens)?;
-    past_any(&Qualifiers, rest)
-}
-
-/// The tokens after an unsigned integer.
-#[tactic(auto, using(crate::proofs::Past::integer_passes))]
-fn past_integer(tokens: &[Token]) -> Option<&[Token]>
-    ensures { option_copied result ≡ read.past subscripts.integer_reader tokens.now }
-{
-    past_first(tokens, begins_integer(&Tokens::new(tokens)))
-}
-
-/// The tokens after a sign and an integer, where a sign stands.
-#[tactic(auto, using(crate::proofs::Past::adjustment_passes))]
-fn past_adjustment(tokens: &[Token]) -> Option<&[Token]>
-    ensures { option_copied result ≡ read.past subscripts.adjustment_reader tokens.now }
-{
-    let signed = begins_sign(&Tokens::new(tokens));
-    if !signed {
-        return Some(tokens);
-    }
-    let rest = past_first(tokens, signed)?;
-    past_integer(rest)
-}
-
-struct Subscripts;
-
-impl Passing for Subscripts {
-    ghost use Rattle.grammar.specs.Reading as read;
-    ghost use Rattle.expressions.specs.Subscripts as subscripts;
-
-    ghost passing = { λ _. read.past subscripts.subscript_reader };
-
-    ghost beginning = { λ _. subscripts.begins_subscript };
-
-    #[tactic(auto, using(crate::proofs::Past::subscript_passes))]
-    fn pass<'a>(&self, tokens: &'a [Token]) -> Option<&'a [Token]> {
-        if begins_integer(&Tokens::new(tokens)) {
-            return past_integer(tokens);
-        }
-        let rest = past_qualified(tokens)?;
-        past_adjustment(rest)
-    }
-
-    fn begins(&self, tokens: &[Token]) -> bool {
-        let tokens = Tokens::new(tokens);
-        begins_integer(&tokens) || begins_name(&tokens)
-    }
-}
-
-/// The tokens after subscripts in parentheses, where any stand.
-#[tactic(auto, using(crate::proofs::Past::subscripts_pass))]
-fn past_subscripts(tokens: &[Token]) -> Option<&[Token]>
-    ensures { option_copied result ≡ read.past references.subscripts_reader tokens.now }
-{
-    let opened = begins_left(&Tokens::new(tokens));
-    if !opened {
-        return Some(tokens);
-    }
-    let rest = past_first(tokens, opened)?;
-    let rest = past_several(&Subscripts, rest)?;
-    past_first(rest, begins_right(&Tokens::new(rest)))
-}
-
 /// The tokens after a reference, where one stands.
 #[tactic(auto, using(crate::proofs::Past::reference_passes))]
 pub fn past_reference(tokens: &[Token]) -> Option<&[Token]>
@@ -166,6 +43,143 @@ pub fn past_parentheses(tokens: &[Token]) -> Option<&[Token]>
     past_closing(rest)
 }
 
+/// An expression begins here.
+pub fn begins_expression(tokens: &Tokens<'_>) -> bool
+    ensures { result ≡ spec.begins_expression tokens.now }
+{
+    begins_name(tokens) || begins_nested(tokens) || begins_number(tokens)
+}
+
+/// An operator follows, with which an operand goes on.
+pub fn begins_operator(tokens: &Tokens<'_>) -> bool
+    ensures { result ≡ spec.begins_operator tokens.now }
+{
+    begins_product_operator(tokens) || begins_sum_operator(tokens)
+}
+
+/// The tokens after the first, where it passed a test.
+fn past_first(tokens: &[Token], passed: bool) -> Option<&[Token]>
+    ensures { option_copied result ≡ spec.past_first passed tokens.now }
+{
+    if !passed {
+        return None;
+    }
+    match tokens {
+        [_, rest @ ..] => Some(rest),
+        [] => None,
+    }
+}
+
+/// The tokens after a user-defined word.
+#[tactic(auto, using(crate::proofs::Past::name_passes))]
+fn past_name(tokens: &[Token]) -> Option<&[Token]>
+    ensures { option_copied result ≡ read.tokens_past read.name tokens.now }
+{
+    past_first(tokens, begins_name(&Tokens::new(tokens)))
+}
+
+/// The tokens after IN or OF and a name.
+#[tactic(auto, using(crate::proofs::Past::qualifier_passes))]
+fn past_qualifier(tokens: &[Token]) -> Option<&[Token]>
+    ensures { option_copied result ≡ read.tokens_past subscripts.qualifier_reader tokens.now }
+{
+    match after_word(tokens, Reserved::In) {
+        Some(rest) => past_name(rest),
+        None => {
+            let rest = after_word(tokens, Reserved::Of)?;
+            past_name(rest)
+        }
+    }
+}
+
+struct Qualifiers;
+
+impl Passing for Qualifiers {
+    ghost use Rattle.grammar.specs.Reading as read;
+    ghost use Rattle.expressions.specs.Subscripts as subscripts;
+
+    ghost passing = { λ _. read.tokens_past subscripts.qualifier_reader };
+
+    ghost beginning = { λ _. subscripts.begins_qualifier };
+
+    fn pass<'a>(&self, tokens: &'a [Token]) -> Option<&'a [Token]> {
+        past_qualifier(tokens)
+    }
+
+    fn begins(&self, tokens: &[Token]) -> bool {
+        begins_qualifier(&Tokens::new(tokens))
+    }
+}
+
+/// The tokens after a name and its qualifiers.
+#[tactic(auto, using(crate::proofs::Past::qualified_passes))]
+fn past_qualified(tokens: &[Token]) -> Option<&[Token]>
+    ensures { option_copied result ≡ read.tokens_past subscripts.qualified_reader tokens.now }
+{
+    let rest = past_name(tokens)?;
+    past_any(&Qualifiers, rest)
+}
+
+/// The tokens after an unsigned integer.
+#[tactic(auto, using(crate::proofs::Past::integer_passes))]
+fn past_integer(tokens: &[Token]) -> Option<&[Token]>
+    ensures { option_copied result ≡ read.tokens_past subscripts.integer_reader tokens.now }
+{
+    past_first(tokens, begins_integer(&Tokens::new(tokens)))
+}
+
+/// The tokens after a sign and an integer, where a sign stands.
+#[tactic(auto, using(crate::proofs::Past::adjustment_passes))]
+fn past_adjustment(tokens: &[Token]) -> Option<&[Token]>
+    ensures { option_copied result ≡ read.tokens_past subscripts.adjustment_reader tokens.now }
+{
+    let signed = begins_sign(&Tokens::new(tokens));
+    if !signed {
+        return Some(tokens);
+    }
+    let rest = past_first(tokens, signed)?;
+    past_integer(rest)
+}
+
+struct Subscripts;
+
+impl Passing for Subscripts {
+    ghost use Rattle.grammar.specs.Reading as read;
+    ghost use Rattle.expressions.specs.Subscripts as subscripts;
+
+    ghost passing = { λ _. read.tokens_past subscripts.subscript_reader };
+
+    ghost beginning = { λ _. subscripts.begins_subscript };
+
+    #[tactic(auto, using(crate::proofs::Past::subscript_passes))]
+    fn pass<'a>(&self, tokens: &'a [Token]) -> Option<&'a [Token]> {
+        if begins_integer(&Tokens::new(tokens)) {
+            return past_integer(tokens);
+        }
+        let rest = past_qualified(tokens)?;
+        past_adjustment(rest)
+    }
+
+    fn begins(&self, tokens: &[Token]) -> bool {
+        let tokens = Tokens::new(tokens);
+        begins_integer(&tokens) || begins_name(&tokens)
+    }
+}
+
+/// The tokens after subscripts in parentheses, where any stand.
+#[tactic(auto, using(crate::proofs::Past::subscripts_pass))]
+fn past_subscripts(tokens: &[Token]) -> Option<&[Token]>
+    ensures { option_copied result ≡ read.tokens_past references.subscripts_reader tokens.now }
+{
+    let opened = begins_left(&Tokens::new(tokens));
+    if !opened {
+        return Some(tokens);
+    }
+    let rest = past_first(tokens, opened)?;
+    let rest = past_several(&Subscripts, rest)?;
+    past_first(rest, begins_right(&Tokens::new(rest)))
+}
+
 /// The tokens after the right parenthesis that closes the one that is open.
 #[tactic(auto, unfolding(crate::specs::Looking::past_closing))]
 fn past_closing(tokens: &[Token]) -> Option<&[Token]>
@@ -188,18 +202,4 @@ fn past_closing(tokens: &[Token]) -> Option<&[Token]>
         rest = more;
     }
     None
-}
-
-/// An expression begins here.
-pub fn begins_expression(tokens: &Tokens<'_>) -> bool
-    ensures { result ≡ spec.begins_expression tokens.now }
-{
-    begins_name(tokens) || begins_nested(tokens) || begins_number(tokens)
-}
-
-/// An operator follows, with which an operand goes on.
-pub fn begins_operator(tokens: &Tokens<'_>) -> bool
-    ensures { result ≡ spec.begins_operator tokens.now }
-{
-    begins_product_operator(tokens) || begins_sum_operator(tokens)
 }

@@ -12,17 +12,30 @@ use sqlite_items::Items;
 use std::alloc::Global;
 use tokens::{Kind, Reserved};
 
-/// IN or OF, and a name.
-#[tactic(auto, unfolding(crate::specs::Subscripts::qualifier_reader))]
-fn qualifier(alloc: Global, tokens: &mut Tokens<'_>) -> Result<Name, ReadFault>
-    ensures { Reads (spec.qualifier_reader tokens.old) result tokens.new }
-{
-    if tokens.at_word(Reserved::In) {
-        tokens.expect(Reserved::In)?;
-    } else {
-        tokens.expect(Reserved::Of)?;
+/// Subscripts in a list.
+pub struct Subscripts;
+
+impl Part<Subscript> for Subscripts {
+    ghost use Rattle.expressions.specs.Subscripts as spec;
+
+    ghost ready = { λ _. Unit {0} };
+
+    ghost reading = { λ _. spec.subscript_reader };
+
+    ghost beginning = { λ _. spec.begins_subscript };
+
+    #[tactic(auto, unfolding(crate::specs::Subscripts::subscript_reader))]
+    fn read(&self, alloc: Global, tokens: &mut Tokens<'_>) -> Result<Subscript, ReadFault> {
+        if begins_integer(tokens) {
+            literal_subscript(alloc, tokens)
+        } else {
+            item_subscript(alloc, tokens)
+        }
     }
-    name(alloc, tokens)
+
+    fn begins(&self, tokens: &Tokens<'_>) -> bool {
+        begins_integer(tokens) || begins_name(tokens)
+    }
 }
 
 /// IN or OF comes next.
@@ -30,26 +43,6 @@ pub fn begins_qualifier(tokens: &Tokens<'_>) -> bool
     ensures { result ≡ spec.begins_qualifier tokens.now }
 {
     tokens.at_word(Reserved::In) || tokens.at_word(Reserved::Of)
-}
-
-struct Qualifiers;
-
-impl Part<Name> for Qualifiers {
-    ghost use Rattle.expressions.specs.Subscripts as spec;
-
-    ghost ready = { λ _. Unit {0} };
-
-    ghost reading = { λ _. spec.qualifier_reader };
-
-    ghost beginning = { λ _. spec.begins_qualifier };
-
-    fn read(&self, alloc: Global, tokens: &mut Tokens<'_>) -> Result<Name, ReadFault> {
-        qualifier(alloc, tokens)
-    }
-
-    fn begins(&self, tokens: &Tokens<'_>) -> bool {
-        begins_qualifier(tokens)
-    }
 }
 
 /// A name and its qualifiers.
@@ -60,12 +53,6 @@ pub fn qualified(alloc: Global, tokens: &mut Tokens<'_>) -> Result<QualifiedName
     let name = name(alloc, tokens)?;
     let qualifiers = any(&Qualifiers, alloc, tokens)?;
     Ok(QualifiedName { name, qualifiers })
-}
-
-fn is_integer(number: &NumericLiteral) -> bool
-    ensures { result ≡ spec.is_integer number.now }
-{
-    matches!(number.sign, Sign::Unsigned) && number.decimals.is_empty()
 }
 
 /// A numeric literal without a sign and without a point comes next.
@@ -101,6 +88,45 @@ pub fn integer(alloc: Global, tokens: &mut Tokens<'_>) -> Result<Integer, ReadFa
     };
     tokens.go_to(rest);
     Ok(Integer { digits, place })
+}
+
+/// IN or OF, and a name.
+#[tactic(auto, unfolding(crate::specs::Subscripts::qualifier_reader))]
+fn qualifier(alloc: Global, tokens: &mut Tokens<'_>) -> Result<Name, ReadFault>
+    ensures { Reads (spec.qualifier_reader tokens.old) result tokens.new }
+{
+    if tokens.at_word(Reserved::In) {
+        tokens.expect(Reserved::In)?;
+    } else {
+        tokens.expect(Reserved::Of)?;
+    }
+    name(alloc, tokens)
+}
+
+struct Qualifiers;
+
+impl Part<Name> for Qualifiers {
+    ghost use Rattle.expressions.specs.Subscripts as spec;
+
+    ghost ready = { λ _. Unit {0} };
+
+    ghost reading = { λ _. spec.qualifier_reader };
+
+    ghost beginning = { λ _. spec.begins_qualifier };
+
+    fn read(&self, alloc: Global, tokens: &mut Tokens<'_>) -> Result<Name, ReadFault> {
+        qualifier(alloc, tokens)
+    }
+
+    fn begins(&self, tokens: &Tokens<'_>) -> bool {
+        begins_qualifier(tokens)
+    }
+}
+
+fn is_integer(number: &NumericLiteral) -> bool
+    ensures { result ≡ spec.is_integer number.now }
+{
+    matches!(number.sign, Sign::Unsigned) && number.decimals.is_empty()
 }
 
 #[tactic(auto, unfolding(crate::specs::Subscripts::signed_integer_reader))]
@@ -141,30 +167,4 @@ fn item_subscript(alloc: Global, tokens: &mut Tokens<'_>) -> Result<Subscript, R
     let item = qualified(alloc, tokens)?;
     let adjustment = adjustment(alloc, tokens)?;
     Ok(Subscript::Item { item, adjustment })
-}
-
-/// Subscripts in a list.
-pub struct Subscripts;
-
-impl Part<Subscript> for Subscripts {
-    ghost use Rattle.expressions.specs.Subscripts as spec;
-
-    ghost ready = { λ _. Unit {0} };
-
-    ghost reading = { λ _. spec.subscript_reader };
-
-    ghost beginning = { λ _. spec.begins_subscript };
-
-    #[tactic(auto, unfolding(crate::specs::Subscripts::subscript_reader))]
-    fn read(&self, alloc: Global, tokens: &mut Tokens<'_>) -> Result<Subscript, ReadFault> {
-        if begins_integer(tokens) {
-            literal_subscript(alloc, tokens)
-        } else {
-            item_subscript(alloc, tokens)
-        }
-    }
-
-    fn begins(&self, tokens: &Tokens<'_>) -> bool {
-        begins_integer(tokens) || begins_name(tokens)
-    }
 }

@@ -65,7 +65,7 @@ bare = record {
 -- every step of reading, so that a SELECT is computed
 unfoldable computing : Unit {0}
 unfolding
-    same_word read.after_word read.past_word read.expect read.skip read.stands read.period read.heading read.one_token read.name
+    same_word read.after_word read.past_word read.expect read.skip read.presence_reader read.period read.heading_reader read.one_token read.name
     read.several_from read.several read.any
     subscripts.qualified_reader references.subscripts_reader references.reference_reader words.skip_led gathering.gathering_turns gathering.gathering_reader
     c.organization_reader c.access_reader c.key_reader c.relative_key_reader c.record_key_reader c.after_with_duplicates c.alternate_key_reader

@@ -1,7 +1,7 @@
 -- Reading the clauses of a SELECT, as functions on lists of tokens.
 use Rattle.tokens.specs.declared.reserved.Reserved.TheVariants as w
 use Rattle.source_tree.specs.declared.reference.Reference.{Reference}
-use Rattle.grammar.specs.Reading.{Parser, Words, ◌>>=◌, ◌>>◌, pure, after_word, past_word, expect, skip, stands, one_token}
+use Rattle.grammar.specs.Reading.{Parser, Words, ◌>>=◌, ◌>>◌, pure, after_word, past_word, expect, skip, presence_reader, one_token}
 use Rattle.expressions.specs.References.{reference_reader}
 use Rattle.data_division.specs.ClauseReading.{skip_led}
 use Rattle.file_control.specs.Clauses.{organization_in, access_in}
@@ -50,7 +50,7 @@ alternate_key_reader = do
   expect w.Alternate
   skip w.Record
   key ← key_reader
-  duplicates ← stands after_with_duplicates
+  duplicates ← presence_reader after_with_duplicates
   pure (clause_as.AlternateKey (record { key = key; duplicates = duplicates }))
 
 unfoldable pub status_reader : Parser Clause

@@ -11,7 +11,7 @@ use Rattle.source_tree.specs.declared.reference.Reference.{Reference}
 use Rattle.source_tree.specs.declared.select.OrganizationClause.{OrganizationClause}
 use Rattle.source_tree.specs.declared.select.OrganizationClause.TheVariants as organization_as
 use Rattle.source_tree.specs.declared.select.AlternateKeyClause.{AlternateKeyClause}
-use Rattle.grammar.specs.Parts.{Part, ◌then◌, ◌but◌, optional, stands, tested, word, telling, begins_name}
+use Rattle.grammar.specs.Parts.{Part, ◌then◌, ◌but◌, optional, optional_part, lookahead, word, token_with, begins_name}
 use Rattle.grammar.specs.Reading.{begins_word, after_word}
 use Rattle.expressions.specs.References.{reference}
 use Rattle.data_division.specs.Clauses.{led_by}
@@ -66,11 +66,11 @@ begins_relative_key i = key_behind (after_word w.Relative i)
 
 -- [ORGANIZATION [IS]] {SEQUENTIAL|RELATIVE|INDEXED}
 abbrev pub organization : OrganizationClause → Part
-organization one = (led_by w.Organization then telling organization_in one) but tested begins_relative_key
+organization one = (led_by w.Organization then token_with organization_in one) but lookahead begins_relative_key
 
 -- ACCESS [MODE] [IS] {SEQUENTIAL|RANDOM|DYNAMIC}
 abbrev pub access : Access → Part
-access one = word w.Access then optional (word w.Mode) then optional (word w.Is) then telling access_in one
+access one = word w.Access then optional (word w.Mode) then optional (word w.Is) then token_with access_in one
 
 -- [KEY] [IS] d
 abbrev pub key : Reference → Part
@@ -82,7 +82,7 @@ with_duplicates = optional (word w.With) then word w.Duplicates
 
 -- ALTERNATE [RECORD] [KEY] [IS] d [[WITH] DUPLICATES]
 abbrev pub alternate_key : AlternateKeyClause → Part
-alternate_key one = word w.Alternate then optional (word w.Record) then key one.key then stands with_duplicates one.duplicates
+alternate_key one = word w.Alternate then optional (word w.Record) then key one.key then optional_part with_duplicates one.duplicates
 
 -- [FILE] STATUS [IS] d
 abbrev pub status : Reference → Part

@@ -13,13 +13,13 @@ use Rattle.source_tree.specs.declared.select.OrganizationClause.{OrganizationCla
 use Rattle.source_tree.specs.declared.select.OrganizationClause.TheVariants as organization_as
 use Rattle.source_tree.specs.declared.select.AssignedName.{AssignedName}
 use Rattle.source_tree.specs.declared.select.Select.{Select}
-use Rattle.grammar.specs.Parts.{Part, ◌then◌, optional, several, stands, tested, telling, word, period, heading, name}
+use Rattle.grammar.specs.Parts.{Part, ◌then◌, optional, several, optional_part, lookahead, token_with, word, period, heading, name}
 use Rattle.grammar.specs.Reading as r
 use Rattle.grammar.specs.Reading.{Parser, ◌>>=◌, ◌>>◌, pure, begins_word, after_word, expect, skip, one_token}
-use Rattle.data_division.specs.Gathering.{gathering, gathering_reader}
+use Rattle.data_division.specs.Gathering.{clauses_from, gathering_reader}
 use Rattle.data_division.specs.Listed.{listed_from, list_from}
 use Rattle.file_control.specs.declared.stated.Stated.{Stated}
-use Rattle.file_control.specs.Stated.{none, select_clauses}
+use Rattle.file_control.specs.Stated.{no_clauses, select_clauses}
 use Rattle.file_control.specs.ClauseReading.{clause_reader}
 
 -- the file's name on the volume: a nonnumeric literal's characters, or a word, which tokens have in upper case
@@ -57,15 +57,15 @@ select_of optional given assigned clauses = record {
 abbrev pub select : Select → Part
 select one = λ from rest.
     (clauses : Stated) × (one ≡ select_of one.optional one.name one.assigned clauses)
-    × (word w.Select then stands (word w.Optional) one.optional then name one.name then word w.Assign then optional (word w.To)
-    then telling assigned_in one.assigned then gathering select_clauses none clauses then period) from rest
+    × (word w.Select then optional_part (word w.Optional) one.optional then name one.name then word w.Assign then optional (word w.To)
+    then token_with assigned_in one.assigned then clauses_from select_clauses no_clauses clauses then period) from rest
 
 abbrev pub begins_select : List Token → Bool
 begins_select = begins_word w.Select
 
 -- INPUT-OUTPUT SECTION . FILE-CONTROL . select...
 abbrev pub file_control : List Select → Part
-file_control all = heading (w.InputOutput ∷ w.Section ∷ []) then heading (w.FileControl ∷ []) then several select (tested begins_select) all
+file_control all = heading (w.InputOutput ∷ w.Section ∷ []) then heading (w.FileControl ∷ []) then several select (lookahead begins_select) all
 
 -- [INPUT-OUTPUT SECTION . ..]: it is left out only where INPUT-OUTPUT does not stand.
 abbrev pub input_output : List Select → Part
@@ -85,16 +85,16 @@ assigned_reader = do
 unfoldable pub select_reader : Parser Select
 select_reader = do
   expect w.Select
-  optional ← r.stands (after_word w.Optional)
+  optional ← r.presence_reader (after_word w.Optional)
   head ← assigned_reader
-  clauses ← gathering_reader select_clauses clause_reader none
+  clauses ← gathering_reader select_clauses clause_reader no_clauses
   r.period
   pure (select_of optional head.0 head.1 clauses)
 
 unfoldable pub file_control_reader : Parser (List Select)
 file_control_reader = do
-  r.heading (w.InputOutput ∷ w.Section ∷ [])
-  r.heading (w.FileControl ∷ [])
+  r.heading_reader (w.InputOutput ∷ w.Section ∷ [])
+  r.heading_reader (w.FileControl ∷ [])
   r.several select_reader begins_select
 
 unfoldable pub input_output_reader : Parser (List Select)

@@ -16,6 +16,25 @@ use source_tree::{Access, AlternateKeyClause, OrganizationClause, Reference};
 use std::alloc::Global;
 use tokens::{Reserved, Token};
 
+/// A clause of this kind.
+#[tactic(auto, unfolding(crate::specs::ClauseReading::clause_reader))]
+pub fn clause_of_kind(
+    kind: ClauseKind,
+    alloc: Global,
+    tokens: &mut Tokens<'_>,
+) -> Result<Clause, ReadFault>
+    ensures { Reads (spec.clause_reader kind tokens.old) result tokens.new }
+{
+    match kind {
+        ClauseKind::Organization => organization(tokens),
+        ClauseKind::Access => access(tokens),
+        ClauseKind::RelativeKey => relative_key(alloc, tokens),
+        ClauseKind::RecordKey => record_key(alloc, tokens),
+        ClauseKind::AlternateKey => alternate_key(alloc, tokens),
+        ClauseKind::Status => status(alloc, tokens),
+    }
+}
+
 /// A word that stands for an organization.
 #[tactic(auto, unfolding(grammar::specs::Reading::one_token))]
 fn organization_word(tokens: &mut Tokens<'_>) -> Result<OrganizationClause, ReadFault>
@@ -99,9 +118,9 @@ fn after_with_duplicates(tokens: &[Token]) -> Option<&[Token]>
 }
 
 /// Passes `[WITH] DUPLICATES`, if that comes next, and tells whether it did.
-#[tactic(auto, unfolding(grammar::specs::Reading::stands))]
+#[tactic(auto, unfolding(grammar::specs::Reading::presence_reader))]
 fn take_duplicates(tokens: &mut Tokens<'_>) -> bool
-    ensures { read.stands spec.after_with_duplicates tokens.old ≡ Ok (result, tokens.new) }
+    ensures { read.presence_reader spec.after_with_duplicates tokens.old ≡ Ok (result, tokens.new) }
 {
     match after_with_duplicates(tokens.rest()) {
         Some(rest) => {
@@ -131,23 +150,4 @@ fn status(alloc: Global, tokens: &mut Tokens<'_>) -> Result<Clause, ReadFault>
     tokens.expect(Reserved::Status)?;
     tokens.skip(Reserved::Is);
     Ok(Clause::Status(reference(alloc, tokens)?))
-}
-
-/// A clause of this kind.
-#[tactic(auto, unfolding(crate::specs::ClauseReading::clause_reader))]
-pub fn clause_of_kind(
-    kind: ClauseKind,
-    alloc: Global,
-    tokens: &mut Tokens<'_>,
-) -> Result<Clause, ReadFault>
-    ensures { Reads (spec.clause_reader kind tokens.old) result tokens.new }
-{
-    match kind {
-        ClauseKind::Organization => organization(tokens),
-        ClauseKind::Access => access(tokens),
-        ClauseKind::RelativeKey => relative_key(alloc, tokens),
-        ClauseKind::RecordKey => record_key(alloc, tokens),
-        ClauseKind::AlternateKey => alternate_key(alloc, tokens),
-        ClauseKind::Status => status(alloc, tokens),
-    }
 }

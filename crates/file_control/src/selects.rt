@@ -12,6 +12,19 @@ use sqlite_items::Items;
 use std::alloc::Global;
 use tokens::{Kind, Reserved};
 
+/// The SELECTs of FILE-CONTROL; none where INPUT-OUTPUT doesn't come next.
+#[tactic(auto, unfolding(crate::specs::Selects::input_output_reader, crate::specs::Selects::file_control_reader))]
+pub fn input_output(alloc: Global, tokens: &mut Tokens<'_>) -> Result<Items<Select>, ReadFault>
+    ensures { Reads (spec.input_output_reader tokens.old) result tokens.new }
+{
+    if !tokens.at_word(Reserved::InputOutput) {
+        return Ok(Items::new(alloc));
+    }
+    tokens.heading(&[Reserved::InputOutput, Reserved::Section])?;
+    tokens.heading(&[Reserved::FileControl])?;
+    several(&Selects, alloc, tokens)
+}
+
 /// The file's name on the volume: a nonnumeric literal or a word.
 #[tactic(auto, unfolding(grammar::specs::Reading::one_token, grammar::specs::Reading::here))]
 fn assigned_name(alloc: Global, tokens: &mut Tokens<'_>) -> Result<AssignedName, ReadFault>
@@ -96,17 +109,4 @@ impl Part<Select> for Selects {
     fn begins(&self, tokens: &Tokens<'_>) -> bool {
         tokens.at_word(Reserved::Select)
     }
-}
-
-/// The SELECTs of FILE-CONTROL; none where INPUT-OUTPUT doesn't come next.
-#[tactic(auto, unfolding(crate::specs::Selects::input_output_reader, crate::specs::Selects::file_control_reader))]
-pub fn input_output(alloc: Global, tokens: &mut Tokens<'_>) -> Result<Items<Select>, ReadFault>
-    ensures { Reads (spec.input_output_reader tokens.old) result tokens.new }
-{
-    if !tokens.at_word(Reserved::InputOutput) {
-        return Ok(Items::new(alloc));
-    }
-    tokens.heading(&[Reserved::InputOutput, Reserved::Section])?;
-    tokens.heading(&[Reserved::FileControl])?;
-    several(&Selects, alloc, tokens)
 }

@@ -30,7 +30,7 @@ pub struct Stated {
 impl Stated {
     /// No clause.
     fn none(alloc: Global) -> Stated
-        ensures { result ≡ spec.none }
+        ensures { result ≡ spec.no_clauses }
     {
         Stated {
             organization: None,
@@ -44,7 +44,7 @@ impl Stated {
 
     /// A clause of that kind is among them and can't come again.
     fn has(&self, kind: ClauseKind) -> bool
-        ensures { result ≡ spec.has self.now kind }
+        ensures { result ≡ spec.has_clause self.now kind }
     {
         match kind {
             ClauseKind::Organization => self.organization.is_some(),
@@ -74,7 +74,7 @@ impl Stated {
 
 /// Clauses up to where no more can begin. One that can't come a second time is refused where it does.
 pub fn stated_clauses(alloc: Global, tokens: &mut Tokens<'_>) -> Result<Stated, ReadFault>
-    ensures { Reads (gathering_reader spec.select_clauses clause_reader spec.none tokens.old) result tokens.new }
+    ensures { Reads (gathering_reader spec.select_clauses clause_reader spec.no_clauses tokens.old) result tokens.new }
 {
     let mut stated = Stated::none(alloc);
     match gather(&mut stated, alloc, tokens) {

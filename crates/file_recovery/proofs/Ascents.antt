@@ -6,20 +6,20 @@ use Rattle.std.specs.List.Sorted.{IsStrictlySortedBy}
 use Rattle.std.specs.declared.cmp.Ordering.TheVariants.{Less}
 use Rattle.std.proofs.lemmas.List.Elements.{All-head}
 use Rattle.std.proofs.lemmas.Map.Keys.{sorted_head, sorted_tail}
-use Rattle.tree_pages.specs.Keys.{key_cmp, Ascend}
+use Rattle.btree_pages.specs.Keys.{key_cmp, Ascend}
 use Rattle.btree.specs.Laws.{keys_listed}
 use Rattle.records.specs.declared.key.KeyOfReference.TheVariants.{Prime}
 use Rattle.records.specs.Spec.{Spec, is_spec, is_name}
 use Rattle.records.specs.Rows.{Row, Pair, bytes_cmp, pair_cmp, pair_under, prime_pair}
 use Rattle.records.specs.Files.{File, IsRow, IsFile, IsNamed, names}
 use Rattle.records.specs.Laws.{RowsAscend}
-use Rattle.file_trees.specs.Catalog.{padded}
-use Rattle.file_trees.specs.Pairs.{IsUnder}
-use Rattle.file_trees.specs.Trees.{entry_under}
-use Rattle.file_trees.specs.Volume.{Kept, catalog_entry}
-use Rattle.file_trees.proofs.Keeping.{rows_fit_most}
-use Rattle.file_trees.proofs.Names.{names_in_order}
-use Rattle.file_trees.proofs.Order.{keys_in_order}
+use Rattle.volume_format.specs.Catalog.{padded_name}
+use Rattle.volume_format.specs.Pairs.{IsUnder}
+use Rattle.volume_format.specs.Trees.{entry_under}
+use Rattle.volume_format.specs.Volume.{FileTrees, catalog_entry}
+use Rattle.volume_format.proofs.Keeping.{rows_fit_most}
+use Rattle.volume_format.proofs.Names.{names_in_order}
+use Rattle.volume_format.proofs.Order.{keys_in_order}
 
 -- a row alone
 row_fits : (spec : Spec) (next : ℕ) (row : Row) → is_spec spec ≡ true → 1 ≤ next → next ≤ 2 ^ 63 → IsRow spec next row → IsUnder spec Prime row
@@ -48,15 +48,15 @@ module _ (spec : Spec) (next : ℕ) (is : is_spec spec ≡ true) (some : 1 ≤ n
 
 -- files whose entries ascend
 
-behind_name : (one : Kept) (kept : List Kept) → is_name one.named.name ≡ true → AllByRecursion IsNamed (map (λ (k : Kept). k.named) kept) → AllByRecursion (λ (k : List ℕ). key_cmp (padded one.named.name) k ≡ Less) (keys_listed (map catalog_entry kept)) →
-    AllByRecursion (λ (n : List ℕ). bytes_cmp one.named.name n ≡ Less) (names (map (λ (k : Kept). k.named) kept))
+behind_name : (one : FileTrees) (kept : List FileTrees) → is_name one.named.name ≡ true → AllByRecursion IsNamed (map (λ (k : FileTrees). k.named) kept) → AllByRecursion (λ (k : List ℕ). key_cmp (padded_name one.named.name) k ≡ Less) (keys_listed (map catalog_entry kept)) →
+    AllByRecursion (λ (n : List ℕ). bytes_cmp one.named.name n ≡ Less) (names (map (λ (k : FileTrees). k.named) kept))
 behind_name one [] good all below = tt
 behind_name one (two ∷ kept) good all below = (sym (names_in_order one.named.name two.named.name good all.0.name) ∙ below.0, behind_name one kept good all.1 below.1)
 
-pub names_ascend : (kept : List Kept) → AllByRecursion IsNamed (map (λ (k : Kept). k.named) kept) → Ascend (keys_listed (map catalog_entry kept)) → IsStrictlySortedBy bytes_cmp (names (map (λ (k : Kept). k.named) kept))
+pub names_ascend : (kept : List FileTrees) → AllByRecursion IsNamed (map (λ (k : FileTrees). k.named) kept) → Ascend (keys_listed (map catalog_entry kept)) → IsStrictlySortedBy bytes_cmp (names (map (λ (k : FileTrees). k.named) kept))
 unfolding IsStrictlySortedBy
 names_ascend [] all up = tt
 names_ascend (one ∷ kept) all up = (
-  behind_name one kept all.0.name all.1 (sorted_head key_cmp (padded one.named.name) (keys_listed (map catalog_entry kept)) up),
-  names_ascend kept all.1 (sorted_tail key_cmp (padded one.named.name) (keys_listed (map catalog_entry kept)) up),
+  behind_name one kept all.0.name all.1 (sorted_head key_cmp (padded_name one.named.name) (keys_listed (map catalog_entry kept)) up),
+  names_ascend kept all.1 (sorted_tail key_cmp (padded_name one.named.name) (keys_listed (map catalog_entry kept)) up),
 )

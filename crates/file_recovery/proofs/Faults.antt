@@ -2,8 +2,8 @@
 use Rattle.std.proofs.Common.{◌≡◌, refl, subst}
 use Rattle.records.specs.declared.fault.StoreFault.{StoreFault}
 use Rattle.records.specs.declared.fault.StoreFault.TheVariants.{Device, Full, Damaged, Memory, Spent, Layout}
-use Rattle.tree_pages.specs.declared.row_layout.RowLayout.{RowLayout}
-use Rattle.btree.specs.Reading.{IsRefusal}
+use Rattle.btree_pages.specs.declared.row_layout.RowLayout.{RowLayout}
+use Rattle.btree.specs.Reading.{IsSearchRefusal}
 use Rattle.btree.specs.Refusals.{IsChangeRefusal}
 use Rattle.pages.specs.declared.error.PagesError.{PagesError}
 use Rattle.pages.specs.declared.error.PagesError.TheVariants as pages
@@ -27,7 +27,7 @@ device_back pages.Spent is = cc
 device_back pages.ForeignMark is = cc
 
 -- why reading an unspent map is refused
-pub read_fault : (layout : RowLayout) (error : PagesError) → IsRefusal layout error → (error ≡ pages.Spent → ⊥) → IsReadFault (fault_of error)
+pub read_fault : (layout : RowLayout) (error : PagesError) → IsSearchRefusal layout error → (error ≡ pages.Spent → ⊥) → IsReadFault (fault_of error)
 read_fault layout pages.Device is never = tt
 read_fault layout pages.Full is never = absurd is
 read_fault layout pages.Damaged is never = tt

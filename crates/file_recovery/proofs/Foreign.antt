@@ -13,14 +13,14 @@ use Rattle.roots.specs.declared.root.RootSector.TheVariants.{Blank, Broken, Vali
 use Rattle.roots.specs.declared.pair.Roots.{Roots}
 use Rattle.roots.specs.declared.pair.RootsFault.{RootsFault}
 use Rattle.roots.specs.declared.pair.RootsFault.TheVariants.{ForeignMark}
-use Rattle.roots.specs.Root.{mark_index, root_with, is_valid, marked, is_blank, root_in}
+use Rattle.roots.specs.Root.{mark_index, root_with, is_valid, root_with_mark, is_blank, root_in}
 use Rattle.roots.specs.Pair.{may_follow, pair_of, of_own, newest_root}
 use Rattle.roots.specs.Reading.{roots_in}
 use Rattle.records.specs.Files.{Files}
-use Rattle.pages.specs.Layout.{marks as page_marks, IsForeign}
+use Rattle.pages.specs.Layout.{known_marks as page_marks, IsForeign}
 use Rattle.pages.proofs.Roots.{behind}
-use Rattle.half_store.specs.Half.{marks as half_marks, IsForeign as IsHalfForeign, Holds as HoldsHalf}
-use Rattle.file_trees.specs.Volume.{Holds as HoldsTrees}
+use Rattle.half_store.specs.Half.{known_marks as half_marks, IsForeign as IsHalfForeign, Holds as HoldsHalf}
+use Rattle.volume_format.specs.Volume.{Holds as HoldsTrees}
 
 -- the place of a mark among two that were turned round
 abbrev turned : ℕ → ℕ
@@ -51,7 +51,7 @@ module _ (count number : ℕ) (bytes : Sector) where
   valid_turns true r = refl
   valid_turns false r = refl
 
-  marked_turns : (m : Option ℕ) → marked count number bytes (option_map turned m) ≡ turned_sector (marked count number bytes m)
+  marked_turns : (m : Option ℕ) → root_with_mark count number bytes (option_map turned m) ≡ turned_sector (root_with_mark count number bytes m)
   unfolding turned_sector turned_root
   marked_turns None = refl
   marked_turns (Some mark) = valid_turns (is_valid count number (root_with bytes mark)) (root_with bytes mark)
@@ -65,8 +65,8 @@ module _ (count number : ℕ) (bytes : Sector) where
   in_turns one two apart =
       let known : List (List ℕ) = one ∷ two ∷ [] in
       let place = index_turns (starts_with nat_eq bytes one) (starts_with nat_eq bytes two) apart in
-      blank_turns (is_blank bytes) (marked count number bytes (mark_index known bytes)) (marked count number bytes (mark_index (two ∷ one ∷ []) bytes))
-      (ap (marked count number bytes) place ∙ marked_turns (mark_index known bytes))
+      blank_turns (is_blank bytes) (root_with_mark count number bytes (mark_index known bytes)) (root_with_mark count number bytes (mark_index (two ∷ one ∷ []) bytes))
+      (ap (root_with_mark count number bytes) place ∙ marked_turns (mark_index known bytes))
 
 -- a newest root with the reader's own mark, and one with the other
 low : (x r : Roots) → of_own 1 (Some x) ≡ Ok r → x.newest.mark ≡ 0

@@ -8,23 +8,23 @@ use Rattle.std.proofs.lemmas.List.Elements.{All-head, All-tail, All-from_recursi
 use Rattle.byteorder.specs.Endian.{big_number}
 use Rattle.station.specs.Disk.{Sector}
 use Rattle.btree.specs.Entries.{Entry, entries_of}
-use Rattle.tree_check.specs.Walks.{Marks}
+use Rattle.btree_check.specs.Walks.{Marks}
 use Rattle.records.specs.declared.key.KeyOfReference.TheVariants.{Prime}
 use Rattle.records.specs.Spec.{Spec}
 use Rattle.records.specs.Rows.{Row}
-use Rattle.records.specs.Files.{File, Named, IsRow, IsNamed}
+use Rattle.records.specs.Files.{File, NamedFile, IsRow, IsNamed}
 use Rattle.records.specs.Laws.{RowsAscend}
-use Rattle.file_trees.specs.Catalog.{Listing, IsListing, padded, spelled}
-use Rattle.file_trees.specs.Forest.{Planted, Grows, pages_under, pages_within}
-use Rattle.file_trees.specs.Trees.{entry_under, layout_under}
-use Rattle.file_trees.specs.Volume.{Kept, IsKept, no_tree, trees_of, listing_of}
-use Rattle.file_trees.proofs.Listings.{spec_read, prime_read, root_read, next_read}
-use Rattle.file_trees.proofs.Names.{one_name}
-use Rattle.file_trees.proofs.Once.{one_rows_most}
-use Rattle.file_trees.proofs.Roots.{root_small}
-use Rattle.file_trees.proofs.Specs.{one_spec}
+use Rattle.volume_format.specs.Catalog.{Listing, IsListing, padded_name, listing_bytes}
+use Rattle.volume_format.specs.Forest.{TreeLevels, IsTreeIn, pages_under, pages_within}
+use Rattle.volume_format.specs.Trees.{entry_under, layout_under}
+use Rattle.volume_format.specs.Volume.{FileTrees, IsKept, no_tree, trees_of, listing_of}
+use Rattle.volume_format.proofs.Listings.{spec_read, prime_read, root_read, next_read}
+use Rattle.volume_format.proofs.Names.{one_name}
+use Rattle.volume_format.proofs.Once.{one_rows_most}
+use Rattle.volume_format.proofs.Roots.{root_small}
+use Rattle.volume_format.proofs.Specs.{one_spec}
 use Rattle.file_recovery.specs.Found.{root_at, HasIndex, AreIndexes, FindsIndexes}
-use Rattle.file_recovery.specs.Kept.{IsFound, FindsFile}
+use Rattle.file_recovery.specs.Kept.{IsCatalogFile, FindsFile}
 use Rattle.file_recovery.specs.Read.{roots_in, listing_in}
 use Rattle.file_recovery.specs.Rows.{IsSized}
 use Rattle.file_recovery.proofs.Headings.{IsHeading}
@@ -36,19 +36,19 @@ pub rows_sized : (spec : Spec) (next : ℕ) (rows : List Row) → AllByRecursion
 rows_sized spec next rows are = λ k d low. let is = All-from_recursion (IsRow spec next) rows are k d low in (is.long, is.arrivals)
 
 -- what the catalog says of a file whose trees are in the map
-listing_fits : (pages : List (Option Sector)) (generation : ℕ) (kept : Kept) → length pages ≤ 2 ^ 20 → generation < 2 ^ 63 → IsKept generation kept → IsNamed kept.named → All (Grows pages) (trees_of kept) → IsListing (listing_of kept)
+listing_fits : (pages : List (Option Sector)) (generation : ℕ) (kept : FileTrees) → length pages ≤ 2 ^ 20 → generation < 2 ^ 63 → IsKept generation kept → IsNamed kept.named → All (IsTreeIn pages) (trees_of kept) → IsListing (listing_of kept)
 listing_fits pages generation kept small few is named grow =
     let arrivals = is.arrivals in
-    let grows : All (Grows pages) kept.alternates = All-tail (Grows pages) kept.prime kept.alternates grow in
+    let grows : All (IsTreeIn pages) kept.alternates = All-tail (IsTreeIn pages) kept.prime kept.alternates grow in
     record {
       spec = named.file.spec;
-      prime = root_small pages kept.prime small (All-head (Grows pages) kept.prime kept.alternates grow);
+      prime = root_small pages kept.prime small (All-head (IsTreeIn pages) kept.prime kept.alternates grow);
       alternates = λ k d low.
-          let many = length-map kept.alternates (λ (tree : Planted). tree.tree.root) in
+          let many = length-map kept.alternates (λ (tree : TreeLevels). tree.tree.root) in
           let within : k < length kept.alternates = omega (arith, low, many) in
-          let own : Planted = slice_index_or kept.alternates k no_tree in
-          subst (λ (n : ℕ). n < 2 ^ 32) (sym (get_or-map (λ (tree : Planted). tree.tree.root) kept.alternates k no_tree d within)) (root_small pages own small (grows k no_tree within));
-      count = length-map kept.alternates (λ (tree : Planted). tree.tree.root) ∙ is.count;
+          let own : TreeLevels = slice_index_or kept.alternates k no_tree in
+          subst (λ (n : ℕ). n < 2 ^ 32) (sym (get_or-map (λ (tree : TreeLevels). tree.tree.root) kept.alternates k no_tree d within)) (root_small pages own small (grows k no_tree within));
+      count = length-map kept.alternates (λ (tree : TreeLevels). tree.tree.root) ∙ is.count;
       next_arrival = omega (arith, arrivals, few);
     }
 
@@ -70,15 +70,15 @@ roots_at (suc n) k value d low =
     (cases_lt k n)
 
 -- trees with these roots
-roots_are : (trees : List Planted) (n : ℕ) (value : List ℕ) → length trees ≡ n → ((i : ℕ) → i < n → (slice_index_or trees i no_tree).tree.root ≡ root_at value i) → map (λ (tree : Planted). tree.tree.root) trees ≡ roots_in n value
+roots_are : (trees : List TreeLevels) (n : ℕ) (value : List ℕ) → length trees ≡ n → ((i : ℕ) → i < n → (slice_index_or trees i no_tree).tree.root ≡ root_at value i) → map (λ (tree : TreeLevels). tree.tree.root) trees ≡ roots_in n value
 roots_are trees n value many rooted =
-    let long = length-map trees (λ (tree : Planted). tree.tree.root) in
+    let long = length-map trees (λ (tree : TreeLevels). tree.tree.root) in
     let short = roots_long n value in
-    same_lists (map (λ (tree : Planted). tree.tree.root) trees) (roots_in n value) (omega (arith, many, long, short))
+    same_lists (map (λ (tree : TreeLevels). tree.tree.root) trees) (roots_in n value) (omega (arith, many, long, short))
     (λ k d low.
     let within : k < length trees = omega (arith, low, long) in
     let below : k < n = omega (arith, within, many) in
-    get_or-map (λ (tree : Planted). tree.tree.root) trees k no_tree d within ∙ rooted k below ∙ sym (roots_at n k value d below))
+    get_or-map (λ (tree : TreeLevels). tree.tree.root) trees k no_tree d within ∙ rooted k below ∙ sym (roots_at n k value d below))
 
 entry_with : List ℕ → List ℕ → Entry
 entry_with key value = record { key = key; value = value }
@@ -87,17 +87,17 @@ listing_with : Spec → ℕ → List ℕ → ℕ → Listing
 listing_with spec prime alternates next = record { spec = spec; prime = prime; alternates = alternates; next_arrival = next }
 
 -- what was read is a file with its trees
-module _ (pages : List (Option Sector)) (generation : ℕ) (entry : Entry) (name : List ℕ) (spec : Spec) (rows : List Row) (next : ℕ) (prime : Planted) (old mid new : List Bool) where
-  pub finds_file : IsHeading generation entry name spec next → prime.tree.layout ≡ layout_under spec Prime → prime.tree.root ≡ big_number 4 (drop 43 entry.value) → Grows pages prime → Marks old (pages_under prime) mid →
+module _ (pages : List (Option Sector)) (generation : ℕ) (entry : Entry) (name : List ℕ) (spec : Spec) (rows : List Row) (next : ℕ) (prime : TreeLevels) (old mid new : List Bool) where
+  pub finds_file : IsHeading generation entry name spec next → prime.tree.layout ≡ layout_under spec Prime → prime.tree.root ≡ big_number 4 (drop 43 entry.value) → IsTreeIn pages prime → Marks old (pages_under prime) mid →
       entries_of prime.tree.layout prime.levels ≡ map (entry_under spec Prime) rows → AllByRecursion (IsRow spec next) rows → RowsAscend spec.organization rows → FindsIndexes pages spec rows entry.value (length spec.alternates) mid new →
       FindsFile pages generation entry (record { name = name; file = record { spec = spec; rows = rows; next_arrival = next } }) old new
   unfolding listing_with entry_with
   finds_file heading layout root grows marks listed are ascend indexes =
-      let one : Named = record { name = name; file = record { spec = spec; rows = rows; next_arrival = next } } in
-      let kept : Kept = record { named = one; prime = prime; alternates = indexes.trees } in
+      let one : NamedFile = record { name = name; file = record { spec = spec; rows = rows; next_arrival = next } } in
+      let kept : FileTrees = record { named = one; prime = prime; alternates = indexes.trees } in
       let roots = roots_are indexes.trees (length spec.alternates) entry.value indexes.are.many indexes.are.rooted in
       let listing : listing_of kept ≡ listing_in spec entry.value =
-      ap (λ n. listing_with spec n (map (λ (tree : Planted). tree.tree.root) indexes.trees) next) root
+      ap (λ n. listing_with spec n (map (λ (tree : TreeLevels). tree.tree.root) indexes.trees) next) root
       ∙ ap (λ l. listing_with spec (big_number 4 (drop 43 entry.value)) l next) roots
       ∙ ap (listing_with spec (big_number 4 (drop 43 entry.value)) (roots_in (length spec.alternates) entry.value)) heading.next_is in
       record {
@@ -106,25 +106,25 @@ module _ (pages : List (Option Sector)) (generation : ℕ) (entry : Entry) (name
           is = record { layout = layout; rows = listed; count = indexes.are.many; indexes = λ i low. let has = indexes.are.each i low in record { layout = has.layout; pairs = has.pairs }; arrivals = heading.few };
           named = record { name = heading.name_is; file = record { spec = heading.spec_is; next = heading.some; ascend = ascend; rows = are } };
           grow = λ k d low. grow_at k d low;
-          listed = ap (λ k. entry_with k (spelled (listing_of kept))) (sym heading.key_is) ∙ ap (entry_with entry.key) (ap spelled listing ∙ sym heading.value_is);
+          listed = ap (λ k. entry_with k (listing_bytes (listing_of kept))) (sym heading.key_is) ∙ ap (entry_with entry.key) (ap listing_bytes listing ∙ sym heading.value_is);
         };
         is = refl;
         marks = marks_append old mid new (pages_under prime) (pages_within indexes.trees) marks indexes.marks;
       }
     where
-      grow_at : (k : ℕ) (d : Planted) → k < length (prime ∷ indexes.trees) → Grows pages (slice_index_or (prime ∷ indexes.trees) k d)
+      grow_at : (k : ℕ) (d : TreeLevels) → k < length (prime ∷ indexes.trees) → IsTreeIn pages (slice_index_or (prime ∷ indexes.trees) k d)
       grow_at zero d low = grows
       grow_at (suc k) d low = indexes.are.grow k d (omega (arith, low))
 
 -- a file with its trees that the entry tells of is what is read
-module _ (pages : List (Option Sector)) (generation : ℕ) (entry : Entry) (kept : Kept) (small : length pages ≤ 2 ^ 20) (few : generation < 2 ^ 63) (found : IsFound pages generation entry kept) where
+module _ (pages : List (Option Sector)) (generation : ℕ) (entry : Entry) (kept : FileTrees) (small : length pages ≤ 2 ^ 20) (few : generation < 2 ^ 63) (found : IsCatalogFile pages generation entry kept) where
   pub own_listing : IsListing (listing_of kept)
   own_listing = listing_fits pages generation kept small few found.is found.named found.grow
 
-  pub own_key : entry.key ≡ padded kept.named.name
+  pub own_key : entry.key ≡ padded_name kept.named.name
   own_key = sym (ap (λ (e : Entry). e.key) found.listed)
 
-  pub own_value : entry.value ≡ spelled (listing_of kept)
+  pub own_value : entry.value ≡ listing_bytes (listing_of kept)
   own_value = sym (ap (λ (e : Entry). e.value) found.listed)
 
   pub own_next : kept.named.file.next_arrival ≡ big_number 8 (drop 75 entry.value)
@@ -135,10 +135,10 @@ module _ (pages : List (Option Sector)) (generation : ℕ) (entry : Entry) (kept
 
   pub own_roots : (i : ℕ) → i < length kept.alternates → (slice_index_or kept.alternates i no_tree).tree.root ≡ root_at entry.value i
   own_roots i low =
-      let many = length-map kept.alternates (λ (tree : Planted). tree.tree.root) in
+      let many = length-map kept.alternates (λ (tree : TreeLevels). tree.tree.root) in
       sym
       (ap (λ (v : List ℕ). root_at v i) own_value ∙ root_read (listing_of kept) i own_listing.spec own_listing.alternates (omega (arith, low, many))
-      ∙ get_or-map (λ (tree : Planted). tree.tree.root) kept.alternates i no_tree 0 low)
+      ∙ get_or-map (λ (tree : TreeLevels). tree.tree.root) kept.alternates i no_tree 0 low)
 
   module _ (name : List ℕ) (spec : Spec) (next : ℕ) (heading : IsHeading generation entry name spec next) where
     pub same_name : kept.named.name ≡ name
@@ -163,17 +163,17 @@ module _ (pages : List (Option Sector)) (generation : ℕ) (entry : Entry) (kept
     pub own_entries : entries_of kept.prime.tree.layout kept.prime.levels ≡ map (entry_under spec Prime) kept.named.file.rows
     own_entries = found.is.rows ∙ ap (λ (s : Spec). map (entry_under s Prime) kept.named.file.rows) same_spec
 
-    pub same_prime : (prime : Planted) → prime.tree.layout ≡ layout_under spec Prime → prime.tree.root ≡ big_number 4 (drop 43 entry.value) → Grows pages prime → prime ≡ kept.prime
+    pub same_prime : (prime : TreeLevels) → prime.tree.layout ≡ layout_under spec Prime → prime.tree.root ≡ big_number 4 (drop 43 entry.value) → IsTreeIn pages prime → prime ≡ kept.prime
     same_prime prime layout root grows =
-        one_planted pages prime kept.prime small grows (All-head (Grows pages) kept.prime kept.alternates found.grow) (layout ∙ sym prime_layout_is) (root ∙ sym own_root)
+        one_planted pages prime kept.prime small grows (All-head (IsTreeIn pages) kept.prime kept.alternates found.grow) (layout ∙ sym prime_layout_is) (root ∙ sym own_root)
 
-    pub same_rows : (prime : Planted) (rows : List Row) → prime ≡ kept.prime → entries_of prime.tree.layout prime.levels ≡ map (entry_under spec Prime) rows → AllByRecursion (IsRow spec next) rows → RowsAscend spec.organization rows → rows ≡ kept.named.file.rows
+    pub same_rows : (prime : TreeLevels) (rows : List Row) → prime ≡ kept.prime → entries_of prime.tree.layout prime.levels ≡ map (entry_under spec Prime) rows → AllByRecursion (IsRow spec next) rows → RowsAscend spec.organization rows → rows ≡ kept.named.file.rows
     same_rows prime rows same listed are ascend =
         let file : File = record { spec = spec; rows = rows; next_arrival = next } in
         let low = found.is.arrivals in
         let equal = same_next in
         one_rows_most file kept.named.file (record { spec = heading.spec_is; next = heading.some; ascend = ascend; rows = are }) found.named.file same_spec (omega (arith, low, few, equal)) (omega (arith, low, few))
-        (sym listed ∙ ap (λ (t : Planted). entries_of t.tree.layout t.levels) same ∙ own_entries)
+        (sym listed ∙ ap (λ (t : TreeLevels). entries_of t.tree.layout t.levels) same ∙ own_entries)
 
     pub own_indexes : (rows : List Row) → rows ≡ kept.named.file.rows → AreIndexes pages spec rows entry.value (length spec.alternates) kept.alternates
     own_indexes rows same =
@@ -186,5 +186,5 @@ module _ (pages : List (Option Sector)) (generation : ℕ) (entry : Entry) (kept
               subst (λ (r : List Row). HasIndex spec r i (slice_index_or kept.alternates i no_tree)) (sym same)
               (subst (λ (s : Spec). HasIndex s kept.named.file.rows i (slice_index_or kept.alternates i no_tree)) same_spec (record { layout = has.layout; pairs = has.pairs }));
           rooted = λ i low. own_roots i (omega (arith, low, many));
-          grow = All-tail (Grows pages) kept.prime kept.alternates found.grow;
+          grow = All-tail (IsTreeIn pages) kept.prime kept.alternates found.grow;
         }

@@ -2,7 +2,7 @@
 use Rattle.std.proofs.Common.{◌≡◌, ◌≤◌, ◌<◌, ℕ, Bool, true, false, List, [], ◌++◌, length, refl, sym, subst, ◌∙◌}
 use Rattle.std.specs.Prelude.{slice_index_or, Contains}
 use Rattle.std.proofs.lemmas.List.Elements.{All-nil, All-append, All-contains, Contains-get_or, Contains-append_left, Contains-append_right}
-use Rattle.tree_check.specs.Walks.{IsUnmarked, CanMark, Marks}
+use Rattle.btree_check.specs.Walks.{IsUnmarked, CanMark, Marks}
 use Rattle.btree.proofs.Order.{all_left, all_right}
 use Rattle.btree.proofs.Runs.{pairs_from_once, once_left, once_right, once_apart, once_append}
 use Rattle.btree.proofs.Frames.{false_unless}

@@ -8,7 +8,7 @@ use Rattle.std.proofs.lemmas.Bool.{eqb-true}
 use Rattle.std.proofs.lemmas.Cmp.{nat_list_cmp_total, tied_itself}
 use Rattle.std.proofs.lemmas.List.{length-map}
 use Rattle.std.proofs.lemmas.Map.Keys.{sorted_head, sorted_tail}
-use Rattle.tree_pages.specs.Keys.{key_cmp, Ascend}
+use Rattle.btree_pages.specs.Keys.{key_cmp, Ascend}
 use Rattle.btree.specs.Entries.{Entry, entry_with}
 use Rattle.btree.specs.Laws.{keys_listed}
 use Rattle.btree.proofs.Runs.{in_head, in_tail}
@@ -23,10 +23,10 @@ use Rattle.records.specs.Laws.{RowsAscend}
 use Rattle.records.specs.Stores.{IsKey}
 use Rattle.records.proofs.Ascending.{pair_total}
 use Rattle.records.proofs.Maps.{bytes_same, same_itself}
-use Rattle.file_trees.specs.Trees.{entry_under, AreOf}
-use Rattle.file_trees.proofs.Comes.{in_cons}
-use Rattle.file_trees.proofs.Places.{spec as spec_with}
-use Rattle.file_trees.proofs.Small.{spec_keys}
+use Rattle.volume_format.specs.Trees.{entry_under, AreOf}
+use Rattle.volume_format.proofs.Comes.{in_cons}
+use Rattle.volume_format.proofs.Places.{spec as spec_with}
+use Rattle.volume_format.proofs.Small.{spec_keys}
 use Rattle.file_recovery.specs.Rows.{IsPairOf}
 use Rattle.file_recovery.proofs.Entered.{entry_made}
 

@@ -3,7 +3,7 @@ use Rattle.std.proofs.Common.{◌≡◌, inl, inr, List}
 use Rattle.station.specs.Disk.{Sector}
 use Rattle.records.specs.Files.{Files}
 use Rattle.half_store.specs.Half.{Holds as HoldsHalf}
-use Rattle.file_trees.specs.Volume.{Holds as HoldsTrees}
+use Rattle.volume_format.specs.Volume.{Holds as HoldsTrees}
 use Rattle.file_recovery.specs.Recovered.{HoldsFiles}
 use Rattle.file_recovery.proofs.Foreign.{half_is_foreign, trees_are_own}
 

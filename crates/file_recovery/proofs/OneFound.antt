@@ -9,28 +9,28 @@ use Rattle.station.specs.Disk.{Sector}
 use Rattle.btree.specs.Entries.{Entry}
 use Rattle.records.specs.declared.key.KeyOfReference.TheVariants.{Prime, Alternate}
 use Rattle.records.specs.Spec.{Spec}
-use Rattle.file_trees.specs.Catalog.{spelled}
-use Rattle.file_trees.specs.Forest.{Planted, Grows}
-use Rattle.file_trees.specs.Trees.{layout_under}
-use Rattle.file_trees.specs.Volume.{Kept, no_tree, trees_of, listing_of}
-use Rattle.file_trees.proofs.Listings.{spec_read, prime_read, root_read}
-use Rattle.file_trees.proofs.Roots.{root_small}
-use Rattle.file_trees.proofs.Specs.{one_spec}
-use Rattle.file_recovery.specs.Kept.{IsFound}
+use Rattle.volume_format.specs.Catalog.{listing_bytes}
+use Rattle.volume_format.specs.Forest.{TreeLevels, IsTreeIn}
+use Rattle.volume_format.specs.Trees.{layout_under}
+use Rattle.volume_format.specs.Volume.{FileTrees, no_tree, trees_of, listing_of}
+use Rattle.volume_format.proofs.Listings.{spec_read, prime_read, root_read}
+use Rattle.volume_format.proofs.Roots.{root_small}
+use Rattle.volume_format.proofs.Specs.{one_spec}
+use Rattle.file_recovery.specs.Kept.{IsCatalogFile}
 use Rattle.file_recovery.proofs.OneKept.{one_planted}
 
 module _ (pages : List (Option Sector)) (generation : ℕ) (entry : Entry) (small : length pages ≤ 2 ^ 20) where
   -- the root of an alternate key's tree is the one that the entry names
-  root_named : (kept : Kept) (i : ℕ) → IsFound pages generation entry kept → i < length kept.alternates → big_number 4 (drop (47 + 4 * i) (spelled (listing_of kept))) ≡ (slice_index_or kept.alternates i no_tree).tree.root
+  root_named : (kept : FileTrees) (i : ℕ) → IsCatalogFile pages generation entry kept → i < length kept.alternates → big_number 4 (drop (47 + 4 * i) (listing_bytes (listing_of kept))) ≡ (slice_index_or kept.alternates i no_tree).tree.root
   root_named kept i found low =
-      let grow : All (Grows pages) kept.alternates = All-tail (Grows pages) kept.prime kept.alternates found.grow in
-      let lows : All (λ (page : ℕ). page < 2 ^ 32) (map (λ (tree : Planted). tree.tree.root) kept.alternates) =
-      All-map (λ (page : ℕ). page < 2 ^ 32) (λ (tree : Planted). tree.tree.root) kept.alternates (λ k d within. root_small pages (slice_index_or kept.alternates k d) small (grow k d within)) in
-      let many = length-map kept.alternates (λ (tree : Planted). tree.tree.root) in
-      root_read (listing_of kept) i found.named.file.spec lows (omega (arith, low, many)) ∙ get_or-map (λ (tree : Planted). tree.tree.root) kept.alternates i no_tree 0 low
+      let grow : All (IsTreeIn pages) kept.alternates = All-tail (IsTreeIn pages) kept.prime kept.alternates found.grow in
+      let lows : All (λ (page : ℕ). page < 2 ^ 32) (map (λ (tree : TreeLevels). tree.tree.root) kept.alternates) =
+      All-map (λ (page : ℕ). page < 2 ^ 32) (λ (tree : TreeLevels). tree.tree.root) kept.alternates (λ k d within. root_small pages (slice_index_or kept.alternates k d) small (grow k d within)) in
+      let many = length-map kept.alternates (λ (tree : TreeLevels). tree.tree.root) in
+      root_read (listing_of kept) i found.named.file.spec lows (omega (arith, low, many)) ∙ get_or-map (λ (tree : TreeLevels). tree.tree.root) kept.alternates i no_tree 0 low
 
-  module _ (one two : Kept) (found : IsFound pages generation entry one) (found_too : IsFound pages generation entry two) where
-    same_bytes : spelled (listing_of one) ≡ spelled (listing_of two)
+  module _ (one two : FileTrees) (found : IsCatalogFile pages generation entry one) (found_too : IsCatalogFile pages generation entry two) where
+    same_bytes : listing_bytes (listing_of one) ≡ listing_bytes (listing_of two)
     same_bytes = ap (λ (e : Entry). e.value) (found.listed ∙ sym found_too.listed)
 
     same_spec : one.named.file.spec ≡ two.named.file.spec
@@ -40,8 +40,8 @@ module _ (pages : List (Option Sector)) (generation : ℕ) (entry : Entry) (smal
 
     same_prime : one.prime ≡ two.prime
     same_prime =
-        let grows = All-head (Grows pages) one.prime one.alternates found.grow in
-        let grows_too = All-head (Grows pages) two.prime two.alternates found_too.grow in
+        let grows = All-head (IsTreeIn pages) one.prime one.alternates found.grow in
+        let grows_too = All-head (IsTreeIn pages) two.prime two.alternates found_too.grow in
         let root : one.prime.tree.root ≡ two.prime.tree.root =
         sym (prime_read (listing_of one) found.named.file.spec (root_small pages one.prime small grows))
         ∙ ap (λ (b : List ℕ). big_number 4 (drop 43 b)) same_bytes
@@ -61,7 +61,7 @@ module _ (pages : List (Option Sector)) (generation : ℕ) (entry : Entry) (smal
         let is_too = found_too.is.indexes i (omega (arith, low_too, count_too)) in
         let root = sym (root_named one i found low) ∙ ap (λ (b : List ℕ). big_number 4 (drop (47 + 4 * i) b)) same_bytes ∙ root_named two i found_too low_too in
         one_planted pages (slice_index_or one.alternates i no_tree) (slice_index_or two.alternates i no_tree) small
-        (All-tail (Grows pages) one.prime one.alternates found.grow i no_tree low) (All-tail (Grows pages) two.prime two.alternates found_too.grow i no_tree low_too)
+        (All-tail (IsTreeIn pages) one.prime one.alternates found.grow i no_tree low) (All-tail (IsTreeIn pages) two.prime two.alternates found_too.grow i no_tree low_too)
         (is.layout ∙ ap (λ (s : Spec). layout_under s (Alternate i)) same_spec ∙ sym is_too.layout) root
 
     same_alternates : one.alternates ≡ two.alternates
@@ -72,4 +72,4 @@ module _ (pages : List (Option Sector)) (generation : ℕ) (entry : Entry) (smal
         get_or_default one.alternates k d no_tree low ∙ same_alternate k low ∙ get_or_default two.alternates k no_tree d (omega (arith, low, many)))
 
     pub one_list_of_trees : trees_of one ≡ trees_of two
-    one_list_of_trees = ap (λ (tree : Planted). tree ∷ one.alternates) same_prime ∙ ap (λ (l : List Planted). two.prime ∷ l) same_alternates
+    one_list_of_trees = ap (λ (tree : TreeLevels). tree ∷ one.alternates) same_prime ∙ ap (λ (l : List TreeLevels). two.prime ∷ l) same_alternates

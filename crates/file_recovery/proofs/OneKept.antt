@@ -2,20 +2,20 @@
 use Rattle.std.proofs.Common.{◌≡◌, ◌≤◌, ◌^◌, ℕ, List, length, sym, ap, subst, ◌∙◌}
 use Rattle.std.specs.Prelude.{Option}
 use Rattle.station.specs.Disk.{Sector}
-use Rattle.tree_pages.specs.declared.row_layout.RowLayout.{RowLayout}
-use Rattle.btree.specs.Rooted.{Rooted}
-use Rattle.btree.specs.Tree.{TreeNode, Holds as HoldsTree}
+use Rattle.btree_pages.specs.declared.row_layout.RowLayout.{RowLayout}
+use Rattle.btree.specs.Rooted.{RootedTree}
+use Rattle.btree.specs.Tree.{TreeNode, IsTreeOrEmpty as HoldsTree}
 use Rattle.btree.proofs.One.{one_tree}
-use Rattle.file_trees.specs.Forest.{Planted, Grows}
+use Rattle.volume_format.specs.Forest.{TreeLevels, IsTreeIn}
 
-rooted_with : RowLayout → ℕ → Rooted
+rooted_with : RowLayout → ℕ → RootedTree
 rooted_with layout root = record { layout = layout; root = root }
 
-planted_with : Rooted → List (List TreeNode) → Planted
+planted_with : RootedTree → List (List TreeNode) → TreeLevels
 planted_with tree levels = record { tree = tree; levels = levels }
 
 -- trees of one layout and one root are one tree
-pub one_planted : (pages : List (Option Sector)) (one two : Planted) → length pages ≤ 2 ^ 20 → Grows pages one → Grows pages two → one.tree.layout ≡ two.tree.layout → one.tree.root ≡ two.tree.root → one ≡ two
+pub one_planted : (pages : List (Option Sector)) (one two : TreeLevels) → length pages ≤ 2 ^ 20 → IsTreeIn pages one → IsTreeIn pages two → one.tree.layout ≡ two.tree.layout → one.tree.root ≡ two.tree.root → one ≡ two
 unfolding rooted_with planted_with
 one_planted pages one two small grows grows_too layout root =
     let there : HoldsTree one.tree.layout pages one.tree.root two.levels =

@@ -18,9 +18,9 @@ use Rattle.records.specs.Laws.{RowsAscend}
 use Rattle.records.specs.Rows.{Row, Pair, bytes_cmp, part, pair_cmp, pair_under, prime_pair, prime_place}
 use Rattle.records.specs.Spec.{Spec, is_spec, are_keys}
 use Rattle.records.specs.Stores.{IsKey}
-use Rattle.file_trees.specs.Trees.{entry_under, key_under}
-use Rattle.file_trees.proofs.Places.{spec as spec_with}
-use Rattle.file_trees.proofs.Small.{spec_keys}
+use Rattle.volume_format.specs.Trees.{entry_under, key_under}
+use Rattle.volume_format.proofs.Places.{spec as spec_with}
+use Rattle.volume_format.proofs.Small.{spec_keys}
 use Rattle.file_recovery.specs.Rows.{IsPairOf, PrimesAscend, no_row, prime_at}
 use Rattle.file_recovery.proofs.Entered.{entry_made}
 use Rattle.file_recovery.proofs.Matching.{no_alternates}

@@ -17,9 +17,9 @@ use Rattle.records.specs.Spec.{Spec, is_letter, is_name, is_spec, is_place, are_
 use Rattle.records.specs.declared.key.KeyOfReference.TheVariants.{Prime}
 use Rattle.records.specs.Rows.{Row, prime_place, prime_pair, pair_under}
 use Rattle.records.specs.Files.{IsRow, IsRowNumber, IsArrival}
-use Rattle.file_trees.specs.Catalog.{Listing, IsListing, spelled, spec_bytes, key_bytes, place_bytes, padded, filled_to, organization_byte}
-use Rattle.file_trees.specs.Trees.{prime_key, key_under, row_value}
-use Rattle.file_trees.proofs.Listings.{prime_read, next_read, root_read}
+use Rattle.volume_format.specs.Catalog.{Listing, IsListing, listing_bytes, spec_bytes, key_bytes, place_bytes, padded_name, filled_to, organization_byte}
+use Rattle.volume_format.specs.Trees.{prime_key, key_under, row_value}
+use Rattle.volume_format.proofs.Listings.{prime_read, next_read, root_read}
 use Rattle.file_recovery.specs.Read.{IfRead, name_in, place_in, key_in, keys_in, numbers_in, several, organization_in, roots_in, listing_in, number_in, row_in}
 
 -- one more
@@ -173,7 +173,7 @@ organization_back Sequential = refl
 organization_back Relative = refl
 organization_back (Indexed place) = refl
 
-pub name_back : (name : List ℕ) → is_name name ≡ true → name_in (padded name) ≡ name
+pub name_back : (name : List ℕ) → is_name name ≡ true → name_in (padded_name name) ≡ name
 name_back name is = letters_back name (30 - length name) (both (nat_le 1 (length name) && nat_le (length name) 30) (list_all is_letter name) is).1
 
 -- what a value of the catalog says of a file
@@ -184,32 +184,32 @@ module _ (l : Listing) (sound : is_spec l.spec ≡ true) where
   abbrev zeros : List ℕ
   zeros = replicate (35 - length (flat_map key_bytes l.spec.alternates)) 0
 
-  pub kind_read : slice_index (spelled l) 0 ≡ organization_byte l.spec.organization
-  unfolding spelled spec_bytes
+  pub kind_read : slice_index (listing_bytes l) 0 ≡ organization_byte l.spec.organization
+  unfolding listing_bytes spec_bytes
   kind_read = refl
 
-  pub count_read : slice_index (spelled l) 7 ≡ length l.spec.alternates
-  unfolding spelled spec_bytes
+  pub count_read : slice_index (listing_bytes l) 7 ≡ length l.spec.alternates
+  unfolding listing_bytes spec_bytes
   count_read = refl
 
   pub few_keys : length l.spec.alternates ≤ 7
   few_keys = (plain l.spec sound).few
 
-  pub length_read : big_number 2 (drop 1 (spelled l)) ≡ l.spec.record_length
-  unfolding spelled spec_bytes
-  length_read = big_number-reads_back 2 l.spec.record_length (drop 3 (spelled l)) (let e = (plain l.spec sound).long in omega (arith, e))
+  pub length_read : big_number 2 (drop 1 (listing_bytes l)) ≡ l.spec.record_length
+  unfolding listing_bytes spec_bytes
+  length_read = big_number-reads_back 2 l.spec.record_length (drop 3 (listing_bytes l)) (let e = (plain l.spec sound).long in omega (arith, e))
 
-  pub place_read : place_in (drop 3 (spelled l)) ≡ prime_place l.spec.organization
-  unfolding spelled spec_bytes
-  place_read = place_back (prime_place l.spec.organization) (drop 7 (spelled l)) (plain l.spec sound).prime
+  pub place_read : place_in (drop 3 (listing_bytes l)) ≡ prime_place l.spec.organization
+  unfolding listing_bytes spec_bytes
+  place_read = place_back (prime_place l.spec.organization) (drop 7 (listing_bytes l)) (plain l.spec sound).prime
 
-  keys_there : drop 8 (spelled l) ≡ (flat_map key_bytes l.spec.alternates ++ zeros) ++ rest
-  unfolding spelled spec_bytes
+  keys_there : drop 8 (listing_bytes l) ≡ (flat_map key_bytes l.spec.alternates ++ zeros) ++ rest
+  unfolding listing_bytes spec_bytes
   keys_there = refl
 
-  pub keys_read : (k : ℕ) → k ≡ length l.spec.alternates → keys_in k (drop 8 (spelled l)) ≡ l.spec.alternates
+  pub keys_read : (k : ℕ) → k ≡ length l.spec.alternates → keys_in k (drop 8 (listing_bytes l)) ≡ l.spec.alternates
   keys_read k same =
-      ap (λ (n : ℕ). keys_in n (drop 8 (spelled l))) same
+      ap (λ (n : ℕ). keys_in n (drop 8 (listing_bytes l))) same
       ∙ ap (keys_in (length l.spec.alternates)) (keys_there ∙ append_assoc (flat_map key_bytes l.spec.alternates) zeros rest)
       ∙ all_same 5 key_in key_bytes l.spec.alternates (zeros ++ rest) (all_keys l.spec.alternates (plain l.spec sound).small)
 
@@ -266,23 +266,23 @@ taken_one [] k low = absurd (omega (arith, low))
 taken_one (x ∷ xs) zero low = refl
 taken_one (x ∷ xs) (suc k) low = ap (λ (l : List ℕ). x ∷ l) (taken_one xs k (omega (arith, low)))
 
-roots_taken : (l : Listing) (k : ℕ) → IsListing l → k ≤ length l.alternates → roots_in k (spelled l) ≡ take k l.alternates
+roots_taken : (l : Listing) (k : ℕ) → IsListing l → k ≤ length l.alternates → roots_in k (listing_bytes l) ≡ take k l.alternates
 roots_taken l zero is few = refl
 roots_taken l (suc k) is few =
-    ap (λ (xs : List ℕ). xs ++ big_number 4 (drop (47 + 4 * k) (spelled l)) ∷ []) (roots_taken l k is (omega (arith, few)))
+    ap (λ (xs : List ℕ). xs ++ big_number 4 (drop (47 + 4 * k) (listing_bytes l)) ∷ []) (roots_taken l k is (omega (arith, few)))
     ∙ ap (λ (n : ℕ). take k l.alternates ++ n ∷ []) (root_read l k is.spec is.alternates (omega (arith, few)))
     ∙ sym (taken_one l.alternates k (omega (arith, few)))
 
 listing_with : Spec → ℕ → List ℕ → ℕ → Listing
 listing_with spec prime alternates next = record { spec = spec; prime = prime; alternates = alternates; next_arrival = next }
 
-pub listing_back : (l : Listing) (value : List ℕ) → IsListing l → value ≡ spelled l → listing_in l.spec value ≡ l
+pub listing_back : (l : Listing) (value : List ℕ) → IsListing l → value ≡ listing_bytes l → listing_in l.spec value ≡ l
 unfolding listing_with
 listing_back l value is says =
     ap (listing_in l.spec) says
-    ∙ ap (λ (n : ℕ). listing_with l.spec n (roots_in (length l.spec.alternates) (spelled l)) (big_number 8 (drop 75 (spelled l)))) (prime_read l is.spec is.prime)
-    ∙ ap (λ (xs : List ℕ). listing_with l.spec l.prime xs (big_number 8 (drop 75 (spelled l))))
-    (ap (λ (n : ℕ). roots_in n (spelled l)) (sym is.count) ∙ roots_taken l (length l.alternates) is (omega arith) ∙ take_all (length l.alternates) l.alternates (omega arith))
+    ∙ ap (λ (n : ℕ). listing_with l.spec n (roots_in (length l.spec.alternates) (listing_bytes l)) (big_number 8 (drop 75 (listing_bytes l)))) (prime_read l is.spec is.prime)
+    ∙ ap (λ (xs : List ℕ). listing_with l.spec l.prime xs (big_number 8 (drop 75 (listing_bytes l))))
+    (ap (λ (n : ℕ). roots_in n (listing_bytes l)) (sym is.count) ∙ roots_taken l (length l.alternates) is (omega arith) ∙ take_all (length l.alternates) l.alternates (omega arith))
     ∙ ap (listing_with l.spec l.prime l.alternates) (next_read l is.spec is.count is.next_arrival)
 
 -- nothing was read

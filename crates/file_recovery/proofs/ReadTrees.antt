@@ -2,8 +2,8 @@
 use Rattle.std.proofs.Common.{◌≡◌, ◌⊎◌, ◌≤◌, ◌^◌, inl, inr, ℕ, zero, suc, Bool, false, List, length, refl, sym, ap, subst}
 use Rattle.std.specs.Prelude.{replicate}
 use Rattle.station.specs.Disk.{Disk, Sector}
-use Rattle.pages.specs.Image.{Map, Holds as HoldsMap, map_of}
-use Rattle.pages.specs.Errors.{Refuses}
+use Rattle.pages.specs.Image.{Map, IsImageOf as HoldsMap, map_of}
+use Rattle.pages.specs.Errors.{RefusesImage}
 use Rattle.pages.specs.Pages.{map_now, committed_of, Agrees}
 use Rattle.pages.specs.declared.page_map.PageMap.{PageMap}
 use Rattle.pages.specs.declared.error.PagesError.{PagesError}
@@ -12,7 +12,7 @@ use Rattle.pages.proofs.One.{one_map}
 use Rattle.records.specs.declared.fault.StoreFault.{StoreFault}
 use Rattle.records.specs.declared.fault.StoreFault.TheVariants.{Device, Full, Damaged, Memory, Spent, Layout}
 use Rattle.records.specs.Files.{Files}
-use Rattle.file_trees.specs.Volume.{MapHolds, Holds}
+use Rattle.volume_format.specs.Volume.{MapHolds, Holds}
 use Rattle.file_recovery.specs.Covered.{IsCovered}
 use Rattle.file_recovery.specs.Faults.{fault_of, IsReadFault}
 use Rattle.file_recovery.specs.Kept.{FindsCatalog, NoCatalog}
@@ -50,7 +50,7 @@ module _ (p : PageMap) (before now : Disk) (agrees : Agrees p now) (own : (image
   no_trees never files holds = never files (subst (λ (m : Map). MapHolds m files) (one_map before.present holds.0 (map_now p now.present) holds.1 held) holds.2)
 
 -- a refusal to open
-pub refused_of : (image : List Sector) (error : PagesError) → Refuses image error → RefusedTrees image (fault_of error)
+pub refused_of : (image : List Sector) (error : PagesError) → RefusesImage image error → RefusedTrees image (fault_of error)
 refused_of image pages.Device is = tt
 refused_of image pages.Full is = is
 refused_of image pages.Damaged is = λ files holds. is.none holds.0 holds.1

@@ -6,11 +6,11 @@ use Rattle.pages.specs.Layout.{IsForeign}
 use Rattle.records.specs.declared.fault.StoreFault.{StoreFault}
 use Rattle.records.specs.declared.fault.StoreFault.TheVariants.{Device, Full, Damaged, Memory, Spent, Layout}
 use Rattle.records.specs.Files.{Files}
-use Rattle.file_trees.specs.Volume.{Holds as HoldsTrees}
+use Rattle.volume_format.specs.Volume.{Holds as HoldsTrees}
 use Rattle.half_store.specs.Half.{Holds as HoldsHalf}
-use Rattle.half_store.specs.Opened.{Refused as RefusedHalf}
+use Rattle.half_store.specs.Opened.{IsOpenRefusal as RefusedHalf}
 use Rattle.file_recovery.specs.Faults.{IsReadFault}
-use Rattle.file_recovery.specs.Recovered.{HoldsFiles, Refused, RefusedTrees, IsReadCause, IsTreeCause}
+use Rattle.file_recovery.specs.Recovered.{HoldsFiles, IsRecoveryRefusal, RefusedTrees, IsReadCause, IsTreeCause}
 use Rattle.file_recovery.proofs.Foreign.{half_is_foreign, trees_are_own, never_both_foreign}
 use Rattle.file_recovery.proofs.ReadTrees.{refused_read, cause_read}
 
@@ -20,7 +20,7 @@ ok_so (Err e) from so = tt
 
 -- of the halves, where the newest root isn't that of trees
 module _ (image : List Sector) where
-  half_fault : (fault : StoreFault) → IsForeign image → RefusedHalf image fault → Refused image fault
+  half_fault : (fault : StoreFault) → IsForeign image → RefusedHalf image fault → IsRecoveryRefusal image fault
   half_fault Device foreign is = tt
   half_fault Full foreign is = is
   half_fault Damaged foreign is = λ files holds. ⊎_elim (λ trees. trees_are_own image files trees foreign) (λ half. is files half) holds
@@ -38,7 +38,7 @@ module _ (image : List Sector) {T : Type 0} where
   trees_cause (Ok x) cause never = tt
   trees_cause (Err fault) cause never = cause_read fault cause (λ is. never (ap Err is))
 
-  pub half_refused : (result : Result T StoreFault) → IsForeign image → IfErr result (λ fault. RefusedHalf image fault) → IfErr result (Refused image)
+  pub half_refused : (result : Result T StoreFault) → IsForeign image → IfErr result (λ fault. RefusedHalf image fault) → IfErr result (IsRecoveryRefusal image)
   half_refused (Ok x) foreign is = tt
   half_refused (Err fault) foreign is = half_fault image fault foreign is
 
@@ -47,7 +47,7 @@ module _ (image : List Sector) {T : Type 0} where
 
 -- of the trees, where it isn't that the newest root is the other store's
 module _ (image : List Sector) where
-  pub either_refused : (fault : StoreFault) → (fault ≡ Layout → ⊥) → RefusedTrees image fault → (IsForeign image → IsTreeCause fault) → Refused image fault
+  pub either_refused : (fault : StoreFault) → (fault ≡ Layout → ⊥) → RefusedTrees image fault → (IsForeign image → IsTreeCause fault) → IsRecoveryRefusal image fault
   either_refused Device other is tells = tt
   either_refused Full other is tells = is
   either_refused Damaged other is tells = λ files holds. ⊎_elim (is files)

@@ -5,44 +5,44 @@ use Rattle.station.specs.Disk.{Sector}
 use Rattle.pages.specs.Image.{Map}
 use Rattle.btree.specs.Entries.{Entry, entries_of}
 use Rattle.btree.specs.Tree.{TreeNode}
-use Rattle.tree_check.specs.Walks.{CanMark, Marks}
-use Rattle.records.specs.Files.{Named, Files, IsNamed}
-use Rattle.file_trees.specs.Catalog.{catalog_layout}
-use Rattle.file_trees.specs.Forest.{Grows, pages_within}
-use Rattle.file_trees.specs.Volume.{Kept, IsKept, trees_of, catalog_entry, catalog_tree}
+use Rattle.btree_check.specs.Walks.{CanMark, Marks}
+use Rattle.records.specs.Files.{NamedFile, Files, IsNamed}
+use Rattle.volume_format.specs.Catalog.{catalog_layout}
+use Rattle.volume_format.specs.Forest.{IsTreeIn, pages_within}
+use Rattle.volume_format.specs.Volume.{FileTrees, IsKept, trees_of, catalog_entry, catalog_tree}
 
 -- a file with its trees, of which an entry of the catalog tells
-pub record IsFound (pages : List (Option Sector)) (generation : ℕ) (entry : Entry) (kept : Kept) : Type 0 where
+pub record IsCatalogFile (pages : List (Option Sector)) (generation : ℕ) (entry : Entry) (kept : FileTrees) : Type 0 where
   pub is : IsKept generation kept
   pub named : IsNamed kept.named
-  pub grow : All (Grows pages) (trees_of kept)
+  pub grow : All (IsTreeIn pages) (trees_of kept)
   pub listed : catalog_entry kept ≡ entry
 
 -- it is there, and exactly its pages were marked; and there is none that can be marked
-pub record FindsFile (pages : List (Option Sector)) (generation : ℕ) (entry : Entry) (one : Named) (old new : List Bool) : Type 0 where
-  pub kept : Kept
-  pub found : IsFound pages generation entry kept
+pub record FindsFile (pages : List (Option Sector)) (generation : ℕ) (entry : Entry) (one : NamedFile) (old new : List Bool) : Type 0 where
+  pub kept : FileTrees
+  pub found : IsCatalogFile pages generation entry kept
   pub is : kept.named ≡ one
   pub marks : Marks old (pages_within (trees_of kept)) new
 
 abbrev pub NoFile : List (Option Sector) → ℕ → Entry → List Bool → Type 0
-NoFile pages generation entry old = (kept : Kept) → IsFound pages generation entry kept → CanMark old (pages_within (trees_of kept)) → ⊥
+NoFile pages generation entry old = (kept : FileTrees) → IsCatalogFile pages generation entry kept → CanMark old (pages_within (trees_of kept)) → ⊥
 
 -- a catalog and the files that it lists, with their trees
-pub record IsCatalog (m : Map) (generation : ℕ) (catalog : List (List TreeNode)) (kept : List Kept) : Type 0 where
-  pub grow : All (Grows m.pages) (catalog_tree m catalog ∷ flat_map trees_of kept)
+pub record IsCatalog (m : Map) (generation : ℕ) (catalog : List (List TreeNode)) (kept : List FileTrees) : Type 0 where
+  pub grow : All (IsTreeIn m.pages) (catalog_tree m catalog ∷ flat_map trees_of kept)
   pub listed : entries_of catalog_layout catalog ≡ map catalog_entry kept
   pub each : All (IsKept generation) kept
-  pub named : AllByRecursion IsNamed (map (λ (one : Kept). one.named) kept)
+  pub named : AllByRecursion IsNamed (map (λ (one : FileTrees). one.named) kept)
   pub few : length kept ≤ 255
 
 -- there is one, of these files, and exactly its pages were marked; and none that can be marked
 pub record FindsCatalog (m : Map) (generation : ℕ) (files : Files) (old new : List Bool) : Type 0 where
   pub catalog : List (List TreeNode)
-  pub kept : List Kept
+  pub kept : List FileTrees
   pub is : IsCatalog m generation catalog kept
-  pub are : map (λ (one : Kept). one.named) kept ≡ files
+  pub are : map (λ (one : FileTrees). one.named) kept ≡ files
   pub marks : Marks old (pages_within (catalog_tree m catalog ∷ flat_map trees_of kept)) new
 
 abbrev pub NoCatalog : Map → ℕ → List Bool → Type 0
-NoCatalog m generation old = (catalog : List (List TreeNode)) (kept : List Kept) → IsCatalog m generation catalog kept → CanMark old (pages_within (catalog_tree m catalog ∷ flat_map trees_of kept)) → ⊥
+NoCatalog m generation old = (catalog : List (List TreeNode)) (kept : List FileTrees) → IsCatalog m generation catalog kept → CanMark old (pages_within (catalog_tree m catalog ∷ flat_map trees_of kept)) → ⊥

@@ -3,32 +3,32 @@ use Rattle.std.specs.Prelude.{◌≡◌, ◌≤◌, ◌++◌, ℕ, Bool, List, [
 use Rattle.std.specs.List.{AllByRecursion, flat_map}
 use Rattle.station.specs.Disk.{Sector}
 use Rattle.btree.specs.Entries.{Entry}
-use Rattle.tree_check.specs.Walks.{CanMark, Marks}
-use Rattle.records.specs.Files.{Named, Files}
-use Rattle.file_trees.specs.Forest.{pages_within}
-use Rattle.file_trees.specs.Volume.{Kept, trees_of, catalog_entry}
-use Rattle.file_recovery.specs.Kept.{IsFound, FindsFile}
+use Rattle.btree_check.specs.Walks.{CanMark, Marks}
+use Rattle.records.specs.Files.{NamedFile, Files}
+use Rattle.volume_format.specs.Forest.{pages_within}
+use Rattle.volume_format.specs.Volume.{FileTrees, trees_of, catalog_entry}
+use Rattle.file_recovery.specs.Kept.{IsCatalogFile, FindsFile}
 
 -- a file with its trees for each entry, in their order
-pub record AreFound (pages : List (Option Sector)) (generation : ℕ) (entries : List Entry) (kept : List Kept) : Type 0 where
+pub record AreFound (pages : List (Option Sector)) (generation : ℕ) (entries : List Entry) (kept : List FileTrees) : Type 0 where
   pub listed : map catalog_entry kept ≡ entries
-  pub each : AllByRecursion (λ (one : Kept). IsFound pages generation (catalog_entry one) one) kept
+  pub each : AllByRecursion (λ (one : FileTrees). IsCatalogFile pages generation (catalog_entry one) one) kept
 
-abbrev pub pages_of_files : List Kept → List ℕ
+abbrev pub pages_of_files : List FileTrees → List ℕ
 pages_of_files kept = pages_within (flat_map trees_of kept)
 
 -- they are there, and exactly their pages were marked; and there are none, at most 255, that can be marked
 pub record FindsFiles (pages : List (Option Sector)) (generation : ℕ) (entries : List Entry) (files : Files) (old new : List Bool) : Type 0 where
-  pub kept : List Kept
+  pub kept : List FileTrees
   pub found : AreFound pages generation entries kept
-  pub are : map (λ (one : Kept). one.named) kept ≡ files
+  pub are : map (λ (one : FileTrees). one.named) kept ≡ files
   pub marks : Marks old (pages_of_files kept) new
 
 abbrev pub NoFiles : List (Option Sector) → ℕ → List Entry → List Bool → Type 0
-NoFiles pages generation entries old = (kept : List Kept) → AreFound pages generation entries kept → length kept ≤ 255 → CanMark old (pages_of_files kept) → ⊥
+NoFiles pages generation entries old = (kept : List FileTrees) → AreFound pages generation entries kept → length kept ≤ 255 → CanMark old (pages_of_files kept) → ⊥
 
 -- the file of that entry came behind the others
 pub record AddsFile (pages : List (Option Sector)) (generation : ℕ) (entry : Entry) (files more : Files) (old new : List Bool) : Type 0 where
-  pub one : Named
+  pub one : NamedFile
   pub finds : FindsFile pages generation entry one old new
   pub added : more ≡ files ++ one ∷ []

@@ -8,7 +8,7 @@ use Rattle.records.specs.declared.file_spec.Organization.{Organization}
 use Rattle.records.specs.declared.file_spec.Organization.TheVariants.{Sequential, Relative, Indexed}
 use Rattle.records.specs.Spec.{Spec}
 use Rattle.records.specs.Rows.{Row}
-use Rattle.file_trees.specs.Catalog.{Listing}
+use Rattle.volume_format.specs.Catalog.{Listing}
 
 -- something was read that is so, unless memory ran out
 abbrev pub IfRead : {A : Type 0} → Result (Option A) StoreFault → (A → Type 0) → Type 0

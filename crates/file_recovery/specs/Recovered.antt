@@ -5,7 +5,7 @@ use Rattle.pages.specs.Layout.{IsForeign}
 use Rattle.records.specs.declared.fault.StoreFault.{StoreFault}
 use Rattle.records.specs.declared.fault.StoreFault.TheVariants.{Device, Full, Damaged, Memory, Spent, Layout}
 use Rattle.records.specs.Files.{Files}
-use Rattle.file_trees.specs.Volume.{Holds as HoldsTrees}
+use Rattle.volume_format.specs.Volume.{Holds as HoldsTrees}
 use Rattle.half_store.specs.Half.{Holds as HoldsHalf}
 
 -- the files that an image holds, as trees of pages or in one of two halves
@@ -17,13 +17,13 @@ abbrev pub HoldsNone : List Sector → Type 0
 HoldsNone image = (files : Files) → HoldsFiles image files → ⊥
 
 -- What a refusal tells of the image: `Device` and `Memory` tell nothing of it, and others than these three don't come.
-abbrev pub Refused : List Sector → StoreFault → Type 0
-Refused image Device = ⊤
-Refused image Full = ⊥
-Refused image Damaged = HoldsNone image
-Refused image Memory = ⊤
-Refused image Spent = ⊥
-Refused image Layout = ⊥
+abbrev pub IsRecoveryRefusal : List Sector → StoreFault → Type 0
+IsRecoveryRefusal image Device = ⊤
+IsRecoveryRefusal image Full = ⊥
+IsRecoveryRefusal image Damaged = HoldsNone image
+IsRecoveryRefusal image Memory = ⊤
+IsRecoveryRefusal image Spent = ⊥
+IsRecoveryRefusal image Layout = ⊥
 
 -- the same, of the files in trees: the newest root may be the other store's
 abbrev pub RefusedTrees : List Sector → StoreFault → Type 0

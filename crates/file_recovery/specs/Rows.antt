@@ -9,7 +9,7 @@ use Rattle.records.specs.declared.key.KeyOfReference.TheVariants.{Prime, Alterna
 use Rattle.records.specs.Files.{IsRow}
 use Rattle.records.specs.Spec.{Spec}
 use Rattle.records.specs.Rows.{Row, bytes_cmp, part, prime_place}
-use Rattle.file_trees.specs.Trees.{entry_under}
+use Rattle.volume_format.specs.Trees.{entry_under}
 
 -- memory ran out, or what was looked for isn't there
 abbrev pub IsOwnFault : StoreFault → Type 0

@@ -1,7 +1,7 @@
 -- The files in memory.
 use Rattle.std.specs.Prelude.{List, map}
 use Rattle.records.specs.Rows.{Row}
-use Rattle.records.specs.Files.{File, Files, Named}
+use Rattle.records.specs.Files.{File, Files, NamedFile}
 use Rattle.records.specs.Stores.{spec_of}
 use Rattle.half_store.specs.declared.stored.StoredRow.{StoredRow}
 use Rattle.half_store.specs.declared.stored.StoredFile.{StoredFile}
@@ -15,7 +15,7 @@ rows_of rows = map row_of rows
 abbrev pub file_of : StoredFile → File
 file_of f = record { spec = spec_of f.spec; rows = rows_of f.rows.items; next_arrival = f.next_arrival }
 
-abbrev pub named_of : StoredFile → Named
+abbrev pub named_of : StoredFile → NamedFile
 named_of f = record { name = f.spec.name.items; file = file_of f }
 
 abbrev pub files_of : List StoredFile → Files

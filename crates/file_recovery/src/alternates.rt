@@ -6,7 +6,7 @@ ghost use Rattle.btree.specs.Calls.{OnPages};
 ghost use Rattle.records.specs.declared.key.KeyOfReference.TheVariants.{Alternate};
 ghost use Rattle.records.specs.Laws.{RowsAscend};
 ghost use Rattle.records.specs.Stores.{spec_of, IsKey};
-ghost use Rattle.tree_check.specs.Walks.{FindsTree, NoUnmarkedTree};
+ghost use Rattle.btree_check.specs.Walks.{FindsTree, NoUnmarkedTree};
 ghost use Rattle.file_recovery.specs.Calls.{LooksAt};
 ghost use Rattle.file_recovery.specs.Faults.{IsReadFault};
 ghost use Rattle.file_recovery.specs.Found.{FindsIndexes, NoIndexes, FindsIndex, NoIndex};
@@ -16,13 +16,13 @@ ghost use Rattle.file_recovery.specs.Stored.{rows_of};
 use crate::fault::to_fault;
 use crate::pairs::check_index;
 use btree::Tree;
-use file_trees::{alternate_root, tree_layout};
+use btree_check::check_tree;
 use half_store::StoredRow;
 use pages::{PageMap, map_bounds};
 use records::{FileSpec, KeyOfReference, StoreFault};
 use station::Device;
 use std::alloc::Global;
-use tree_check::check_tree;
+use volume_format::{alternate_root, tree_layout};
 
 /// Whether the pages under a tree's root are a tree, which are marked.
 pub(crate) fn check_pages<D: Device>(

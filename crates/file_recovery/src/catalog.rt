@@ -1,9 +1,9 @@
 //! All files that the catalog lists.
 ghost use Rattle.std.specs.Prelude.{◌≡◌, ◌≤◌, ◌<◌, ◌+◌, ◌^◌, false, Err, length, IfOk, IfErr, OnOk};
 ghost use Rattle.pages.specs.Pages.{map_now, is_spent, sectors_of, IsOpen};
-ghost use Rattle.btree.specs.Calls.{Agreed, OnPages, OnTree, pages_on};
+ghost use Rattle.btree.specs.Calls.{IfAgrees, OnPages, OnTree, pages_on};
 ghost use Rattle.btree.specs.Entries.{HasLengths, entries_of};
-ghost use Rattle.file_trees.specs.Catalog.{catalog_layout};
+ghost use Rattle.volume_format.specs.Catalog.{catalog_layout};
 ghost use Rattle.file_recovery.specs.Calls.{LooksAt};
 ghost use Rattle.file_recovery.specs.Faults.{IsReadFault};
 ghost use Rattle.file_recovery.specs.Kept.{FindsCatalog, NoCatalog, NoFile};
@@ -14,16 +14,40 @@ use crate::alternates::check_pages;
 use crate::checked_file::check_file;
 use crate::walking::{first_in, next_in};
 use btree::{Entry, Tree};
-use file_trees::{LISTING_BYTES, NAME_BYTES};
+use btree_pages::RowLayout;
 use half_store::StoredFile;
 use pages::{PageMap, map_bounds};
 use records::StoreFault;
 use station::Device;
 use std::alloc::Global;
-use tree_pages::RowLayout;
+use volume_format::{LISTING_BYTES, NAME_BYTES};
 
 /// How many files a volume may have.
 const MOST_FILES: u8 = 255;
+
+/// All files that the catalog lists, with their rows. The pages of the catalog and of the files' trees are marked. `Damaged` tells that
+/// there are no such trees that can be marked, or more than 255 files.
+pub(crate) fn read_catalog<D: Device>(
+    alloc: Global,
+    generation: u64,
+    pages: &mut PageMap,
+    device: &mut D,
+    seen: &mut [bool],
+) -> Result<Vec<StoredFile>, StoreFault>
+    requires open { IsOpen pages.old }
+    requires unspent { is_spent pages.old ≡ false }
+    requires sectors { sectors_of pages.old ≤ D.sectors device.old }
+    requires generation { generation < 2 ^ 63 }
+    ensures looks { LooksAt D.Device (result ≡ Err StoreFault.Device) pages.old device.old pages.new device.new }
+    ensures files { IfAgrees D.Device pages.old device.old (IfOk result (λ files. FindsCatalog (map_now pages.old (D.state device.old).disk.present) generation (files_of files.items) seen.old seen.new)) }
+    ensures damaged { IfAgrees D.Device pages.old device.old (result ≡ Err StoreFault.Damaged → NoCatalog (map_now pages.old (D.state device.old).disk.present) generation seen.old) }
+    ensures cause { IfErr result IsReadFault }
+{
+    map_bounds();
+    let catalog = catalog_tree(alloc, pages.catalog());
+    check_pages(alloc, &catalog, pages, device, seen)?;
+    read_files(alloc, &catalog, generation, pages, device, seen)
+}
 
 /// The tree of the catalog.
 fn catalog_tree(alloc: Global, root: u32) -> Tree
@@ -103,28 +127,4 @@ fn read_files<D: Device>(
         Some(_) => Err(StoreFault::Damaged),
         None => Ok(files),
     }
-}
-
-/// All files that the catalog lists, with their rows. The pages of the catalog and of the files' trees are marked. `Damaged` tells that
-/// there are no such trees that can be marked, or more than 255 files.
-pub(crate) fn read_catalog<D: Device>(
-    alloc: Global,
-    generation: u64,
-    pages: &mut PageMap,
-    device: &mut D,
-    seen: &mut [bool],
-) -> Result<Vec<StoredFile>, StoreFault>
-    requires open { IsOpen pages.old }
-    requires unspent { is_spent pages.old ≡ false }
-    requires sectors { sectors_of pages.old ≤ D.sectors device.old }
-    requires generation { generation < 2 ^ 63 }
-    ensures looks { LooksAt D.Device (result ≡ Err StoreFault.Device) pages.old device.old pages.new device.new }
-    ensures files { Agreed D.Device pages.old device.old (IfOk result (λ files. FindsCatalog (map_now pages.old (D.state device.old).disk.present) generation (files_of files.items) seen.old seen.new)) }
-    ensures damaged { Agreed D.Device pages.old device.old (result ≡ Err StoreFault.Damaged → NoCatalog (map_now pages.old (D.state device.old).disk.present) generation seen.old) }
-    ensures cause { IfErr result IsReadFault }
-{
-    map_bounds();
-    let catalog = catalog_tree(alloc, pages.catalog());
-    check_pages(alloc, &catalog, pages, device, seen)?;
-    read_files(alloc, &catalog, generation, pages, device, seen)
 }

@@ -3,7 +3,7 @@ ghost use Rattle.std.specs.Prelude.{◌≡◌, ◌≤◌, ◌<◌, ◌^◌, true
 ghost use Rattle.pages.specs.Pages.{is_spent, sectors_of, IsOpen};
 ghost use Rattle.btree.specs.Calls.{OnPages};
 ghost use Rattle.btree.specs.Entries.{HasLengths};
-ghost use Rattle.file_trees.specs.Catalog.{catalog_layout};
+ghost use Rattle.volume_format.specs.Catalog.{catalog_layout};
 ghost use Rattle.file_recovery.specs.Calls.{LooksAt};
 ghost use Rattle.file_recovery.specs.Faults.{IsReadFault};
 ghost use Rattle.file_recovery.specs.Kept.{FindsFile, NoFile};
@@ -13,20 +13,12 @@ use crate::alternates::{check_alternates, check_pages};
 use crate::listing::read_listing;
 use crate::reading::read_rows;
 use btree::{Entry, Tree};
-use file_trees::{next_arrival, prime_root, tree_layout};
 use half_store::StoredFile;
 use pages::{PageMap, map_bounds};
 use records::{KeyOfReference, StoreFault};
 use station::Device;
 use std::alloc::Global;
-
-/// Whether the next arrival of a file is one of a volume of this generation.
-fn is_next(next: u64, generation: u64) -> bool
-    ensures yes { result ≡ true → (1 ≤ next) × (next ≤ generation) }
-    ensures no { result ≡ false → 1 ≤ next → next ≤ generation → ⊥ }
-{
-    1 <= next && next <= generation
-}
+use volume_format::{next_arrival, prime_root, tree_layout};
 
 /// The file of an entry of the catalog, with its rows. The pages of its trees are marked. `Damaged` tells that there is no file with
 /// trees that can be marked of which the entry tells.
@@ -67,4 +59,12 @@ pub(crate) fn check_file<D: Device>(
         rows,
         next_arrival: next,
     })
+}
+
+/// Whether the next arrival of a file is one of a volume of this generation.
+fn is_next(next: u64, generation: u64) -> bool
+    ensures yes { result ≡ true → (1 ≤ next) × (next ≤ generation) }
+    ensures no { result ≡ false → 1 ≤ next → next ≤ generation → ⊥ }
+{
+    1 <= next && next <= generation
 }

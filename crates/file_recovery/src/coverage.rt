@@ -6,6 +6,23 @@ ghost use Rattle.file_recovery.specs.Covered.{IsStray, IsCovered};
 
 use pages::PageMap;
 
+/// Whether each page that is used is marked.
+pub(crate) fn are_covered(pages: &PageMap, seen: &[bool]) -> bool
+    requires open { IsOpen pages.now }
+    requires unspent { is_spent pages.now ≡ false }
+    requires count { length seen.now ≡ page_count pages.now }
+    ensures yes { result ≡ true → (image : List Sector) → IsCovered (map_now pages.now image).pages seen.now }
+    ensures no { result ≡ false → (image : List Sector) → IsCovered (map_now pages.now image).pages seen.now → ⊥ }
+{
+    let count = pages.page_count() as u32;
+    for page in 0..count {
+        if is_stray(pages, seen, page) {
+            return false;
+        }
+    }
+    true
+}
+
 fn is_marked(seen: &[bool], page: u32) -> bool
     requires { page < length seen.now }
     ensures { result ≡ slice_index_or seen.now page false }
@@ -25,21 +42,4 @@ fn is_stray(pages: &PageMap, seen: &[bool], page: u32) -> bool
         return false;
     }
     pages.has_page(page)
-}
-
-/// Whether each page that is used is marked.
-pub(crate) fn are_covered(pages: &PageMap, seen: &[bool]) -> bool
-    requires open { IsOpen pages.now }
-    requires unspent { is_spent pages.now ≡ false }
-    requires count { length seen.now ≡ page_count pages.now }
-    ensures yes { result ≡ true → (image : List Sector) → IsCovered (map_now pages.now image).pages seen.now }
-    ensures no { result ≡ false → (image : List Sector) → IsCovered (map_now pages.now image).pages seen.now → ⊥ }
-{
-    let count = pages.page_count() as u32;
-    for page in 0..count {
-        if is_stray(pages, seen, page) {
-            return false;
-        }
-    }
-    true
 }

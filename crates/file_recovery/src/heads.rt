@@ -3,7 +3,7 @@ ghost use Rattle.std.specs.Prelude.{◌≡◌, ◌≤◌, ◌+◌, ◌*◌, true
 ghost use Rattle.byteorder.specs.Endian.{big_number};
 ghost use Rattle.records.specs.Spec.{is_spec, is_name};
 ghost use Rattle.records.specs.Stores.{spec_of};
-ghost use Rattle.file_trees.specs.Catalog.{Listing, padded, spelled};
+ghost use Rattle.volume_format.specs.Catalog.{Listing, padded_name, listing_bytes};
 ghost use Rattle.file_recovery.specs.Read.{IfRead, name_in, place_in, key_in, keys_in, organization_in};
 
 use byteorder::{BigEndian, ByteOrder};
@@ -25,6 +25,31 @@ const KEY_BYTES: usize = 5;
 
 /// How many alternate keys there is room for.
 const MOST_KEYS: usize = 7;
+
+/// The name of a file and what it is, by the key and the value of its entry. It may be one that spells other bytes.
+pub(crate) fn read_spec(
+    alloc: Global,
+    key: &[u8],
+    value: &[u8],
+) -> Result<Option<FileSpec>, StoreFault>
+    requires { length value.now ≡ 83 }
+    ensures spec { (name : List ℕ) (l : Listing) → is_name name ≡ true → is_spec l.spec ≡ true → key.now ≡ padded_name name → value.now ≡ listing_bytes l →
+        IfRead result (λ f. (f.name.items ≡ name) × (spec_of f ≡ l.spec)) }
+    ensures memory { IsOkUnless result StoreFault.Memory }
+{
+    let count = value[COUNT_AT] as usize;
+    if count > MOST_KEYS {
+        return Ok(None);
+    }
+    let prime = place_at(value, PRIME_AT);
+    let Some(organization) = organization_of(value[0], prime) else {
+        return Ok(None);
+    };
+    let name = read_name(alloc, key)?;
+    let alternates = keys_at(alloc, value, KEYS_AT, count)?;
+    let length = short_at(value, RECORD_AT);
+    Ok(FileSpec::new(name, organization, length, alternates))
+}
 
 /// The place of a key.
 fn read_place(bytes: &[u8]) -> KeyPlace
@@ -124,29 +149,4 @@ fn keys_at(
     ensures memory { IsOkUnless result StoreFault.Memory }
 {
     read_keys(alloc, &bytes[at..], count)
-}
-
-/// The name of a file and what it is, by the key and the value of its entry. It may be one that spells other bytes.
-pub(crate) fn read_spec(
-    alloc: Global,
-    key: &[u8],
-    value: &[u8],
-) -> Result<Option<FileSpec>, StoreFault>
-    requires { length value.now ≡ 83 }
-    ensures spec { (name : List ℕ) (l : Listing) → is_name name ≡ true → is_spec l.spec ≡ true → key.now ≡ padded name → value.now ≡ spelled l →
-        IfRead result (λ f. (f.name.items ≡ name) × (spec_of f ≡ l.spec)) }
-    ensures memory { IsOkUnless result StoreFault.Memory }
-{
-    let count = value[COUNT_AT] as usize;
-    if count > MOST_KEYS {
-        return Ok(None);
-    }
-    let prime = place_at(value, PRIME_AT);
-    let Some(organization) = organization_of(value[0], prime) else {
-        return Ok(None);
-    };
-    let name = read_name(alloc, key)?;
-    let alternates = keys_at(alloc, value, KEYS_AT, count)?;
-    let length = short_at(value, RECORD_AT);
-    Ok(FileSpec::new(name, organization, length, alternates))
 }

@@ -5,6 +5,6 @@ ghost use Rattle.file_recovery.specs.Laws.{OneFiles};
 pub fn one_list_of_files()
     ensures { OneFiles }
 {
-    file_trees::one_list_of_files();
+    volume_format::one_list_of_files();
     half_store::one_list_of_files();
 }

@@ -8,7 +8,7 @@ ghost use Rattle.records.specs.declared.key.KeyOfReference.TheVariants.{Alternat
 ghost use Rattle.records.specs.Laws.{RowsAscend};
 ghost use Rattle.records.specs.Rows.{pair_under};
 ghost use Rattle.records.specs.Stores.{spec_of, IsKey};
-ghost use Rattle.file_trees.specs.Trees.{key_under, AreOf};
+ghost use Rattle.volume_format.specs.Trees.{key_under, AreOf};
 ghost use Rattle.file_recovery.specs.Calls.{LooksAt};
 ghost use Rattle.file_recovery.specs.Faults.{IsReadFault};
 ghost use Rattle.file_recovery.specs.Rows.{IsSized, IsPairOf, PrimesAscend};

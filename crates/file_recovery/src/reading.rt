@@ -7,7 +7,7 @@ ghost use Rattle.btree.specs.Entries.{HasLengths, entries_of};
 ghost use Rattle.records.specs.declared.key.KeyOfReference.TheVariants.{Prime};
 ghost use Rattle.records.specs.Files.{IsRow};
 ghost use Rattle.records.specs.Stores.{spec_of};
-ghost use Rattle.file_trees.specs.Trees.{entry_under, prime_layout};
+ghost use Rattle.volume_format.specs.Trees.{entry_under, prime_layout};
 ghost use Rattle.file_recovery.specs.Calls.{LooksAt};
 ghost use Rattle.file_recovery.specs.Faults.{IsReadFault};
 ghost use Rattle.file_recovery.specs.Rows.{IsOwnFault, NoRow, NoRows, AddsRow};
@@ -21,26 +21,6 @@ use pages::PageMap;
 use records::{FileSpec, StoreFault};
 use station::Device;
 use std::alloc::Global;
-
-/// Puts the row of an entry behind the others. `Damaged` tells that no row of the file has that entry.
-fn add_row(
-    alloc: Global,
-    file: &FileSpec,
-    next_arrival: u64,
-    rows: &mut Vec<StoredRow>,
-    entry: &Entry,
-) -> Result<(), StoreFault>
-    requires { HasLengths (prime_layout (spec_of file.now)) entry.now }
-    ensures row { OnOk result (AddsRow (spec_of file.now) next_arrival entry.now (rows_of rows.old.items) (rows_of rows.new.items)) }
-    ensures damaged { result ≡ Err StoreFault.Damaged → NoRow (spec_of file.now) next_arrival entry.now }
-    ensures cause { IfErr result IsOwnFault }
-{
-    let Some(row) = read_row(alloc, file, next_arrival, entry.key(), entry.value())? else {
-        return Err(StoreFault::Damaged);
-    };
-    rows.push(row)?;
-    Ok(())
-}
 
 /// The rows of a file, from its tree of rows, whose entries are exactly theirs. `Damaged` tells that they are those of no rows of such
 /// a file. The rows are kept in memory.
@@ -77,4 +57,24 @@ pub(crate) fn read_rows<D: Device>(
     }
     // So many rows have no place in memory.
     Err(StoreFault::Memory)
+}
+
+/// Puts the row of an entry behind the others. `Damaged` tells that no row of the file has that entry.
+fn add_row(
+    alloc: Global,
+    file: &FileSpec,
+    next_arrival: u64,
+    rows: &mut Vec<StoredRow>,
+    entry: &Entry,
+) -> Result<(), StoreFault>
+    requires { HasLengths (prime_layout (spec_of file.now)) entry.now }
+    ensures row { OnOk result (AddsRow (spec_of file.now) next_arrival entry.now (rows_of rows.old.items) (rows_of rows.new.items)) }
+    ensures damaged { result ≡ Err StoreFault.Damaged → NoRow (spec_of file.now) next_arrival entry.now }
+    ensures cause { IfErr result IsOwnFault }
+{
+    let Some(row) = read_row(alloc, file, next_arrival, entry.key(), entry.value())? else {
+        return Err(StoreFault::Damaged);
+    };
+    rows.push(row)?;
+    Ok(())
 }

@@ -6,7 +6,7 @@ ghost use Rattle.records.specs.Rows.{Row, pair_under};
 ghost use Rattle.records.specs.Files.{IsByte, IsArrival, IsRowNumber, IsRow};
 ghost use Rattle.records.specs.Stores.{spec_of};
 ghost use Rattle.records.specs.declared.key.KeyOfReference.TheVariants.{Prime};
-ghost use Rattle.file_trees.specs.Trees.{prime_key_length, key_under, row_value};
+ghost use Rattle.volume_format.specs.Trees.{prime_key_length, key_under, row_value};
 ghost use Rattle.file_recovery.specs.Stored.{row_of};
 ghost use Rattle.file_recovery.specs.Read.{number_in, numbers_in, row_in};
 
@@ -20,6 +20,32 @@ use std::alloc::Global;
 
 /// The bytes of an arrival.
 const ARRIVAL_BYTES: usize = 8;
+
+/// The row of an entry, exactly where it is one of such a file's rows.
+pub(crate) fn read_row(
+    alloc: Global,
+    file: &FileSpec,
+    next: u64,
+    key: &[u8],
+    value: &[u8],
+) -> Result<Option<StoredRow>, StoreFault>
+    requires key { length key.now ≡ prime_key_length file.now.organization }
+    requires value { length value.now ≡ file.now.record_length + 8 * length file.now.alternates.items }
+    ensures row { IfOk result (λ found. IfSome found (λ row. IsRow (spec_of file.now) next (row_of row))) }
+    ensures some { IfOk result (λ found. IfSome found (λ row. (key_under (spec_of file.now) Prime (pair_under (spec_of file.now) Prime (row_of row)) ≡ key.now) × (row_value (row_of row) ≡ value.now))) }
+    ensures none { result ≡ Ok None → (row : Row) → IsRow (spec_of file.now) next row → key_under (spec_of file.now) Prime (pair_under (spec_of file.now) Prime row) ≡ key.now → row_value row ≡ value.now → ⊥ }
+    ensures memory { IsOkUnless result StoreFault.Memory }
+{
+    let row = read_fields(alloc, file, key, value)?;
+    if !is_row(file, next, &row) {
+        return Ok(None);
+    }
+    let is_own = is_entry_of(alloc, file, &row, key, value)?;
+    if !is_own {
+        return Ok(None);
+    }
+    Ok(Some(row))
+}
 
 /// The number of eight bytes from a place on.
 fn number_at(bytes: &[u8], at: usize) -> u64
@@ -153,30 +179,4 @@ fn is_entry_of(
     }
     let again = row_value(alloc, row)?;
     Ok(is_same(&again, value))
-}
-
-/// The row of an entry, exactly where it is one of such a file's rows.
-pub(crate) fn read_row(
-    alloc: Global,
-    file: &FileSpec,
-    next: u64,
-    key: &[u8],
-    value: &[u8],
-) -> Result<Option<StoredRow>, StoreFault>
-    requires key { length key.now ≡ prime_key_length file.now.organization }
-    requires value { length value.now ≡ file.now.record_length + 8 * length file.now.alternates.items }
-    ensures row { IfOk result (λ found. IfSome found (λ row. IsRow (spec_of file.now) next (row_of row))) }
-    ensures some { IfOk result (λ found. IfSome found (λ row. (key_under (spec_of file.now) Prime (pair_under (spec_of file.now) Prime (row_of row)) ≡ key.now) × (row_value (row_of row) ≡ value.now))) }
-    ensures none { result ≡ Ok None → (row : Row) → IsRow (spec_of file.now) next row → key_under (spec_of file.now) Prime (pair_under (spec_of file.now) Prime row) ≡ key.now → row_value row ≡ value.now → ⊥ }
-    ensures memory { IsOkUnless result StoreFault.Memory }
-{
-    let row = read_fields(alloc, file, key, value)?;
-    if !is_row(file, next, &row) {
-        return Ok(None);
-    }
-    let is_own = is_entry_of(alloc, file, &row, key, value)?;
-    if !is_own {
-        return Ok(None);
-    }
-    Ok(Some(row))
 }

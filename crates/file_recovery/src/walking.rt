@@ -2,7 +2,7 @@
 ghost use Rattle.std.specs.Prelude.{◌≡◌, ◌≤◌, false, Err, IfOk, IfErr, IfSome};
 ghost use Rattle.pages.specs.Pages.{is_spent, sectors_of, IsOpen};
 ghost use Rattle.btree.specs.Calls.{OnTree, OnNoTree};
-ghost use Rattle.btree.specs.Entries.{HasLengths, entries_of, first_entry, first_after};
+ghost use Rattle.btree.specs.Entries.{HasLengths, entries_of, first_entry, first_entry_after};
 ghost use Rattle.file_recovery.specs.Calls.{LooksAt};
 ghost use Rattle.file_recovery.specs.Faults.{IsReadFault};
 
@@ -44,7 +44,7 @@ pub(crate) fn next_in<D: Device>(
     requires unspent { is_spent pages.old ≡ false }
     requires sectors { sectors_of pages.old ≤ D.sectors device.old }
     ensures looks { LooksAt D.Device (result ≡ Err StoreFault.Device) pages.old device.old pages.new device.new }
-    ensures entry { OnTree D.Device tree.now.layout tree.now.root pages.old device.old (λ levels. IfOk result (λ next. next ≡ first_after (entries_of tree.now.layout levels) entry.now.key)) }
+    ensures entry { OnTree D.Device tree.now.layout tree.now.root pages.old device.old (λ levels. IfOk result (λ next. next ≡ first_entry_after (entries_of tree.now.layout levels) entry.now.key)) }
     ensures damaged { OnNoTree D.Device tree.now.layout tree.now.root pages.old device.old (result ≡ Err StoreFault.Damaged) }
     ensures lengths { IfOk result (λ entry. IfSome entry (HasLengths tree.now.layout)) }
     ensures cause { IfErr result IsReadFault }

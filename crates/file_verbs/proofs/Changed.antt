@@ -4,7 +4,7 @@ use Rattle.std.specs.Prelude.{unwrap_or, not, Result, Ok, Err, OnOk}
 use Rattle.station.specs.declared.device.Device.{Ghosts as Devices}
 use Rattle.records.specs.declared.fault.StoreFault.{StoreFault}
 use Rattle.records.specs.declared.keeps.Keeps.{Ghosts as Stores}
-use Rattle.records.specs.Calls.{StandsFor, Turns}
+use Rattle.records.specs.Calls.{Represents, ChangesFiles}
 use Rattle.records.proofs.Calls.{passed_on}
 use Rattle.records.specs.declared.answer.Outcome.{Outcome}
 use Rattle.records.specs.declared.answer.Outcome.TheVariants.{Missing, Taken, Done, Duplicate}
@@ -18,11 +18,11 @@ use Rattle.records.specs.declared.verb.Verb.TheVariants.{Write, Rewrite, Delete}
 use Rattle.records.specs.Spec.{Spec}
 use Rattle.records.specs.Rows.{Pair, same_bytes, part, place_of, named_pair, prime_place}
 use Rattle.records.specs.Files.{File, Files, file_at, empty_file}
-use Rattle.records.specs.Changes.{Changed, inserted, replaced, replaced_row, removed, row_at}
+use Rattle.records.specs.Changes.{FileChange, insertion, replacement, replaced_row, removal, row_at}
 use Rattle.records.specs.Stores.{Has, spec_of, files_after, pair_of, is_change}
 use Rattle.records.specs.Tests.{is_sequential, may_write, may_change}
 use Rattle.records.specs.Connector.{Connector, entry_of}
-use Rattle.records.specs.Steps.{Step, step, status_after, next_number, is_past, is_out, is_other, writes, changes, row_to_change, ends}
+use Rattle.records.specs.Steps.{Step, step, status_after, next_number, is_past, is_out, is_other, writes, changes, row_to_change, end_step}
 use Rattle.records.specs.FileStep.{area, is_success}
 use Rattle.file_verbs.specs.declared.link.Link.{Link}
 use Rattle.file_verbs.specs.Links.{IsLinked, There, Gone, connector_of}
@@ -52,26 +52,26 @@ module _ (s : Select) (l : Link) (files : Files) (held : File) (has : Has files 
 
   abbrev by_tests : Bool → Bool → Step
   by_tests past out =
-      if past then ends (entry_of s) files was (area bytes number) Boundary else
-      if out then ends (entry_of s) files was (area bytes number) OutOfSequence else
-      writes (entry_of s) files was (area bytes number) (inserted number_now bytes (unwrap_or (file_at s.file.name.items files) (empty_file (spec_of s.file))))
+      if past then end_step (entry_of s) files was (area bytes number) Boundary else
+      if out then end_step (entry_of s) files was (area bytes number) OutOfSequence else
+      writes (entry_of s) files was (area bytes number) (insertion number_now bytes (unwrap_or (file_at s.file.name.items files) (empty_file (spec_of s.file))))
 
   pub inserts : is_past s.file.organization s.access s.key_digits number_now ≡ false → is_out s.file.organization s.access bytes was.last.value ≡ false
-      → step (entry_of s) files was (area bytes number) Write ≡ writes (entry_of s) files was (area bytes number) (inserted number_now bytes held)
+      → step (entry_of s) files was (area bytes number) Write ≡ writes (entry_of s) files was (area bytes number) (insertion number_now bytes held)
   inserts past out = ap (λ (b : Bool). by_tests b (is_out s.file.organization s.access bytes was.last.value)) past ∙ ap (by_tests false) out
-      ∙ ap (λ (f : Option File). writes (entry_of s) files was (area bytes number) (inserted number_now bytes (unwrap_or f (empty_file (spec_of s.file))))) has.there
+      ∙ ap (λ (f : Option File). writes (entry_of s) files was (area bytes number) (insertion number_now bytes (unwrap_or f (empty_file (spec_of s.file))))) has.there
 
   pub inserted_files : (n : ℕ) (past out : Bool) → n ≡ number_now → past ≡ is_past s.file.organization s.access s.key_digits n → past ≡ false → out ≡ is_out s.file.organization s.access bytes was.last.value → out ≡ false
-      → files_after s.file.name.items files (inserted n bytes held) ≡ (step (entry_of s) files was (area bytes number) Write).files
+      → files_after s.file.name.items files (insertion n bytes held) ≡ (step (entry_of s) files was (area bytes number) Write).files
   inserted_files n past out same past_is within out_is ascends =
-      ap (λ (m : ℕ). files_after s.file.name.items files (inserted m bytes held)) same
+      ap (λ (m : ℕ). files_after s.file.name.items files (insertion m bytes held)) same
       ∙ sym (ap (λ (t : Step). t.files) (inserts (sym (past_is ∙ ap (is_past s.file.organization s.access s.key_digits) same) ∙ within) (sym out_is ∙ ascends)))
 
   pub inserted_changes : (n : ℕ) (past out : Bool) → n ≡ number_now → past ≡ is_past s.file.organization s.access s.key_digits n → past ≡ false → out ≡ is_out s.file.organization s.access bytes was.last.value → out ≡ false
-      → is_change (inserted n bytes held).outcome ≡ true → is_success (step (entry_of s) files was (area bytes number) Write).status ≡ true
+      → is_change (insertion n bytes held).outcome ≡ true → is_success (step (entry_of s) files was (area bytes number) Write).status ≡ true
   inserted_changes n past out same past_is within out_is ascends change =
       ap (λ (t : Step). is_success t.status) (inserts (sym (past_is ∙ ap (is_past s.file.organization s.access s.key_digits) same) ∙ within) (sym out_is ∙ ascends))
-      ∙ success_of (inserted number_now bytes held).outcome (ap (λ (m : ℕ). is_change (inserted m bytes held).outcome) (sym same) ∙ change)
+      ∙ success_of (insertion number_now bytes held).outcome (ap (λ (m : ℕ). is_change (insertion m bytes held).outcome) (sym same) ∙ change)
 
   -- the row to change
   abbrev pub named : Pair
@@ -103,10 +103,10 @@ module _ (s : Select) (l : Link) (files : Files) (held : File) (has : Has files 
   pair_same (Indexed place) n b = refl
 
   pub removes : (is_sequential s.access ≡ true → l.was_read ≡ true) → (key : List ℕ) (n : ℕ) → key ≡ part (place_of (spec_of s.file) Prime) (chosen_bytes (is_sequential s.access)) → n ≡ chosen_number (is_sequential s.access)
-      → step (entry_of s) files was (area bytes number) Delete ≡ changes (entry_of s) files was (area bytes number) (removed (pair_of s.file.organization key n) held)
+      → step (entry_of s) files was (area bytes number) Delete ≡ changes (entry_of s) files was (area bytes number) (removal (pair_of s.file.organization key n) held)
   removes read key n key_is n_is =
-      ap (λ (f : Option File). changes (entry_of s) files was (area bytes number) (removed named (unwrap_or f (empty_file (spec_of s.file))))) has.there
-      ∙ ap (λ (p : Pair). changes (entry_of s) files was (area bytes number) (removed p held))
+      ap (λ (f : Option File). changes (entry_of s) files was (area bytes number) (removal named (unwrap_or f (empty_file (spec_of s.file))))) has.there
+      ∙ ap (λ (p : Pair). changes (entry_of s) files was (area bytes number) (removal p held))
       (named_is read ∙ sym (pair_same s.file.organization (chosen_number (is_sequential s.access)) (chosen_bytes (is_sequential s.access)))
       ∙ ap (λ (k : List ℕ). pair_of s.file.organization k (chosen_number (is_sequential s.access))) (sym key_is) ∙ ap (pair_of s.file.organization key) (sym n_is))
 
@@ -131,16 +131,16 @@ module _ (s : Select) (l : Link) (files : Files) (held : File) (has : Has files 
       by false same = refl
 
   abbrev by_other : Bool → File → Step
-  by_other other file = if other then ends (entry_of s) files was (area bytes number) OutOfSequence else changes (entry_of s) files was (area bytes number) (replaced named.number bytes file)
+  by_other other file = if other then end_step (entry_of s) files was (area bytes number) OutOfSequence else changes (entry_of s) files was (area bytes number) (replacement named.number bytes file)
 
-  abbrev by_pair : Pair → Changed
+  abbrev by_pair : Pair → FileChange
   by_pair pair = replaced_row pair bytes held (row_at held.spec.organization pair held.rows)
 
   value_is : (is_sequential s.access ≡ true → l.was_read ≡ true) → is_sequential s.access ≡ true → named.value ≡ part (place_of (spec_of s.file) Prime) l.row.items
   value_is read is = ap (λ (p : Pair). p.value) (named_is read) ∙ value_of s.file.organization (chosen_number (is_sequential s.access)) (chosen_bytes (is_sequential s.access)) ∙ ap (λ (b : Bool). part (prime_place s.file.organization) (chosen_bytes b)) is
 
   pub replaces : (is_sequential s.access ≡ true → l.was_read ≡ true) → (n : ℕ) (other : Bool) → n ≡ chosen_number (is_sequential s.access) → other ≡ is_other s.file.organization s.access bytes (part (place_of (spec_of s.file) Prime) l.row.items) → other ≡ false
-      → step (entry_of s) files was (area bytes number) Rewrite ≡ changes (entry_of s) files was (area bytes number) (replaced n bytes held)
+      → step (entry_of s) files was (area bytes number) Rewrite ≡ changes (entry_of s) files was (area bytes number) (replacement n bytes held)
   replaces read n other n_is other_is same =
       let one = other_by s.file.organization s.access named.value (part (place_of (spec_of s.file) Prime) l.row.items) (value_is read) in
       let pair : named_pair held.spec.organization named.number bytes ≡ named_pair held.spec.organization n bytes =
@@ -153,9 +153,9 @@ module _ (s : Select) (l : Link) (files : Files) (held : File) (has : Has files 
 
 -- an answer in place of another
 pub gave : {S : Type 0} (s : Stores S) {D : Type 0} (d : Devices D) {T U : Type 0} (x : T) (y : U) (is_new : Bool) (name : List ℕ) (before after : Files) (old : S) (device : D) (new : S) (device' : D) (result : Result T StoreFault) → result ≡ Ok x
-    → Turns s d result is_new name before after old device new device' → Turns s d {T = U} (Ok y) is_new name before after old device new device'
+    → ChangesFiles s d result is_new name before after old device new device' → ChangesFiles s d {T = U} (Ok y) is_new name before after old device new device'
 gave s d {T} x y is_new name before after old device new device' result was turns = record {
-  there = subst (λ (r : Result T StoreFault). OnOk r (StandsFor s d new device' after)) was turns.there;
+  there = subst (λ (r : Result T StoreFault). OnOk r (Represents s d new device' after)) was turns.there;
   moments = turns.moments;
   sound = λ is. absurd cc;
   room = λ is. absurd cc;
@@ -163,6 +163,6 @@ gave s d {T} x y is_new name before after old device new device' result was turn
 
 -- a refusal in place of another
 pub passed : {S : Type 0} (s : Stores S) {D : Type 0} (d : Devices D) {T U : Type 0} (fault : StoreFault) (is_new : Bool) (name : List ℕ) (before after : Files) (old : S) (device : D) (new : S) (device' : D) (result : Result T StoreFault) (told : Result U StoreFault) → result ≡ Err fault → told ≡ Err fault
-    → Turns s d result is_new name before after old device new device' → Turns s d told is_new name before after old device new device'
+    → ChangesFiles s d result is_new name before after old device new device' → ChangesFiles s d told is_new name before after old device new device'
 passed s d {T} {U} fault is_new name before after old device new device' result told was is turns =
-    subst (λ (r : Result U StoreFault). Turns s d r is_new name before after old device new device') (sym is) (passed_on s d {T = T} {U = U} fault is_new name before after old device new device' result was turns)
+    subst (λ (r : Result U StoreFault). ChangesFiles s d r is_new name before after old device new device') (sym is) (passed_on s d {T = T} {U = U} fault is_new name before after old device new device' result was turns)

@@ -21,15 +21,15 @@ use Rattle.records.proofs.Maps.{same_itself, found_again}
 use Rattle.records.specs.declared.verb.Verb.{Verb}
 use Rattle.records.specs.Files.{File, Files, with_file, empty_file}
 use Rattle.records.specs.Rows.{Row}
-use Rattle.records.specs.Order.{Bound, sought}
+use Rattle.records.specs.Order.{RowBound, sought_row}
 use Rattle.records.specs.Steps as steps
 use Rattle.records.specs.Steps.{Step}
 use Rattle.std.proofs.lemmas.Bool.{cond_both}
 use Rattle.file_verbs.proofs.Stepped as stepped
 use Rattle.records.specs.Stores.{spec_of, key_length}
-use Rattle.records.specs.Calls.{StandsFor, Reads, Changes, Turns, Rests}
+use Rattle.records.specs.Calls.{Represents, OnlyReadsFiles, Changes, ChangesFiles, Rests}
 use Rattle.records.specs.Connector.{Area}
-use Rattle.records.specs.Tests.{is_sequential, may_read, may_write, may_change, unless, then_unless}
+use Rattle.records.specs.Tests.{is_sequential, may_read, may_write, may_change, status_unless, then_unless}
 use Rattle.records.specs.FileStep.{makes_file, has_changed, can_change_files}
 use Rattle.records.proofs.Calls.{reads_changes, reads_rests, reads_turns}
 use Rattle.file_verbs.specs.declared.link.Link.{Link}
@@ -39,7 +39,7 @@ use Rattle.file_verbs.specs.Connections.{entry, connector, name_of, is_open, May
 use Rattle.file_verbs.specs.Does.{Does, step_of}
 
 -- the tests that passed
-pub unless_none : (b : Bool) (status : Status) → unless b status ≡ None → b ≡ true
+pub unless_none : (b : Bool) (status : Status) → status_unless b status ≡ None → b ≡ true
 unless_none true status is = refl
 unless_none false status is = absurd cc
 
@@ -93,10 +93,10 @@ some_of f None is = absurd cc
 some_of f (Some x) is = refl
 
 pub next_open : (one : Linked) → May one ReadNext → is_open one ≡ true
-next_open one may = readable_open one.link.mode (unless_none (may_read one.link.mode) NotForReading (then_none (unless (may_read one.link.mode) NotForReading) (is_some (connector one).position) NoPosition may).0)
+next_open one may = readable_open one.link.mode (unless_none (may_read one.link.mode) NotForReading (then_none (status_unless (may_read one.link.mode) NotForReading) (is_some (connector one).position) NoPosition may).0)
 
 pub next_side : (one : Linked) → May one ReadNext → is_some one.link.side ≡ true
-next_side one may = some_of _ one.link.side (then_none (unless (may_read one.link.mode) NotForReading) (is_some (connector one).position) NoPosition may).1
+next_side one may = some_of _ one.link.side (then_none (status_unless (may_read one.link.mode) NotForReading) (is_some (connector one).position) NoPosition may).1
 
 pub read_open : (one : Linked) (key : KeyOfReference) → May one (Read key) → is_open one ≡ true
 read_open one key may = readable_open one.link.mode (unless_none (may_read one.link.mode) NotForReading may)
@@ -116,13 +116,13 @@ was_read_by x true false is seq = absurd cc
 was_read_by x false w is seq = absurd cc
 
 abbrev pub MayChange : Linked → Type 0
-MayChange one = then_unless (unless (may_change one.link.mode) NotForChanging) (if is_sequential one.select.access then is_some (connector one).read else true) NoReadBefore ≡ None
+MayChange one = then_unless (status_unless (may_change one.link.mode) NotForChanging) (if is_sequential one.select.access then is_some (connector one).read else true) NoReadBefore ≡ None
 
 pub change_may : (one : Linked) → MayChange one → may_change one.link.mode ≡ true
-change_may one may = unless_none (may_change one.link.mode) NotForChanging (then_none (unless (may_change one.link.mode) NotForChanging) (if is_sequential one.select.access then is_some (connector one).read else true) NoReadBefore may).0
+change_may one may = unless_none (may_change one.link.mode) NotForChanging (then_none (status_unless (may_change one.link.mode) NotForChanging) (if is_sequential one.select.access then is_some (connector one).read else true) NoReadBefore may).0
 
 pub change_read : (one : Linked) → MayChange one → is_sequential one.select.access ≡ true → one.link.was_read ≡ true
-change_read one may = was_read_by _ (is_sequential one.select.access) one.link.was_read (then_none (unless (may_change one.link.mode) NotForChanging) (if is_sequential one.select.access then is_some (connector one).read else true) NoReadBefore may).1
+change_read one may = was_read_by _ (is_sequential one.select.access) one.link.was_read (then_none (status_unless (may_change one.link.mode) NotForChanging) (if is_sequential one.select.access then is_some (connector one).read else true) NoReadBefore may).1
 
 pub change_open : (one : Linked) → MayChange one → is_open one ≡ true
 change_open one may = changeable_open one.link.mode (change_may one may)
@@ -130,7 +130,7 @@ change_open one may = changeable_open one.link.mode (change_may one may)
 pub open_shut : (one : Linked) (mode : OpenMode) → May one (Open mode) → is_open one ≡ false
 open_shut one mode may = by (is_open one) (same_bytes (name_of one) (name_of one)) (same_itself (name_of one)) may
   where
-    by : (b c : Bool) → c ≡ true → unless (not (if b && c then true else false)) AlreadyOpen ≡ None → b ≡ false
+    by : (b c : Bool) → c ≡ true → status_unless (not (if b && c then true else false)) AlreadyOpen ≡ None → b ≡ false
     by true true same is = absurd cc
     by true false same is = absurd cc
     by false c same is = refl
@@ -138,9 +138,9 @@ open_shut one mode may = by (is_open one) (same_bytes (name_of one) (name_of one
 module _ {S : Type 0} (s : Stores S) {D : Type 0} (d : Devices D) (verb : Verb) (result : Result Status StoreFault) (store : S) (device : D) (store' : S) (device' : D) (old new : Linked) (area left : Area) where
   -- a verb that reads
   pub reads_do : ((disk : Disk) (image : List Sector) (files : Files) → s.stands store disk files → IsCrashImage disk image → s.holds image files)
-      → Reads s d result store device store' device' → new.select ≡ old.select → is_open old ≡ true
-      → ((files : Files) → StandsFor s d store device files → IsLinked files old.select old.link → IfOk result (λ status. Ends (step_of verb files old area) status (connector new) left))
-      → ((files : Files) → StandsFor s d store device files → IsLinked files old.select old.link → result ≢ Err Damaged)
+      → OnlyReadsFiles s d result store device store' device' → new.select ≡ old.select → is_open old ≡ true
+      → ((files : Files) → Represents s d store device files → IsLinked files old.select old.link → IfOk result (λ status. Ends (step_of verb files old area) status (connector new) left))
+      → ((files : Files) → Represents s d store device files → IsLinked files old.select old.link → result ≢ Err Damaged)
       → new.link.mode ≡ old.link.mode → new.link.is_absent ≡ old.link.is_absent
       → OnErr result (SameLink old.select old.link new.link) → OnErr result (left ≡ area)
       → ((files : Files) → files ≡ (step_of verb files old area).files) → Does s d verb result store device store' device' old new area left
@@ -150,7 +150,7 @@ module _ {S : Type 0} (s : Stores S) {D : Type 0} (d : Devices D) (verb : Verb) 
     step = λ files stands linked. step files stands (linked opened);
     linked = λ files stands linked. on_ok result (λ _. subst (λ (f : Files). IsLinked f new.select new.link) (stays files)
         (subst (λ (t : Select). IsLinked files t new.link) (sym select) (same_absent files old.select old.link new.link absent mode (linked opened))));
-    turns = λ files stands linked. subst (λ (f : Files). Turns s d result (makes_file verb) (name_of old) files f store device store' device') (stays files)
+    turns = λ files stands linked. subst (λ (f : Files). ChangesFiles s d result (makes_file verb) (name_of old) files f store device store' device') (stays files)
         (reads_turns s d result store device store' device' reads held (makes_file verb) (name_of old) files stands (sound files stands (linked opened)));
     full = λ files stands linked is. absurd (reads.has_room is);
     never_full = λ none. reads.has_room;
@@ -165,13 +165,13 @@ module _ {S : Type 0} (s : Stores S) {D : Type 0} (d : Devices D) (verb : Verb) 
 
   -- a verb that changes a row
   pub changes_do : Changes s d result store device store' device' → new.select ≡ old.select → is_open old ≡ true
-      → ((files : Files) → StandsFor s d store device files → IsLinked files old.select old.link → IfOk result (λ status. Ends (step_of verb files old area) status (connector new) left))
-      → ((files : Files) → StandsFor s d store device files → IsLinked files old.select old.link → Turns s d result (makes_file verb) (name_of old) files (step_of verb files old area).files store device store' device')
+      → ((files : Files) → Represents s d store device files → IsLinked files old.select old.link → IfOk result (λ status. Ends (step_of verb files old area) status (connector new) left))
+      → ((files : Files) → Represents s d store device files → IsLinked files old.select old.link → ChangesFiles s d result (makes_file verb) (name_of old) files (step_of verb files old area).files store device store' device')
       → new.link.mode ≡ old.link.mode → new.link.is_absent ≡ old.link.is_absent
       → (d.is_honest device → IfOk result (λ status. has_changed verb status ≡ false → d.state device' ≡ d.state device))
       → OnErr result (new.link ≡ old.link) → OnErr result (left ≡ area) → OnErr result (Rests s d store device store' device')
       → ((files : Files) → IsLinked files old.select old.link → IsLinked (step_of verb files old area).files old.select old.link)
-      → ((files : Files) → StandsFor s d store device files → IsLinked files old.select old.link → result ≡ Err Full → has_changed verb (step_of verb files old area).status ≡ true)
+      → ((files : Files) → Represents s d store device files → IsLinked files old.select old.link → result ≡ Err Full → has_changed verb (step_of verb files old area).status ≡ true)
       → can_change_files verb ≡ true
       → Does s d verb result store device store' device' old new area left
   changes_do changes select opened step turns mode absent idle same area_same rests stays full can_change = record {
@@ -194,12 +194,12 @@ module _ {S : Type 0} (s : Stores S) {D : Type 0} (d : Devices D) (verb : Verb) 
 
   -- OPEN
   pub opening_does : Changes s d result store device store' device' → new.select ≡ old.select → is_open old ≡ false
-      → ((files : Files) → StandsFor s d store device files → IfOk result (λ status. Ends (step_of verb files old area) status (connector new) left))
-      → ((files : Files) → StandsFor s d store device files → OnOk result ((new.link.mode ≡ old.link.mode) ⊎ IsLinked (step_of verb files old area).files old.select new.link))
-      → ((files : Files) → StandsFor s d store device files → Turns s d result (makes_file verb) (name_of old) files (step_of verb files old area).files store device store' device')
+      → ((files : Files) → Represents s d store device files → IfOk result (λ status. Ends (step_of verb files old area) status (connector new) left))
+      → ((files : Files) → Represents s d store device files → OnOk result ((new.link.mode ≡ old.link.mode) ⊎ IsLinked (step_of verb files old area).files old.select new.link))
+      → ((files : Files) → Represents s d store device files → ChangesFiles s d result (makes_file verb) (name_of old) files (step_of verb files old area).files store device store' device')
       → (d.is_honest device → IfOk result (λ status. has_changed verb status ≡ false → d.state device' ≡ d.state device))
       → OnErr result (new.link ≡ old.link) → left ≡ area → OnErr result (Rests s d store device store' device')
-      → ((files : Files) → StandsFor s d store device files → result ≡ Err Full → has_changed verb (step_of verb files old area).status ≡ true)
+      → ((files : Files) → Represents s d store device files → result ≡ Err Full → has_changed verb (step_of verb files old area).status ≡ true)
       → (can_change_files verb ≡ false → result ≢ Err Full)
       → Does s d verb result store device store' device' old new area left
   opening_does changes select shut step linked turns idle same area_same rests full never_full = record {
@@ -239,9 +239,9 @@ module _ (one : Linked) (a : Area) (files : Files) where
   row_stays (Some row) = cond_both (steps.is_relative one.select.file.organization && steps.is_too_long one.select.key_digits row.number) (steps.ends_nowhere (entry one) files (connector one) a (connector one).reference NumberTooLong)
       (steps.takes (entry one) files (connector one) a (connector one).reference row) (λ (t : Step). files ≡ t.files) (λ _. refl) (λ _. refl)
 
-  from_stays : (o : Option Bound) → files ≡ (steps.next_from (entry one) files (connector one) a o).files
+  from_stays : (o : Option RowBound) → files ≡ (steps.next_from (entry one) files (connector one) a o).files
   from_stays None = refl
-  from_stays (Some b) = row_stays (sought (spec_of one.select.file) (connector one).reference b (steps.rows (entry one) files (connector one) a))
+  from_stays (Some b) = row_stays (sought_row (spec_of one.select.file) (connector one).reference b (steps.rows (entry one) files (connector one) a))
 
   found_stays : (key : KeyOfReference) (o : Option Row) → files ≡ (steps.read_found (entry one) files (connector one) a key o).files
   found_stays key None = refl
@@ -255,13 +255,13 @@ pub next_stays : (one : Linked) (a : Area) (files : Files) → files ≡ (step_o
 next_stays one a files = from_stays one a files (connector one).position
 
 pub read_stays : (one : Linked) (a : Area) (key : KeyOfReference) (files : Files) → files ≡ (step_of (Read key) files one a).files
-read_stays one a key files = found_stays one a files key (steps.first_fitting (entry one) files (connector one) a Equal key (steps.named (spec_of one.select.file) one.select.file.organization key (key_length (spec_of one.select.file) key) a))
+read_stays one a key files = found_stays one a files key (steps.first_fitting (entry one) files (connector one) a Equal key (steps.area_pair (spec_of one.select.file) one.select.file.organization key (key_length (spec_of one.select.file) key) a))
 
 pub start_stays : (one : Linked) (a : Area) (relation : Relation) (key : KeyOfReference) (count : ℕ) (files : Files) → files ≡ (step_of (Start relation key count) files one a).files
-start_stays one a relation key count files = stood_stays one a files key (steps.first_fitting (entry one) files (connector one) a relation key (steps.named (spec_of one.select.file) one.select.file.organization key count a))
+start_stays one a relation key count files = stood_stays one a files key (steps.first_fitting (entry one) files (connector one) a relation key (steps.area_pair (spec_of one.select.file) one.select.file.organization key count a))
 
 -- the file of a connector
-pub own_spec : (files : Files) (one : Linked) (a : Area) → IsLinked files one.select one.link → (steps.held (entry one) files (connector one) a).spec ≡ (entry one).spec
+pub own_spec : (files : Files) (one : Linked) (a : Area) → IsLinked files one.select one.link → (steps.held_file (entry one) files (connector one) a).spec ≡ (entry one).spec
 own_spec files one a (There there held has) = ap (λ (f : Option File). (unwrap_or f (empty_file (entry one).spec)).spec) has.there ∙ has.spec
 own_spec files one a (Gone gone mode none) = ap (λ (f : Option File). (unwrap_or f (empty_file (entry one).spec)).spec) none
 

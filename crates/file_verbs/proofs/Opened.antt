@@ -6,7 +6,7 @@ use Rattle.std.specs.Prelude.{Result, Ok}
 use Rattle.station.specs.declared.device.Device.{Ghosts as Devices}
 use Rattle.records.specs.declared.fault.StoreFault.{StoreFault}
 use Rattle.records.specs.declared.keeps.Keeps.{Ghosts as Stores}
-use Rattle.records.specs.Calls.{Reads}
+use Rattle.records.specs.Calls.{OnlyReadsFiles}
 use Rattle.records.proofs.Calls.{carries}
 use Rattle.records.specs.declared.status.Status.{Status}
 use Rattle.records.specs.declared.status.Status.TheVariants.{Success, SuccessAbsent, FileMissing, FileDiffers}
@@ -17,7 +17,7 @@ use Rattle.records.specs.Spec.{Spec, same_spec}
 use Rattle.records.specs.Files.{File, Files, file_at, with_file, empty_file, presence}
 use Rattle.records.specs.Stores.{spec_of}
 use Rattle.records.specs.Connector.{Connector, Area, entry_of}
-use Rattle.records.specs.Steps.{Step, step, open_there, open_absent, ends, opens}
+use Rattle.records.specs.Steps.{Step, step, open_there, open_absent, end_step, opens}
 use Rattle.records.specs.FileStep.{has_changed}
 use Rattle.records.proofs.Maps.{specs_same}
 use Rattle.file_verbs.specs.declared.link.Link.{Link}
@@ -48,7 +48,7 @@ different_is (Some file) spec is = (file, refl, same (same_spec file.spec spec) 
     same false e = refl
 
 -- a call that looked for the file, where nothing else is done
-pub looked : {S : Type 0} (s : Stores S) {D : Type 0} (d : Devices D) {T U : Type 0} (result : Result T StoreFault) (told : U) (old : S) (device : D) (new : S) (device' : D) → Reads s d result old device new device' → Reads s d {T = U} (Ok told) old device new device'
+pub looked : {S : Type 0} (s : Stores S) {D : Type 0} (d : Devices D) {T U : Type 0} (result : Result T StoreFault) (told : U) (old : S) (device : D) (new : S) (device' : D) → OnlyReadsFiles s d result old device new device' → OnlyReadsFiles s d {T = U} (Ok told) old device new device'
 looked s d {T} {U} result told old device new device' reads = carries s d result (let r : Result U StoreFault = Ok told in r) old device new device' (record { device = λ is. absurd cc; spent = λ is. absurd cc; room = λ is. absurd cc; layout = λ is. absurd cc }) reads
 
 module _ (s : Select) (files : Files) (c : Connector) (a : Area) where
@@ -62,7 +62,7 @@ module _ (s : Select) (files : Files) (c : Connector) (a : Area) where
   output_makes mode is = ap after is
 
   abbrev by_option : OpenMode → Bool → Files
-  by_option mode b = (cond b (open_absent (entry_of s) files c a mode) (ends (entry_of s) files c a FileMissing)).files
+  by_option mode b = (cond b (open_absent (entry_of s) files c a mode) (end_step (entry_of s) files c a FileMissing)).files
 
   abbrev by_file : OpenMode → Option File → Files
   by_file mode o = (open_there (entry_of s) files c a mode o).files
@@ -73,7 +73,7 @@ module _ (s : Select) (files : Files) (c : Connector) (a : Area) where
   pub absent_extends : (mode : OpenMode) → mode ≡ Extend → file_at s.file.name.items files ≡ None → s.optional ≡ true → after mode ≡ made
   absent_extends mode is none optional = ap after is ∙ ap (by_file Extend) none ∙ ap (by_option Extend) optional
 
-  stays : (mode : OpenMode) (there : File) (b : Bool) → (cond b (opens (entry_of s) files c a mode Success) (ends (entry_of s) files c a FileDiffers)).files ≡ files
+  stays : (mode : OpenMode) (there : File) (b : Bool) → (cond b (opens (entry_of s) files c a mode Success) (end_step (entry_of s) files c a FileDiffers)).files ≡ files
   stays mode there true = refl
   stays mode there false = refl
 
@@ -84,7 +84,7 @@ module _ (s : Select) (files : Files) (c : Connector) (a : Area) where
   present_stays Extend there other is = ap (by_file Extend) is ∙ stays Extend there (same_spec there.spec (spec_of s.file))
 
   abbrev end : Status → Step
-  end status = ends (entry_of s) files c a status
+  end status = end_step (entry_of s) files c a status
 
   abbrev begun : OpenMode → Status → Step
   begun mode status = opens (entry_of s) files c a mode status

@@ -19,9 +19,9 @@ use Rattle.records.specs.declared.verb.Verb.TheVariants.{Open, Close, ReadNext, 
 use Rattle.records.specs.Rows.{same_bytes}
 use Rattle.records.specs.Files.{File, Files, file_at, with_file}
 use Rattle.records.specs.Stores.{Either}
-use Rattle.records.specs.Calls.{StandsFor, Changes, Turns, Rests}
-use Rattle.records.specs.Tests.{barred, unless, is_name_open}
-use Rattle.records.specs.Connector.{Entry, Connector, Area, entry_of, closed}
+use Rattle.records.specs.Calls.{Represents, Changes, ChangesFiles, Rests}
+use Rattle.records.specs.Tests.{barred_status, status_unless, is_name_open}
+use Rattle.records.specs.Connector.{Entry, Connector, Area, entry_of, closed_connector}
 use Rattle.records.specs.Steps as steps
 use Rattle.records.specs.Steps.{Step, step}
 use Rattle.records.specs.FileStep.{entry_at, connector_at, no_entry, barred_at, own_step, file_step, is_close, IsStep}
@@ -39,7 +39,7 @@ module _ (all : List Linked) (i : ℕ) (old : Linked) (lt : i < length all) (her
   entry_here = get_or-map entry all i old no_entry lt ∙ ap entry here
 
   pub connector_here : connector_at (connectors_of all) i ≡ connector old
-  connector_here = get_or-map connector all i old closed lt ∙ ap connector here
+  connector_here = get_or-map connector all i old closed_connector lt ∙ ap connector here
 
   pub entries_same : (new : Linked) → new.select ≡ old.select → entries_of (set all i new) ≡ entries_of all
   entries_same new select = map-set_same entry all i new old (ap entry_of select ∙ sym (ap entry here))
@@ -48,16 +48,16 @@ module _ (all : List Linked) (i : ℕ) (old : Linked) (lt : i < length all) (her
   connectors_set new = map-set connector all i new
 
   -- a step that a test of the connectors bars, and one that none does
-  pub barred_step : (files : Files) (a : Area) (verb : Verb) (status : Status) → barred_at (entries_of all) (connectors_of all) i verb ≡ Some status → file_step (entries_of all) files (connectors_of all) i verb a ≡ steps.ends (entry old) files (connector old) a status
+  pub barred_step : (files : Files) (a : Area) (verb : Verb) (status : Status) → barred_at (entries_of all) (connectors_of all) i verb ≡ Some status → file_step (entries_of all) files (connectors_of all) i verb a ≡ steps.end_step (entry old) files (connector old) a status
   barred_step files a verb status is = ap (own_step (entry_at (entries_of all) i) files (connector_at (connectors_of all) i) a verb) is
-      ∙ ap (λ (e : Entry). steps.ends e files (connector_at (connectors_of all) i) a status) entry_here ∙ ap (λ (c : Connector). steps.ends (entry old) files c a status) connector_here
+      ∙ ap (λ (e : Entry). steps.end_step e files (connector_at (connectors_of all) i) a status) entry_here ∙ ap (λ (c : Connector). steps.end_step (entry old) files c a status) connector_here
 
   pub own_step_is : (files : Files) (a : Area) (verb : Verb) → barred_at (entries_of all) (connectors_of all) i verb ≡ None → file_step (entries_of all) files (connectors_of all) i verb a ≡ step (entry old) files (connector old) a verb
   own_step_is files a verb is = ap (own_step (entry_at (entries_of all) i) files (connector_at (connectors_of all) i) a verb) is
       ∙ ap (λ (e : Entry). step e files (connector_at (connectors_of all) i) a verb) entry_here ∙ ap (λ (c : Connector). step (entry old) files c a verb) connector_here
 
-  pub barred_here : (verb : Verb) → barred_at (entries_of all) (connectors_of all) i verb ≡ None → barred (entries_of all) (connectors_of all) (entry old) (connector old) verb ≡ None
-  barred_here verb is = sym (ap (λ (e : Entry). barred (entries_of all) (connectors_of all) e (connector_at (connectors_of all) i) verb) entry_here ∙ ap (λ (c : Connector). barred (entries_of all) (connectors_of all) (entry old) c verb) connector_here) ∙ is
+  pub barred_here : (verb : Verb) → barred_at (entries_of all) (connectors_of all) i verb ≡ None → barred_status (entries_of all) (connectors_of all) (entry old) (connector old) verb ≡ None
+  barred_here verb is = sym (ap (λ (e : Entry). barred_status (entries_of all) (connectors_of all) e (connector_at (connectors_of all) i) verb) entry_here ∙ ap (λ (c : Connector). barred_status (entries_of all) (connectors_of all) (entry old) c verb) connector_here) ∙ is
 
 -- the tests of one connector passed
 at_other : (name : List ℕ) (all : List Linked) (i : ℕ) (d : Linked) → i < length all → AllByRecursion (Other name) all → Other name (get_or all i d)
@@ -69,7 +69,7 @@ shut_by : (b : Bool) (name : List ℕ) → (b ≡ true → same_bytes name name 
 shut_by true name apart = let e : true ≡ false = sym (same_itself name) ∙ apart refl in absurd cc
 shut_by false name apart = refl
 
-unless_shut : (b c : Bool) → b ≡ false → unless (not (if b && c then true else false)) AlreadyOpen ≡ None
+unless_shut : (b c : Bool) → b ≡ false → status_unless (not (if b && c then true else false)) AlreadyOpen ≡ None
 unless_shut true c is = absurd cc
 unless_shut false c is = refl
 
@@ -78,13 +78,13 @@ not_false true is = absurd cc
 not_false false is = refl
 
 module _ (all : List Linked) (i : ℕ) (old : Linked) (lt : i < length all) (here : get_or all i old ≡ old) where
-  name_free : (mode : OpenMode) → barred (entries_of all) (connectors_of all) (entry old) (connector old) (Open mode) ≡ None → AllByRecursion (Other (name_of old)) all
+  name_free : (mode : OpenMode) → barred_status (entries_of all) (connectors_of all) (entry old) (connector old) (Open mode) ≡ None → AllByRecursion (Other (name_of old)) all
   name_free mode is = all_shut (name_of old) all (not_false (is_name_open (name_of old) (entries_of all) (connectors_of all)) (unless_none (not (is_name_open (name_of old) (entries_of all) (connectors_of all))) AlreadyOpen is))
 
-  pub own_shut : (mode : OpenMode) → barred (entries_of all) (connectors_of all) (entry old) (connector old) (Open mode) ≡ None → is_open old ≡ false
+  pub own_shut : (mode : OpenMode) → barred_status (entries_of all) (connectors_of all) (entry old) (connector old) (Open mode) ≡ None → is_open old ≡ false
   own_shut mode is = shut_by (is_open old) (name_of old) (subst (Other (name_of old)) here (at_other (name_of old) all i old lt (name_free mode is)))
 
-  pub may_of : (verb : Verb) → barred (entries_of all) (connectors_of all) (entry old) (connector old) verb ≡ None → May old verb
+  pub may_of : (verb : Verb) → barred_status (entries_of all) (connectors_of all) (entry old) (connector old) verb ≡ None → May old verb
   may_of (Open mode) is = unless_shut (is_open old) (same_bytes (name_of old) (name_of old)) (own_shut mode is)
   may_of Close is = is
   may_of ReadNext is = is
@@ -98,7 +98,7 @@ module _ (all : List Linked) (i : ℕ) (old : Linked) (lt : i < length all) (her
   open_others opened apart = subst (λ (o : Linked). Others i (name_of o) all) here (others_apart all i old lt (subst (λ (o : Linked). is_open o ≡ true) (sym here) opened) apart)
 
   -- no other opened file has the name
-  pub others_of : (verb : Verb) → is_close verb ≡ false → barred (entries_of all) (connectors_of all) (entry old) (connector old) verb ≡ None → AllApart all → Others i (name_of old) all
+  pub others_of : (verb : Verb) → is_close verb ≡ false → barred_status (entries_of all) (connectors_of all) (entry old) (connector old) verb ≡ None → AllApart all → Others i (name_of old) all
   others_of (Open mode) other is apart = shut_others i (name_of old) all (name_free mode is)
   others_of Close other is apart = absurd cc
   others_of ReadNext other is apart = open_others (next_open old is) apart
@@ -160,25 +160,25 @@ module _ {S S' : Type 0} (s : Stores S) {s' : Stores S'} {D : Type 0} (d : Devic
   pub turns_over : (is_new : Bool) (name name' : List ℕ) (before after after' : Files) → name' ≡ name → after' ≡ after → OnOk result (s.stands new (d.state device').disk after → s'.stands new' (d.state device').disk after)
       → (Through (d.history device) (d.history device') (d.state device') (CrashLeaves (d.state device).events (Either s.holds before after)) → Through (d.history device) (d.history device') (d.state device') (CrashLeaves (d.state device).events (Either s'.holds before after)))
       → (s.lacks_room (d.state device).disk.present is_new name before after → s'.lacks_room (d.state device).disk.present is_new name before after)
-      → Turns s d result is_new name before after old device new device' → Turns s' d result is_new name' before after' old' device new' device'
+      → ChangesFiles s d result is_new name before after old device new device' → ChangesFiles s' d result is_new name' before after' old' device new' device'
   turns_over is_new name name' before after after' named files lift moments lacks turns =
-      subst (λ (n : List ℕ). Turns s' d result is_new n before after' old' device new' device') (sym named) (subst (λ (f : Files). Turns s' d result is_new name before f old' device new' device') (sym files) (record {
+      subst (λ (n : List ℕ). ChangesFiles s' d result is_new n before after' old' device new' device') (sym named) (subst (λ (f : Files). ChangesFiles s' d result is_new name before f old' device new' device') (sym files) (record {
         there = ok_both result (λ up there. record { honest = there.honest; there = up there.there }) lift turns.there;
         moments = moments turns.moments;
         sound = turns.sound;
         room = λ full. lacks (turns.room full);
       }))
 
-  pub rests_over : s'.is_spent new' ≡ s.is_spent new → ((files : Files) → StandsFor s' d old' device files → StandsFor s d old device files) → ((files : Files) → StandsFor s' d old' device files → StandsFor s d new device' files → StandsFor s' d new' device' files)
+  pub rests_over : s'.is_spent new' ≡ s.is_spent new → ((files : Files) → Represents s' d old' device files → Represents s d old device files) → ((files : Files) → Represents s' d old' device files → Represents s d new device' files → Represents s' d new' device' files)
       → Rests s d old device new device' → Rests s' d old' device new' device'
   rests_over spent down up (inl is) = inl (spent ∙ is)
   rests_over spent down up (inr rests) = inr (λ files stands. up files stands (rests files (down files stands)))
 
 -- where nothing is done to the files
-pub still_turns : {S : Type 0} {s : Stores S} {D : Type 0} (d : Devices D) {T : Type 0} (told : T) (is_new : Bool) (name : List ℕ) (files after : Files) {old : S} (device : D) {new : S} → after ≡ files → StandsFor s d new device files
-    → ((image : List Sector) → IsCrashImage (d.state device).disk image → s.holds image files) → Turns s d {T = T} (Ok told) is_new name files after old device new device
+pub still_turns : {S : Type 0} {s : Stores S} {D : Type 0} (d : Devices D) {T : Type 0} (told : T) (is_new : Bool) (name : List ℕ) (files after : Files) {old : S} (device : D) {new : S} → after ≡ files → Represents s d new device files
+    → ((image : List Sector) → IsCrashImage (d.state device).disk image → s.holds image files) → ChangesFiles s d {T = T} (Ok told) is_new name files after old device new device
 still_turns {S} {s} {D} d {T} told is_new name files after {old} device {new} same stands images =
-    subst (λ (f : Files). Turns s d {T = T} (Ok told) is_new name files f old device new device) (sym same) (record {
+    subst (λ (f : Files). ChangesFiles s d {T = T} (Ok told) is_new name files f old device new device) (sym same) (record {
       there = stands;
       moments = record {
         spans = record { during = []; adds = sym (append-nil (d.history device)); each = tt };

@@ -10,7 +10,7 @@ use Rattle.records.specs.declared.key.KeyOfReference.{KeyOfReference}
 use Rattle.records.specs.declared.verb.Verb.{Verb}
 use Rattle.records.specs.declared.verb.Verb.TheVariants.{Read, Start}
 use Rattle.records.specs.FileStep.{entry_at}
-use Rattle.records.specs.Tests.{barred}
+use Rattle.records.specs.Tests.{barred_status}
 use Rattle.file_verbs.specs.Links.{IsLinked, connector_of}
 use Rattle.file_verbs.specs.declared.linked.Linked.{Linked}
 
@@ -50,7 +50,7 @@ pub record AreLinked (files : Files) (all : List Linked) : Type 0 where
 
 -- no test of this connector bars the verb
 abbrev pub May : Linked → Verb → Type 0
-May one verb = barred (entry one ∷ []) (connector one ∷ []) (entry one) (connector one) verb ≡ None
+May one verb = barred_status (entry one ∷ []) (connector one ∷ []) (entry one) (connector one) verb ≡ None
 
 -- a key of the file, and no more of it than there is
 abbrev pub is_key : Spec → KeyOfReference → Bool

@@ -7,7 +7,7 @@ use Rattle.records.specs.declared.keeps.Keeps.{Ghosts as Stores}
 use Rattle.records.specs.declared.status.Status.{Status}
 use Rattle.records.specs.declared.verb.Verb.{Verb}
 use Rattle.records.specs.Files.{Files}
-use Rattle.records.specs.Calls.{StandsFor, Changes, Turns, Rests}
+use Rattle.records.specs.Calls.{Represents, Changes, ChangesFiles, Rests}
 use Rattle.records.specs.Connector.{Area}
 use Rattle.records.specs.Steps.{Step, step}
 use Rattle.records.specs.FileStep.{makes_file, has_changed, can_change_files}
@@ -28,10 +28,10 @@ module _ {S : Type 0} (s : Stores S) {D : Type 0} (d : Devices D) where
   pub record Does (verb : Verb) (result : Result Status StoreFault) (store : S) (device : D) (store' : S) (device' : D) (old new : Linked) (area left : Area) : Type 0 where
     pub changes : Changes s d result store device store' device'
     pub select : new.select ≡ old.select
-    pub step : (files : Files) → StandsFor s d store device files → OpenLinked files old → IfOk result (λ status. Ends (step_of verb files old area) status (connector new) left)
-    pub linked : (files : Files) → StandsFor s d store device files → OpenLinked files old → OnOk result (OpenLinked (step_of verb files old area).files new)
-    pub turns : (files : Files) → StandsFor s d store device files → OpenLinked files old → Turns s d result (makes_file verb) (name_of old) files (step_of verb files old area).files store device store' device'
-    pub full : (files : Files) → StandsFor s d store device files → OpenLinked files old → result ≡ Err Full → has_changed verb (step_of verb files old area).status ≡ true
+    pub step : (files : Files) → Represents s d store device files → OpenLinked files old → IfOk result (λ status. Ends (step_of verb files old area) status (connector new) left)
+    pub linked : (files : Files) → Represents s d store device files → OpenLinked files old → OnOk result (OpenLinked (step_of verb files old area).files new)
+    pub turns : (files : Files) → Represents s d store device files → OpenLinked files old → ChangesFiles s d result (makes_file verb) (name_of old) files (step_of verb files old area).files store device store' device'
+    pub full : (files : Files) → Represents s d store device files → OpenLinked files old → result ≡ Err Full → has_changed verb (step_of verb files old area).status ≡ true
     pub never_full : can_change_files verb ≡ false → result ≢ Err Full
     pub idle : d.is_honest device → IfOk result (λ status. has_changed verb status ≡ false → d.state device' ≡ d.state device)
     pub same : OnErr result (IsSame old new area left)

@@ -7,8 +7,29 @@ ghost use Rattle.file_verbs.specs.Connections as connections;
 ghost use Rattle.file_verbs.specs.Connections.{entry, connector, entries_of, connectors_of, is_suited};
 
 use crate::linked::Linked;
-use crate::writing::is_in_sequence;
+use crate::write_statement::is_in_sequence;
 use records::{Access, FileSpec, KeyOfReference, OpenMode, Status, Verb};
+
+/// The status with which a verb on the file of this number ends before it looks at the file.
+pub(crate) fn barred(links: &[Linked], file: usize, verb: Verb) -> Option<Status>
+    requires { file < length links.now }
+    ensures { result ≡ barred_at (entries_of links.now) (connectors_of links.now) file verb }
+{
+    barred_here(links, &links[file], verb)
+}
+
+/// Whether a verb names a key of the file, and no more of it than there is.
+pub(crate) fn suits(file: &FileSpec, verb: Verb) -> bool
+    ensures { result ≡ is_suited (spec_of file.now) verb }
+{
+    match verb {
+        Verb::Read(key) => is_key(file, key),
+        Verb::Start(_, key, count) => {
+            is_key(file, key) && count as u16 <= file.key_place(key).length
+        }
+        _ => true,
+    }
+}
 
 fn may_read(mode: Option<OpenMode>) -> bool
     ensures { result ≡ tests.may_read mode }
@@ -54,7 +75,7 @@ fn is_name_open(links: &[Linked], name: &[u8]) -> bool
 }
 
 fn unless(test: bool, status: Status) -> Option<Status>
-    ensures { result ≡ tests.unless test status }
+    ensures { result ≡ tests.status_unless test status }
 {
     if test { None } else { Some(status) }
 }
@@ -70,7 +91,7 @@ fn then_unless(first: Option<Status>, test: bool, status: Status) -> Option<Stat
 
 /// In sequential access a row has to be read just before it is changed.
 fn may_change_row(linked: &Linked) -> Option<Status>
-    ensures { result ≡ tests.then_unless (tests.unless (tests.may_change (connector linked.now).mode) Status.NotForChanging) (if tests.is_sequential (entry linked.now).access then is_some (connector linked.now).read else true) Status.NoReadBefore }
+    ensures { result ≡ tests.then_unless (tests.status_unless (tests.may_change (connector linked.now).mode) Status.NotForChanging) (if tests.is_sequential (entry linked.now).access then is_some (connector linked.now).read else true) Status.NoReadBefore }
 {
     then_unless(
         unless(may_change(linked.link.mode), Status::NotForChanging),
@@ -81,7 +102,7 @@ fn may_change_row(linked: &Linked) -> Option<Status>
 
 /// The status with which a verb ends before it looks at a file.
 fn barred_here(links: &[Linked], linked: &Linked, verb: Verb) -> Option<Status>
-    ensures { result ≡ tests.barred (entries_of links.now) (connectors_of links.now) (entry linked.now) (connector linked.now) verb }
+    ensures { result ≡ tests.barred_status (entries_of links.now) (connectors_of links.now) (entry linked.now) (connector linked.now) verb }
 {
     let mode = linked.link.mode;
     match verb {
@@ -103,14 +124,6 @@ fn barred_here(links: &[Linked], linked: &Linked, verb: Verb) -> Option<Status>
     }
 }
 
-/// The status with which a verb on the file of this number ends before it looks at the file.
-pub(crate) fn barred(links: &[Linked], file: usize, verb: Verb) -> Option<Status>
-    requires { file < length links.now }
-    ensures { result ≡ barred_at (entries_of links.now) (connectors_of links.now) file verb }
-{
-    barred_here(links, &links[file], verb)
-}
-
 fn is_key(file: &FileSpec, key: KeyOfReference) -> bool
     ensures exact { result ≡ connections.is_key (spec_of file.now) key }
     ensures means { result ≡ true → IsKey (spec_of file.now) key }
@@ -118,18 +131,5 @@ fn is_key(file: &FileSpec, key: KeyOfReference) -> bool
     match key {
         KeyOfReference::Prime => true,
         KeyOfReference::Alternate(i) => (i as usize) < file.alternates.len(),
-    }
-}
-
-/// Whether a verb names a key of the file, and no more of it than there is.
-pub(crate) fn suits(file: &FileSpec, verb: Verb) -> bool
-    ensures { result ≡ is_suited (spec_of file.now) verb }
-{
-    match verb {
-        Verb::Read(key) => is_key(file, key),
-        Verb::Start(_, key, count) => {
-            is_key(file, key) && count as u16 <= file.key_place(key).length
-        }
-        _ => true,
     }
 }

@@ -1,13 +1,13 @@
 //! All connectors of a program over one store.
 ghost use Rattle.std.specs.Prelude.{◌≡◌, ◌<◌, ◌∷◌, ◌++◌, [], true, length, OnOk, OnErr, IsOkUnless};
 ghost use Rattle.records.specs.Files.{Files};
-ghost use Rattle.records.specs.Connector.{closed, entry_of};
+ghost use Rattle.records.specs.Connector.{closed_connector, entry_of};
 ghost use Rattle.records.specs.FileStep.{entry_at, Suits};
 ghost use Rattle.file_verbs.specs.Connections.{AreLinked, entries_of, connectors_of, is_accepted};
 
 use crate::barring::{barred, suits};
 use crate::linked::{Linked, new_linked};
-use crate::performing::{close, forget_read, perform_on};
+use crate::verb_run::{close, forget_read, perform_on};
 use records::{FileVerbs, Keeps, Select, Status, Store, StoreFault, Verb};
 use station::Device;
 use std::alloc::Global;
@@ -87,7 +87,7 @@ impl<T: Store> Connectors<T> {
     /// Makes a connector to one more file, which is closed, and all the room that it needs from then on. A refusal changes nothing.
     pub fn add(&mut self, select: Select) -> Result<(), StoreFault>
         ensures entries { OnOk result (⟦<Connectors<T> as FileVerbs>⟧.entries self.new ≡ ⟦<Connectors<T> as FileVerbs>⟧.entries self.old ++ entry_of select ∷ []) }
-        ensures connectors { OnOk result (⟦<Connectors<T> as FileVerbs>⟧.connectors self.new ≡ ⟦<Connectors<T> as FileVerbs>⟧.connectors self.old ++ closed ∷ []) }
+        ensures connectors { OnOk result (⟦<Connectors<T> as FileVerbs>⟧.connectors self.new ≡ ⟦<Connectors<T> as FileVerbs>⟧.connectors self.old ++ closed_connector ∷ []) }
         ensures wider { IsWider ⟦<Connectors<T> as Keeps>⟧ self.old self.new }
         ensures same { OnErr result ((⟦<Connectors<T> as FileVerbs>⟧.entries self.new ≡ ⟦<Connectors<T> as FileVerbs>⟧.entries self.old) × (⟦<Connectors<T> as FileVerbs>⟧.connectors self.new ≡ ⟦<Connectors<T> as FileVerbs>⟧.connectors self.old)) }
         ensures memory { IsOkUnless result StoreFault.Memory }

@@ -1,7 +1,7 @@
 //! A SELECT with its connector.
 ghost use Rattle.std.specs.Prelude.{◌≡◌, None, IfOk, IsOkUnless};
 ghost use Rattle.records.specs.Stores.{spec_of};
-ghost use Rattle.records.specs.Connector.{closed};
+ghost use Rattle.records.specs.Connector.{closed_connector};
 ghost use Rattle.file_verbs.specs.Links.{IsLink, connector_of};
 
 use crate::link::Link;
@@ -19,7 +19,7 @@ pub struct Linked {
 /// A closed connector, with its room.
 pub(crate) fn new_linked(alloc: Global, select: Select) -> Result<Linked, StoreFault>
     ensures select { IfOk result (λ one. one.select ≡ select) }
-    ensures closed { IfOk result (λ one. connector_of (spec_of one.select.file) one.link ≡ closed) }
+    ensures closed { IfOk result (λ one. connector_of (spec_of one.select.file) one.link ≡ closed_connector) }
     ensures shut { IfOk result (λ one. one.link.mode ≡ None) }
     ensures memory { IsOkUnless result StoreFault.Memory }
 {

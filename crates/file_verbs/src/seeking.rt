@@ -2,16 +2,59 @@
 ghost use Rattle.std.specs.Prelude.{◌≡◌, ◌≢◌, ◌≤◌, Err, length, take, drop, IfOk, OnOk};
 ghost use Rattle.records.specs.Rows.{place_of};
 ghost use Rattle.records.specs.Files.{File, Files};
-ghost use Rattle.records.specs.Calls.{StandsFor, Reads};
+ghost use Rattle.records.specs.Calls.{Represents, OnlyReadsFiles};
 ghost use Rattle.records.specs.Stores.{Has, IsKey, key_length, spec_of};
-ghost use Rattle.records.specs.Steps.{side_of, if_fits, named};
+ghost use Rattle.records.specs.Steps.{side_of, if_fits, area_pair};
 ghost use Rattle.records.specs.FileStep.{area};
-ghost use Rattle.file_verbs.specs.Links.{IsTold, fitting_row, number_of};
+ghost use Rattle.file_verbs.specs.Links.{IsFoundRow, fitting_row, number_of};
 
 use crate::keys::{key_bytes, key_value};
 use records::{FileSpec, Found, KeyOfReference, Organization, Relation, Side, Store, StoreFault};
 use station::Device;
 use std::cmp::Ordering;
+
+/// Seeks the first row that fits `count` bytes of a key in the record area, or the number.
+pub(crate) fn seek_fitting<T: Store, D: Device>(
+    store: &mut T,
+    device: &mut D,
+    file: &FileSpec,
+    sought: &mut [u8],
+    relation: Relation,
+    key: KeyOfReference,
+    count: u16,
+    bytes: &[u8],
+    number: u64,
+) -> Result<Option<Found>, StoreFault>
+    requires device { T.needs store.old ≤ D.sectors device.old }
+    requires key { IsKey (spec_of file.now) key }
+    requires count { count ≤ key_length (spec_of file.now) key }
+    requires sought { length sought.old ≡ file.now.record_length }
+    requires bytes { length bytes.now ≡ file.now.record_length }
+    ensures reads { OnlyReadsFiles T.Keeps D.Device result store.old device.old store.new device.new }
+    ensures found { (files : Files) (held : File) → Represents T.Keeps D.Device store.old device.old files → Has files file.now held →
+        IfOk result (λ answer. IsFoundRow (spec_of file.now) key held.rows sought.new (fitting_row (spec_of file.now) relation key (area_pair (spec_of file.now) file.now.organization key count (area bytes.now number)) held.rows) answer) }
+    ensures damaged { (files : Files) (held : File) → Represents T.Keeps D.Device store.old device.old files → Has files file.now held → result ≢ Err StoreFault.Damaged }
+{
+    let value = key_bytes(file, key, count, bytes);
+    let from = number_named(file.organization, number);
+    let side = side_for(file.organization, relation);
+    let Some(found) = store.seek(device, file, key, side, value, from, sought)? else {
+        return Ok(None);
+    };
+    let row_value = key_value(file, key, sought);
+    if is_fitting(
+        file.organization,
+        relation,
+        value,
+        from,
+        row_value,
+        found.number,
+    ) {
+        Ok(Some(found))
+    } else {
+        Ok(None)
+    }
+}
 
 /// From where on a row is sought.
 fn side_for(organization: Organization, relation: Relation) -> Side
@@ -61,48 +104,5 @@ fn number_named(organization: Organization, number: u64) -> u64
     match organization {
         Organization::Indexed(_) => 0,
         _ => number,
-    }
-}
-
-/// Seeks the first row that fits `count` bytes of a key in the record area, or the number.
-pub(crate) fn seek_fitting<T: Store, D: Device>(
-    store: &mut T,
-    device: &mut D,
-    file: &FileSpec,
-    sought: &mut [u8],
-    relation: Relation,
-    key: KeyOfReference,
-    count: u16,
-    bytes: &[u8],
-    number: u64,
-) -> Result<Option<Found>, StoreFault>
-    requires device { T.needs store.old ≤ D.sectors device.old }
-    requires key { IsKey (spec_of file.now) key }
-    requires count { count ≤ key_length (spec_of file.now) key }
-    requires sought { length sought.old ≡ file.now.record_length }
-    requires bytes { length bytes.now ≡ file.now.record_length }
-    ensures reads { Reads T.Keeps D.Device result store.old device.old store.new device.new }
-    ensures found { (files : Files) (held : File) → StandsFor T.Keeps D.Device store.old device.old files → Has files file.now held →
-        IfOk result (λ answer. IsTold (spec_of file.now) key held.rows sought.new (fitting_row (spec_of file.now) relation key (named (spec_of file.now) file.now.organization key count (area bytes.now number)) held.rows) answer) }
-    ensures damaged { (files : Files) (held : File) → StandsFor T.Keeps D.Device store.old device.old files → Has files file.now held → result ≢ Err StoreFault.Damaged }
-{
-    let value = key_bytes(file, key, count, bytes);
-    let from = number_named(file.organization, number);
-    let side = side_for(file.organization, relation);
-    let Some(found) = store.seek(device, file, key, side, value, from, sought)? else {
-        return Ok(None);
-    };
-    let row_value = key_value(file, key, sought);
-    if is_fitting(
-        file.organization,
-        relation,
-        value,
-        from,
-        row_value,
-        found.number,
-    ) {
-        Ok(Some(found))
-    } else {
-        Ok(None)
     }
 }

@@ -3,7 +3,7 @@
 ghost use Rattle.std.specs.Prelude.{◌≡◌, ◌∷◌, [], IfOk};
 ghost use Rattle.station.specs.Disk.{Disk};
 ghost use Rattle.records.specs.Files.{Files};
-ghost use Rattle.records.specs.Connector.{closed, entry_of};
+ghost use Rattle.records.specs.Connector.{closed_connector, entry_of};
 
 use crate::memory_store::MemoryStore;
 use crate::run::{said, selected};
@@ -20,7 +20,7 @@ fn two_files<T: Store + Drop>(
     two: Select,
 ) -> Result<Connectors<T>, StoreFault>
     ensures entries { IfOk result (λ all. ⟦<Connectors<T> as FileVerbs>⟧.entries all ≡ entry_of one ∷ entry_of two ∷ []) }
-    ensures connectors { IfOk result (λ all. ⟦<Connectors<T> as FileVerbs>⟧.connectors all ≡ closed ∷ closed ∷ []) }
+    ensures connectors { IfOk result (λ all. ⟦<Connectors<T> as FileVerbs>⟧.connectors all ≡ closed_connector ∷ closed_connector ∷ []) }
     ensures needs { IfOk result (λ all. ⟦<Connectors<T> as Keeps>⟧.needs all ≡ T.needs store) }
     ensures spent { IfOk result (λ all. ⟦<Connectors<T> as Keeps>⟧.is_spent all ≡ T.is_spent store) }
     ensures stands { (disk : Disk) (files : Files) → T.stands store disk files → IfOk result (λ all. ⟦<Connectors<T> as Keeps>⟧.stands all disk files) }

@@ -7,55 +7,11 @@ use records::{
 use std::alloc::{AllocError, Global};
 use std::cmp::Ordering;
 
-#[derive(Drop)]
-struct Row {
-    number: u64,
-    bytes: Vec<u8>,
-    arrivals: [u64; 7],
-}
-
 /// Where a row stands in an order.
 #[derive(Clone, Copy)]
 pub struct Place<'a> {
     pub value: &'a [u8],
     pub number: u64,
-}
-
-fn compare(one: Place<'_>, two: Place<'_>) -> Ordering {
-    one.value.cmp(two.value).then(one.number.cmp(&two.number))
-}
-
-fn is_behind(side: Side, place: Place<'_>, row: Place<'_>) -> bool {
-    match side {
-        Side::From => compare(row, place) != Ordering::Less,
-        Side::After => compare(row, place) == Ordering::Greater,
-        Side::Beyond => {
-            let count = place.value.len().min(row.value.len());
-            row.value[..count].cmp(place.value) == Ordering::Greater
-        }
-    }
-}
-
-fn part(place: KeyPlace, bytes: &[u8]) -> &[u8] {
-    let start = place.offset as usize;
-    match bytes.get(start..start + place.length as usize) {
-        Some(part) => part,
-        None => &bytes[..0],
-    }
-}
-
-// Each key that changes gets an arrival; tells whether one has.
-fn change(row: &mut Row, alternates: &[AlternateKey], bytes: &[u8], arrival: u64) -> bool {
-    let mut has_changed = false;
-    for (i, key) in alternates.iter().enumerate() {
-        if part(key.place, &row.bytes) != part(key.place, bytes) {
-            has_changed = true;
-            if let Some(place) = row.arrivals.get_mut(i) {
-                *place = arrival;
-            }
-        }
-    }
-    has_changed
 }
 
 /// A file with its rows.
@@ -274,4 +230,48 @@ impl Held {
             }
         }
     }
+}
+
+#[derive(Drop)]
+struct Row {
+    number: u64,
+    bytes: Vec<u8>,
+    arrivals: [u64; 7],
+}
+
+fn compare(one: Place<'_>, two: Place<'_>) -> Ordering {
+    one.value.cmp(two.value).then(one.number.cmp(&two.number))
+}
+
+fn is_behind(side: Side, place: Place<'_>, row: Place<'_>) -> bool {
+    match side {
+        Side::From => compare(row, place) != Ordering::Less,
+        Side::After => compare(row, place) == Ordering::Greater,
+        Side::Beyond => {
+            let count = place.value.len().min(row.value.len());
+            row.value[..count].cmp(place.value) == Ordering::Greater
+        }
+    }
+}
+
+fn part(place: KeyPlace, bytes: &[u8]) -> &[u8] {
+    let start = place.offset as usize;
+    match bytes.get(start..start + place.length as usize) {
+        Some(part) => part,
+        None => &bytes[..0],
+    }
+}
+
+// Each key that changes gets an arrival; tells whether one has.
+fn change(row: &mut Row, alternates: &[AlternateKey], bytes: &[u8], arrival: u64) -> bool {
+    let mut has_changed = false;
+    for (i, key) in alternates.iter().enumerate() {
+        if part(key.place, &row.bytes) != part(key.place, bytes) {
+            has_changed = true;
+            if let Some(place) = row.arrivals.get_mut(i) {
+                *place = arrival;
+            }
+        }
+    }
+    has_changed
 }

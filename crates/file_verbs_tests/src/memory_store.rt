@@ -9,67 +9,6 @@ use records::{FileSpec, Found, Keeps, KeyOfReference, Outcome, Presence, Side, S
 use station::Device;
 use std::alloc::{AllocError, Global};
 
-/// The files.
-#[derive(Drop)]
-struct Shelf {
-    alloc: Global,
-    files: Vec<Held>,
-}
-
-impl Shelf {
-    fn held(&self, file: &FileSpec) -> Option<&Held> {
-        for held in self.files.iter() {
-            if held.has_name(&file.name) {
-                return Some(held);
-            }
-        }
-        None
-    }
-
-    fn held_mut(&mut self, file: &FileSpec) -> Option<&mut Held> {
-        for held in self.files.iter_mut() {
-            if held.has_name(&file.name) {
-                return Some(held);
-            }
-        }
-        None
-    }
-
-    fn create(&mut self, file: &FileSpec) -> Result<(), AllocError> {
-        let new = Held::new(self.alloc, file)?;
-        self.files.retain(|held| !held.has_name(&file.name));
-        self.files.push(new)?;
-        Ok(())
-    }
-
-    fn insert(
-        &mut self,
-        file: &FileSpec,
-        number: u64,
-        bytes: &[u8],
-    ) -> Result<Outcome, AllocError> {
-        let alloc = self.alloc;
-        match self.held_mut(file) {
-            None => Ok(Outcome::Missing),
-            Some(held) => held.insert(alloc, number, bytes),
-        }
-    }
-
-    fn replace(&mut self, file: &FileSpec, number: u64, bytes: &[u8]) -> Outcome {
-        match self.held_mut(file) {
-            None => Outcome::Missing,
-            Some(held) => held.replace(number, bytes),
-        }
-    }
-
-    fn remove(&mut self, file: &FileSpec, number: u64, key: &[u8]) -> Outcome {
-        match self.held_mut(file) {
-            None => Outcome::Missing,
-            Some(held) => held.remove(number, key),
-        }
-    }
-}
-
 /// A store that refuses its n-th call, counted from 1.
 #[derive(Drop)]
 pub struct MemoryStore {
@@ -226,5 +165,66 @@ impl Store for MemoryStore {
             return self.spend();
         }
         Ok(self.shelf.remove(file, number, key))
+    }
+}
+
+/// The files.
+#[derive(Drop)]
+struct Shelf {
+    alloc: Global,
+    files: Vec<Held>,
+}
+
+impl Shelf {
+    fn held(&self, file: &FileSpec) -> Option<&Held> {
+        for held in self.files.iter() {
+            if held.has_name(&file.name) {
+                return Some(held);
+            }
+        }
+        None
+    }
+
+    fn held_mut(&mut self, file: &FileSpec) -> Option<&mut Held> {
+        for held in self.files.iter_mut() {
+            if held.has_name(&file.name) {
+                return Some(held);
+            }
+        }
+        None
+    }
+
+    fn create(&mut self, file: &FileSpec) -> Result<(), AllocError> {
+        let new = Held::new(self.alloc, file)?;
+        self.files.retain(|held| !held.has_name(&file.name));
+        self.files.push(new)?;
+        Ok(())
+    }
+
+    fn insert(
+        &mut self,
+        file: &FileSpec,
+        number: u64,
+        bytes: &[u8],
+    ) -> Result<Outcome, AllocError> {
+        let alloc = self.alloc;
+        match self.held_mut(file) {
+            None => Ok(Outcome::Missing),
+            Some(held) => held.insert(alloc, number, bytes),
+        }
+    }
+
+    fn replace(&mut self, file: &FileSpec, number: u64, bytes: &[u8]) -> Outcome {
+        match self.held_mut(file) {
+            None => Outcome::Missing,
+            Some(held) => held.replace(number, bytes),
+        }
+    }
+
+    fn remove(&mut self, file: &FileSpec, number: u64, key: &[u8]) -> Outcome {
+        match self.held_mut(file) {
+            None => Outcome::Missing,
+            Some(held) => held.remove(number, key),
+        }
     }
 }

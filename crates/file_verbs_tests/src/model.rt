@@ -8,13 +8,6 @@ use std::alloc::{AllocError, Global};
 /// So many places has a value of a key.
 const PLACES: u64 = 1 << 40;
 
-/// A row: its record, and its places under the prime key and both alternate keys.
-#[derive(Clone, Copy)]
-struct Row {
-    record: [u8; 5],
-    places: [u64; 3],
-}
-
 /// The file that several connectors share.
 #[derive(Drop)]
 pub struct ModelFile {
@@ -39,37 +32,6 @@ pub struct ModelConnector {
 pub struct Area {
     pub record: [u8; 5],
     pub number: u64,
-}
-
-fn key_number(key: KeyOfReference) -> usize {
-    match key {
-        KeyOfReference::Prime => 0,
-        KeyOfReference::Alternate(0) => 1,
-        KeyOfReference::Alternate(_) => 2,
-    }
-}
-
-// The value of a key: the prime key has the first two bytes, the alternate keys have one each.
-fn key_value(record: &[u8; 5], key: usize) -> u64 {
-    match key {
-        0 => u64::from(record[0]) * 256 + u64::from(record[1]),
-        1 => u64::from(record[2]),
-        _ => u64::from(record[3]),
-    }
-}
-
-fn place_at(row: &Row, key: usize) -> u64 {
-    match row.places.get(key) {
-        Some(place) => *place,
-        None => 0,
-    }
-}
-
-fn is_indexed(organization: Organization) -> bool {
-    match organization {
-        Organization::Indexed(_) => true,
-        _ => false,
-    }
 }
 
 impl ModelConnector {
@@ -500,5 +462,43 @@ impl ModelFile {
             Verb::Rewrite => self.rewrite(link, read, area),
             Verb::Delete => self.delete(link, read, area),
         })
+    }
+}
+
+/// A row: its record, and its places under the prime key and both alternate keys.
+#[derive(Clone, Copy)]
+struct Row {
+    record: [u8; 5],
+    places: [u64; 3],
+}
+
+fn key_number(key: KeyOfReference) -> usize {
+    match key {
+        KeyOfReference::Prime => 0,
+        KeyOfReference::Alternate(0) => 1,
+        KeyOfReference::Alternate(_) => 2,
+    }
+}
+
+// The value of a key: the prime key has the first two bytes, the alternate keys have one each.
+fn key_value(record: &[u8; 5], key: usize) -> u64 {
+    match key {
+        0 => u64::from(record[0]) * 256 + u64::from(record[1]),
+        1 => u64::from(record[2]),
+        _ => u64::from(record[3]),
+    }
+}
+
+fn place_at(row: &Row, key: usize) -> u64 {
+    match row.places.get(key) {
+        Some(place) => *place,
+        None => 0,
+    }
+}
+
+fn is_indexed(organization: Organization) -> bool {
+    match organization {
+        Organization::Indexed(_) => true,
+        _ => false,
     }
 }

@@ -35,63 +35,12 @@ pub const REPEATED_KEY: AlternateKey = AlternateKey {
 
 static BOTH_KEYS: [AlternateKey; 2] = [UNIQUE_KEY, REPEATED_KEY];
 
-fn file_spec(
-    alloc: Global,
-    name: &[u8],
-    organization: Organization,
-    record_length: u16,
-    alternates: &[AlternateKey],
-) -> Result<Option<FileSpec>, AllocError> {
-    let name = Vec::from_slice(alloc, name)?;
-    let alternates = Vec::from_slice(alloc, alternates)?;
-    Ok(FileSpec::new(name, organization, record_length, alternates))
-}
-
-// The alternate keys of an indexed file.
-fn alternates_of(organization: Organization) -> &'static [AlternateKey] {
-    match organization {
-        Organization::Indexed(_) => &BOTH_KEYS,
-        _ => &BOTH_KEYS[..0],
-    }
-}
-
 /// What a program says of a file: its name, its shape, whether it is OPTIONAL, and the digits of its RELATIVE KEY item.
 #[derive(Clone, Copy)]
 pub struct Clauses {
     pub shape: Shape,
     pub is_optional: bool,
     pub key_digits: Option<u8>,
-}
-
-/// Not OPTIONAL, without RELATIVE KEY.
-pub fn said(shape: Shape) -> Clauses {
-    Clauses {
-        shape,
-        is_optional: false,
-        key_digits: None,
-    }
-}
-
-/// What a program says of a file of this name, with records of so many bytes.
-pub fn selected(
-    rt: &impl Abort,
-    alloc: Global,
-    name: &[u8],
-    clauses: Clauses,
-    record_length: u16,
-    alternates: &[AlternateKey],
-) -> Select {
-    let organization = clauses.shape.organization;
-    let spec = file_spec(alloc, name, organization, record_length, alternates);
-    let Ok(Some(file)) = spec else {
-        panic!(rt; "no file {name:?}");
-    };
-    Select {
-        file,
-        access: clauses.shape.access,
-        optional: clauses.is_optional,
-        key_digits: clauses.key_digits,
-    }
 }
 
 /// Connectors over a store in memory.
@@ -186,5 +135,56 @@ impl Run {
         for step in steps.iter() {
             self.takes(rt, 0, *step);
         }
+    }
+}
+
+/// Not OPTIONAL, without RELATIVE KEY.
+pub fn said(shape: Shape) -> Clauses {
+    Clauses {
+        shape,
+        is_optional: false,
+        key_digits: None,
+    }
+}
+
+/// What a program says of a file of this name, with records of so many bytes.
+pub fn selected(
+    rt: &impl Abort,
+    alloc: Global,
+    name: &[u8],
+    clauses: Clauses,
+    record_length: u16,
+    alternates: &[AlternateKey],
+) -> Select {
+    let organization = clauses.shape.organization;
+    let spec = file_spec(alloc, name, organization, record_length, alternates);
+    let Ok(Some(file)) = spec else {
+        panic!(rt; "no file {name:?}");
+    };
+    Select {
+        file,
+        access: clauses.shape.access,
+        optional: clauses.is_optional,
+        key_digits: clauses.key_digits,
+    }
+}
+
+fn file_spec(
+    alloc: Global,
+    name: &[u8],
+    organization: Organization,
+    record_length: u16,
+    alternates: &[AlternateKey],
+) -> Result<Option<FileSpec>, AllocError> {
+    let name = Vec::from_slice(alloc, name)?;
+    let alternates = Vec::from_slice(alloc, alternates)?;
+    Ok(FileSpec::new(name, organization, record_length, alternates))
+}
+
+// The alternate keys of an indexed file.
+fn alternates_of(organization: Organization) -> &'static [AlternateKey] {
+    match organization {
+        Organization::Indexed(_) => &BOTH_KEYS,
+        _ => &BOTH_KEYS[..0],
     }
 }

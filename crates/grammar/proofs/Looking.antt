@@ -7,7 +7,7 @@ use Rattle.tokens.specs.declared.reserved.Reserved.{Reserved}
 use Rattle.tokens.specs.declared.token.Kind.{Kind}
 use Rattle.tokens.specs.declared.token.Kind.TheVariants as k
 use Rattle.tokens.specs.declared.token.Token.{Token}
-use Rattle.grammar.specs.Parts.{Part, ◌then◌, ◌but◌, word, optional, tested}
+use Rattle.grammar.specs.Parts.{Part, ◌then◌, ◌but◌, word, optional, lookahead}
 use Rattle.tokens.specs.Reserved.{same_word}
 use Rattle.grammar.specs.Reading.{Words, is_kind, is_word, begins_word, after_word, past_word, otherwise_here, also_after}
 
@@ -126,7 +126,7 @@ pub record Tests (begin : Part) (begins : List Token → Bool) : Type 0 where
 pub true_not_false : (b : Bool) → b ≡ false → b ≡ true → ⊥
 true_not_false b e f = cc
 
-pub tests_tested : (begins : List Token → Bool) → Tests (tested begins) begins
+pub tests_tested : (begins : List Token → Bool) → Tests (lookahead begins) begins
 tests_tested begins = record {
   fails = λ i e after stands. true_not_false (begins i) e stands;
   refuses = λ i nowhere. go i (begins i) refl nowhere;

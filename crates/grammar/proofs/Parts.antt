@@ -9,7 +9,7 @@ use Rattle.grammar.specs.declared.fault.Halt.{Halt}
 use Rattle.grammar.specs.Parts as g
 use Rattle.grammar.specs.Parts.{Part}
 use Rattle.grammar.specs.Reading as r
-use Rattle.grammar.specs.Reading.{Outcome, Parser, Words, after_word, past_word, needed, told}
+use Rattle.grammar.specs.Reading.{Outcome, Parser, Words, after_word, past_word, outcome_of_rest, outcome_of_value}
 use Rattle.grammar.proofs.Outcomes.{Reached, step, unstep, value, after, last}
 use Rattle.grammar.proofs.Looking
 use Rattle.grammar.proofs.Looking.{Finds, is_absent, is_missing, past_does, past_is, word_found, word_stands}
@@ -18,24 +18,24 @@ use Rattle.grammar.proofs.Lists.{Sound, Complete, Shrinks, Starts}
 -- ---- one token
 
 module _ {A : Type 0} (tells : Token → Option A) where
-  told_sound : (o : Option A) (a : A) (first : Token) (more rest : List Token) → tells first ≡ o → told o more (first ∷ more) ≡ Ok (a, rest)
-      → g.telling tells a (first ∷ more) rest
+  told_sound : (o : Option A) (a : A) (first : Token) (more rest : List Token) → tells first ≡ o → outcome_of_value o more (first ∷ more) ≡ Ok (a, rest)
+      → g.token_with tells a (first ∷ more) rest
   told_sound None a first more rest is e = cc
   told_sound (Some b) a first more rest is e = (first, ap (λ j. first ∷ j) (after e), is ∙ ap Some (value e))
 
-  pub one_token_sound : Sound (g.telling tells) (r.one_token tells)
+  pub one_token_sound : Sound (g.token_with tells) (r.one_token tells)
   unfolding r.one_token
   one_token_sound a [] rest e = cc
   one_token_sound a (first ∷ more) rest e = told_sound (tells first) a first more rest refl e
 
-  pub one_token_complete : {Allowed : Halt → Type 0} → Complete Allowed (g.telling tells) (r.one_token tells)
+  pub one_token_complete : {Allowed : Halt → Type 0} → Complete Allowed (g.token_with tells) (r.one_token tells)
   unfolding r.one_token
-  one_token_complete a i rest (first, is, tell) = Reached (ap (r.one_token tells) is ∙ ap (λ o. told o rest (first ∷ rest)) tell)
+  one_token_complete a i rest (first, is, tell) = Reached (ap (r.one_token tells) is ∙ ap (λ o. outcome_of_value o rest (first ∷ rest)) tell)
 
-  pub telling_shrinks : Shrinks (g.telling tells)
+  pub telling_shrinks : Shrinks (g.token_with tells)
   telling_shrinks a i rest (first, is, tell) = let l = ap length is in omega arith
 
-  pub telling_starts : Starts (g.begins_telling tells) (g.telling tells)
+  pub telling_starts : Starts (g.begins_telling tells) (g.token_with tells)
   telling_starts a i rest (first, is, tell) = ap (g.begins_telling tells) is ∙ ap g.is_told tell
 
 pub name_sound : Sound g.name r.name
@@ -70,13 +70,13 @@ pub word_sound : (one : Reserved) → Sound (λ u. g.word one) (r.expect one)
 unfolding r.expect
 word_sound one u i rest e = go (after_word one i) refl e
   where
-    go : (found : Option (List Token)) → after_word one i ≡ found → needed found i ≡ Ok (u, rest) → g.word one i rest
+    go : (found : Option (List Token)) → after_word one i ≡ found → outcome_of_rest found i ≡ Ok (u, rest) → g.word one i rest
     go None is e = cc
     go (Some m) is e = word_found one i rest (is ∙ ap Some (after e))
 
 pub word_complete : {Allowed : Halt → Type 0} (one : Reserved) → Complete Allowed (λ u. g.word one) (r.expect one)
 unfolding r.expect
-word_complete one u i rest s = Reached (ap (λ x. needed x i) (word_stands one i rest s))
+word_complete one u i rest s = Reached (ap (λ x. outcome_of_rest x i) (word_stands one i rest s))
 
 pub verb_sound : (one : Reserved) → Sound (g.verb one) (r.verb one)
 unfolding r.verb
@@ -128,20 +128,20 @@ pub left_out_shrinks : {p : Part} → ((i rest : List Token) → p i rest → le
 left_out_shrinks fewer true i rest s = let l = ap length s.0 in omega arith
 left_out_shrinks fewer false i rest s = fewer i rest s
 
-pub stands_sound : {p : Part} {words : Words} → Finds p words → Sound (g.stands p) (r.stands words)
-unfolding r.stands
+pub stands_sound : {p : Part} {words : Words} → Finds p words → Sound (g.optional_part p) (r.presence_reader words)
+unfolding r.presence_reader
 stands_sound {p = p} {words = words} finds there i rest e = go (words i) refl e
   where
-    go : (found : Option (List Token)) → words i ≡ found → r.stands_at found i ≡ Ok (there, rest) → g.stands p there i rest
-    go None is e = subst (λ b. g.stands p b i rest) (value e) (after e, is_absent finds i is)
-    go (Some m) is e = subst (λ b. g.stands p b i rest) (value e) (finds.found i rest (is ∙ ap Some (after e)))
+    go : (found : Option (List Token)) → words i ≡ found → r.stands_at found i ≡ Ok (there, rest) → g.optional_part p there i rest
+    go None is e = subst (λ b. g.optional_part p b i rest) (value e) (after e, is_absent finds i is)
+    go (Some m) is e = subst (λ b. g.optional_part p b i rest) (value e) (finds.found i rest (is ∙ ap Some (after e)))
 
-pub stands_complete : {Allowed : Halt → Type 0} {p : Part} {words : Words} → Finds p words → Complete Allowed (g.stands p) (r.stands words)
-unfolding r.stands
+pub stands_complete : {Allowed : Halt → Type 0} {p : Part} {words : Words} → Finds p words → Complete Allowed (g.optional_part p) (r.presence_reader words)
+unfolding r.presence_reader
 stands_complete finds false i rest s = Reached (ap (λ o. r.stands_at o i) (is_missing finds i s.1) ∙ ap (λ j. Ok (false, j)) s.0)
 stands_complete finds true i rest s = Reached (ap (λ o. r.stands_at o i) (finds.stands i rest s))
 
-pub stands_shrinks : {p : Part} → ((i rest : List Token) → p i rest → length rest ≤ length i) → (there : Bool) (i rest : List Token) → g.stands p there i rest → length rest ≤ length i
+pub stands_shrinks : {p : Part} → ((i rest : List Token) → p i rest → length rest ≤ length i) → (there : Bool) (i rest : List Token) → g.optional_part p there i rest → length rest ≤ length i
 stands_shrinks fewer true i rest s = fewer i rest s
 stands_shrinks fewer false i rest s = let l = ap length s.0 in omega arith
 
@@ -176,14 +176,14 @@ period_shrinks i rest (first, is, kind) = let l = ap length is in omega arith
 
 -- ---- headings
 
-pub heading_sound : (words : List Reserved) → Sound (λ u. g.heading words) (r.heading words)
-unfolding r.heading
+pub heading_sound : (words : List Reserved) → Sound (λ u. g.heading words) (r.heading_reader words)
+unfolding r.heading_reader
 heading_sound [] u i rest e = period_sound u i rest e
 heading_sound (one ∷ more) u i rest e =
     unstep (r.expect one i) _ e (λ v i1 is1 e1. (i1, word_sound one v i i1 is1, heading_sound more u i1 rest e1))
 
-pub heading_complete : {Allowed : Halt → Type 0} (words : List Reserved) → Complete Allowed (λ u. g.heading words) (r.heading words)
-unfolding r.heading
+pub heading_complete : {Allowed : Halt → Type 0} (words : List Reserved) → Complete Allowed (λ u. g.heading words) (r.heading_reader words)
+unfolding r.heading_reader
 heading_complete [] u i rest s = period_complete u i rest s
 heading_complete (one ∷ more) u i rest s = step (r.expect one i) _ (word_complete one tt i s.0 s.1) (heading_complete more u s.0 rest s.2)
 
@@ -194,12 +194,12 @@ heading_shrinks (one ∷ more) i rest s =
 
 -- ---- the end
 
-pub nothing_sound : (u : Unit {0}) (i rest : List Token) → r.nothing i ≡ Ok (u, rest) → i ≡ []
-unfolding r.nothing
+pub nothing_sound : (u : Unit {0}) (i rest : List Token) → r.end_reader i ≡ Ok (u, rest) → i ≡ []
+unfolding r.end_reader
 nothing_sound u [] rest e = refl
 nothing_sound u (first ∷ more) rest e = cc
 
-pub nothing_ends : (u : Unit {0}) (i rest : List Token) → r.nothing i ≡ Ok (u, rest) → rest ≡ []
-unfolding r.nothing
+pub nothing_ends : (u : Unit {0}) (i rest : List Token) → r.end_reader i ≡ Ok (u, rest) → rest ≡ []
+unfolding r.end_reader
 nothing_ends u [] rest e = sym (after e)
 nothing_ends u (first ∷ more) rest e = cc

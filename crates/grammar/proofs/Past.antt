@@ -4,7 +4,7 @@ use Rattle.std.specs.Prelude.{Ok, Err}
 use Rattle.tokens.specs.declared.token.Token.{Token}
 use Rattle.grammar.specs.Parts.{Part, ◌then◌, some_of}
 use Rattle.grammar.specs.Reading as r
-use Rattle.grammar.specs.Reading.{Outcome, Parser, Words, and_then, rest_of, past, and_past, several_from, past_several_from}
+use Rattle.grammar.specs.Reading.{Outcome, Parser, Words, and_then, rest_of, tokens_past, and_past, several_from, past_several_from}
 use Rattle.grammar.proofs.Lists.{Sound}
 use Rattle.grammar.proofs.Looking.{Finds, some_is, none_not}
 
@@ -23,23 +23,23 @@ past_if false x y u v e f = f
 -- ---- lists
 
 module _ {A : Type 0} (read : Parser A) (begins : List Token → Bool) where
-  passes_from : (turns : ℕ) (found : List A) (i : List Token) → rest_of (several_from read begins turns found i) ≡ past_several_from (past read) begins turns i
+  passes_from : (turns : ℕ) (found : List A) (i : List Token) → rest_of (several_from read begins turns found i) ≡ past_several_from (tokens_past read) begins turns i
   unfolding several_from past_several_from
   passes_from zero found i = refl
   passes_from (suc turns) found i = past_then (read i) _ _ (λ one j. past_if (begins j) _ _ _ _ (passes_from turns (found ++ one ∷ []) j) refl)
 
-  pub several_passes : (i : List Token) → rest_of (r.several read begins i) ≡ r.past_several (past read) begins i
+  pub several_passes : (i : List Token) → rest_of (r.several read begins i) ≡ r.past_several (tokens_past read) begins i
   unfolding r.several r.past_several
   several_passes i = passes_from (length i) [] i
 
-  pub any_passes : (i : List Token) → rest_of (r.any read begins i) ≡ r.past_any (past read) begins i
+  pub any_passes : (i : List Token) → rest_of (r.any read begins i) ≡ r.past_any (tokens_past read) begins i
   unfolding r.any r.past_any
   any_passes i = past_if (begins i) _ _ _ _ (several_passes i) refl
 
 -- ---- what is passed is spelled, and what is spelled is passed
 
 pub finds_past_reader : {A : Type 0} (p : A → Part) (read : Parser A) → Sound p read
-    → ((a : A) (i rest : List Token) → p a i rest → read i ≡ Ok (a, rest)) → Finds (some_of p) (past read)
+    → ((a : A) (i rest : List Token) → p a i rest → read i ≡ Ok (a, rest)) → Finds (some_of p) (tokens_past read)
 finds_past_reader {A = A} p read sound only = record {
   found = λ i after e. go i after (read i) refl e;
   stands = λ i after s. ap rest_of (only s.0 i after s.1);

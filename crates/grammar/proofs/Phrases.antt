@@ -31,23 +31,23 @@ finds_then_past p words one finds = record {
   stands = λ i after s. ap (option_map (past_word one)) (finds.stands i s.0 s.1) ∙ ap Some (past_is one s.0 after s.2);
 }
 
-pub opened_finds : (one : Phrase) → Finds (g.opened one) (g.after_opened one)
+pub opened_finds : (one : Phrase) → Finds (g.phrase_words one) (g.after_opened one)
 opened_finds SizeError = finds_past w.On _ _ (finds_also (word w.Size) (after_word w.Size) w.Error (finds_word w.Size))
 opened_finds AtEnd = finds_past w.At (word w.End) (after_word w.End) (finds_word w.End)
 opened_finds InvalidKey = finds_then_past (word w.Invalid) (after_word w.Invalid) w.Key (finds_word w.Invalid)
 opened_finds Overflow = finds_past w.On (word w.Overflow) (after_word w.Overflow) (finds_word w.Overflow)
 
-pub denied_finds : (one : Phrase) → Finds (g.denied one) (g.after_denied one)
+pub denied_finds : (one : Phrase) → Finds (g.negated_phrase_words one) (g.after_denied one)
 denied_finds one = finds_both (finds_word w.Not) (opened_finds one)
 
-opened_shrinks : (one : Phrase) (i rest : List Token) → g.opened one i rest → length rest < length i
+opened_shrinks : (one : Phrase) (i rest : List Token) → g.phrase_words one i rest → length rest < length i
 opened_shrinks SizeError i rest (i1, on, (i2, size, error)) =
     let a = skip_shrinks w.On i i1 on in let b = word_shrinks w.Size i1 i2 size in let c = word_shrinks w.Error i2 rest error in omega arith
 opened_shrinks AtEnd i rest (i1, at, end) = let a = skip_shrinks w.At i i1 at in let b = word_shrinks w.End i1 rest end in omega arith
 opened_shrinks InvalidKey i rest (i1, invalid, key) = let a = word_shrinks w.Invalid i i1 invalid in let b = skip_shrinks w.Key i1 rest key in omega arith
 opened_shrinks Overflow i rest (i1, on, overflow) = let a = skip_shrinks w.On i i1 on in let b = word_shrinks w.Overflow i1 rest overflow in omega arith
 
-denied_shrinks : (one : Phrase) (i rest : List Token) → g.denied one i rest → length rest < length i
+denied_shrinks : (one : Phrase) (i rest : List Token) → g.negated_phrase_words one i rest → length rest < length i
 denied_shrinks one i rest (i1, first, words) = let a = word_shrinks w.Not i i1 first in let b = opened_shrinks one i1 rest words in omega arith
 
 -- ---- words and statements
@@ -61,8 +61,8 @@ module _ {S : Type 0} (statements : List S → Part) where
   pub two_sided_shrinks : (one : Phrase) → Shrinks statements → (x : Phrases S) (i rest : List Token)
       → g.two_sided statements one x i rest → length rest ≤ length i
   two_sided_shrinks one each x i rest (i1, arose, did_not) =
-      let a = phrase_shrinks (g.opened one) (opened_shrinks one) each x.arose i i1 arose in
-      let b = phrase_shrinks (g.denied one) (denied_shrinks one) each x.did_not i1 rest did_not in omega arith
+      let a = phrase_shrinks (g.phrase_words one) (opened_shrinks one) each x.arose i i1 arose in
+      let b = phrase_shrinks (g.negated_phrase_words one) (denied_shrinks one) each x.did_not i1 rest did_not in omega arith
 
   module _ (reader : Parser (List S)) where
     pub phrase_sound : {p : Part} {words : Words} → Finds p words → Sound statements reader → Sound (g.phrase statements p) (g.phrase_reader reader words)

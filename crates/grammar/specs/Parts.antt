@@ -20,22 +20,22 @@ abbrev pub ◌or◌ : Part → Part → Part
 p or q = λ from rest. p from rest ⊎ q from rest
 
 -- Nothing, where p does not stand.
-abbrev pub without : Part → Part
-without p = λ from rest. (from ≡ rest) × ((after : List Token) → p from after → ⊥)
+abbrev pub absence_of : Part → Part
+absence_of p = λ from rest. (from ≡ rest) × ((after : List Token) → p from after → ⊥)
 
 -- `[p]`: it is left out only where it does not stand.
 abbrev pub optional : Part → Part
-optional p = p or without p
+optional p = p or absence_of p
 
 -- `[p]`, told by whether it is left out
 abbrev pub left_out : Part → Bool → Part
-left_out p true = without p
+left_out p true = absence_of p
 left_out p false = p
 
 -- `[p]`, told by whether it stands
-abbrev pub stands : Part → Bool → Part
-stands p true = p
-stands p false = without p
+abbrev pub optional_part : Part → Bool → Part
+optional_part p true = p
+optional_part p false = absence_of p
 
 -- p, whatever it is a part of
 abbrev pub some_of : {A : Type 0} → (A → Part) → Part
@@ -50,12 +50,12 @@ abbrev pub ◌but◌ : Part → Part → Part
 p but q = λ from rest. p from rest × ((after : List Token) → q from after → ⊥)
 
 -- What passes a test begins here; how far it goes isn't said.
-abbrev pub tested : (List Token → Bool) → Part
-tested begins = λ from rest. begins from ≡ true
+abbrev pub lookahead : (List Token → Bool) → Part
+lookahead begins = λ from rest. begins from ≡ true
 
 -- `p...`: any number, up to where no more can begin. `begin` is how one begins.
 abbrev pub any : {A : Type 0} → (A → Part) → Part → List A → Part
-any p begin [] = without begin
+any p begin [] = absence_of begin
 any p begin (one ∷ more) = p one then any p begin more
 
 -- `p...`: one or more, up to where no more can begin.
@@ -81,8 +81,8 @@ heading [] = period
 heading (one ∷ more) = word one then heading more
 
 -- A token that `tells` this.
-abbrev pub telling : {A : Type 0} → (Token → Option A) → A → Part
-telling tells a = λ from rest. (one : Token) × (from ≡ one ∷ rest) × (tells one ≡ Some a)
+abbrev pub token_with : {A : Type 0} → (Token → Option A) → A → Part
+token_with tells a = λ from rest. (one : Token) × (from ≡ one ∷ rest) × (tells one ≡ Some a)
 
 abbrev pub is_told : {A : Type 0} → Option A → Bool
 is_told None = false
@@ -117,7 +117,7 @@ abbrev pub name_in : Token → Option Name
 name_in one = named_by one.kind one.place
 
 abbrev pub name : Name → Part
-name = telling name_in
+name = token_with name_in
 
 abbrev pub begins_name : List Token → Bool
 begins_name = begins_telling name_in

@@ -8,28 +8,28 @@ use Rattle.tokens.specs.declared.token.Token.{Token}
 use Rattle.source_tree.specs.declared.phrases.Phrases.{Phrases}
 use Rattle.grammar.specs.declared.phrase.Phrase.{Phrase}
 use Rattle.grammar.specs.declared.phrase.Phrase.TheVariants.{SizeError, AtEnd, InvalidKey, Overflow}
-use Rattle.grammar.specs.Parts.{Part, ◌then◌, optional, without, word}
+use Rattle.grammar.specs.Parts.{Part, ◌then◌, optional, absence_of, word}
 use Rattle.grammar.specs.Reading.{Parser, Words, ◌>>=◌, pure, after_word, past_word, also_after, and_past}
 
 -- [ON] SIZE ERROR | [AT] END | INVALID [KEY] | [ON] OVERFLOW
-abbrev pub opened : Phrase → Part
-opened SizeError = optional (word w.On) then word w.Size then word w.Error
-opened AtEnd = optional (word w.At) then word w.End
-opened InvalidKey = word w.Invalid then optional (word w.Key)
-opened Overflow = optional (word w.On) then word w.Overflow
+abbrev pub phrase_words : Phrase → Part
+phrase_words SizeError = optional (word w.On) then word w.Size then word w.Error
+phrase_words AtEnd = optional (word w.At) then word w.End
+phrase_words InvalidKey = word w.Invalid then optional (word w.Key)
+phrase_words Overflow = optional (word w.On) then word w.Overflow
 
 -- NOT and these words
-abbrev pub denied : Phrase → Part
-denied phrase = word w.Not then opened phrase
+abbrev pub negated_phrase_words : Phrase → Part
+negated_phrase_words phrase = word w.Not then phrase_words phrase
 
 -- words and statements, or neither where the words do not stand
 abbrev pub phrase : {S : Type 0} → (List S → Part) → Part → Option (List S) → Part
-phrase statements words None = without words
+phrase statements words None = absence_of words
 phrase statements words (Some done) = words then statements done
 
 -- the phrase, and then its opposite; either may be left out
 abbrev pub two_sided : {S : Type 0} → (List S → Part) → Phrase → Phrases S → Part
-two_sided statements one both = phrase statements (opened one) both.arose then phrase statements (denied one) both.did_not
+two_sided statements one both = phrase statements (phrase_words one) both.arose then phrase statements (negated_phrase_words one) both.did_not
 
 -- ---- reading
 

@@ -71,12 +71,12 @@ abbrev pub also_after : Reserved → Option (List Token) → Option (List Token)
 also_after one None = None
 also_after one (Some i) = after_word one i
 
-abbrev pub needed : Option (List Token) → List Token → Outcome (Unit {0})
-needed None i = refuse i
-needed (Some after) i = Ok (tt, after)
+abbrev pub outcome_of_rest : Option (List Token) → List Token → Outcome (Unit {0})
+outcome_of_rest None i = refuse i
+outcome_of_rest (Some after) i = Ok (tt, after)
 
 unfoldable pub expect : Reserved → Parser (Unit {0})
-expect one = λ i. needed (after_word one i) i
+expect one = λ i. outcome_of_rest (after_word one i) i
 
 unfoldable pub skip : Reserved → Parser (Unit {0})
 skip one = λ i. Ok (tt, past_word one i)
@@ -94,8 +94,8 @@ abbrev pub stands_at : Option (List Token) → Parser Bool
 stands_at None i = Ok (false, i)
 stands_at (Some after) i = Ok (true, after)
 
-unfoldable pub stands : Words → Parser Bool
-stands words = λ i. stands_at (words i) i
+unfoldable pub presence_reader : Words → Parser Bool
+presence_reader words = λ i. stands_at (words i) i
 
 -- the next token, whatever it is
 abbrev pub advance : Parser (Unit {0})
@@ -109,13 +109,13 @@ unfoldable pub period : Parser (Unit {0})
 period [] = refuse []
 period (first ∷ more) = if is_period first.kind then Ok (tt, more) else refuse (first ∷ more)
 
-unfoldable pub heading : List Reserved → Parser (Unit {0})
-heading [] = period
-heading (one ∷ more) = expect one >> heading more
+unfoldable pub heading_reader : List Reserved → Parser (Unit {0})
+heading_reader [] = period
+heading_reader (one ∷ more) = expect one >> heading_reader more
 
-unfoldable pub nothing : Parser (Unit {0})
-nothing [] = Ok (tt, [])
-nothing (first ∷ more) = refuse (first ∷ more)
+unfoldable pub end_reader : Parser (Unit {0})
+end_reader [] = Ok (tt, [])
+end_reader (first ∷ more) = refuse (first ∷ more)
 
 -- ---- one token
 
@@ -126,13 +126,13 @@ here (first ∷ more) = Ok (first.place, first ∷ more)
 unfoldable pub verb : Reserved → Parser Place
 verb one = here >>= (λ place. expect one >> pure place)
 
-abbrev pub told : {A : Type 0} → Option A → List Token → List Token → Outcome A
-told None more i = refuse i
-told (Some a) more i = Ok (a, more)
+abbrev pub outcome_of_value : {A : Type 0} → Option A → List Token → List Token → Outcome A
+outcome_of_value None more i = refuse i
+outcome_of_value (Some a) more i = Ok (a, more)
 
 unfoldable pub one_token : {A : Type 0} → (Token → Option A) → Parser A
 one_token tells [] = refuse []
-one_token tells (first ∷ more) = told (tells first) more (first ∷ more)
+one_token tells (first ∷ more) = outcome_of_value (tells first) more (first ∷ more)
 
 unfoldable pub name : Parser Name
 name = one_token name_in
@@ -159,8 +159,8 @@ rest_of (Ok p) = Some p.1
 rest_of (Err halt) = None
 
 -- the tokens after what a reader reads
-abbrev pub past : {A : Type 0} → Parser A → Words
-past read = λ i. rest_of (read i)
+abbrev pub tokens_past : {A : Type 0} → Parser A → Words
+tokens_past read = λ i. rest_of (read i)
 
 abbrev pub and_past : Option (List Token) → Words → Option (List Token)
 and_past None words = None

@@ -112,9 +112,9 @@ impl<'a> Tokens<'a> {
     }
 
     /// Passes this word, if it comes next, and tells whether it did.
-    #[tactic(auto, unfolding(crate::specs::Reading::stands))]
+    #[tactic(auto, unfolding(crate::specs::Reading::presence_reader))]
     pub fn take(&mut self, word: Reserved) -> bool
-        ensures { spec.stands (spec.after_word word) self.old ≡ Ok (result, self.new) }
+        ensures { spec.presence_reader (spec.after_word word) self.old ≡ Ok (result, self.new) }
     {
         match after_word(self.rest, word) {
             Some(rest) => {
@@ -150,9 +150,9 @@ impl<'a> Tokens<'a> {
     }
 
     /// Passes these words and a period, which have to come next.
-    #[tactic(auto, unfolding(crate::specs::Reading::heading))]
+    #[tactic(auto, unfolding(crate::specs::Reading::heading_reader))]
     pub fn heading(&mut self, words: &[Reserved]) -> Result<(), ReadFault>
-        ensures { Reads (spec.heading words.now self.old) result self.new }
+        ensures { Reads (spec.heading_reader words.now self.old) result self.new }
     {
         for word in words {
             self.expect(*word)?;
@@ -174,9 +174,9 @@ impl<'a> Tokens<'a> {
     }
 
     /// No token is left.
-    #[tactic(auto, unfolding(crate::specs::Reading::nothing))]
+    #[tactic(auto, unfolding(crate::specs::Reading::end_reader))]
     pub fn expect_end(&self) -> Result<(), ReadFault>
-        ensures { Reads (spec.nothing self.now) result [] }
+        ensures { Reads (spec.end_reader self.now) result [] }
     {
         if self.rest.is_empty() {
             Ok(())

@@ -3,7 +3,7 @@ use Rattle.std.proofs.Common.{◌≡◌, ◌≤◌, true, ℕ, zero, suc, List, 
 use Rattle.std.specs.Prelude.{None, Ok, Err, nat_lt}
 use Rattle.std.specs.List.Sorted.{IsStrictlySortedBy}
 use Rattle.std.proofs.lemmas.Bool.{cond-true, lt-ltb}
-use Rattle.station.specs.Disk.{Disk, Sector, sector_at, settled, IsCrashImage}
+use Rattle.station.specs.Disk.{Disk, Sector, sector_at, idle_disk, IsCrashImage}
 use Rattle.station.specs.State.{State}
 use Rattle.station.specs.History.{EachImage}
 use Rattle.station.proofs.Crash.{settled_image}
@@ -11,11 +11,11 @@ use Rattle.roots.specs.declared.root.RootSector.{RootSector}
 use Rattle.roots.specs.declared.root.RootSector.TheVariants.{Blank, Valid}
 use Rattle.roots.specs.declared.pair.RootsFault.TheVariants.{ForeignMark}
 use Rattle.roots.specs.declared.pair.Roots.{Roots}
-use Rattle.roots.specs.Root.{root_in, marked, mark_index, is_blank}
+use Rattle.roots.specs.Root.{root_in, root_with_mark, mark_index, is_blank}
 use Rattle.roots.specs.Pair.{newest_root}
 use Rattle.roots.specs.Reading.{roots_in}
 use Rattle.records.specs.Files.{AreFiles}
-use Rattle.half_store.specs.Half.{marks, joined, start, count, HoldsAt, Holds, Rests}
+use Rattle.half_store.specs.Half.{known_marks, bytes_of_sectors, start, count, HoldsAt, Holds, Rests}
 use Rattle.half_store.specs.Write.{SpellsRoot}
 
 all_blank : (n : ℕ) → is_blank (replicate n 0) ≡ true
@@ -39,17 +39,17 @@ module _ (base : List Sector) (sectors : ℕ) (bytes : Sector) (all : length bas
   second : sector_at image 1 ≡ replicate 4096 0
   second = get_or-set_other (set base 1 (replicate 4096 0)) 0 1 bytes [] (λ e. omega (arith, e)) ∙ get_or-set_same base 1 (replicate 4096 0) [] (omega (arith, all, least))
 
-  blank_there : root_in marks (length image) 1 (sector_at image 1) ≡ Blank
-  blank_there = ap (root_in marks (length image) 1) second ∙ cond-true (is_blank (replicate 4096 0)) Blank (marked (length image) 1 (replicate 4096 0) (mark_index marks (replicate 4096 0))) (all_blank 4096)
+  blank_there : root_in known_marks (length image) 1 (sector_at image 1) ≡ Blank
+  blank_there = ap (root_in known_marks (length image) 1) second ∙ cond-true (is_blank (replicate 4096 0)) Blank (root_with_mark (length image) 1 (replicate 4096 0) (mark_index known_marks (replicate 4096 0))) (all_blank 4096)
 
-  root_there : root_in marks (length image) 0 (sector_at image 0) ≡ Valid spells.root
-  root_there = ap (root_in marks (length image) 0) first ∙ spells.valid (length image) (omega (arith, size))
+  root_there : root_in known_marks (length image) 0 (sector_at image 0) ≡ Valid spells.root
+  root_there = ap (root_in known_marks (length image) 0) first ∙ spells.valid (length image) (omega (arith, size))
 
   abbrev roots : Roots
   roots = record { newest = spells.root; older = None }
 
-  reads : roots_in marks 1 image ≡ Ok roots
-  reads = ap (λ (s : RootSector). newest_root 1 s (root_in marks (length image) 1 (sector_at image 1))) root_there
+  reads : roots_in known_marks 1 image ≡ Ok roots
+  reads = ap (λ (s : RootSector). newest_root 1 s (root_in known_marks (length image) 1 (sector_at image 1))) root_there
       ∙ ap (λ (s : RootSector). newest_root 1 (Valid spells.root) s) blank_there
       ∙ cond-true (nat_lt spells.root.mark 1) (Ok roots) (Err ForeignMark) (lt-ltb spells.root.mark 1 (omega (arith, spells.mark)))
 
@@ -60,14 +60,14 @@ module _ (base : List Sector) (sectors : ℕ) (bytes : Sector) (all : length bas
     halves = record { newest = record { fits = omega (arith, spells.counted); zeros = spells.zeros }; older = tt };
     generation = spells.generation;
     sectors = spells.sectors;
-    bytes = ap (λ (n : ℕ). take n (joined image (start spells.root.sectors spells.root.generation) (count n))) spells.counted;
+    bytes = ap (λ (n : ℕ). take n (bytes_of_sectors image (start spells.root.sectors spells.root.generation) (count n))) spells.counted;
     counted = spells.counted;
     sound = no_files;
     early = tt;
   }
 
-  pub empty_images : (s : State) → s.disk ≡ settled image → EachImage (λ i. Holds i []) s
+  pub empty_images : (s : State) → s.disk ≡ idle_disk image → EachImage (λ i. Holds i []) s
   empty_images s is left crash = subst (λ (l : List Sector). Holds l []) (sym (settled_image image left (subst (λ (d : Disk). IsCrashImage d left) is crash))) (sectors, 0, empty_holds)
 
-  pub empty_rests : (d : Disk) → d ≡ settled image → Rests sectors 0 d []
+  pub empty_rests : (d : Disk) → d ≡ idle_disk image → Rests sectors 0 d []
   empty_rests d is = subst (λ (e : Disk). Rests sectors 0 e []) (sym is) (record { settled = refl; holds = empty_holds })

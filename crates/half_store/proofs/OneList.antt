@@ -9,11 +9,11 @@ use Rattle.records.specs.declared.file_spec.AlternateKey.{AlternateKey}
 use Rattle.records.specs.declared.file_spec.Organization.{Organization}
 use Rattle.records.specs.Spec.{Spec}
 use Rattle.records.specs.Rows.{Row}
-use Rattle.records.specs.Files.{Files, Named}
-use Rattle.half_store.specs.Half.{marks, half, named_bytes, Holds}
+use Rattle.records.specs.Files.{Files, NamedFile}
+use Rattle.half_store.specs.Half.{known_marks, half, named_bytes, Holds}
 use Rattle.half_store.specs.Read.{place_in, row_size, rows_in}
 use Rattle.half_store.specs.Readable.{IsReadable}
-use Rattle.half_store.specs.Spelled.{file_bytes, spelled}
+use Rattle.half_store.specs.Spelled.{file_bytes, files_bytes}
 use Rattle.half_store.proofs.ReadBack.{name_read, kind_read, length_read, prime_read, count_read, keys_read, kind_back}
 use Rattle.half_store.proofs.ReadFile.{front, long, next_is, count_is, rows_are, rest_is}
 use Rattle.half_store.proofs.Rested.{readable}
@@ -21,11 +21,11 @@ use Rattle.half_store.proofs.Rested.{readable}
 some_is : {A : Type 0} {a b : A} → Some a ≡ Some b → a ≡ b
 some_is e = cc
 
-abbrev Begins : List ℕ → Named → List ℕ → Type 0
+abbrev Begins : List ℕ → NamedFile → List ℕ → Type 0
 Begins bytes one more = bytes ≡ file_bytes one ++ more
 
 -- two files that the same bytes begin with
-module _ (bytes : List ℕ) (one other : Named) (more more' : List ℕ) (good : IsReadable one) (good' : IsReadable other) (is : Begins bytes one more) (is' : Begins bytes other more') (few : length bytes < 2 ^ 64) where
+module _ (bytes : List ℕ) (one other : NamedFile) (more more' : List ℕ) (good : IsReadable one) (good' : IsReadable other) (is : Begins bytes one more) (is' : Begins bytes other more') (few : length bytes < 2 ^ 64) where
   abbrev s : Spec
   s = one.file.spec
 
@@ -80,7 +80,7 @@ module _ (bytes : List ℕ) (one other : Named) (more more' : List ℕ) (good : 
       ∙ ap (λ (n : ℕ). rows_in s' n (drop 121 bytes)) same_count
       ∙ rows_are other more' bytes good' is'
 
-  abbrev named_with : List ℕ → Spec → List Row → ℕ → Named
+  abbrev named_with : List ℕ → Spec → List Row → ℕ → NamedFile
   named_with name spec rows next = record { name = name; file = record { spec = spec; rows = rows; next_arrival = next } }
 
   pub same_file : one ≡ other
@@ -97,14 +97,14 @@ module _ (bytes : List ℕ) (one other : Named) (more more' : List ℕ) (good : 
       ∙ ap (λ (n : ℕ). drop (121 + row_size s' * n) bytes) same_count
       ∙ rest_is other more' bytes good' is'
 
-same_files : (one other : Files) (bytes : List ℕ) → AllByRecursion IsReadable one → AllByRecursion IsReadable other → bytes ≡ spelled one → bytes ≡ spelled other → length bytes < 2 ^ 64 → one ≡ other
+same_files : (one other : Files) (bytes : List ℕ) → AllByRecursion IsReadable one → AllByRecursion IsReadable other → bytes ≡ files_bytes one → bytes ≡ files_bytes other → length bytes < 2 ^ 64 → one ≡ other
 same_files [] [] bytes good good' is is' few = refl
-same_files [] (file ∷ more) bytes good good' is is' few = absurd (let e = long file (spelled more) bytes good'.0 is' in omega (arith, e, ap length is))
-same_files (file ∷ more) [] bytes good good' is is' few = absurd (let e = long file (spelled more) bytes good.0 is in omega (arith, e, ap length is'))
+same_files [] (file ∷ more) bytes good good' is is' few = absurd (let e = long file (files_bytes more) bytes good'.0 is' in omega (arith, e, ap length is))
+same_files (file ∷ more) [] bytes good good' is is' few = absurd (let e = long file (files_bytes more) bytes good.0 is in omega (arith, e, ap length is'))
 same_files (file ∷ more) (file' ∷ more') bytes good good' is is' few =
-    let shorter : length (spelled more) < 2 ^ 64 = omega (arith, few, ap length is, length-append (file_bytes file) (spelled more)) in
-    let rest = same_files more more' (spelled more) good.1 good'.1 refl (same_rest bytes file file' (spelled more) (spelled more') good.0 good'.0 is is' few) shorter in
-    ap (λ (n : Named). n ∷ more) (same_file bytes file file' (spelled more) (spelled more') good.0 good'.0 is is' few) ∙ ap (λ (l : Files). file' ∷ l) rest
+    let shorter : length (files_bytes more) < 2 ^ 64 = omega (arith, few, ap length is, length-append (file_bytes file) (files_bytes more)) in
+    let rest = same_files more more' (files_bytes more) good.1 good'.1 refl (same_rest bytes file file' (files_bytes more) (files_bytes more') good.0 good'.0 is is' few) shorter in
+    ap (λ (n : NamedFile). n ∷ more) (same_file bytes file file' (files_bytes more) (files_bytes more') good.0 good'.0 is is' few) ∙ ap (λ (l : Files). file' ∷ l) rest
 
 small_half : (n : ℕ) → n ≤ 921600 → 4096 * half n < 2 ^ 64
 unfolding half
@@ -115,10 +115,10 @@ one_list image one other holds holds' =
     let h = holds.2 in
     let h' = holds'.2 in
     let roots : h.roots ≡ h'.roots = (let e = sym h.reads ∙ h'.reads in cc) in
-    let within = (roots_stand marks 1 image h.roots h.reads).within.newest in
-    let within' = (roots_stand marks 1 image h'.roots h'.reads).within.newest in
+    let within = (roots_stand known_marks 1 image h.roots h.reads).within.newest in
+    let within' = (roots_stand known_marks 1 image h'.roots h'.reads).within.newest in
     let g : holds.1 < 2 ^ 63 = omega (arith, within.generation, h.generation) in
     let g' : holds'.1 < 2 ^ 63 = omega (arith, within'.generation, h'.generation) in
-    let few : length (spelled one) < 2 ^ 64 = omega (arith, h.counted, h.halves.newest.fits, small_half h.roots.newest.sectors within.most) in
-    same_files one other (spelled one) (readable holds.1 one g h.sound.each h.early) (readable holds'.1 other g' h'.sound.each h'.early) refl
+    let few : length (files_bytes one) < 2 ^ 64 = omega (arith, h.counted, h.halves.newest.fits, small_half h.roots.newest.sectors within.most) in
+    same_files one other (files_bytes one) (readable holds.1 one g h.sound.each h.early) (readable holds'.1 other g' h'.sound.each h'.early) refl
     (sym h.bytes ∙ ap (λ (r : Roots). named_bytes image r.newest) roots ∙ h'.bytes) few

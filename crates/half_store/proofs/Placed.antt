@@ -14,8 +14,8 @@ use Rattle.records.specs.declared.fault.StoreFault.{StoreFault}
 use Rattle.records.specs.declared.file_spec.FileSpec.{FileSpec}
 use Rattle.records.specs.Stores.{Has, is_change, files_after}
 use Rattle.records.specs.Rows.{Row, bytes_cmp, same_bytes}
-use Rattle.records.specs.Files.{File, Files, Named, IsRow, AreFiles, names, file_at, with_file}
-use Rattle.records.specs.Changes.{Changed}
+use Rattle.records.specs.Files.{File, Files, NamedFile, IsRow, AreFiles, names, file_at, with_file}
+use Rattle.records.specs.Changes.{FileChange}
 use Rattle.records.specs.Laws.{RowsAscend}
 use Rattle.records.specs.Spec.{Spec}
 use Rattle.records.proofs.Maps.{bytes_same}
@@ -47,10 +47,10 @@ below P [] j d lt all = absurd (omega (arith, lt))
 below P (file ∷ files) zero d lt all = all.0
 below P (file ∷ files) (suc j) d lt all = below P files j d (omega (arith, lt)) all.1
 
-abbrev behind : Ordering → Named → List ℕ → File → Files → Files
+abbrev behind : Ordering → NamedFile → List ℕ → File → Files → Files
 behind r one name file more = cond (is_eq r) (record { name = name; file = file } ∷ more) (cond (is_lt r) (one ∷ with_file name file more) (record { name = name; file = file } ∷ one ∷ more))
 
-abbrev named_as : List ℕ → StoredFile → Named
+abbrev named_as : List ℕ → StoredFile → NamedFile
 named_as name f = record { name = name; file = file_of f }
 
 pub put_at : (name : List ℕ) (files : List StoredFile) (i : ℕ) (d f : StoredFile) → i < length files → IsStrictlySortedBy bytes_cmp (names (files_of files)) → same_bytes (get_or files i d).spec.name.items name ≡ true → f.spec ≡ (get_or files i d).spec
@@ -69,7 +69,7 @@ abbrev after_if : Bool → List ℕ → File → Files → Files
 after_if b name file files = cond b (with_file name file files) files
 
 -- the files after a change of one of them
-pub changed_at : (name : List ℕ) (files : List StoredFile) (i : ℕ) (d f : StoredFile) (changed : Changed) → i < length files → IsStrictlySortedBy bytes_cmp (names (files_of files)) → same_bytes (get_or files i d).spec.name.items name ≡ true
+pub changed_at : (name : List ℕ) (files : List StoredFile) (i : ℕ) (d f : StoredFile) (changed : FileChange) → i < length files → IsStrictlySortedBy bytes_cmp (names (files_of files)) → same_bytes (get_or files i d).spec.name.items name ≡ true
     → f.spec ≡ (get_or files i d).spec → file_of f ≡ changed.file → (is_change changed.outcome ≡ false → f ≡ get_or files i d) → files_of (set files i f) ≡ files_after name (files_of files) changed
 changed_at name files i d f changed lt ascend same spec file idle = by_change (is_change changed.outcome) refl
   where
@@ -98,7 +98,7 @@ early_held g name files held early is = go files early (subst (λ (o : Option Fi
     go (one ∷ more) early here = cond_both (same_bytes one.name name) (Some one.file) (file_at name more) (λ o. IsThat o held → held.next_arrival ≤ g)
         (λ _ same. subst (λ (f : File). f.next_arrival ≤ g) same early.0) (λ _ later. go more early.1 later) here
 
-pub no_change : (name : List ℕ) (files : Files) (changed : Changed) → is_change changed.outcome ≡ false → files_after name files changed ≡ files
+pub no_change : (name : List ℕ) (files : Files) (changed : FileChange) → is_change changed.outcome ≡ false → files_after name files changed ≡ files
 no_change name files changed is = ap (λ (b : Bool). after_if b name changed.file files) is
 
 -- a changed file among files
@@ -106,7 +106,7 @@ three_ok : {T E A B : Type 0} {Q R : T → Type 0} (r : Result T E) → IfOk r Q
 three_ok (Ok x) q a b r from = from x q a b r
 three_ok (Err e) q a b r from = tt
 
-pub becomes_in : (files : List StoredFile) (spec : FileSpec) (i : ℕ) (old new : StoredFile) (held : File) (result : Result Outcome StoreFault) (change : File → Changed)
+pub becomes_in : (files : List StoredFile) (spec : FileSpec) (i : ℕ) (old new : StoredFile) (held : File) (result : Result Outcome StoreFault) (change : File → FileChange)
     → i < length files → get_or files i old ≡ old → IsFound files spec.name.items i old → Has (files_of files) spec held → AreFiles (files_of files) → Becomes result (change (file_of old)) old new
     → BecomesIn result spec.name.items (change held) held files (set files i new)
 becomes_in files spec i old new held result change lt here found has are becomes =
@@ -137,17 +137,17 @@ early_with g name file (one ∷ more) le all = cond_both (same_bytes one.name na
     (λ _. cond_both (is_lt (bytes_cmp one.name name)) (one ∷ with_file name file more) (record { name = name; file = file } ∷ one ∷ more) (AreEarly (g + 1))
     (λ _. (omega (arith, all.0), early_with g name file more le all.1)) (λ _. (le, later g (one ∷ more) all)))
 
-pub early_after : (g : ℕ) (name : List ℕ) (files : Files) (changed : Changed) → changed.file.next_arrival ≤ g + 1 → AreEarly g files → AreEarly (g + 1) (files_after name files changed)
+pub early_after : (g : ℕ) (name : List ℕ) (files : Files) (changed : FileChange) → changed.file.next_arrival ≤ g + 1 → AreEarly g files → AreEarly (g + 1) (files_after name files changed)
 early_after g name files changed le all = cond_both (is_change changed.outcome) (with_file name changed.file files) files (AreEarly (g + 1)) (λ _. early_with g name changed.file files le all) (λ _. later g files all)
 
 -- the place of a name
 abbrev pub PassedNames : List ℕ → List StoredFile → ℕ → Type 0
 PassedNames name files k = (file : File) → with_file name file (files_of files) ≡ files_of (take k files) ++ with_file name file (files_of (drop k files))
 
-abbrev stepped : Bool → Bool → List ℕ → File → Named → Files → Files
+abbrev stepped : Bool → Bool → List ℕ → File → NamedFile → Files → Files
 stepped same less name file one more = cond same (record { name = name; file = file } ∷ more) (cond less (one ∷ with_file name file more) (record { name = name; file = file } ∷ one ∷ more))
 
-by_order : (r : Ordering) (name : List ℕ) (file : File) (one : Named) (more : Files) → is_lt r ≡ true → stepped (is_eq r) (is_lt r) name file one more ≡ one ∷ with_file name file more
+by_order : (r : Ordering) (name : List ℕ) (file : File) (one : NamedFile) (more : Files) → is_lt r ≡ true → stepped (is_eq r) (is_lt r) name file one more ≡ one ∷ with_file name file more
 by_order Less name file one more is = refl
 by_order Equal name file one more is = absurd cc
 by_order Greater name file one more is = absurd cc
@@ -170,7 +170,7 @@ put_here name files k d f lt passed same named = sym (
     ∙ sym (map-append named_of (take k files) (f ∷ drop (k + 1) files))
     ∙ ap files_of (sym (set_split files k f lt ∙ ap (λ (n : ℕ). take k files ++ f ∷ drop n files) (let e : suc k ≡ k + 1 = omega arith in e))))
 
-not_before : (r : Ordering) (name : List ℕ) (file : File) (one : Named) (more : Files) → is_lt r ≡ false → is_eq r ≡ false → stepped (is_eq r) (is_lt r) name file one more ≡ record { name = name; file = file } ∷ one ∷ more
+not_before : (r : Ordering) (name : List ℕ) (file : File) (one : NamedFile) (more : Files) → is_lt r ≡ false → is_eq r ≡ false → stepped (is_eq r) (is_lt r) name file one more ≡ record { name = name; file = file } ∷ one ∷ more
 not_before Less name file one more is other = absurd cc
 not_before Equal name file one more is other = absurd cc
 not_before Greater name file one more is other = refl
@@ -187,7 +187,7 @@ put_before name files k d f passed behind named = sym (passed (file_of f) ∙ ap
 
     past : length files ≤ k → with_file name (file_of f) (files_of (drop k files)) ≡ files_of (f ∷ drop k files)
     past le = ap (λ (l : List StoredFile). with_file name (file_of f) (files_of l)) (drop_all k files le)
-        ∙ ap (λ (n : List ℕ). let one : Named = record { name = n; file = file_of f } in one ∷ []) (sym named)
+        ∙ ap (λ (n : List ℕ). let one : NamedFile = record { name = n; file = file_of f } in one ∷ []) (sym named)
         ∙ ap (λ (l : List StoredFile). named_of f ∷ files_of l) (sym (drop_all k files le))
 
 pub inserted_count : (files : List StoredFile) (k : ℕ) (f : StoredFile) → length (insert files k f) ≡ suc (length files)

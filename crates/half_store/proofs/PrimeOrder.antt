@@ -16,7 +16,7 @@ use Rattle.records.specs.declared.key.Side.TheVariants.{From, After, Beyond}
 use Rattle.records.specs.declared.key.KeyOfReference.TheVariants.{Prime}
 use Rattle.records.specs.Spec.{Spec}
 use Rattle.records.specs.Rows.{Row, Pair, bytes_cmp, pair_cmp, prime_pair}
-use Rattle.records.specs.Order.{Bound, is_behind, sought}
+use Rattle.records.specs.Order.{RowBound, is_behind, sought_row}
 use Rattle.records.specs.Laws.{first_of, RowsAscend}
 use Rattle.records.proofs.Ascending.{pair_total, first_fits}
 use Rattle.half_store.specs.Stored.{row_of}
@@ -140,14 +140,14 @@ module _ (o : Organization) (side : Side) (place : Pair) where
   before_point rows i point le k d lt = not_true (behind (row_of (get_or rows k d))) (point.0 k d (omega arith) lt)
 
 module _ (spec : Spec) (side : Side) (place : Pair) (rows : List StoredRow) (i : ℕ) where
-  abbrev the_bound : Bound
+  abbrev the_bound : RowBound
   the_bound = record { side = side; pair = place }
 
-  pub none_from_point : RowsAscend spec.organization (map row_of rows) → Point spec.organization side place rows i → length rows ≤ i → i ≤ length rows → sought spec Prime the_bound (map row_of rows) ≡ None
+  pub none_from_point : RowsAscend spec.organization (map row_of rows) → Point spec.organization side place rows i → length rows ≤ i → i ≤ length rows → sought_row spec Prime the_bound (map row_of rows) ≡ None
   none_from_point ascend point all le = first_fits spec the_bound (map row_of rows) ascend
       ∙ none_first spec.organization side place rows (λ k d lt. before_point spec.organization side place rows i point le k d (omega arith))
 
-  pub some_from_point : RowsAscend spec.organization (map row_of rows) → Point spec.organization side place rows i → i < length rows → (d : StoredRow) → sought spec Prime the_bound (map row_of rows) ≡ Some (row_of (get_or rows i d))
+  pub some_from_point : RowsAscend spec.organization (map row_of rows) → Point spec.organization side place rows i → i < length rows → (d : StoredRow) → sought_row spec Prime the_bound (map row_of rows) ≡ Some (row_of (get_or rows i d))
   some_from_point ascend point lt d = first_fits spec the_bound (map row_of rows) ascend
       ∙ some_first spec.organization side place rows i d lt (before_point spec.organization side place rows i point (omega arith))
       (not_false spec.organization side place (is_behind side place (prime_pair spec.organization (row_of (get_or rows i d)))) (point.1 i d (omega arith) lt))

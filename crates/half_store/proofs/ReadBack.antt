@@ -16,7 +16,7 @@ use Rattle.records.specs.declared.file_spec.Organization.TheVariants.{Sequential
 use Rattle.records.specs.Spec.{Spec, is_letter, is_name, is_spec, is_place, are_keys, in_order, begins_elsewhere}
 use Rattle.records.specs.Rows.{Row, prime_place}
 use Rattle.records.specs.Files.{IsRow, IsRowNumber, IsArrival}
-use Rattle.half_store.specs.Spelled.{padded, organization_number, place_bytes, flag, alternate_bytes, alternates_bytes, spec_bytes, row_key, row_bytes}
+use Rattle.half_store.specs.Spelled.{padded_name, organization_number, place_bytes, flag, alternate_bytes, alternates_bytes, spec_bytes, row_key, row_bytes}
 use Rattle.half_store.specs.Read.{name_in, place_in, key_in, keys_in, numbers_in, several, IfRead, key_size, row_size, number_in, row_in, organization_in}
 
 -- one more
@@ -118,13 +118,13 @@ letters_back (byte ∷ name) k all =
     cond-false (byte == 0) [] (byte ∷ name_in (name ++ replicate k 0)) (not_zero byte least)
     ∙ ap (λ (l : List ℕ). byte ∷ l) (letters_back name k parts.1)
 
-pub padded_long : (name : List ℕ) → is_name name ≡ true → length (padded name) ≡ 30
+pub padded_long : (name : List ℕ) → is_name name ≡ true → length (padded_name name) ≡ 30
 padded_long name is =
     let few = leb-true (length name) 30 (both (nat_le 1 (length name)) (nat_le (length name) 30) (both (nat_le 1 (length name) && nat_le (length name) 30) (list_all is_letter name) is).0).1 in
     omega (arith, few, length-append name (replicate (30 - length name) 0), length-replicate {A = ℕ} (30 - length name) 0)
 
-pub name_back : (name more : List ℕ) → is_name name ≡ true → name_in (take 30 (padded name ++ more)) ≡ name
-name_back name more is = ap name_in (take_at (padded name) more 30 (padded_long name is))
+pub name_back : (name more : List ℕ) → is_name name ≡ true → name_in (take 30 (padded_name name ++ more)) ≡ name
+name_back name more is = ap name_in (take_at (padded_name name) more 30 (padded_long name is))
     ∙ letters_back name (30 - length name) (both (nat_le 1 (length name) && nat_le (length name) 30) (list_all is_letter name) is).1
 
 -- what a file is
@@ -277,9 +277,9 @@ byte_drop : (m n : ℕ) (bytes : List ℕ) → slice_index (drop m bytes) n ≡ 
 byte_drop m n bytes = get_or-drop m bytes n 0
 
 -- a file's front is read again
-module _ (name more bytes : List ℕ) (spec : Spec) (named : is_name name ≡ true) (sound : is_spec spec ≡ true) (is : bytes ≡ padded name ++ spec_bytes spec ++ more) where
+module _ (name more bytes : List ℕ) (spec : Spec) (named : is_name name ≡ true) (sound : is_spec spec ≡ true) (is : bytes ≡ padded_name name ++ spec_bytes spec ++ more) where
   behind_name : drop 30 bytes ≡ spec_bytes spec ++ more
-  behind_name = ap (drop 30) (is ∙ append_assoc (padded name) (spec_bytes spec) more) ∙ drop_at (padded name) (spec_bytes spec ++ more) 30 (padded_long name named)
+  behind_name = ap (drop 30) (is ∙ append_assoc (padded_name name) (spec_bytes spec) more) ∙ drop_at (padded_name name) (spec_bytes spec ++ more) 30 (padded_long name named)
 
   behind : (n : ℕ) → drop (30 + n) bytes ≡ drop n (spec_bytes spec ++ more)
   behind n = sym (drop-drop n 30 bytes) ∙ ap (drop n) behind_name
@@ -288,7 +288,7 @@ module _ (name more bytes : List ℕ) (spec : Spec) (named : is_name name ≡ tr
   byte_behind n = sym (byte_drop 30 n bytes) ∙ ap (λ (l : List ℕ). slice_index l n) behind_name
 
   pub name_read : name_in (take 30 bytes) ≡ name
-  name_read = ap (λ (l : List ℕ). name_in (take 30 l)) (is ∙ append_assoc (padded name) (spec_bytes spec) more) ∙ name_back name (spec_bytes spec ++ more) named
+  name_read = ap (λ (l : List ℕ). name_in (take 30 l)) (is ∙ append_assoc (padded_name name) (spec_bytes spec) more) ∙ name_back name (spec_bytes spec ++ more) named
 
   pub kind_read : slice_index bytes 30 ≡ organization_number spec.organization
   kind_read = byte_behind 0

@@ -7,13 +7,13 @@ use Rattle.byteorder.specs.Endian.{big_number, big_bytes}
 use Rattle.byteorder.specs.Numbers.{big_number-reads_back}
 use Rattle.records.specs.Spec.{Spec}
 use Rattle.records.specs.Rows.{Row}
-use Rattle.records.specs.Files.{Named}
-use Rattle.half_store.specs.Spelled.{padded, spec_bytes, no_pages, row_bytes, file_bytes}
+use Rattle.records.specs.Files.{NamedFile}
+use Rattle.half_store.specs.Spelled.{padded_name, spec_bytes, no_pages, row_bytes, file_bytes}
 use Rattle.half_store.specs.Read.{row_size, row_in, rows_in}
 use Rattle.half_store.specs.Readable.{IsReadable}
 use Rattle.half_store.proofs.ReadBack.{IsPlain, plain, padded_long, spec_long, all_rows, all_same, all_rest, all_long}
 
-module _ (one : Named) (more bytes : List ℕ) (good : IsReadable one) (is : bytes ≡ file_bytes one ++ more) where
+module _ (one : NamedFile) (more bytes : List ℕ) (good : IsReadable one) (is : bytes ≡ file_bytes one ++ more) where
   abbrev spec : Spec
   spec = one.file.spec
 
@@ -32,18 +32,18 @@ module _ (one : Named) (more bytes : List ℕ) (good : IsReadable one) (is : byt
   plain_spec : IsPlain spec
   plain_spec = plain spec good.named.file.spec
 
-  pub front : bytes ≡ padded one.name ++ spec_bytes spec ++ (no_pages ++ numbers)
+  pub front : bytes ≡ padded_name one.name ++ spec_bytes spec ++ (no_pages ++ numbers)
   front = is
-      ∙ append_assoc (padded one.name ++ spec_bytes spec ++ no_pages ++ big_bytes 8 next ++ big_bytes 8 (length rows)) spelled_rows more
-      ∙ append_assoc (padded one.name ++ spec_bytes spec ++ no_pages ++ big_bytes 8 next) (big_bytes 8 (length rows)) (spelled_rows ++ more)
-      ∙ append_assoc (padded one.name ++ spec_bytes spec ++ no_pages) (big_bytes 8 next) (big_bytes 8 (length rows) ++ (spelled_rows ++ more))
-      ∙ append_assoc (padded one.name ++ spec_bytes spec) no_pages numbers
+      ∙ append_assoc (padded_name one.name ++ spec_bytes spec ++ no_pages ++ big_bytes 8 next ++ big_bytes 8 (length rows)) spelled_rows more
+      ∙ append_assoc (padded_name one.name ++ spec_bytes spec ++ no_pages ++ big_bytes 8 next) (big_bytes 8 (length rows)) (spelled_rows ++ more)
+      ∙ append_assoc (padded_name one.name ++ spec_bytes spec ++ no_pages) (big_bytes 8 next) (big_bytes 8 (length rows) ++ (spelled_rows ++ more))
+      ∙ append_assoc (padded_name one.name ++ spec_bytes spec) no_pages numbers
 
-  front_long : length (padded one.name ++ spec_bytes spec) ≡ 73
-  front_long = omega (arith, length-append (padded one.name) (spec_bytes spec), padded_long one.name good.named.name, spec_long spec plain_spec.few)
+  front_long : length (padded_name one.name ++ spec_bytes spec) ≡ 73
+  front_long = omega (arith, length-append (padded_name one.name) (spec_bytes spec), padded_long one.name good.named.name, spec_long spec plain_spec.few)
 
   behind_front : drop 73 bytes ≡ no_pages ++ numbers
-  behind_front = ap (drop 73) front ∙ drop_at (padded one.name ++ spec_bytes spec) (no_pages ++ numbers) 73 front_long
+  behind_front = ap (drop 73) front ∙ drop_at (padded_name one.name ++ spec_bytes spec) (no_pages ++ numbers) 73 front_long
 
   behind_pages : drop 105 bytes ≡ numbers
   behind_pages = sym (drop-drop 32 73 bytes) ∙ ap (drop 32) behind_front
@@ -61,7 +61,7 @@ module _ (one : Named) (more bytes : List ℕ) (good : IsReadable one) (is : byt
   rows_long = all_long (row_size spec) (row_in spec) (row_bytes spec.organization) rows (all_rows spec next rows good.early plain_spec good.named.file.rows).1
 
   pub long : 121 + row_size spec * length rows ≤ length bytes
-  long = omega (arith, ap length front, length-append (padded one.name ++ spec_bytes spec) (no_pages ++ numbers), front_long, length-append spelled_rows more, rows_long)
+  long = omega (arith, ap length front, length-append (padded_name one.name ++ spec_bytes spec) (no_pages ++ numbers), front_long, length-append spelled_rows more, rows_long)
 
   some_row : 1 ≤ row_size spec
   some_row = let e = plain_spec.least in omega (arith, e)

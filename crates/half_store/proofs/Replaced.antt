@@ -13,7 +13,7 @@ use Rattle.records.specs.declared.answer.Outcome.TheVariants.{Done, Taken}
 use Rattle.records.specs.Files.{File}
 use Rattle.records.specs.Stores.{is_change}
 use Rattle.records.specs.Rows.{Row, Pair, pair_cmp, prime_pair, named_pair}
-use Rattle.records.specs.Changes.{Changed, unchanged, done, is_at, row_at, in_place, without, is_taken, is_duplicate, changes, changed_row, arrivals_after, replaced, replaced_row, removed, removed_row}
+use Rattle.records.specs.Changes.{FileChange, without_change, done_outcome, is_at, row_at, in_place, without_pair, is_taken, is_duplicate, changes, changed_row, arrivals_after, replacement, replaced_row, removal, removed_row}
 use Rattle.records.specs.Laws.{RowsAscend}
 use Rattle.records.proofs.Ascending.{pair_total}
 use Rattle.records.proofs.Changed.{pair_same}
@@ -86,9 +86,9 @@ module _ (o : Organization) (pair : Pair) where
   in_place_none new [] all = refl
   in_place_none new (row ∷ rows) all = ap (λ (b : Bool). cond b new row ∷ in_place o pair new rows) (not_at row all.0) ∙ ap (λ (l : List Row). row ∷ l) (in_place_none new rows all.1)
 
-  without_none : (rows : List Row) → Behind pair rows → without o pair rows ≡ rows
+  without_none : (rows : List Row) → Behind pair rows → without_pair o pair rows ≡ rows
   without_none [] all = refl
-  without_none (row ∷ rows) all = ap (λ (b : Bool). cond (not b) (row ∷ without o pair rows) (without o pair rows)) (not_at row all.0) ∙ ap (λ (l : List Row). row ∷ l) (without_none rows all.1)
+  without_none (row ∷ rows) all = ap (λ (b : Bool). cond (not b) (row ∷ without_pair o pair rows) (without_pair o pair rows)) (not_at row all.0) ∙ ap (λ (l : List Row). row ∷ l) (without_none rows all.1)
 
   at : (p : Pair) (rows : List StoredRow) (i : ℕ) (d : StoredRow) → i < length rows → Behind p (map row_of rows) → pair_cmp p (prime_pair o (row_of (get_or rows i d))) ≡ Less
   at p [] i d lt all = absurd (omega (arith, lt))
@@ -118,14 +118,14 @@ module _ (o : Organization) (pair : Pair) where
       ∙ sym (ap (λ (b : Bool). cond b (row_of new) (row_of row) ∷ in_place o pair (row_of new) (map row_of rows)) (before_at row rows i d (omega (arith, lt)) ascend is))
 
   pub without_at : (rows : List StoredRow) (i : ℕ) (d : StoredRow) → i < length rows → RowsAscend o (map row_of rows) → is_at o pair (row_of (get_or rows i d)) ≡ true
-      → map row_of (remove rows i) ≡ without o pair (map row_of rows)
+      → map row_of (remove rows i) ≡ without_pair o pair (map row_of rows)
   without_at [] i d lt ascend is = absurd (omega (arith, lt))
   without_at (row ∷ rows) zero d lt ascend is = sym (
-      ap (λ (b : Bool). cond (not b) (row_of row ∷ without o pair (map row_of rows)) (without o pair (map row_of rows))) is
+      ap (λ (b : Bool). cond (not b) (row_of row ∷ without_pair o pair (map row_of rows)) (without_pair o pair (map row_of rows))) is
       ∙ without_none (map row_of rows) (behind_at row rows ascend is))
   without_at (row ∷ rows) (suc i) d lt ascend is =
       ap (λ (l : List Row). row_of row ∷ l) (without_at rows i d (omega (arith, lt)) (rest_ascend row rows ascend) is)
-      ∙ sym (ap (λ (b : Bool). cond (not b) (row_of row ∷ without o pair (map row_of rows)) (without o pair (map row_of rows))) (before_at row rows i d (omega (arith, lt)) ascend is))
+      ∙ sym (ap (λ (b : Bool). cond (not b) (row_of row ∷ without_pair o pair (map row_of rows)) (without_pair o pair (map row_of rows))) (before_at row rows i d (omega (arith, lt)) ascend is))
 
 -- what a change of a row comes to
 pub found_row : (o : Organization) (pair pair' : Pair) (rows seen : List StoredRow) (i : ℕ) (old : StoredRow) → seen ≡ rows → pair ≡ pair' → get_or rows i old ≡ old
@@ -148,24 +148,24 @@ module _ (file : File) (number : ℕ) (bytes : List ℕ) (row : Row) (found : ro
   keys = filter (changes row.bytes bytes) file.spec.alternates
 
   abbrev others : List Row
-  others = without file.spec.organization named file.rows
+  others = without_pair file.spec.organization named file.rows
 
   abbrev next : ℕ
   next = cond (list_any (λ key. changes row.bytes bytes key) file.spec.alternates) (file.next_arrival + 1) file.next_arrival
 
-  abbrev after : Changed
-  after = record { outcome = done (is_duplicate keys others bytes); file = record file { rows = in_place file.spec.organization named (changed_row file bytes row) file.rows; next_arrival = next } }
+  abbrev after : FileChange
+  after = record { outcome = done_outcome (is_duplicate keys others bytes); file = record file { rows = in_place file.spec.organization named (changed_row file bytes row) file.rows; next_arrival = next } }
 
-  pub replaced_taken : is_taken keys others bytes ≡ true → replaced number bytes file ≡ unchanged Taken file
-  replaced_taken is = ap (replaced_row named bytes file) found ∙ cond-true (is_taken keys others bytes) (unchanged Taken file) after is
+  pub replaced_taken : is_taken keys others bytes ≡ true → replacement number bytes file ≡ without_change Taken file
+  replaced_taken is = ap (replaced_row named bytes file) found ∙ cond-true (is_taken keys others bytes) (without_change Taken file) after is
 
-  pub replaced_done : is_taken keys others bytes ≡ false → replaced number bytes file ≡ after
-  replaced_done is = ap (replaced_row named bytes file) found ∙ cond-false (is_taken keys others bytes) (unchanged Taken file) after is
+  pub replaced_done : is_taken keys others bytes ≡ false → replacement number bytes file ≡ after
+  replaced_done is = ap (replaced_row named bytes file) found ∙ cond-false (is_taken keys others bytes) (without_change Taken file) after is
 
 pub removed_done : (file : File) (pair : Pair) (row : Row) → row_at file.spec.organization pair file.rows ≡ Some row
-    → removed pair file ≡ record { outcome = Done; file = record file { rows = without file.spec.organization pair file.rows } }
+    → removal pair file ≡ record { outcome = Done; file = record file { rows = without_pair file.spec.organization pair file.rows } }
 removed_done file pair row found = ap (removed_row pair file) found
 
-pub done_changes : (b : Bool) → is_change (done b) ≡ true
+pub done_changes : (b : Bool) → is_change (done_outcome b) ≡ true
 done_changes true = refl
 done_changes false = refl

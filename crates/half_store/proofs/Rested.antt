@@ -6,14 +6,14 @@ use Rattle.std.proofs.Math.Nat.{mul-le-mul_left}
 use Rattle.std.proofs.lemmas.List.{drop-drop, length-drop, append-nil}
 use Rattle.byteorder.specs.Endian.{big_number}
 use Rattle.records.specs.declared.file_spec.FileSpec.{FileSpec}
-use Rattle.records.specs.Files.{Files, Named, IsNamed}
+use Rattle.records.specs.Files.{Files, NamedFile, IsNamed}
 use Rattle.records.specs.Rows.{Row}
 use Rattle.records.specs.Spec.{Spec}
 use Rattle.records.specs.Stores.{spec_of}
 use Rattle.half_store.specs.Half.{AreEarly}
 use Rattle.half_store.specs.Read.{IfRead, row_size, rows_in}
 use Rattle.half_store.specs.Readable.{IsReadable}
-use Rattle.half_store.specs.Spelled.{file_bytes, spelled}
+use Rattle.half_store.specs.Spelled.{file_bytes, files_bytes}
 use Rattle.half_store.specs.Stored.{row_of}
 use Rattle.half_store.specs.declared.stored.StoredRow.{StoredRow}
 use Rattle.half_store.proofs.ReadFile.{next_is, long, count_is, rows_are, rest_is}
@@ -34,7 +34,7 @@ is_none None never = refl
 is_none (Some x) never = absurd (never x refl)
 
 -- a file of the bytes from a place on
-module _ (bytes : List ℕ) (at : ℕ) (one : Named) (more : List ℕ) (good : IsReadable one) (is : drop at bytes ≡ file_bytes one ++ more) (few : length bytes < 2 ^ 64)
+module _ (bytes : List ℕ) (at : ℕ) (one : NamedFile) (more : List ℕ) (good : IsReadable one) (is : drop at bytes ≡ file_bytes one ++ more) (few : length bytes < 2 ^ 64)
     (spec : FileSpec) (told : (spec.name.items ≡ one.name) × (spec_of spec ≡ one.file.spec)) (count : ℕ) (counted : count ≡ big_number 8 (drop (at + 113) bytes)) where
   short : length (drop at bytes) < 2 ^ 64
   short = omega (arith, few, length-drop at bytes)
@@ -53,14 +53,14 @@ module _ (bytes : List ℕ) (at : ℕ) (one : Named) (more : List ℕ) (good : I
       ended m n same lt le = omega (arith, same, lt, le, length-drop at bytes)
 
   pub file_is : (rows : List StoredRow) (next : ℕ) → map row_of rows ≡ rows_in (spec_of spec) count (drop (at + 121) bytes) → next ≡ big_number 8 (drop (at + 105) bytes)
-      → (let n : Named = record { name = spec.name.items; file = record { spec = spec_of spec; rows = map row_of rows; next_arrival = next } } in n) ≡ one
+      → (let n : NamedFile = record { name = spec.name.items; file = record { spec = spec_of spec; rows = map row_of rows; next_arrival = next } } in n) ≡ one
   file_is rows next read arrival =
-      ap (λ (l : List ℕ). let n : Named = record { name = l; file = record { spec = spec_of spec; rows = map row_of rows; next_arrival = next } } in n) told.0
-      ∙ ap (λ (l : List Row). let n : Named = record { name = one.name; file = record { spec = spec_of spec; rows = l; next_arrival = next } } in n)
+      ap (λ (l : List ℕ). let n : NamedFile = record { name = l; file = record { spec = spec_of spec; rows = map row_of rows; next_arrival = next } } in n) told.0
+      ∙ ap (λ (l : List Row). let n : NamedFile = record { name = one.name; file = record { spec = spec_of spec; rows = l; next_arrival = next } } in n)
       (read ∙ ap (rows_in (spec_of spec) count) (sym (drop-drop 121 at bytes)) ∙ ap (λ (s : Spec). rows_in s count (drop 121 (drop at bytes))) told.1
       ∙ ap (λ (k : ℕ). rows_in one.file.spec k (drop 121 (drop at bytes))) count_rows ∙ rows_are one more (drop at bytes) good is)
-      ∙ ap (λ (s : Spec). let n : Named = record { name = one.name; file = record { spec = s; rows = one.file.rows; next_arrival = next } } in n) told.1
-      ∙ ap (λ (k : ℕ). let n : Named = record { name = one.name; file = record { spec = one.file.spec; rows = one.file.rows; next_arrival = k } } in n)
+      ∙ ap (λ (s : Spec). let n : NamedFile = record { name = one.name; file = record { spec = s; rows = one.file.rows; next_arrival = next } } in n) told.1
+      ∙ ap (λ (k : ℕ). let n : NamedFile = record { name = one.name; file = record { spec = one.file.spec; rows = one.file.rows; next_arrival = k } } in n)
       (arrival ∙ ap (big_number 8) (sym (drop-drop 105 at bytes)) ∙ next_is one more (drop at bytes) good is)
 
   pub end_is : (end : ℕ) → end ≡ at + 121 + row_size (spec_of spec) * count → drop end bytes ≡ more
@@ -74,25 +74,25 @@ module _ (bytes : List ℕ) (at : ℕ) (one : Named) (more : List ℕ) (good : I
 pub record IsRest (files done : Files) (bytes : List ℕ) : Type 0 where
   pub rest : Files
   pub all : files ≡ done ++ rest
-  pub spells : bytes ≡ spelled rest
+  pub spells : bytes ≡ files_bytes rest
   pub each : AllByRecursion IsReadable rest
 
 pub record IsNext (files done : Files) (bytes : List ℕ) : Type 0 where
-  pub one : Named
+  pub one : NamedFile
   pub more : Files
   pub all : files ≡ done ++ one ∷ more
-  pub spells : bytes ≡ file_bytes one ++ spelled more
+  pub spells : bytes ≡ file_bytes one ++ files_bytes more
   pub good : IsReadable one
   pub each : AllByRecursion IsReadable more
 
 pub next_of : (files done : Files) (bytes : List ℕ) → 0 < length bytes → IsRest files done bytes → IsNext files done bytes
 next_of files done bytes lt rest = by rest.rest rest.all rest.spells rest.each
   where
-    by : (others : Files) → files ≡ done ++ others → bytes ≡ spelled others → AllByRecursion IsReadable others → IsNext files done bytes
+    by : (others : Files) → files ≡ done ++ others → bytes ≡ files_bytes others → AllByRecursion IsReadable others → IsNext files done bytes
     by [] all spells each = absurd (omega (arith, lt, ap length spells))
     by (one ∷ more) all spells each = record { one = one; more = more; all = all; spells = spells; good = each.0; each = each.1 }
 
-pub rest_of : (files done : Files) (bytes after : List ℕ) (next : IsNext files done bytes) (new : Files) → new ≡ done ++ next.one ∷ [] → after ≡ spelled next.more → IsRest files new after
+pub rest_of : (files done : Files) (bytes after : List ℕ) (next : IsNext files done bytes) (new : Files) → new ≡ done ++ next.one ∷ [] → after ≡ files_bytes next.more → IsRest files new after
 rest_of files done bytes after next new is spells = record {
   rest = next.more;
   all = next.all ∙ sym (append_assoc done (next.one ∷ []) next.more) ∙ ap (λ (l : Files). l ++ next.more) (sym is);
@@ -103,9 +103,9 @@ rest_of files done bytes after next new is spells = record {
 pub all_read : (files done : Files) (bytes : List ℕ) → length bytes ≤ 0 → IsRest files done bytes → done ≡ files
 all_read files done bytes none rest = by rest.rest rest.all rest.spells rest.each
   where
-    by : (others : Files) → files ≡ done ++ others → bytes ≡ spelled others → AllByRecursion IsReadable others → done ≡ files
+    by : (others : Files) → files ≡ done ++ others → bytes ≡ files_bytes others → AllByRecursion IsReadable others → done ≡ files
     by [] all spells each = sym (all ∙ append-nil done)
-    by (one ∷ more) all spells each = absurd (let e = long one (spelled more) bytes each.0 spells in omega (arith, e, none))
+    by (one ∷ more) all spells each = absurd (let e = long one (files_bytes more) bytes each.0 spells in omega (arith, e, none))
 
 -- files whose arrivals are early can be read
 pub readable : (g : ℕ) (files : Files) → g < 2 ^ 63 → AllByRecursion IsNamed files → AreEarly g files → AllByRecursion IsReadable files

@@ -8,7 +8,7 @@ use Rattle.station.specs.Disk.{Sector}
 use Rattle.roots.specs.declared.root.Root.{Root}
 use Rattle.roots.specs.Root.{root_bytes}
 use Rattle.roots.proofs.Spelled.{reads_back}
-use Rattle.half_store.specs.Half.{marks}
+use Rattle.half_store.specs.Half.{known_marks}
 use Rattle.half_store.specs.Write.{SpellsRoot}
 
 abbrev mark : List ℕ
@@ -23,7 +23,7 @@ spells root bytes sector own counted zeros generation least most spelled = recor
   sectors = refl;
   counted = counted;
   zeros = zeros;
-  valid = λ n there. rw spelled (reads_back marks n (root.generation % 2) mark root refl refl (ap Some (sym own))
+  valid = λ n there. rw spelled (reads_back known_marks n (root.generation % 2) mark root refl refl (ap Some (sym own))
       (and_from (nat_lt root.generation (2 ^ 63) && (root.generation % 2 == root.generation % 2) && nat_le 1024 root.sectors && nat_le root.sectors 921600) (nat_le root.sectors n)
       (and_from (nat_lt root.generation (2 ^ 63) && (root.generation % 2 == root.generation % 2) && nat_le 1024 root.sectors) (nat_le root.sectors 921600)
       (and_from (nat_lt root.generation (2 ^ 63) && (root.generation % 2 == root.generation % 2)) (nat_le 1024 root.sectors)

@@ -8,31 +8,31 @@ use Rattle.std.proofs.lemmas.List.{drop_more, drop_all}
 use Rattle.records.specs.declared.key.KeyOfReference.{KeyOfReference}
 use Rattle.records.specs.Spec.{Spec}
 use Rattle.records.specs.Rows.{Row, pair_cmp, pair_under}
-use Rattle.records.specs.Order.{Bound, is_behind, lesser, least, sought}
+use Rattle.records.specs.Order.{RowBound, is_behind, lesser, least_row, sought_row}
 use Rattle.half_store.specs.Stored.{row_of}
 use Rattle.half_store.specs.Seeking.{AreRecords, IsBest}
 use Rattle.half_store.specs.declared.stored.StoredRow.{StoredRow}
 
-module _ (spec : Spec) (key : KeyOfReference) (b : Bound) (rows : List StoredRow) where
+module _ (spec : Spec) (key : KeyOfReference) (b : RowBound) (rows : List StoredRow) where
   pub none_best : (k : ℕ) → length rows ≤ k → IsBest spec key b rows k None
-  none_best k le d = ap (λ (l : List StoredRow). sought spec key b (map row_of l)) (drop_all k rows le)
+  none_best k le d = ap (λ (l : List StoredRow). sought_row spec key b (map row_of l)) (drop_all k rows le)
 
   abbrev fits : Row → Bool
   fits row = is_behind b.side b.pair (pair_under spec key row)
 
-  step : (k : ℕ) (d : StoredRow) → k < length rows → sought spec key b (map row_of (drop k rows))
-      ≡ least spec key (cond (fits (row_of (get_or rows k d))) (row_of (get_or rows k d) ∷ filter fits (map row_of (drop (k + 1) rows))) (filter fits (map row_of (drop (k + 1) rows))))
-  step k d lt = ap (λ (l : List StoredRow). sought spec key b (map row_of l)) (drop_more rows k d lt)
+  step : (k : ℕ) (d : StoredRow) → k < length rows → sought_row spec key b (map row_of (drop k rows))
+      ≡ least_row spec key (cond (fits (row_of (get_or rows k d))) (row_of (get_or rows k d) ∷ filter fits (map row_of (drop (k + 1) rows))) (filter fits (map row_of (drop (k + 1) rows))))
+  step k d lt = ap (λ (l : List StoredRow). sought_row spec key b (map row_of l)) (drop_more rows k d lt)
 
   pub past_best : (k : ℕ) (best : Option ℕ) (one : StoredRow) → k < length rows → ((d : StoredRow) → get_or rows k d ≡ one) → fits (row_of one) ≡ false → IsBest spec key b rows (k + 1) best → IsBest spec key b rows k best
   past_best k best one lt is no_fit so_far d = step k d lt
-      ∙ ap (least spec key) (cond-false (fits (row_of (get_or rows k d))) (row_of (get_or rows k d) ∷ filter fits (map row_of (drop (k + 1) rows))) (filter fits (map row_of (drop (k + 1) rows))) (ap (λ (r : StoredRow). fits (row_of r)) (is d) ∙ no_fit))
+      ∙ ap (least_row spec key) (cond-false (fits (row_of (get_or rows k d))) (row_of (get_or rows k d) ∷ filter fits (map row_of (drop (k + 1) rows))) (filter fits (map row_of (drop (k + 1) rows))) (ap (λ (r : StoredRow). fits (row_of r)) (is d) ∙ no_fit))
       ∙ so_far d
 
   fitting : (k : ℕ) (d : StoredRow) (best : Option ℕ) (one : StoredRow) → k < length rows → ((d : StoredRow) → get_or rows k d ≡ one) → fits (row_of one) ≡ true → IsBest spec key b rows (k + 1) best
-      → sought spec key b (map row_of (drop k rows)) ≡ lesser spec key (row_of (get_or rows k d)) (option_map (λ i. row_of (get_or rows i d)) best)
+      → sought_row spec key b (map row_of (drop k rows)) ≡ lesser spec key (row_of (get_or rows k d)) (option_map (λ i. row_of (get_or rows i d)) best)
   fitting k d best one lt is fit so_far = step k d lt
-      ∙ ap (least spec key) (cond-true (fits (row_of (get_or rows k d))) (row_of (get_or rows k d) ∷ filter fits (map row_of (drop (k + 1) rows))) (filter fits (map row_of (drop (k + 1) rows))) (ap (λ (r : StoredRow). fits (row_of r)) (is d) ∙ fit))
+      ∙ ap (least_row spec key) (cond-true (fits (row_of (get_or rows k d))) (row_of (get_or rows k d) ∷ filter fits (map row_of (drop (k + 1) rows))) (filter fits (map row_of (drop (k + 1) rows))) (ap (λ (r : StoredRow). fits (row_of r)) (is d) ∙ fit))
       ∙ ap (lesser spec key (row_of (get_or rows k d))) (so_far d)
 
   pub first_best : (k : ℕ) (one : StoredRow) → k < length rows → ((d : StoredRow) → get_or rows k d ≡ one) → fits (row_of one) ≡ true → IsBest spec key b rows (k + 1) None → IsBest spec key b rows k (Some k)
@@ -57,7 +57,7 @@ module _ (spec : Spec) (key : KeyOfReference) (b : Bound) (rows : List StoredRow
       (ap (λ (r : StoredRow). behind (row_of r) (row_of (get_or rows i d))) (is d) ∙ ap (λ (r : StoredRow). behind (row_of one) (row_of r)) (is' d) ∙ gt)
 
 -- none is there, whatever row stands for none
-pub none_from : (spec : Spec) (key : KeyOfReference) (b : Bound) (rows : List StoredRow) → ((d : StoredRow) → sought spec key b (map row_of rows) ≡ None) → sought spec key b (map row_of rows) ≡ None
+pub none_from : (spec : Spec) (key : KeyOfReference) (b : RowBound) (rows : List StoredRow) → ((d : StoredRow) → sought_row spec key b (map row_of rows) ≡ None) → sought_row spec key b (map row_of rows) ≡ None
 none_from spec key b [] each = refl
 none_from spec key b (one ∷ more) each = each one
 

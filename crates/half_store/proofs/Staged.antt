@@ -8,7 +8,7 @@ use Rattle.station.specs.Blocks.{SectorsAre, with_all}
 use Rattle.station.specs.declared.blocks.Block.{Block}
 use Rattle.station.proofs.TwoPhase.{with_all_count}
 use Rattle.half_store.specs.Blocks.{block_at, blocks_to}
-use Rattle.half_store.specs.Half.{half, start, count, joined}
+use Rattle.half_store.specs.Half.{half, start, count, bytes_of_sectors}
 
 with_all_more : (base : List Sector) (blocks : List Block) (b : Block) → with_all base (blocks ++ b ∷ []) ≡ set (with_all base blocks) b.sector b.bytes
 with_all_more base [] b = refl
@@ -51,7 +51,7 @@ module _ (base : List Sector) (from : ℕ) (bytes : List ℕ) where
   are_at n (suc k) le = All-push (λ (b : Block). b.sector < n) (blocks_to from bytes k) (block_at from bytes k) (are_at n k (omega (arith, le))) (omega (arith, le))
 
 -- sectors that hold these bytes in parts
-pub joined_parts : (image : List Sector) (from : ℕ) (bytes : List ℕ) (k : ℕ) → ((j : ℕ) → j < k → sector_at image (from + j) ≡ take 4096 (drop (4096 * j) bytes)) → joined image from k ≡ take (4096 * k) bytes
+pub joined_parts : (image : List Sector) (from : ℕ) (bytes : List ℕ) (k : ℕ) → ((j : ℕ) → j < k → sector_at image (from + j) ≡ take 4096 (drop (4096 * j) bytes)) → bytes_of_sectors image from k ≡ take (4096 * k) bytes
 joined_parts image from bytes zero each = refl
 joined_parts image from bytes (suc k) each =
     ap (λ (l : List ℕ). l ++ sector_at image (from + k)) (joined_parts image from bytes k (λ j lt. each j (omega (arith, lt))))
@@ -59,11 +59,11 @@ joined_parts image from bytes (suc k) each =
     ∙ sym (take-add (4096 * k) 4096 bytes)
     ∙ ap (λ (n : ℕ). take n bytes) (omega arith)
 
-pub joined_same : (one two : List Sector) (from k : ℕ) → ((j : ℕ) → j < k → sector_at one (from + j) ≡ sector_at two (from + j)) → joined one from k ≡ joined two from k
+pub joined_same : (one two : List Sector) (from k : ℕ) → ((j : ℕ) → j < k → sector_at one (from + j) ≡ sector_at two (from + j)) → bytes_of_sectors one from k ≡ bytes_of_sectors two from k
 joined_same one two from zero each = refl
 joined_same one two from (suc k) each =
     ap (λ (l : List ℕ). l ++ sector_at one (from + k)) (joined_same one two from k (λ j lt. each j (omega (arith, lt))))
-    ∙ ap (λ (s : Sector). joined two from k ++ s) (each k (omega arith))
+    ∙ ap (λ (s : Sector). bytes_of_sectors two from k ++ s) (each k (omega arith))
 
 -- so many sectors are enough, and no more than a half
 pub enough : (bytes : ℕ) → bytes ≤ 4096 * count bytes

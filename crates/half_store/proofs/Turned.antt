@@ -8,7 +8,7 @@ use Rattle.records.specs.declared.fault.StoreFault.{StoreFault}
 use Rattle.records.specs.declared.fault.StoreFault.TheVariants.{Damaged}
 use Rattle.records.specs.Rows.{Row, Pair, named_pair}
 use Rattle.records.specs.Files.{File, IsByte}
-use Rattle.records.specs.Changes.{Changed, unchanged, done, has_prime, new_row, is_taken, is_duplicate, changes, changed_row, with_row, row_at, in_place, without, inserted, replaced, replaced_row, removed, removed_row}
+use Rattle.records.specs.Changes.{FileChange, without_change, done_outcome, has_prime, new_row, is_taken, is_duplicate, changes, changed_row, with_row, row_at, in_place, without_pair, insertion, replacement, replaced_row, removal, removed_row}
 use Rattle.half_store.specs.Write.{IsCause}
 
 -- a slice of bytes
@@ -17,33 +17,33 @@ all_bytes [] fits = tt
 all_bytes (byte ∷ bytes) fits = (let here = fits 0 in omega (arith, here), all_bytes bytes (λ i. fits (suc i)))
 
 -- a change gives one arrival at most
-pub inserted_next : (number : ℕ) (bytes : List ℕ) (file : File) → (inserted number bytes file).file.next_arrival ≤ file.next_arrival + 1
-inserted_next number bytes file = cond_both (has_prime file (new_row file number bytes) || is_taken file.spec.alternates file.rows bytes) (unchanged Taken file)
+pub inserted_next : (number : ℕ) (bytes : List ℕ) (file : File) → (insertion number bytes file).file.next_arrival ≤ file.next_arrival + 1
+inserted_next number bytes file = cond_both (has_prime file (new_row file number bytes) || is_taken file.spec.alternates file.rows bytes) (without_change Taken file)
     (record {
-      outcome = done (is_duplicate file.spec.alternates file.rows bytes);
+      outcome = done_outcome (is_duplicate file.spec.alternates file.rows bytes);
       file = record file { rows = with_row file.spec.organization (new_row file number bytes) file.rows; next_arrival = file.next_arrival + 1 };
-    }) (λ (c : Changed). c.file.next_arrival ≤ file.next_arrival + 1) (λ _. omega arith) (λ _. omega arith)
+    }) (λ (c : FileChange). c.file.next_arrival ≤ file.next_arrival + 1) (λ _. omega arith) (λ _. omega arith)
 
 raised : (b : Bool) (n : ℕ) → cond b (n + 1) n ≤ n + 1
 raised true n = omega arith
 raised false n = omega arith
 
-pub replaced_next : (number : ℕ) (bytes : List ℕ) (file : File) → (replaced number bytes file).file.next_arrival ≤ file.next_arrival + 1
+pub replaced_next : (number : ℕ) (bytes : List ℕ) (file : File) → (replacement number bytes file).file.next_arrival ≤ file.next_arrival + 1
 replaced_next number bytes file = by (row_at file.spec.organization (named_pair file.spec.organization number bytes) file.rows)
   where
     by : (found : Option Row) → (replaced_row (named_pair file.spec.organization number bytes) bytes file found).file.next_arrival ≤ file.next_arrival + 1
     by None = omega arith
     by (Some row) =
         let keys = filter (changes row.bytes bytes) file.spec.alternates in
-        let others = without file.spec.organization (named_pair file.spec.organization number bytes) file.rows in
+        let others = without_pair file.spec.organization (named_pair file.spec.organization number bytes) file.rows in
         let b = list_any (λ key. changes row.bytes bytes key) file.spec.alternates in
-        cond_both (is_taken keys others bytes) (unchanged Taken file)
+        cond_both (is_taken keys others bytes) (without_change Taken file)
         (record {
-          outcome = done (is_duplicate keys others bytes);
+          outcome = done_outcome (is_duplicate keys others bytes);
           file = record file { rows = in_place file.spec.organization (named_pair file.spec.organization number bytes) (changed_row file bytes row) file.rows; next_arrival = cond b (file.next_arrival + 1) file.next_arrival };
-        }) (λ (c : Changed). c.file.next_arrival ≤ file.next_arrival + 1) (λ _. omega arith) (λ _. raised b file.next_arrival)
+        }) (λ (c : FileChange). c.file.next_arrival ≤ file.next_arrival + 1) (λ _. omega arith) (λ _. raised b file.next_arrival)
 
-pub removed_next : (pair : Pair) (file : File) → (removed pair file).file.next_arrival ≤ file.next_arrival + 1
+pub removed_next : (pair : Pair) (file : File) → (removal pair file).file.next_arrival ≤ file.next_arrival + 1
 removed_next pair file = by (row_at file.spec.organization pair file.rows)
   where
     by : (found : Option Row) → (removed_row pair file found).file.next_arrival ≤ file.next_arrival + 1

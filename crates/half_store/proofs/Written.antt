@@ -3,7 +3,7 @@ use Rattle.std.proofs.Common.{◌≡◌, ◌⊎◌, inl, inr, ⊎_elim, ◌<◌,
 use Rattle.std.specs.Prelude.{Some, Ok, Contains}
 use Rattle.std.proofs.lemmas.List.{take-take}
 use Rattle.std.proofs.lemmas.List.Elements.{All-contains, All-map, All-push, All-nil}
-use Rattle.station.specs.Disk.{Disk, Sector, sector_at, settled, IsCrashImage}
+use Rattle.station.specs.Disk.{Disk, Sector, sector_at, idle_disk, IsCrashImage}
 use Rattle.station.specs.State.{State, Event}
 use Rattle.station.specs.Blocks.{SectorsAre, CrashLeaves, SameOutside, OldOrNew, Old, New, with_all}
 use Rattle.station.specs.declared.blocks.Block.{Block}
@@ -17,9 +17,9 @@ use Rattle.roots.specs.declared.root.Root.{Root}
 use Rattle.roots.proofs.Next.{newest_within, next_is_newest}
 use Rattle.records.specs.Files.{Files, AreFiles}
 use Rattle.records.specs.Stores.{Either}
-use Rattle.half_store.specs.Spelled.{spelled}
+use Rattle.half_store.specs.Spelled.{files_bytes}
 use Rattle.half_store.specs.Blocks.{block_at, blocks_to}
-use Rattle.half_store.specs.Half.{marks, half, start, count, joined, named_length, named_bytes, AreEarly, HoldsAt, Holds, Rests}
+use Rattle.half_store.specs.Half.{known_marks, half, start, count, bytes_of_sectors, named_length, named_bytes, AreEarly, HoldsAt, Holds, Rests}
 use Rattle.half_store.specs.Write.{SpellsRoot, IsDraft}
 use Rattle.half_store.proofs.Staged.{there, are_at, joined_parts, joined_same, enough, few, behind, within, apart}
 
@@ -42,17 +42,17 @@ is_in from to bytes k i le has = All-contains (IsIn from to) (map (λ (b : Block
     (All-map (IsIn from to) (λ (b : Block). b.sector) (blocks_to from bytes k) (are_in from to bytes k le)) has
 
 -- the roots stay where the first two sectors do
-roots_same : (one two : List Sector) → length one ≡ length two → sector_at one 0 ≡ sector_at two 0 → sector_at one 1 ≡ sector_at two 1 → roots_in marks 1 one ≡ roots_in marks 1 two
+roots_same : (one two : List Sector) → length one ≡ length two → sector_at one 0 ≡ sector_at two 0 → sector_at one 1 ≡ sector_at two 1 → roots_in known_marks 1 one ≡ roots_in known_marks 1 two
 roots_same one two size first second =
-    ap (λ (c : ℕ). newest_root 1 (root_in marks c 0 (sector_at one 0)) (root_in marks c 1 (sector_at one 1))) size
-    ∙ ap (λ (s : Sector). newest_root 1 (root_in marks (length two) 0 s) (root_in marks (length two) 1 (sector_at one 1))) first
-    ∙ ap (λ (s : Sector). newest_root 1 (root_in marks (length two) 0 (sector_at two 0)) (root_in marks (length two) 1 s)) second
+    ap (λ (c : ℕ). newest_root 1 (root_in known_marks c 0 (sector_at one 0)) (root_in known_marks c 1 (sector_at one 1))) size
+    ∙ ap (λ (s : Sector). newest_root 1 (root_in known_marks (length two) 0 s) (root_in known_marks (length two) 1 (sector_at one 1))) first
+    ∙ ap (λ (s : Sector). newest_root 1 (root_in known_marks (length two) 0 (sector_at two 0)) (root_in known_marks (length two) 1 s)) second
 
 module _ (n g : ℕ) (base : List Sector) (before after : Files) (long : List ℕ) (sector : Sector) (holds : HoldsAt n g base before) (least : 1024 ≤ n) (size : n ≤ length base)
-    (fits : length (spelled after) ≤ 4096 * half n) (whole : take (length (spelled after)) long ≡ spelled after) (sound : AreFiles after) (early : AreEarly (g + 1) after)
-    (spells : SpellsRoot n (g + 1) (length (spelled after)) sector) where
+    (fits : length (files_bytes after) ≤ 4096 * half n) (whole : take (length (files_bytes after)) long ≡ files_bytes after) (sound : AreFiles after) (early : AreEarly (g + 1) after)
+    (spells : SpellsRoot n (g + 1) (length (files_bytes after)) sector) where
   abbrev bytes : ℕ
-  bytes = length (spelled after)
+  bytes = length (files_bytes after)
 
   abbrev from : ℕ
   from = start n (g + 1)
@@ -68,7 +68,7 @@ module _ (n g : ℕ) (base : List Sector) (before after : Files) (long : List �
       (λ has. let here = is_in from (from + half n) long (count bytes) i to has in absurd (⊎_elim (λ low. omega (arith, low, here.0)) (λ high. omega (arith, high, here.1)) out))
       (spares.each i (omega (arith, lt, size, spares.count)))
 
-  roots_stay : (image : List Sector) → SameOutside base blocks image → roots_in marks 1 image ≡ roots_in marks 1 base
+  roots_stay : (image : List Sector) → SameOutside base blocks image → roots_in known_marks 1 image ≡ roots_in known_marks 1 base
   roots_stay image spares = roots_same image base spares.count
       (spared image spares 0 (omega (arith, least)) (inl (omega (arith, behind n (g + 1))))) (spared image spares 1 (omega (arith, least)) (inl (omega (arith, behind n (g + 1)))))
 
@@ -109,26 +109,26 @@ module _ (n g : ℕ) (base : List Sector) (before after : Files) (long : List �
   place = (g + 1) % 2
 
   follows : Follows 1 holds.roots.newest spells.root
-  follows = let facts = newest_within marks 1 base holds.roots holds.reads in record {
+  follows = let facts = newest_within known_marks 1 base holds.roots holds.reads in record {
     generation = omega (arith, spells.generation, holds.generation);
     sectors = spells.sectors ∙ sym holds.sectors;
     mark = omega (arith, facts.2, spells.mark);
     own_mark = omega (arith, spells.mark);
   }
 
-  new_reads : roots_in marks 1 (set staged place sector) ≡ Ok (record { newest = spells.root; older = Some holds.roots.newest })
-  new_reads = ap (λ (p : ℕ). roots_in marks 1 (set staged (p % 2) sector)) (sym spells.generation)
-      ∙ next_is_newest marks 1 staged holds.roots spells.root sector (roots_stay staged (all_same_outside base blocks) ∙ holds.reads) follows
-      (ap (λ (p : ℕ). root_in marks (length staged) (p % 2) sector) spells.generation ∙ spells.valid (length staged) (omega (arith, size, with_all_count base blocks)))
+  new_reads : roots_in known_marks 1 (set staged place sector) ≡ Ok (record { newest = spells.root; older = Some holds.roots.newest })
+  new_reads = ap (λ (p : ℕ). roots_in known_marks 1 (set staged (p % 2) sector)) (sym spells.generation)
+      ∙ next_is_newest known_marks 1 staged holds.roots spells.root sector (roots_stay staged (all_same_outside base blocks) ∙ holds.reads) follows
+      (ap (λ (p : ℕ). root_in known_marks (length staged) (p % 2) sector) spells.generation ∙ spells.valid (length staged) (omega (arith, size, with_all_count base blocks)))
 
   new_each : (j : ℕ) → j < count bytes → sector_at (set staged place sector) (from + j) ≡ take 4096 (drop (4096 * j) long)
   new_each j lt = get_or-set_other staged place (from + j) sector [] (λ e. omega (arith, e, behind n (g + 1)))
       ∙ there base from long (count bytes) j lt (omega (arith, to, size, within n (g + 1) (omega (arith, least))))
 
-  named : named_bytes (set staged place sector) spells.root ≡ take bytes (joined (set staged place sector) from (count bytes))
-  named = ap (λ (m : ℕ). take m (joined (set staged place sector) (start spells.root.sectors spells.root.generation) (count m))) spells.counted
-      ∙ ap (λ (m : ℕ). take bytes (joined (set staged place sector) (start m spells.root.generation) (count bytes))) spells.sectors
-      ∙ ap (λ (m : ℕ). take bytes (joined (set staged place sector) (start n m) (count bytes))) spells.generation
+  named : named_bytes (set staged place sector) spells.root ≡ take bytes (bytes_of_sectors (set staged place sector) from (count bytes))
+  named = ap (λ (m : ℕ). take m (bytes_of_sectors (set staged place sector) (start spells.root.sectors spells.root.generation) (count m))) spells.counted
+      ∙ ap (λ (m : ℕ). take bytes (bytes_of_sectors (set staged place sector) (start m spells.root.generation) (count bytes))) spells.sectors
+      ∙ ap (λ (m : ℕ). take bytes (bytes_of_sectors (set staged place sector) (start n m) (count bytes))) spells.generation
 
   named_fits : named_length spells.root ≤ 4096 * half spells.root.sectors
   named_fits = omega (arith, spells.counted, fits, ap half spells.sectors)
@@ -154,30 +154,30 @@ module _ (n g : ℕ) (base : List Sector) (before after : Files) (long : List �
       either image (Old spares) = inl (n, g, old_holds image spares)
       either image (New is) = inr (subst (λ (l : List Sector). Holds l after) (sym is) (n, g + 1, new_holds))
 
-  pub rests_now : (d : Disk) → d ≡ settled (set staged place sector) → Rests n (g + 1) d after
+  pub rests_now : (d : Disk) → d ≡ idle_disk (set staged place sector) → Rests n (g + 1) d after
   rests_now d is = subst (λ (e : Disk). Rests n (g + 1) e after) (sym is) (record { settled = refl; holds = new_holds })
 
 module _ (n g : ℕ) (base : List Sector) (before after : Files) (bytes : List ℕ) (planned : List Block) (sector : Sector) (draft : IsDraft n g bytes planned sector) (holds : HoldsAt n g base before)
-    (least : 1024 ≤ n) (size : n ≤ length base) (is : bytes ≡ spelled after) (sound : AreFiles after) (early : AreEarly (g + 1) after) where
-  counts : length bytes ≡ length (spelled after)
+    (least : 1024 ≤ n) (size : n ≤ length base) (is : bytes ≡ files_bytes after) (sound : AreFiles after) (early : AreEarly (g + 1) after) where
+  counts : length bytes ≡ length (files_bytes after)
   counts = ap length is
 
-  blocks_are : planned ≡ blocks_to (start n (g + 1)) draft.long (count (length (spelled after)))
+  blocks_are : planned ≡ blocks_to (start n (g + 1)) draft.long (count (length (files_bytes after)))
   blocks_are = draft.blocks ∙ ap (λ (m : ℕ). blocks_to (start n (g + 1)) draft.long (count m)) counts
 
-  root_is : SpellsRoot n (g + 1) (length (spelled after)) sector
+  root_is : SpellsRoot n (g + 1) (length (files_bytes after)) sector
   root_is = subst (λ (m : ℕ). SpellsRoot n (g + 1) m sector) counts draft.root
 
-  whole_is : take (length (spelled after)) draft.long ≡ spelled after
+  whole_is : take (length (files_bytes after)) draft.long ≡ files_bytes after
   whole_is = ap (λ (m : ℕ). take m draft.long) (sym counts) ∙ draft.whole ∙ is
 
   pub amid_drafted : (seen : List Event) (s : State) → CrashLeaves seen (OldOrNew base planned ((g + 1) % 2) sector) s → CrashLeaves seen (Either Holds before after) s
   amid_drafted seen s amid = amid_files n g base before after draft.long sector holds least size (omega (arith, counts, draft.fits)) whole_is sound early root_is seen s
       (subst (λ (b : List Block). CrashLeaves seen (OldOrNew base b ((g + 1) % 2) sector) s) blocks_are amid)
 
-  pub rests_drafted : (d : Disk) → d ≡ settled (set (with_all base planned) ((g + 1) % 2) sector) → Rests n (g + 1) d after
+  pub rests_drafted : (d : Disk) → d ≡ idle_disk (set (with_all base planned) ((g + 1) % 2) sector) → Rests n (g + 1) d after
   rests_drafted d same = rests_now n g base before after draft.long sector holds least size (omega (arith, counts, draft.fits)) whole_is sound early root_is d
-      (same ∙ ap (λ (b : List Block). settled (set (with_all base b) ((g + 1) % 2) sector)) blocks_are)
+      (same ∙ ap (λ (b : List Block). idle_disk (set (with_all base b) ((g + 1) % 2) sector)) blocks_are)
 
 -- the blocks are within the volume
 pub drafted_at : (n g : ℕ) (bytes : List ℕ) (planned : List Block) (sector : Sector) → IsDraft n g bytes planned sector → (there : ℕ) → 1024 ≤ n → n ≤ there → SectorsAre (λ s. s < there) planned

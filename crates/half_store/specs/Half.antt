@@ -8,12 +8,12 @@ use Rattle.roots.specs.declared.pair.Roots.{Roots}
 use Rattle.roots.specs.declared.pair.RootsFault.TheVariants.{ForeignMark}
 use Rattle.roots.specs.Pair.{EachRoot}
 use Rattle.roots.specs.Reading.{roots_in}
-use Rattle.records.specs.Files.{Files, Named, AreFiles}
-use Rattle.half_store.specs.Spelled.{spelled}
+use Rattle.records.specs.Files.{Files, NamedFile, AreFiles}
+use Rattle.half_store.specs.Spelled.{files_bytes}
 
 -- the mark of a volume of halves, and of the other format
-abbrev pub marks : List (List ℕ)
-marks = codes "COBHALF1" ∷ codes "COBVOL01" ∷ []
+abbrev pub known_marks : List (List ℕ)
+known_marks = codes "COBHALF1" ∷ codes "COBVOL01" ∷ []
 
 -- the sectors of a half of a volume of n sectors
 unfoldable pub half : ℕ → ℕ
@@ -24,9 +24,9 @@ unfoldable pub start : ℕ → ℕ → ℕ
 start n g = 2 + (g % 2) * half n
 
 -- the bytes of so many sectors from one on
-abbrev pub joined : List Sector → ℕ → ℕ → List ℕ
-joined image from zero = []
-joined image from (suc k) = joined image from k ++ sector_at image (from + k)
+abbrev pub bytes_of_sectors : List Sector → ℕ → ℕ → List ℕ
+bytes_of_sectors image from zero = []
+bytes_of_sectors image from (suc k) = bytes_of_sectors image from k ++ sector_at image (from + k)
 
 -- the sectors of so many bytes
 unfoldable pub count : ℕ → ℕ
@@ -37,7 +37,7 @@ abbrev pub named_length : Root → ℕ
 named_length root = big_number 8 root.payload
 
 abbrev pub named_bytes : List Sector → Root → List ℕ
-named_bytes image root = take (named_length root) (joined image (start root.sectors root.generation) (count (named_length root)))
+named_bytes image root = take (named_length root) (bytes_of_sectors image (start root.sectors root.generation) (count (named_length root)))
 
 -- a root names no more bytes than a half has, and its other bytes are zeros
 pub record IsHalfRoot (root : Root) : Type 0 where
@@ -46,17 +46,17 @@ pub record IsHalfRoot (root : Root) : Type 0 where
 
 -- no arrival is past the generation
 abbrev pub AreEarly : ℕ → Files → Type 0
-AreEarly g files = AllByRecursion (λ (one : Named). one.file.next_arrival ≤ g) files
+AreEarly g files = AllByRecursion (λ (one : NamedFile). one.file.next_arrival ≤ g) files
 
 -- the volume of n sectors in an image is of generation g and holds these files
 pub record HoldsAt (n g : ℕ) (image : List Sector) (files : Files) : Type 0 where
   pub roots : Roots
-  pub reads : roots_in marks 1 image ≡ Ok roots
+  pub reads : roots_in known_marks 1 image ≡ Ok roots
   pub halves : EachRoot IsHalfRoot roots
   pub generation : roots.newest.generation ≡ g
   pub sectors : roots.newest.sectors ≡ n
-  pub bytes : named_bytes image roots.newest ≡ spelled files
-  pub counted : named_length roots.newest ≡ length (spelled files)
+  pub bytes : named_bytes image roots.newest ≡ files_bytes files
+  pub counted : named_length roots.newest ≡ length (files_bytes files)
   pub sound : AreFiles files
   pub early : AreEarly g files
 
@@ -70,4 +70,4 @@ pub record Rests (n g : ℕ) (disk : Disk) (files : Files) : Type 0 where
 
 -- the newest root of an image has the other format's mark
 abbrev pub IsForeign : List Sector → Type 0
-IsForeign image = roots_in marks 1 image ≡ Err ForeignMark
+IsForeign image = roots_in known_marks 1 image ≡ Err ForeignMark

@@ -15,13 +15,13 @@ abbrev pub HoldsNone : List Sector → Type 0
 HoldsNone image = (files : Files) → Holds image files → ⊥
 
 -- What a refusal tells of the image: `Device` and `Memory` tell nothing of it, and `Full` and `Spent` don't come.
-abbrev pub Refused : List Sector → StoreFault → Type 0
-Refused image Device = Unit {0}
-Refused image Full = ⊥
-Refused image Damaged = HoldsNone image
-Refused image Memory = Unit {0}
-Refused image Spent = ⊥
-Refused image Layout = IsForeign image
+abbrev pub IsOpenRefusal : List Sector → StoreFault → Type 0
+IsOpenRefusal image Device = Unit {0}
+IsOpenRefusal image Full = ⊥
+IsOpenRefusal image Damaged = HoldsNone image
+IsOpenRefusal image Memory = Unit {0}
+IsOpenRefusal image Spent = ⊥
+IsOpenRefusal image Layout = IsForeign image
 
 abbrev pub of_fault : RootsFault → StoreFault
 of_fault fault.Damaged = Damaged
@@ -36,6 +36,6 @@ abbrev pub IsReadCause : StoreFault → Type 0
 IsReadCause fault = (fault ≡ Device) ⊎ (fault ≡ Memory)
 
 -- this fault, unless the device or memory failed
-abbrev pub Tells : {T : Type 0} → StoreFault → Result T StoreFault → Type 0
-Tells fault (Ok x) = ⊥
-Tells fault (Err e) = (e ≡ fault) ⊎ IsReadCause e
+abbrev pub FailsWith : {T : Type 0} → StoreFault → Result T StoreFault → Type 0
+FailsWith fault (Ok x) = ⊥
+FailsWith fault (Err e) = (e ≡ fault) ⊎ IsReadCause e

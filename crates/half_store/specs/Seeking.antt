@@ -5,7 +5,7 @@ use Rattle.std.specs.Option.{option_map}
 use Rattle.records.specs.declared.key.KeyOfReference.{KeyOfReference}
 use Rattle.records.specs.Spec.{Spec}
 use Rattle.records.specs.Rows.{Row}
-use Rattle.records.specs.Order.{Bound, sought}
+use Rattle.records.specs.Order.{RowBound, sought_row}
 use Rattle.half_store.specs.Stored.{row_of}
 use Rattle.half_store.specs.declared.stored.StoredRow.{StoredRow}
 
@@ -14,5 +14,5 @@ abbrev pub AreRecords : ℕ → List Row → Type 0
 AreRecords size rows = AllByRecursion (λ (row : Row). length row.bytes ≡ size) rows
 
 -- of the rows from k on, the best is at this place
-abbrev pub IsBest : Spec → KeyOfReference → Bound → List StoredRow → ℕ → Option ℕ → Type 0
-IsBest spec key b rows k best = (d : StoredRow) → sought spec key b (map row_of (drop k rows)) ≡ option_map (λ i. row_of (get_or rows i d)) best
+abbrev pub IsBest : Spec → KeyOfReference → RowBound → List StoredRow → ℕ → Option ℕ → Type 0
+IsBest spec key b rows k best = (d : StoredRow) → sought_row spec key b (map row_of (drop k rows)) ≡ option_map (λ i. row_of (get_or rows i d)) best

@@ -8,11 +8,11 @@ use Rattle.records.specs.declared.file_spec.Organization.{Organization}
 use Rattle.records.specs.declared.file_spec.Organization.TheVariants.{Sequential, Relative, Indexed}
 use Rattle.records.specs.Spec.{Spec}
 use Rattle.records.specs.Rows.{Row, part, prime_place}
-use Rattle.records.specs.Files.{Files, Named}
+use Rattle.records.specs.Files.{Files, NamedFile}
 
 -- a name with zeros behind it
-abbrev pub padded : List ℕ → List ℕ
-padded name = name ++ replicate (30 - length name) 0
+abbrev pub padded_name : List ℕ → List ℕ
+padded_name name = name ++ replicate (30 - length name) 0
 
 abbrev pub organization_number : Organization → ℕ
 organization_number Sequential = 0
@@ -48,8 +48,8 @@ row_key (Indexed place) row = part place row.bytes
 abbrev pub row_bytes : Organization → Row → List ℕ
 row_bytes organization row = row_key organization row ++ row.bytes ++ flat_map (big_bytes 8) row.arrivals
 
-abbrev pub file_bytes : Named → List ℕ
-file_bytes one = padded one.name ++ spec_bytes one.file.spec ++ no_pages ++ big_bytes 8 one.file.next_arrival ++ big_bytes 8 (length one.file.rows) ++ flat_map (row_bytes one.file.spec.organization) one.file.rows
+abbrev pub file_bytes : NamedFile → List ℕ
+file_bytes one = padded_name one.name ++ spec_bytes one.file.spec ++ no_pages ++ big_bytes 8 one.file.next_arrival ++ big_bytes 8 (length one.file.rows) ++ flat_map (row_bytes one.file.spec.organization) one.file.rows
 
-abbrev pub spelled : Files → List ℕ
-spelled files = flat_map file_bytes files
+abbrev pub files_bytes : Files → List ℕ
+files_bytes files = flat_map file_bytes files

@@ -7,7 +7,7 @@ use Rattle.roots.specs.declared.root.RootSector.TheVariants.{Valid}
 use Rattle.roots.specs.Root.{root_in}
 use Rattle.records.specs.declared.fault.StoreFault.{StoreFault}
 use Rattle.records.specs.declared.fault.StoreFault.TheVariants.{Device, Full, Memory}
-use Rattle.half_store.specs.Half.{marks, half, start, count, named_length}
+use Rattle.half_store.specs.Half.{known_marks, half, start, count, named_length}
 use Rattle.half_store.specs.Blocks.{blocks_to}
 use Rattle.station.specs.declared.blocks.Block.{Block}
 
@@ -19,7 +19,7 @@ pub record SpellsRoot (n g bytes : ℕ) (sector : Sector) : Type 0 where
   pub sectors : root.sectors ≡ n
   pub counted : named_length root ≡ bytes
   pub zeros : list_all (λ byte. byte == 0) (drop 8 root.payload) ≡ true
-  pub valid : (there : ℕ) → n ≤ there → root_in marks there (g % 2) sector ≡ Valid root
+  pub valid : (there : ℕ) → n ≤ there → root_in known_marks there (g % 2) sector ≡ Valid root
 
 -- the blocks and the root by which these bytes come to the half of the next generation
 pub record IsDraft (n g : ℕ) (bytes : List ℕ) (planned : List Block) (sector : Sector) : Type 0 where

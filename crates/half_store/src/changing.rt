@@ -1,7 +1,7 @@
 //! A change of a file among the files in memory.
 ghost use Rattle.std.specs.Prelude.{◌≡◌, ◌≢◌, IfErr};
 ghost use Rattle.records.specs.Files.{File, AreFiles};
-ghost use Rattle.records.specs.Changes.{inserted, replaced, removed};
+ghost use Rattle.records.specs.Changes.{insertion, replacement, removal};
 ghost use Rattle.records.specs.Stores.{Has, pair_of};
 ghost use Rattle.half_store.specs.Stored.{files_of};
 ghost use Rattle.half_store.specs.Changing.{BecomesIn, IsMemoryCause};
@@ -22,7 +22,7 @@ pub(crate) fn insert_in(
     number: u64,
     bytes: &[u8],
 ) -> Result<Outcome, StoreFault>
-    ensures becomes { (held : File) → Has (files_of files.old.items) spec.now held → AreFiles (files_of files.old.items) → BecomesIn result spec.now.name.items (inserted number bytes.now held) held files.old.items files.new.items }
+    ensures becomes { (held : File) → Has (files_of files.old.items) spec.now held → AreFiles (files_of files.old.items) → BecomesIn result spec.now.name.items (insertion number bytes.now held) held files.old.items files.new.items }
     ensures cause { IfErr result IsMemoryCause }
 {
     match find_file(files, &spec.name) {
@@ -39,7 +39,7 @@ pub(crate) fn replace_in(
     number: u64,
     bytes: &[u8],
 ) -> Result<Outcome, StoreFault>
-    ensures becomes { (held : File) → Has (files_of files.old.items) spec.now held → AreFiles (files_of files.old.items) → BecomesIn result spec.now.name.items (replaced number bytes.now held) held files.old.items files.new.items }
+    ensures becomes { (held : File) → Has (files_of files.old.items) spec.now held → AreFiles (files_of files.old.items) → BecomesIn result spec.now.name.items (replacement number bytes.now held) held files.old.items files.new.items }
     ensures cause { IfErr result IsMemoryCause }
 {
     match find_file(files, &spec.name) {
@@ -55,7 +55,7 @@ pub(crate) fn remove_in(
     number: u64,
     key: &[u8],
 ) -> Result<Outcome, StoreFault>
-    ensures becomes { (held : File) → Has (files_of files.old.items) spec.now held → AreFiles (files_of files.old.items) → BecomesIn result spec.now.name.items (removed (pair_of spec.now.organization key.now number) held) held files.old.items files.new.items }
+    ensures becomes { (held : File) → Has (files_of files.old.items) spec.now held → AreFiles (files_of files.old.items) → BecomesIn result spec.now.name.items (removal (pair_of spec.now.organization key.now number) held) held files.old.items files.new.items }
     ensures cause { IfErr result IsMemoryCause }
 {
     match find_file(files, &spec.name) {

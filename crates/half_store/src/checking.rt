@@ -15,6 +15,26 @@ use crate::rows::prime_cmp;
 use crate::stored::{StoredFile, StoredRow};
 use records::{FileSpec, Organization};
 
+/// Whether files are those of a volume of this generation.
+pub(crate) fn are_files(files: &[StoredFile], generation: u64) -> bool
+    ensures yes { result ≡ true → AreFiles (files_of files.now) × AreEarly generation (files_of files.now) }
+    ensures no { result ≡ false → AreFiles (files_of files.now) → AreEarly generation (files_of files.now) → ⊥ }
+{
+    if files.len() > 255 {
+        return false;
+    }
+    for back in 0..files.len() {
+        let place = files.len() - 1 - back;
+        if !is_file(&files[place], generation) {
+            return false;
+        }
+        if !is_named_before_next(files, place) {
+            return false;
+        }
+    }
+    true
+}
+
 /// What a slice of bytes has is bytes.
 fn are_bytes(_bytes: &[u8])
     ensures { AllByRecursion IsByte _bytes.now }
@@ -131,24 +151,4 @@ fn is_named_before_next(files: &[StoredFile], place: usize) -> bool
         .as_slice()
         .cmp(next.spec.name.as_slice())
         .is_lt()
-}
-
-/// Whether files are those of a volume of this generation.
-pub(crate) fn are_files(files: &[StoredFile], generation: u64) -> bool
-    ensures yes { result ≡ true → AreFiles (files_of files.now) × AreEarly generation (files_of files.now) }
-    ensures no { result ≡ false → AreFiles (files_of files.now) → AreEarly generation (files_of files.now) → ⊥ }
-{
-    if files.len() > 255 {
-        return false;
-    }
-    for back in 0..files.len() {
-        let place = files.len() - 1 - back;
-        if !is_file(&files[place], generation) {
-            return false;
-        }
-        if !is_named_before_next(files, place) {
-            return false;
-        }
-    }
-    true
 }

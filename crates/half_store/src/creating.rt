@@ -15,6 +15,38 @@ use std::alloc::Global;
 /// A volume has at most so many files.
 const MOST_FILES: usize = 255;
 
+/// A file without rows comes in the place of the one of its name, or into its place among the others.
+pub(crate) fn create_in(
+    alloc: Global,
+    files: &mut Vec<StoredFile>,
+    spec: &FileSpec,
+) -> Result<(), StoreFault>
+    ensures after { OnOk result (files_of files.new.items ≡ with_file spec.now.name.items (empty_file (spec_of spec.now)) (files_of files.old.items)) }
+    ensures count { length files.old.items ≤ 255 → OnOk result (length files.new.items ≤ 255) }
+    ensures full { result ≡ Err StoreFault.Full → 255 < length (with_file spec.now.name.items (empty_file (spec_of spec.now)) (files_of files.old.items)) }
+    ensures cause { IfErr result IsMemoryCause }
+    ensures sound { result ≢ Err StoreFault.Damaged }
+{
+    let place = place_of_name(files, &spec.name);
+    if place < files.len()
+        && files[place]
+            .spec
+            .name
+            .as_slice()
+            .cmp(spec.name.as_slice())
+            .is_eq()
+    {
+        files[place] = fresh_file(alloc, spec)?;
+        return Ok(());
+    }
+    if files.len() >= MOST_FILES {
+        return Err(StoreFault::Full);
+    }
+    let file = fresh_file(alloc, spec)?;
+    files.insert(place, file)?;
+    Ok(())
+}
+
 /// The place of the first file whose name isn't before this one.
 fn place_of_name(files: &[StoredFile], name: &[u8]) -> usize
     ensures bound { result ≤ length files.now }
@@ -57,36 +89,4 @@ fn fresh_file(alloc: Global, spec: &FileSpec) -> Result<StoredFile, StoreFault>
         rows: Vec::new(alloc),
         next_arrival: 1,
     })
-}
-
-/// A file without rows comes in the place of the one of its name, or into its place among the others.
-pub(crate) fn create_in(
-    alloc: Global,
-    files: &mut Vec<StoredFile>,
-    spec: &FileSpec,
-) -> Result<(), StoreFault>
-    ensures after { OnOk result (files_of files.new.items ≡ with_file spec.now.name.items (empty_file (spec_of spec.now)) (files_of files.old.items)) }
-    ensures count { length files.old.items ≤ 255 → OnOk result (length files.new.items ≤ 255) }
-    ensures full { result ≡ Err StoreFault.Full → 255 < length (with_file spec.now.name.items (empty_file (spec_of spec.now)) (files_of files.old.items)) }
-    ensures cause { IfErr result IsMemoryCause }
-    ensures sound { result ≢ Err StoreFault.Damaged }
-{
-    let place = place_of_name(files, &spec.name);
-    if place < files.len()
-        && files[place]
-            .spec
-            .name
-            .as_slice()
-            .cmp(spec.name.as_slice())
-            .is_eq()
-    {
-        files[place] = fresh_file(alloc, spec)?;
-        return Ok(());
-    }
-    if files.len() >= MOST_FILES {
-        return Err(StoreFault::Full);
-    }
-    let file = fresh_file(alloc, spec)?;
-    files.insert(place, file)?;
-    Ok(())
 }

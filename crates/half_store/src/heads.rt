@@ -3,12 +3,34 @@ ghost use Rattle.std.specs.Prelude.{◌≡◌, ◌≤◌, ◌+◌, ◌*◌, ◌+
 ghost use Rattle.byteorder.specs.Endian.{big_number};
 ghost use Rattle.records.specs.Spec.{Spec, is_spec, is_name};
 ghost use Rattle.records.specs.Stores.{spec_of};
-ghost use Rattle.half_store.specs.Spelled.{padded, spec_bytes};
+ghost use Rattle.half_store.specs.Spelled.{padded_name, spec_bytes};
 ghost use Rattle.half_store.specs.Read.{IfRead, name_in, place_in, key_in, keys_in, organization_in};
 
 use byteorder::{BigEndian, ByteOrder};
 use records::{AlternateKey, FileSpec, KeyPlace, Organization, StoreFault};
 use std::alloc::Global;
+
+/// The name of a file and what it is, at the front of its bytes. It may be one that spells other bytes.
+pub(crate) fn read_spec(alloc: Global, bytes: &[u8]) -> Result<Option<FileSpec>, StoreFault>
+    requires { 121 ≤ length bytes.now }
+    ensures keys { IfOk result (λ found. IfSome found (λ f. length f.alternates.items ≤ 7)) }
+    ensures spec { (name : List ℕ) (spec : Spec) (more : List ℕ) → is_name name ≡ true → is_spec spec ≡ true → bytes.now ≡ padded_name name ++ spec_bytes spec ++ more →
+        IfRead result (λ f. (f.name.items ≡ name) × (spec_of f ≡ spec)) }
+    ensures memory { IsOkUnless result StoreFault.Memory }
+{
+    let count = bytes[37] as usize;
+    if count > 7 {
+        return Ok(None);
+    }
+    let prime = place_at(bytes, 33);
+    let Some(organization) = organization_of(bytes[30], prime) else {
+        return Ok(None);
+    };
+    let name = read_front(alloc, bytes)?;
+    let alternates = keys_at(alloc, bytes, 38, count)?;
+    let length = short_at(bytes, 31);
+    Ok(FileSpec::new(name, organization, length, alternates))
+}
 
 /// The place of a key.
 fn read_place(bytes: &[u8]) -> KeyPlace
@@ -116,26 +138,4 @@ fn keys_at(
     ensures memory { IsOkUnless result StoreFault.Memory }
 {
     read_keys(alloc, &bytes[at..], count)
-}
-
-/// The name of a file and what it is, at the front of its bytes. It may be one that spells other bytes.
-pub(crate) fn read_spec(alloc: Global, bytes: &[u8]) -> Result<Option<FileSpec>, StoreFault>
-    requires { 121 ≤ length bytes.now }
-    ensures keys { IfOk result (λ found. IfSome found (λ f. length f.alternates.items ≤ 7)) }
-    ensures spec { (name : List ℕ) (spec : Spec) (more : List ℕ) → is_name name ≡ true → is_spec spec ≡ true → bytes.now ≡ padded name ++ spec_bytes spec ++ more →
-        IfRead result (λ f. (f.name.items ≡ name) × (spec_of f ≡ spec)) }
-    ensures memory { IsOkUnless result StoreFault.Memory }
-{
-    let count = bytes[37] as usize;
-    if count > 7 {
-        return Ok(None);
-    }
-    let prime = place_at(bytes, 33);
-    let Some(organization) = organization_of(bytes[30], prime) else {
-        return Ok(None);
-    };
-    let name = read_front(alloc, bytes)?;
-    let alternates = keys_at(alloc, bytes, 38, count)?;
-    let length = short_at(bytes, 31);
-    Ok(FileSpec::new(name, organization, length, alternates))
 }

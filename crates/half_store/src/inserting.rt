@@ -1,7 +1,7 @@
 //! A new row in memory.
 ghost use Rattle.std.specs.Prelude.{◌≡◌, ◌≤◌, ◌∷◌, ◌++◌, length, map, take, drop, IfOk, IfErr, IsOkUnless};
 ghost use Rattle.records.specs.Rows.{Row, named_pair, prime_pair};
-ghost use Rattle.records.specs.Changes.{inserted, with_row, done};
+ghost use Rattle.records.specs.Changes.{insertion, with_row, done_outcome};
 ghost use Rattle.half_store.specs.Stored.{row_of, file_of};
 ghost use Rattle.half_store.specs.Changing.{Becomes, IsMemoryCause};
 
@@ -13,6 +13,47 @@ use std::alloc::Global;
 
 /// Arrivals are below this number, as generations are.
 pub(crate) const ARRIVALS: u64 = 9_223_372_036_854_775_808;
+
+pub(crate) fn outcome_of(duplicate: bool) -> Outcome
+    ensures { result ≡ done_outcome duplicate }
+{
+    if duplicate {
+        Outcome::Duplicate
+    } else {
+        Outcome::Done
+    }
+}
+
+/// A new row comes into a file, where its keys aren't taken.
+pub(crate) fn insert_row(
+    alloc: Global,
+    file: &mut StoredFile,
+    number: u64,
+    bytes: &[u8],
+) -> Result<Outcome, StoreFault>
+    ensures becomes { Becomes result (insertion number bytes.now (file_of file.old)) file.old file.new }
+    ensures cause { IfErr result IsMemoryCause }
+{
+    let spec = &file.spec;
+    let organization = spec.organization;
+    let own = number_of_new(organization, number, file.next_arrival);
+    if has_prime_row(&file.rows, organization, own, bytes) {
+        return Ok(Outcome::Taken);
+    }
+    let keys = spec.alternates.as_slice();
+    if has_taken(keys, &file.rows, bytes) {
+        return Ok(Outcome::Taken);
+    }
+    if file.next_arrival >= ARRIVALS - 1 {
+        return Err(StoreFault::Full);
+    }
+    let duplicate = has_duplicate(keys, &file.rows, bytes);
+    let place = place_in(&file.rows, organization, own, bytes);
+    let row = row_with(alloc, own, bytes, keys, file.next_arrival)?;
+    file.rows.insert(place, row)?;
+    file.next_arrival += 1;
+    Ok(outcome_of(duplicate))
+}
 
 /// Where a new row comes to stand.
 fn place_in(rows: &[StoredRow], organization: Organization, number: u64, bytes: &[u8]) -> usize
@@ -47,45 +88,4 @@ fn row_with(
         bytes: copy,
         arrivals,
     })
-}
-
-pub(crate) fn outcome_of(duplicate: bool) -> Outcome
-    ensures { result ≡ done duplicate }
-{
-    if duplicate {
-        Outcome::Duplicate
-    } else {
-        Outcome::Done
-    }
-}
-
-/// A new row comes into a file, where its keys aren't taken.
-pub(crate) fn insert_row(
-    alloc: Global,
-    file: &mut StoredFile,
-    number: u64,
-    bytes: &[u8],
-) -> Result<Outcome, StoreFault>
-    ensures becomes { Becomes result (inserted number bytes.now (file_of file.old)) file.old file.new }
-    ensures cause { IfErr result IsMemoryCause }
-{
-    let spec = &file.spec;
-    let organization = spec.organization;
-    let own = number_of_new(organization, number, file.next_arrival);
-    if has_prime_row(&file.rows, organization, own, bytes) {
-        return Ok(Outcome::Taken);
-    }
-    let keys = spec.alternates.as_slice();
-    if has_taken(keys, &file.rows, bytes) {
-        return Ok(Outcome::Taken);
-    }
-    if file.next_arrival >= ARRIVALS - 1 {
-        return Err(StoreFault::Full);
-    }
-    let duplicate = has_duplicate(keys, &file.rows, bytes);
-    let place = place_in(&file.rows, organization, own, bytes);
-    let row = row_with(alloc, own, bytes, keys, file.next_arrival)?;
-    file.rows.insert(place, row)?;
-    file.next_arrival += 1;
-    Ok(outcome_of(duplicate))
 }

@@ -6,13 +6,13 @@
 mod blocks;
 mod changing;
 mod checking;
+mod commit;
 mod creating;
 mod empty;
 mod finding;
 mod halves;
 mod heads;
 mod inserting;
-mod keeping;
 mod laws;
 mod opening;
 mod reading;
@@ -21,9 +21,9 @@ mod replacing;
 mod root;
 mod rows;
 mod seeking;
-mod settling;
 mod spelling;
 mod store;
+mod store_calls;
 mod stored;
 
 pub use empty::format;

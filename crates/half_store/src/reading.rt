@@ -2,11 +2,11 @@
 ghost use Rattle.std.specs.Prelude.{◌≡◌, ◌≤◌, ◌<◌, ◌+◌, ◌*◌, ◌^◌, ◌++◌, true, ℕ, List, length, map, drop, Ok, None, IfOk, IfSome, IsOkUnless, Option};
 ghost use Rattle.std.specs.List.{AllByRecursion};
 ghost use Rattle.records.specs.Stores.{spec_of};
-ghost use Rattle.records.specs.Files.{Files, Named, IsNamed};
+ghost use Rattle.records.specs.Files.{Files, NamedFile, IsNamed};
 ghost use Rattle.half_store.specs.Stored.{row_of, named_of, files_of};
 ghost use Rattle.byteorder.specs.Endian.{big_number};
 ghost use Rattle.records.specs.Spec.{Spec, is_spec, is_name};
-ghost use Rattle.half_store.specs.Spelled.{padded, spec_bytes, file_bytes, spelled};
+ghost use Rattle.half_store.specs.Spelled.{padded_name, spec_bytes, file_bytes, files_bytes};
 ghost use Rattle.half_store.specs.Read as read;
 ghost use Rattle.half_store.specs.Read.{IfRead, numbers_in, row_in, rows_in};
 ghost use Rattle.half_store.specs.Readable.{IsReadable};
@@ -20,6 +20,23 @@ use std::alloc::Global;
 
 /// The bytes of a file in front of its rows.
 const HEAD_BYTES: usize = 121;
+
+/// The files that bytes spell, if they spell any. It may find files that spell other bytes.
+pub(crate) fn read_files(alloc: Global, bytes: &[u8]) -> Result<Option<Vec<StoredFile>>, StoreFault>
+    ensures files { (files : Files) → AllByRecursion IsReadable files → bytes.now ≡ files_bytes files → IfRead result (λ found. files_of found.items ≡ files) }
+    ensures memory { IsOkUnless result StoreFault.Memory }
+{
+    let mut files = Vec::new(alloc);
+    let mut at = 0;
+    while at < bytes.len() {
+        let Some(found) = read_file(alloc, bytes, at)? else {
+            return Ok(None);
+        };
+        files.push(found.file)?;
+        at = found.end;
+    }
+    Ok(Some(files))
+}
 
 /// The number of eight bytes from a place on.
 fn number_at(bytes: &[u8], at: usize) -> u64
@@ -143,7 +160,7 @@ fn read_rows(
 fn spec_at(alloc: Global, bytes: &[u8], at: usize) -> Result<Option<FileSpec>, StoreFault>
     requires { at + 121 ≤ length bytes.now }
     ensures keys { IfOk result (λ found. IfSome found (λ f. length f.alternates.items ≤ 7)) }
-    ensures spec { (name : List ℕ) (spec : Spec) (more : List ℕ) → is_name name ≡ true → is_spec spec ≡ true → drop at bytes.now ≡ padded name ++ spec_bytes spec ++ more →
+    ensures spec { (name : List ℕ) (spec : Spec) (more : List ℕ) → is_name name ≡ true → is_spec spec ≡ true → drop at bytes.now ≡ padded_name name ++ spec_bytes spec ++ more →
         IfRead result (λ f. (f.name.items ≡ name) × (spec_of f ≡ spec)) }
     ensures memory { IsOkUnless result StoreFault.Memory }
 {
@@ -161,7 +178,7 @@ struct FoundFile {
 fn read_file(alloc: Global, bytes: &[u8], at: usize) -> Result<Option<FoundFile>, StoreFault>
     requires { at ≤ length bytes.now }
     ensures end { IfOk result (λ found. IfSome found (λ f. (at < f.end) × (f.end ≤ length bytes.now))) }
-    ensures file { (one : Named) (more : List ℕ) → IsReadable one → drop at bytes.now ≡ file_bytes one ++ more →
+    ensures file { (one : NamedFile) (more : List ℕ) → IsReadable one → drop at bytes.now ≡ file_bytes one ++ more →
         IfRead result (λ f. (named_of f.file ≡ one) × (drop f.end bytes.now ≡ more)) }
     ensures memory { IsOkUnless result StoreFault.Memory }
 {
@@ -184,21 +201,4 @@ fn read_file(alloc: Global, bytes: &[u8], at: usize) -> Result<Option<FoundFile>
         },
         end: found.end,
     }))
-}
-
-/// The files that bytes spell, if they spell any. It may find files that spell other bytes.
-pub(crate) fn read_files(alloc: Global, bytes: &[u8]) -> Result<Option<Vec<StoredFile>>, StoreFault>
-    ensures files { (files : Files) → AllByRecursion IsReadable files → bytes.now ≡ spelled files → IfRead result (λ found. files_of found.items ≡ files) }
-    ensures memory { IsOkUnless result StoreFault.Memory }
-{
-    let mut files = Vec::new(alloc);
-    let mut at = 0;
-    while at < bytes.len() {
-        let Some(found) = read_file(alloc, bytes, at)? else {
-            return Ok(None);
-        };
-        files.push(found.file)?;
-        at = found.end;
-    }
-    Ok(Some(files))
 }

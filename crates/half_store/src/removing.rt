@@ -1,6 +1,6 @@
 //! A row is taken out, in memory.
 ghost use Rattle.std.specs.Prelude.{◌≡◌, map, IfErr};
-ghost use Rattle.records.specs.Changes.{removed};
+ghost use Rattle.records.specs.Changes.{removal};
 ghost use Rattle.records.specs.Laws.{RowsAscend};
 ghost use Rattle.records.specs.Stores.{pair_of};
 ghost use Rattle.half_store.specs.Stored.{row_of, file_of};
@@ -16,7 +16,7 @@ pub(crate) fn remove_row(
     number: u64,
     key: &[u8],
 ) -> Result<Outcome, StoreFault>
-    ensures becomes { RowsAscend file.old.spec.organization (map row_of file.old.rows.items) → Becomes result (removed (pair_of file.old.spec.organization key.now number) (file_of file.old)) file.old file.new }
+    ensures becomes { RowsAscend file.old.spec.organization (map row_of file.old.rows.items) → Becomes result (removal (pair_of file.old.spec.organization key.now number) (file_of file.old)) file.old file.new }
     ensures cause { IfErr result IsMemoryCause }
 {
     match find_row(&file.rows, file.spec.organization, number, key) {

@@ -2,7 +2,7 @@
 ghost use Rattle.std.specs.Prelude.{◌≡◌, ◌+◌, ◌<◌, ◌^◌, ◌∷◌, not, ◌&&◌, ℕ, length, map, filter, get_or, IfOk, IfErr, IsOkUnless, if◌then◌else◌};
 ghost use Rattle.std.specs.List.{list_any};
 ghost use Rattle.records.specs.Rows.{Row, part, same_bytes};
-ghost use Rattle.records.specs.Changes.{replaced, changes, is_at, is_taken, is_duplicate, repeats, without, arrivals_after};
+ghost use Rattle.records.specs.Changes.{replacement, changes, is_at, is_taken, is_duplicate, repeats, without_pair, arrivals_after};
 ghost use Rattle.records.specs.Laws.{RowsAscend};
 ghost use Rattle.records.specs.Stores.{pair_of};
 ghost use Rattle.half_store.specs.Stored.{row_of, file_of};
@@ -16,6 +16,55 @@ use crate::stored::{StoredFile, StoredRow};
 use records::{AlternateKey, Organization, Outcome, StoreFault};
 use smallvec::SmallVec;
 use std::alloc::Global;
+
+/// The row of the record's prime key, or of this number where the file has none, gets another record.
+pub(crate) fn replace_row(
+    alloc: Global,
+    file: &mut StoredFile,
+    number: u64,
+    bytes: &[u8],
+) -> Result<Outcome, StoreFault>
+    ensures becomes { RowsAscend file.old.spec.organization (map row_of file.old.rows.items) → Becomes result (replacement number bytes.now (file_of file.old)) file.old file.new }
+    ensures cause { IfErr result IsMemoryCause }
+{
+    let spec = &file.spec;
+    let organization = spec.organization;
+    let prime = prime_key(organization, bytes);
+    let place = match find_row(&file.rows, organization, number, prime) {
+        None => return Ok(Outcome::Missing),
+        Some(place) => place,
+    };
+    let keys = spec.alternates.as_slice();
+    let old = &file.rows[place];
+    if has_other_taken(
+        keys,
+        &file.rows,
+        organization,
+        number,
+        prime,
+        &old.bytes,
+        bytes,
+    ) {
+        return Ok(Outcome::Taken);
+    }
+    if file.next_arrival >= ARRIVALS - 1 {
+        return Err(StoreFault::Full);
+    }
+    let duplicate = has_other_duplicate(
+        keys,
+        &file.rows,
+        organization,
+        number,
+        prime,
+        &old.bytes,
+        bytes,
+    );
+    let changed = is_any_changed(keys, &old.bytes, bytes);
+    let row = row_after(alloc, old, bytes, file.next_arrival, keys)?;
+    file.rows[place] = row;
+    file.next_arrival = next_after(changed, file.next_arrival);
+    Ok(outcome_of(duplicate))
+}
 
 /// Whether a record has another value of a key than the one before.
 fn is_changed(key: &AlternateKey, old: &[u8], bytes: &[u8]) -> bool
@@ -56,7 +105,7 @@ fn is_repeated_elsewhere(
     bytes: &[u8],
     key: &AlternateKey,
 ) -> bool
-    ensures { result ≡ repeats (without organization (pair_of organization prime.now number) (map row_of rows.now)) bytes.now key.now }
+    ensures { result ≡ repeats (without_pair organization (pair_of organization prime.now number) (map row_of rows.now)) bytes.now key.now }
 {
     stands_elsewhere(rows, organization, number, prime, bytes, key)
 }
@@ -70,7 +119,7 @@ fn is_any_taken(
     old: &[u8],
     bytes: &[u8],
 ) -> bool
-    ensures { result ≡ list_any (λ key. changes old.now bytes.now key && (not key.duplicates && repeats (without organization (pair_of organization prime.now number) (map row_of rows.now)) bytes.now key)) keys.now }
+    ensures { result ≡ list_any (λ key. changes old.now bytes.now key && (not key.duplicates && repeats (without_pair organization (pair_of organization prime.now number) (map row_of rows.now)) bytes.now key)) keys.now }
 {
     keys.iter().any(|key| {
         is_changed(key, old, bytes)
@@ -89,7 +138,7 @@ fn has_other_taken(
     old: &[u8],
     bytes: &[u8],
 ) -> bool
-    ensures { result ≡ is_taken (filter (changes old.now bytes.now) keys.now) (without organization (pair_of organization prime.now number) (map row_of rows.now)) bytes.now }
+    ensures { result ≡ is_taken (filter (changes old.now bytes.now) keys.now) (without_pair organization (pair_of organization prime.now number) (map row_of rows.now)) bytes.now }
 {
     is_any_taken(keys, rows, organization, number, prime, old, bytes)
 }
@@ -103,7 +152,7 @@ fn is_any_duplicate(
     old: &[u8],
     bytes: &[u8],
 ) -> bool
-    ensures { result ≡ list_any (λ key. changes old.now bytes.now key && (key.duplicates && repeats (without organization (pair_of organization prime.now number) (map row_of rows.now)) bytes.now key)) keys.now }
+    ensures { result ≡ list_any (λ key. changes old.now bytes.now key && (key.duplicates && repeats (without_pair organization (pair_of organization prime.now number) (map row_of rows.now)) bytes.now key)) keys.now }
 {
     keys.iter().any(|key| {
         is_changed(key, old, bytes)
@@ -122,7 +171,7 @@ fn has_other_duplicate(
     old: &[u8],
     bytes: &[u8],
 ) -> bool
-    ensures { result ≡ is_duplicate (filter (changes old.now bytes.now) keys.now) (without organization (pair_of organization prime.now number) (map row_of rows.now)) bytes.now }
+    ensures { result ≡ is_duplicate (filter (changes old.now bytes.now) keys.now) (without_pair organization (pair_of organization prime.now number) (map row_of rows.now)) bytes.now }
 {
     is_any_duplicate(keys, rows, organization, number, prime, old, bytes)
 }
@@ -186,53 +235,4 @@ fn next_after(changed: bool, next: u64) -> u64
     ensures { result ≡ (if changed then next + 1 else next) }
 {
     if changed { next + 1 } else { next }
-}
-
-/// The row of the record's prime key, or of this number where the file has none, gets another record.
-pub(crate) fn replace_row(
-    alloc: Global,
-    file: &mut StoredFile,
-    number: u64,
-    bytes: &[u8],
-) -> Result<Outcome, StoreFault>
-    ensures becomes { RowsAscend file.old.spec.organization (map row_of file.old.rows.items) → Becomes result (replaced number bytes.now (file_of file.old)) file.old file.new }
-    ensures cause { IfErr result IsMemoryCause }
-{
-    let spec = &file.spec;
-    let organization = spec.organization;
-    let prime = prime_key(organization, bytes);
-    let place = match find_row(&file.rows, organization, number, prime) {
-        None => return Ok(Outcome::Missing),
-        Some(place) => place,
-    };
-    let keys = spec.alternates.as_slice();
-    let old = &file.rows[place];
-    if has_other_taken(
-        keys,
-        &file.rows,
-        organization,
-        number,
-        prime,
-        &old.bytes,
-        bytes,
-    ) {
-        return Ok(Outcome::Taken);
-    }
-    if file.next_arrival >= ARRIVALS - 1 {
-        return Err(StoreFault::Full);
-    }
-    let duplicate = has_other_duplicate(
-        keys,
-        &file.rows,
-        organization,
-        number,
-        prime,
-        &old.bytes,
-        bytes,
-    );
-    let changed = is_any_changed(keys, &old.bytes, bytes);
-    let row = row_after(alloc, old, bytes, file.next_arrival, keys)?;
-    file.rows[place] = row;
-    file.next_arrival = next_after(changed, file.next_arrival);
-    Ok(outcome_of(duplicate))
 }

@@ -12,16 +12,6 @@ pub(crate) const MARK: [u8; 8] = *b"COBHALF1";
 /// The mark of the other format.
 pub(crate) const FOREIGN_MARK: [u8; 8] = *b"COBVOL01";
 
-/// A payload that names so many bytes.
-fn payload_of(bytes: u64) -> [u8; 4076]
-    ensures counted { big_number 8 result ≡ bytes }
-    ensures zeros { list_all (λ byte. byte == 0) (drop 8 result) ≡ true }
-{
-    let mut payload = [0; 4076];
-    payload[..8].copy_from_slice(&bytes.to_be_bytes());
-    payload
-}
-
 /// The bytes of a root sector.
 pub(crate) fn root_bytes(sectors: u32, generation: u64, bytes: u64) -> [u8; 4096]
     requires generation { generation < 2 ^ 63 }
@@ -36,4 +26,14 @@ pub(crate) fn root_bytes(sectors: u32, generation: u64, bytes: u64) -> [u8; 4096
         payload: payload_of(bytes),
     };
     root_sector(&MARK, &root)
+}
+
+/// A payload that names so many bytes.
+fn payload_of(bytes: u64) -> [u8; 4076]
+    ensures counted { big_number 8 result ≡ bytes }
+    ensures zeros { list_all (λ byte. byte == 0) (drop 8 result) ≡ true }
+{
+    let mut payload = [0; 4076];
+    payload[..8].copy_from_slice(&bytes.to_be_bytes());
+    payload
 }

@@ -4,8 +4,8 @@ ghost use Rattle.std.specs.Option.{option_map};
 ghost use Rattle.std.specs.Ordering.{is_gt};
 ghost use Rattle.records.specs.Rows.{Pair, pair_cmp, pair_under, prime_pair};
 ghost use Rattle.records.specs.Laws.{RowsAscend};
-ghost use Rattle.records.specs.Order.{is_behind, sought, has_value, found};
-ghost use Rattle.records.specs.Stores.{spec_of, IsKey, bound, record_of};
+ghost use Rattle.records.specs.Order.{is_behind, sought_row, has_value, found_row};
+ghost use Rattle.records.specs.Stores.{spec_of, IsKey, bound_at, record_of};
 ghost use Rattle.records.specs.declared.key.Side.TheVariants.{After};
 ghost use Rattle.records.specs.declared.key.KeyOfReference.TheVariants.{Prime};
 ghost use Rattle.half_store.specs.Stored.{row_of};
@@ -17,6 +17,56 @@ use crate::rows::part_of;
 use crate::stored::StoredRow;
 use records::{FileSpec, Found, KeyOfReference, Organization, Side, StoreFault};
 use std::cmp::Ordering;
+
+/// What is told of a row.
+pub(crate) fn found_of(
+    rows: &[StoredRow],
+    spec: &FileSpec,
+    key: KeyOfReference,
+    row: &StoredRow,
+) -> Found
+    requires { IsKey (spec_of spec.now) key }
+    ensures { result ≡ found_row (spec_of spec.now) key (map row_of rows.now) (row_of row.now) }
+{
+    let repeated = match key {
+        KeyOfReference::Prime => false,
+        KeyOfReference::Alternate(_) => has_repeat(rows, spec, key, row),
+    };
+    Found {
+        number: number_under(spec, key, row),
+        repeated,
+    }
+}
+
+/// The first row behind a place in the order of a key, its record put into `bytes`, where rows ascend by their prime key. A
+/// record of another length is damage.
+pub(crate) fn seek_in(
+    rows: &[StoredRow],
+    spec: &FileSpec,
+    key: KeyOfReference,
+    side: Side,
+    value: &[u8],
+    number: u64,
+    bytes: &mut [u8],
+) -> Result<Option<Found>, StoreFault>
+    requires { IsKey (spec_of spec.now) key }
+    ensures found { RowsAscend spec.now.organization (map row_of rows.now) → IfOk result (λ answer. answer ≡ option_map (found_row (spec_of spec.now) key (map row_of rows.now)) (sought_row (spec_of spec.now) key (bound_at side value.now number) (map row_of rows.now))) }
+    ensures bytes { RowsAscend spec.now.organization (map row_of rows.now) → OnOk result (bytes.new ≡ record_of bytes.old (sought_row (spec_of spec.now) key (bound_at side value.now number) (map row_of rows.now))) }
+    ensures kept { OnErr result (bytes.new ≡ bytes.old) }
+    ensures cause { IfErr result (λ fault. fault ≡ StoreFault.Damaged) }
+    ensures sound { AreRecords (length bytes.old) (map row_of rows.now) → IsOk result }
+{
+    let place = match seek_row(rows, spec, key, side, value, number) {
+        None => return Ok(None),
+        Some(place) => place,
+    };
+    let row = &rows[place];
+    if row.bytes.len() != bytes.len() {
+        return Err(StoreFault::Damaged);
+    }
+    bytes.copy_from_slice(&row.bytes);
+    Ok(Some(found_of(rows, spec, key, row)))
+}
 
 /// A row's value of a key.
 fn value_under<'a>(spec: &FileSpec, key: KeyOfReference, row: &'a StoredRow) -> &'a [u8]
@@ -121,7 +171,7 @@ fn better(
     requires place { place < length rows.now }
     requires best { IfSome best (λ i. i < length rows.now) }
     ensures bound { IfSome result (λ i. i < length rows.now) }
-    ensures best { IsBest (spec_of spec.now) key (bound side value.now number) rows.now (place + 1) best → IsBest (spec_of spec.now) key (bound side value.now number) rows.now place result }
+    ensures best { IsBest (spec_of spec.now) key (bound_at side value.now number) rows.now (place + 1) best → IsBest (spec_of spec.now) key (bound_at side value.now number) rows.now place result }
 {
     if !stands_behind(spec, key, &rows[place], side, value, number) {
         return best;
@@ -148,7 +198,7 @@ fn seek_through(
 ) -> Option<usize>
     requires { IsKey (spec_of spec.now) key }
     ensures bound { IfSome result (λ i. i < length rows.now) }
-    ensures row { (d : StoredRow) → sought (spec_of spec.now) key (bound side value.now number) (map row_of rows.now) ≡ option_map (λ i. row_of (get_or rows.now i d)) result }
+    ensures row { (d : StoredRow) → sought_row (spec_of spec.now) key (bound_at side value.now number) (map row_of rows.now) ≡ option_map (λ i. row_of (get_or rows.now i d)) result }
 {
     let mut best: Option<usize> = None;
     for back in 0..rows.len() {
@@ -168,7 +218,7 @@ fn seek_prime(
 ) -> Option<usize>
     ensures bound { IfSome result (λ i. i < length rows.now) }
     ensures row { RowsAscend spec.now.organization (map row_of rows.now) → (d : StoredRow) →
-        sought (spec_of spec.now) Prime (bound side value.now number) (map row_of rows.now) ≡ option_map (λ i. row_of (get_or rows.now i d)) result }
+        sought_row (spec_of spec.now) Prime (bound_at side value.now number) (map row_of rows.now) ≡ option_map (λ i. row_of (get_or rows.now i d)) result }
 {
     let place = rows.partition_point(
         |row: &StoredRow| -> bool
@@ -194,7 +244,7 @@ fn seek_row(
     requires { IsKey (spec_of spec.now) key }
     ensures bound { IfSome result (λ i. i < length rows.now) }
     ensures row { RowsAscend spec.now.organization (map row_of rows.now) → (d : StoredRow) →
-        sought (spec_of spec.now) key (bound side value.now number) (map row_of rows.now) ≡ option_map (λ i. row_of (get_or rows.now i d)) result }
+        sought_row (spec_of spec.now) key (bound_at side value.now number) (map row_of rows.now) ≡ option_map (λ i. row_of (get_or rows.now i d)) result }
 {
     match key {
         KeyOfReference::Prime => seek_prime(rows, spec, side, value, number),
@@ -206,7 +256,7 @@ fn seek_row(
 fn has_repeat(rows: &[StoredRow], spec: &FileSpec, key: KeyOfReference, row: &StoredRow) -> bool
     requires { IsKey (spec_of spec.now) key }
     ensures { result ≡ has_value (spec_of spec.now) key (pair_under (spec_of spec.now) key (row_of row.now)).value
-        (sought (spec_of spec.now) key (record { side = After; pair = pair_under (spec_of spec.now) key (row_of row.now) }) (map row_of rows.now)) }
+        (sought_row (spec_of spec.now) key (record { side = After; pair = pair_under (spec_of spec.now) key (row_of row.now) }) (map row_of rows.now)) }
 {
     let value = value_under(spec, key, row);
     let number = number_under(spec, key, row);
@@ -214,54 +264,4 @@ fn has_repeat(rows: &[StoredRow], spec: &FileSpec, key: KeyOfReference, row: &St
         None => false,
         Some(next) => value_under(spec, key, &rows[next]).cmp(value).is_eq(),
     }
-}
-
-/// What is told of a row.
-pub(crate) fn found_of(
-    rows: &[StoredRow],
-    spec: &FileSpec,
-    key: KeyOfReference,
-    row: &StoredRow,
-) -> Found
-    requires { IsKey (spec_of spec.now) key }
-    ensures { result ≡ found (spec_of spec.now) key (map row_of rows.now) (row_of row.now) }
-{
-    let repeated = match key {
-        KeyOfReference::Prime => false,
-        KeyOfReference::Alternate(_) => has_repeat(rows, spec, key, row),
-    };
-    Found {
-        number: number_under(spec, key, row),
-        repeated,
-    }
-}
-
-/// The first row behind a place in the order of a key, its record put into `bytes`, where rows ascend by their prime key. A
-/// record of another length is damage.
-pub(crate) fn seek_in(
-    rows: &[StoredRow],
-    spec: &FileSpec,
-    key: KeyOfReference,
-    side: Side,
-    value: &[u8],
-    number: u64,
-    bytes: &mut [u8],
-) -> Result<Option<Found>, StoreFault>
-    requires { IsKey (spec_of spec.now) key }
-    ensures found { RowsAscend spec.now.organization (map row_of rows.now) → IfOk result (λ answer. answer ≡ option_map (found (spec_of spec.now) key (map row_of rows.now)) (sought (spec_of spec.now) key (bound side value.now number) (map row_of rows.now))) }
-    ensures bytes { RowsAscend spec.now.organization (map row_of rows.now) → OnOk result (bytes.new ≡ record_of bytes.old (sought (spec_of spec.now) key (bound side value.now number) (map row_of rows.now))) }
-    ensures kept { OnErr result (bytes.new ≡ bytes.old) }
-    ensures cause { IfErr result (λ fault. fault ≡ StoreFault.Damaged) }
-    ensures sound { AreRecords (length bytes.old) (map row_of rows.now) → IsOk result }
-{
-    let place = match seek_row(rows, spec, key, side, value, number) {
-        None => return Ok(None),
-        Some(place) => place,
-    };
-    let row = &rows[place];
-    if row.bytes.len() != bytes.len() {
-        return Err(StoreFault::Damaged);
-    }
-    bytes.copy_from_slice(&row.bytes);
-    Ok(Some(found_of(rows, spec, key, row)))
 }

@@ -3,13 +3,25 @@ ghost use Rattle.std.specs.Prelude.{◌≡◌, ◌≤◌, ◌++◌, length, map,
 ghost use Rattle.std.specs.List.{flat_map};
 ghost use Rattle.byteorder.specs.Endian.{big_bytes};
 ghost use Rattle.records.specs.Stores.{spec_of};
-ghost use Rattle.half_store.specs.Spelled.{padded, organization_number, alternate_bytes, alternates_bytes, spec_bytes, row_key, row_bytes, file_bytes, spelled};
+ghost use Rattle.half_store.specs.Spelled.{padded_name, organization_number, alternate_bytes, alternates_bytes, spec_bytes, row_key, row_bytes, file_bytes, files_bytes};
 ghost use Rattle.half_store.specs.Stored.{row_of, named_of, files_of};
 
 use crate::rows::part_of;
 use crate::stored::{StoredFile, StoredRow};
 use records::{AlternateKey, FileSpec, KeyOfReference, KeyPlace, Organization, StoreFault};
 use std::alloc::Global;
+
+/// All files.
+pub(crate) fn spell(alloc: Global, files: &[StoredFile]) -> Result<Vec<u8>, StoreFault>
+    ensures bytes { IfOk result (λ bytes. bytes.items ≡ files_bytes (files_of files.now)) }
+    ensures memory { IsOkUnless result StoreFault.Memory }
+{
+    let mut out = Vec::new(alloc);
+    for file in files {
+        push_file(&mut out, file)?;
+    }
+    Ok(out)
+}
 
 /// A byte, so many times.
 fn fill(out: &mut Vec<u8>, byte: u8, count: usize) -> Result<(), StoreFault>
@@ -25,7 +37,7 @@ fn fill(out: &mut Vec<u8>, byte: u8, count: usize) -> Result<(), StoreFault>
 /// A name, with zeros behind it.
 fn push_name(out: &mut Vec<u8>, name: &[u8]) -> Result<(), StoreFault>
     requires { length name.now ≤ 30 }
-    ensures bytes { OnOk result (out.new.items ≡ out.old.items ++ padded name.now) }
+    ensures bytes { OnOk result (out.new.items ≡ out.old.items ++ padded_name name.now) }
     ensures memory { IsOkUnless result StoreFault.Memory }
 {
     out.extend_from_slice(name)?;
@@ -146,16 +158,4 @@ fn push_file(out: &mut Vec<u8>, file: &StoredFile) -> Result<(), StoreFault>
     out.extend_from_slice(&file.next_arrival.to_be_bytes())?;
     out.extend_from_slice(&(file.rows.len() as u64).to_be_bytes())?;
     push_rows(out, file.spec.organization, &file.rows)
-}
-
-/// All files.
-pub(crate) fn spell(alloc: Global, files: &[StoredFile]) -> Result<Vec<u8>, StoreFault>
-    ensures bytes { IfOk result (λ bytes. bytes.items ≡ spelled (files_of files.now)) }
-    ensures memory { IsOkUnless result StoreFault.Memory }
-{
-    let mut out = Vec::new(alloc);
-    for file in files {
-        push_file(&mut out, file)?;
-    }
-    Ok(out)
 }

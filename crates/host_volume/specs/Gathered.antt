@@ -2,5 +2,5 @@
 use Rattle.std.specs.Prelude.{◌≡◌, ◌⊎◌, ◌+◌, ◌*◌, ℕ, List, [], length}
 
 -- A sector stands behind these bytes, which begin with the first sector; or there are none.
-abbrev pub Fits : ℕ → List ℕ → ℕ → Type 0
-Fits first bytes sector = (bytes ≡ []) ⊎ (sector * 4096 ≡ first * 4096 + length bytes)
+abbrev pub FollowsBytes : ℕ → List ℕ → ℕ → Type 0
+FollowsBytes first bytes sector = (bytes ≡ []) ⊎ (sector * 4096 ≡ first * 4096 + length bytes)

@@ -7,7 +7,7 @@
 ghost use Rattle.std.specs.Prelude.{◌≡◌, [], IfOk, OnOk};
 ghost use Rattle.station.specs.Failures.{CountsFailure};
 ghost use Rattle.host_volume.specs.Unknown.{nothing_known};
-ghost use Rattle.host_volume.specs.Gathered.{Fits};
+ghost use Rattle.host_volume.specs.Gathered.{FollowsBytes};
 ghost use Rattle.host_volume.specs.Volume.{sector_count, volume_of, failure_count};
 
 use crate::gathering::GatheredWrites;
@@ -88,7 +88,7 @@ impl HostDevice {
     fn make_place_for(&mut self, sector: u32) -> Result<(), DeviceError>
         ensures volume { volume_of self.new ≡ volume_of self.old }
         ensures failures { CountsFailure result (failure_count self.old) (failure_count self.new) }
-        ensures fits { OnOk result (Fits self.new.gathered.first self.new.gathered.bytes.items sector) }
+        ensures fits { OnOk result (FollowsBytes self.new.gathered.first self.new.gathered.bytes.items sector) }
     {
         if self.gathered.has_place_for(sector) {
             return Ok(());

@@ -18,7 +18,7 @@ pub(crate) struct GatheredWrites {
 }
 
 impl GatheredWrites {
-    ghost use Rattle.host_volume.specs.Gathered.{Fits};
+    ghost use Rattle.host_volume.specs.Gathered.{FollowsBytes};
 
     pub(crate) fn new(alloc: Global) -> GatheredWrites
         ensures { result.bytes.items ≡ [] }
@@ -31,7 +31,7 @@ impl GatheredWrites {
 
     /// Whether a sector has its place behind the others, or is the first one.
     pub(crate) fn has_place_for(&self, sector: u32) -> bool
-        ensures { result ≡ true → Fits self.now.first self.now.bytes.items sector }
+        ensures { result ≡ true → FollowsBytes self.now.first self.now.bytes.items sector }
     {
         let count = self.bytes.len();
         if count == 0 {
@@ -42,7 +42,7 @@ impl GatheredWrites {
 
     /// Puts a sector behind the others.
     pub(crate) fn add(&mut self, sector: u32, bytes: &[u8; 4096]) -> Result<(), AllocError>
-        requires { Fits self.old.first self.old.bytes.items sector }
+        requires { FollowsBytes self.old.first self.old.bytes.items sector }
         ensures bytes { OnOk result (self.new.bytes.items ≡ self.old.bytes.items ++ bytes.now) }
         ensures place { OnOk result (sector * 4096 ≡ self.new.first * 4096 + length self.old.bytes.items) }
         ensures refused { OnErr result (self.new.bytes.items ≡ self.old.bytes.items) }

@@ -2,7 +2,7 @@
 
 ghost use Rattle.std.specs.Prelude.{◌≡◌, ◌<◌, OnOk, IsErr};
 ghost use Rattle.station.specs.Calls.{OnlyWrites};
-ghost use Rattle.host_volume.specs.Roots.{rewritten, roots_rewritten};
+ghost use Rattle.host_volume.specs.Roots.{state_after_rewrite, roots_rewritten};
 
 use station::{Device, DeviceError};
 
@@ -27,7 +27,7 @@ fn rewrite<D: Device>(device: &mut D, sector: u32) -> Result<(), DeviceError>
     requires { sector < D.sectors device.old }
     ensures only { OnlyWrites D.Device (IsErr result) device.old device.new }
     ensures state { D.is_honest device.old →
-        OnOk result (D.state device.new ≡ rewritten (D.state device.old) sector) }
+        OnOk result (D.state device.new ≡ state_after_rewrite (D.state device.old) sector) }
 {
     let mut bytes = [0; 4096];
     device.read(sector, &mut bytes)?;

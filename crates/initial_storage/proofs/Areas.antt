@@ -4,21 +4,21 @@ use Rattle.std.specs.Prelude.{map, slice_get}
 use Rattle.std.specs.List.{All, AllByRecursion}
 use Rattle.std.proofs.lemmas.List.Elements.{All-from_recursion}
 use Rattle.lexical.specs.declared.place.Place.{Place}
-use Rattle.items.specs.Texts.{padded}
+use Rattle.items.specs.Texts.{padded_text}
 use Rattle.source_tree.specs.declared.table.Dimension.{Dimension}
 use Rattle.source_tree.specs.declared.select.FileDescription.{FileDescription}
 use Rattle.source_tree.specs.declared.program.Program.{Program}
-use Rattle.source_tree.specs.Levels.{Forest, End, Tree, nested}
+use Rattle.source_tree.specs.Levels.{Forest, End, Tree, forest_of}
 use Rattle.source_tree.specs.Clauses.{nothing_around}
 use Rattle.source_tree.specs.Rooms.{redefines, area_length}
 use Rattle.source_tree.specs.Starts.{start, areas_from, areas_at_start}
-use Rattle.source_tree.specs.Places.{Placed}
+use Rattle.source_tree.specs.Places.{LocatedItem}
 use Rattle.source_tree.specs.Records.{record_length, spaces_for, record_areas, program_areas, program_items}
-use Rattle.source_tree.specs.Broken.{Broken, where_so}
+use Rattle.source_tree.specs.Broken.{RuleBreach, where_so}
 use Rattle.source_tree.specs.EntryRules.{most_storage, storage_rules, entry_rules}
 use Rattle.source_tree.specs.FileRules.{descriptions_rules}
 use Rattle.initial_storage.specs.Formed.{IsFormed}
-use Rattle.initial_storage.specs.Reach.{reach, IsWithin, program_area_lengths, last_offset, Lies}
+use Rattle.initial_storage.specs.Reach.{reach, IsWithinArea, program_area_lengths, last_offset, Lies}
 use Rattle.initial_storage.proofs.Kept.{front_nil, back_nil, kept, at_most, rule_parts}
 use Rattle.initial_storage.proofs.Lengths.{length-padded, program_lengths}
 use Rattle.initial_storage.proofs.KeptFiles.{Description, descriptions}
@@ -32,12 +32,12 @@ use Rattle.initial_storage.proofs.Records.{within_by_recursion}
 abbrev IsSmall : List ℕ → Type 0
 IsSmall area = length area ≤ most_storage
 
-small_if : (b : Bool) (before size : ℕ) (place : Place) (area : List ℕ) (areas : List (List ℕ)) (one other : List Broken) → length area ≡ size
+small_if : (b : Bool) (before size : ℕ) (place : Place) (area : List ℕ) (areas : List (List ℕ)) (one other : List RuleBreach) → length area ≡ size
     → (one ≡ [] → AllByRecursion IsSmall areas) → (other ≡ [] → AllByRecursion IsSmall areas)
     → (if b then one else where_so (nat_lt most_storage (before + size)) 48 place ++ other) ≡ [] → AllByRecursion IsSmall (if b then areas else area ∷ areas)
 small_if true before size place area areas one other long f g e = f e
 small_if false before size place area areas one other long f g e =
-    let broken : List Broken = where_so (nat_lt most_storage (before + size)) 48 place in
+    let broken : List RuleBreach = where_so (nat_lt most_storage (before + size)) 48 place in
     let most : before + size ≤ most_storage = at_most most_storage (before + size) (kept (nat_lt most_storage (before + size)) 48 place (front_nil broken other e)) in
     (omega (arith, most, long), g (back_nil broken other e))
 
@@ -46,7 +46,7 @@ small before End e = tt
 small before (Tree one conditions inner next) e =
     let size : ℕ = area_length one conditions inner next in
     let bytes : List ℕ = start nothing_around (Tree one conditions inner End) in
-    small_if (redefines one) before size one.level.place (padded size bytes) (areas_from next) (storage_rules before next) (storage_rules (before + size) next)
+    small_if (redefines one) before size one.level.place (padded_text size bytes) (areas_from next) (storage_rules before next) (storage_rules (before + size) next)
     (length-padded size bytes) (small before next) (small (before + size) next) e
 
 small_at : (areas : List (List ℕ)) → AllByRecursion IsSmall areas → (k : ℕ) (area : List ℕ) → slice_get areas k ≡ Some area → IsSmall area
@@ -65,7 +65,7 @@ pub small_areas : (program : Program) → entry_rules program.storage ≡ [] →
     → (k : ℕ) (area : List ℕ) → slice_get (program_areas program) k ≡ Some area → length area < 2 ^ 32
 small_areas program e f k area is =
     let parts = rule_parts program.storage e in
-    let all = all_append IsSmall (areas_at_start program.storage) (record_areas program.files) (small 0 (nested program.storage) parts.2) (small_records program.files (descriptions program.storage program.files f)) in
+    let all = all_append IsSmall (areas_at_start program.storage) (record_areas program.files) (small 0 (forest_of program.storage) parts.2) (small_records program.files (descriptions program.storage program.files f)) in
     let most : length area ≤ 1000000 = small_at (program_areas program) all k area is in
     omega (arith, most)
 
@@ -81,7 +81,7 @@ area_at [] k n some h = absurd (omega (arith, some, h))
 area_at (area ∷ more) zero n some h = (area, refl, h)
 area_at (area ∷ more) (suc k) n some h = area_at more k n some h
 
-lies : (areas : List (List ℕ)) (one : Placed) → IsFormed one → IsWithin (map length areas) one → Lies areas one
+lies : (areas : List (List ℕ)) (one : LocatedItem) → IsFormed one → IsWithinArea (map length areas) one → Lies areas one
 lies areas one formed within =
     let some : 1 ≤ one.item.length = some_bytes one.item formed.form in
     let end : last_offset one.offset one.dimensions + one.item.length ≤ get_or (map length areas) one.area 0 = omega (arith, within, last_reach one.offset one.dimensions) in
@@ -95,9 +95,9 @@ all_both P Q R (x ∷ xs) h p q = (h x p.0 q.0, all_both P Q R xs h p.1 q.1)
 pub items_lie : (program : Program) → entry_rules program.storage ≡ [] → descriptions_rules program.storage program.files ≡ [] → All (Lies (program_areas program)) (program_items program)
 items_lie program e f =
     let areas : List (List ℕ) = program_areas program in
-    let items : List Placed = program_items program in
+    let items : List LocatedItem = program_items program in
     let lengths : List ℕ = program_area_lengths program in
     All-from_recursion (Lies areas) items
-    (all_both IsFormed (IsWithin lengths) (Lies areas) items
-    (λ one formed within. lies areas one formed (subst (λ l. IsWithin l one) (sym (program_lengths program)) within))
+    (all_both IsFormed (IsWithinArea lengths) (Lies areas) items
+    (λ one formed within. lies areas one formed (subst (λ l. IsWithinArea l one) (sym (program_lengths program)) within))
     (formed_by_recursion program e f) (within_by_recursion program e f))

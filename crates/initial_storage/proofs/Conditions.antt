@@ -12,14 +12,14 @@ use Rattle.source_tree.specs.declared.entry.ValueRange.{ValueRange}
 use Rattle.source_tree.specs.declared.entry.ConditionEntry.{ConditionEntry}
 use Rattle.source_tree.specs.declared.name.Name.{Name}
 use Rattle.source_tree.specs.declared.program.Program.{Program}
-use Rattle.source_tree.specs.Levels.{Forest, End, Tree, nested}
+use Rattle.source_tree.specs.Levels.{Forest, End, Tree, forest_of}
 use Rattle.source_tree.specs.Clauses.{nothing_around, inside, occurrences}
 use Rattle.source_tree.specs.Rooms.{redefines, item_with}
-use Rattle.source_tree.specs.Places.{Placed, Surroundings, within, places, top, storage_places, items_of}
+use Rattle.source_tree.specs.Places.{LocatedItem, Surroundings, within, places, top, storage_places, items_of}
 use Rattle.source_tree.specs.Records.{storage_areas, record_places, file_places, program_items}
 use Rattle.source_tree.specs.LookUp.{conditions_of, all_conditions}
-use Rattle.source_tree.specs.Broken.{Broken, where_so, each}
-use Rattle.source_tree.specs.RedefinitionRules.{Redefinable, remembered}
+use Rattle.source_tree.specs.Broken.{RuleBreach, where_so, each}
+use Rattle.source_tree.specs.RedefinitionRules.{Redefinable, redefinable_after}
 use Rattle.source_tree.specs.ValueRules.{wrong_value, last_rules, range_rules, condition_rules}
 use Rattle.source_tree.specs.EntryRules.{Position, outermost, own_rules, below, forest_rules, entry_rules}
 use Rattle.source_tree.specs.FileRules.{descriptions_rules}
@@ -36,7 +36,7 @@ use Rattle.initial_storage.proofs.Formed.{formed_by_recursion}
 abbrev Takes : Item → ConditionEntry → Type 0
 Takes item one = HasFirst item one.values
 
-abbrev TakesAll : Placed → Type 0
+abbrev TakesAll : LocatedItem → Type 0
 TakesAll one = AllByRecursion (Takes one.item) one.conditions
 
 first_taken : (item : Item) (values : List ValueRange) → each (range_rules item) values ≡ [] → HasFirst item values
@@ -59,7 +59,7 @@ AreTaken around End = Unit {0}
 AreTaken around (Tree one conditions inner next) =
     AllByRecursion (Takes (item_with around one inner)) conditions × AreTaken (inside around one) inner × AreTaken around next
 
-third_and_others : (a b c d : List Broken) → a ++ (b ++ (c ++ d)) ≡ [] → (a ≡ []) × (c ≡ []) × (d ≡ [])
+third_and_others : (a b c d : List RuleBreach) → a ++ (b ++ (c ++ d)) ≡ [] → (a ≡ []) × (c ≡ []) × (d ≡ [])
 third_and_others a b c d e =
     let rest = back_nil b (c ++ d) (back_nil a (b ++ (c ++ d)) e) in
     (front_nil a (b ++ (c ++ d)) e, front_nil c d rest, back_nil c d rest)
@@ -68,7 +68,7 @@ taken : (at : Position) (last : Option Redefinable) (F : Forest) → forest_rule
 taken at last End e = tt
 taken at last (Tree one conditions inner next) e =
     let item : Item = item_with at.around one inner in
-    let after : Option Redefinable = remembered one (occurrences one * item.length) last in
+    let after : Option Redefinable = redefinable_after one (occurrences one * item.length) last in
     let parts = third_and_others (forest_rules (below at one inner) None inner) (own_rules at one item inner last) (each (condition_rules item) conditions) (forest_rules at after next) e in
     (all_taken item conditions parts.1, taken (below at one inner) None inner parts.0, taken at after next parts.2)
 
@@ -108,11 +108,11 @@ kind_of kind.AlphanumericEdited length h = tt
 kind_of (kind.NumericEdited blank) length h = tt
 kind_of (kind.Numeric numeric) length h = h
 
-of_item : (item : Placed) (conditions : List ConditionEntry) → IsFormed item → AllByRecursion (Takes item.item) conditions → AllByRecursion CanBeSet (conditions_of item conditions)
+of_item : (item : LocatedItem) (conditions : List ConditionEntry) → IsFormed item → AllByRecursion (Takes item.item) conditions → AllByRecursion CanBeSet (conditions_of item conditions)
 of_item item [] form h = tt
 of_item item (one ∷ more) form h = (record { kind = kind_of item.item.kind item.item.length form.form; value = h.0 }, of_item item more form h.1)
 
-of_items : (items : List Placed) → AllByRecursion IsFormed items → AllByRecursion TakesAll items → AllByRecursion CanBeSet (all_conditions items)
+of_items : (items : List LocatedItem) → AllByRecursion IsFormed items → AllByRecursion TakesAll items → AllByRecursion CanBeSet (all_conditions items)
 of_items [] form h = tt
 of_items (one ∷ more) form h = all_append CanBeSet (conditions_of one one.conditions) (all_conditions more) (of_item one one.conditions form.0 h.0) (of_items more form.1 h.1)
 
@@ -122,6 +122,6 @@ all_can_be_set program e f =
     All-from_recursion CanBeSet (all_conditions (program_items program))
     (of_items (program_items program) (formed_by_recursion program e f)
     (all_append TakesAll (items_of program.storage) (file_places (storage_areas program.storage) program.files)
-    (storage_taken 0 (nested program.storage) (taken (outermost false) None (nested program.storage) parts.1))
+    (storage_taken 0 (forest_of program.storage) (taken (outermost false) None (forest_of program.storage) parts.1))
     (of_files TakesAll (storage_areas program.storage) program.files
-    (of_descriptions _ (λ one kept. record_taken one.name (nested one.entries) (taken (outermost true) None (nested one.entries) kept.forest)) program.files (descriptions program.storage program.files f)))))
+    (of_descriptions _ (λ one kept. record_taken one.name (forest_of one.entries) (taken (outermost true) None (forest_of one.entries) kept.forest)) program.files (descriptions program.storage program.files f)))))

@@ -11,10 +11,10 @@ use Rattle.source_tree.specs.declared.entry.ConditionEntry.{ConditionEntry}
 use Rattle.source_tree.specs.declared.entry.Entry.{Entry}
 use Rattle.source_tree.specs.declared.entry.Entry.TheVariants.{Item, Condition}
 use Rattle.source_tree.specs.declared.select.FileDescription.{FileDescription}
-use Rattle.source_tree.specs.Levels.{Forest, End, Tree, level_of, deeper, beyond, nested}
+use Rattle.source_tree.specs.Levels.{Forest, End, Tree, level_of, deeper, beyond, forest_of}
 use Rattle.source_tree.specs.Clauses.{nothing_around, inside, occurrences}
 use Rattle.source_tree.specs.Rooms.{redefines, item_with}
-use Rattle.source_tree.specs.Places.{Placed, Surroundings, within, places, top, storage_places, items_of}
+use Rattle.source_tree.specs.Places.{LocatedItem, Surroundings, within, places, top, storage_places, items_of}
 use Rattle.source_tree.specs.Records.{storage_areas, record_places, file_places}
 use Rattle.source_tree.specs.Initializing.{Pattern}
 use Rattle.initial_storage.specs.Patterns.{Outline, outline, outline_of, outlines, file_outlines, outlines_with, items_with, outline_pattern, pattern_at, IsFoundAt}
@@ -44,17 +44,17 @@ split_count level End = refl
 split_count level (Tree one conditions inner next) =
     parted (nat_lt level (level_of one)) one conditions inner next (deeper level next) (beyond level next) (split_count level next)
 
-nested_count : (entries : List Entry) → item_count (nested entries) ≡ entry_count entries
+nested_count : (entries : List Entry) → item_count (forest_of entries) ≡ entry_count entries
 nested_count [] = refl
-nested_count (Item one ∷ more) = ap suc (split_count (level_of one) (nested more) ∙ nested_count more)
+nested_count (Item one ∷ more) = ap suc (split_count (level_of one) (forest_of more) ∙ nested_count more)
 nested_count (Condition one ∷ more) = nested_count more
 
-pub all_counted : (around : Around) (entries : List Entry) → length (outlines around (nested entries)) ≡ entry_count entries
-all_counted around entries = outlines_count around (nested entries) ∙ nested_count entries
+pub all_counted : (around : Around) (entries : List Entry) → length (outlines around (forest_of entries)) ≡ entry_count entries
+all_counted around entries = outlines_count around (forest_of entries) ∙ nested_count entries
 
 -- and as many have been counted at the end
 pub counted_all : (around : Around) (entries : List Entry) (n count : ℕ) → count + entry_count (drop n entries) ≡ entry_count entries → length entries ≤ n
-    → count ≡ length (outlines around (nested entries))
+    → count ≡ length (outlines around (forest_of entries))
 counted_all around entries n count so_far past =
     let none : entry_count (drop n entries) ≡ 0 = ap entry_count (drop_all n entries past) in
     omega (arith, none, so_far, all_counted around entries)
@@ -97,15 +97,15 @@ record_outlined area file (Tree one conditions inner next) =
 files_outlined : (area : ℕ) (files : List FileDescription) → map outline_of (file_places area files) ≡ file_outlines files
 files_outlined area [] = refl
 files_outlined area (one ∷ more) =
-    map-append outline_of (record_places area one.name (nested one.entries)) (file_places (area + 1) more)
-    ∙ ap (λ l. l ++ map outline_of (file_places (area + 1) more)) (record_outlined area one.name (nested one.entries))
-    ∙ ap (λ l. outlines nothing_around (nested one.entries) ++ l) (files_outlined (area + 1) more)
+    map-append outline_of (record_places area one.name (forest_of one.entries)) (file_places (area + 1) more)
+    ∙ ap (λ l. l ++ map outline_of (file_places (area + 1) more)) (record_outlined area one.name (forest_of one.entries))
+    ∙ ap (λ l. outlines nothing_around (forest_of one.entries) ++ l) (files_outlined (area + 1) more)
 
 items_outlined : (storage : List Entry) (files : List FileDescription) → map outline_of (items_with storage files) ≡ outlines_with storage files
 items_outlined storage files =
     map-append outline_of (items_of storage) (file_places (storage_areas storage) files)
-    ∙ ap (λ l. l ++ map outline_of (file_places (storage_areas storage) files)) (storage_outlined 0 (nested storage))
-    ∙ ap (λ l. outlines nothing_around (nested storage) ++ l) (files_outlined (storage_areas storage) files)
+    ∙ ap (λ l. l ++ map outline_of (file_places (storage_areas storage) files)) (storage_outlined 0 (forest_of storage))
+    ∙ ap (λ l. outlines nothing_around (forest_of storage) ++ l) (files_outlined (storage_areas storage) files)
 
 -- ---- the item of a number, in one list or in the one behind it
 
@@ -134,7 +134,7 @@ abbrev pub pattern_in : Option Outline → Pattern
 pattern_in None = []
 pattern_in (Some one) = outline_pattern one
 
-same_pattern : (one : Option Placed) → pattern_at one ≡ pattern_in (option_map outline_of one)
+same_pattern : (one : Option LocatedItem) → pattern_at one ≡ pattern_in (option_map outline_of one)
 same_pattern None = refl
 same_pattern (Some one) = refl
 

@@ -14,7 +14,7 @@ use Rattle.source_tree.specs.declared.entry.ItemEntry.{ItemEntry}
 use Rattle.source_tree.specs.Levels.{Forest}
 use Rattle.source_tree.specs.Clauses.{inside, kind_by, numeric_by, elementary, item_by, picture_in}
 use Rattle.source_tree.specs.Rooms.{room}
-use Rattle.source_tree.specs.Starts.{start, started, without_value}
+use Rattle.source_tree.specs.Starts.{start, initial_bytes, without_value}
 use Rattle.initial_storage.specs.Occurrences.{occurrence}
 
 free_kind : (category : Category) (justified blank : Bool) (numeric : Numeric) (item : Item) (one other : List ℕ)
@@ -27,17 +27,17 @@ free_kind category.Numeric justified true numeric item one other = refl
 free_kind category.Numeric justified false numeric item one other = refl
 
 free : (around : Around) (one : ItemEntry) (picture : Picture) (value : Option Literal) (within other : List ℕ)
-    → started (elementary around one picture) value within ≡ started (elementary around one picture) value other
+    → initial_bytes (elementary around one picture) value within ≡ initial_bytes (elementary around one picture) value other
 free around one picture None within other =
     free_kind picture.category one.justified one.blank_when_zero (numeric_by around one picture) (elementary around one picture) within other
 free around one picture (Some literal) within other = refl
 
 elementary_occurrence : (around : Around) (one : ItemEntry) (inner : Forest) (picture : Picture) (item : Item) (within : List ℕ)
-    → Some picture ≡ picture_in one → item ≡ elementary around one picture → started item one.value within ≡ occurrence around one inner
+    → Some picture ≡ picture_in one → item ≡ elementary around one picture → initial_bytes item one.value within ≡ occurrence around one inner
 elementary_occurrence around one inner picture item within read is =
-    ap (λ i. started i one.value within) is
+    ap (λ i. initial_bytes i one.value within) is
     ∙ free around one picture one.value within (start (inside around one) inner)
-    ∙ ap (λ p. started (item_by around one p (room (inside around one) inner)) one.value (start (inside around one) inner)) read
+    ∙ ap (λ p. initial_bytes (item_by around one p (room (inside around one) inner)) one.value (start (inside around one) inner)) read
 
 -- The bytes before the room that was made for an item stay.
 before_room : (begin size : ℕ) (old spaces made : List ℕ) → begin ≡ length old → made ≡ take (begin + size) old ++ spaces → take begin made ≡ old
@@ -47,7 +47,7 @@ before_room begin size old spaces made e is =
 
 pub elementary_put : (around : Around) (one : ItemEntry) (inner : Forest) (picture : Picture) (item : Item) (begin : ℕ) (old spaces made new : List ℕ) → begin ≡ length old
     → made ≡ take (begin + item.length) old ++ spaces → Some picture ≡ picture_in one → item ≡ elementary around one picture
-    → new ≡ take begin made ++ started item one.value (drop begin made) → new ≡ old ++ occurrence around one inner
+    → new ≡ take begin made ++ initial_bytes item one.value (drop begin made) → new ≡ old ++ occurrence around one inner
 elementary_put around one inner picture item begin old spaces made new e room read is put =
-    put ∙ ap (λ l. l ++ started item one.value (drop begin made)) (before_room begin item.length old spaces made e room)
+    put ∙ ap (λ l. l ++ initial_bytes item one.value (drop begin made)) (before_room begin item.length old spaces made e room)
     ∙ ap (λ l. old ++ l) (elementary_occurrence around one inner picture item (drop begin made) read is)

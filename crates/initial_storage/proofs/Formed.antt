@@ -14,14 +14,14 @@ use Rattle.source_tree.specs.declared.entry.Entry.{Entry}
 use Rattle.source_tree.specs.declared.name.Name.{Name}
 use Rattle.source_tree.specs.declared.select.FileDescription.{FileDescription}
 use Rattle.source_tree.specs.declared.program.Program.{Program}
-use Rattle.source_tree.specs.Levels.{Forest, End, Tree, nested}
+use Rattle.source_tree.specs.Levels.{Forest, End, Tree, forest_of}
 use Rattle.source_tree.specs.Clauses.{nothing_around, inside, form_of, item_by, editing_in, editing_of, occurrences}
 use Rattle.source_tree.specs.Rooms.{redefines, room, item_with}
 use Rattle.source_tree.specs.Places.{Surroundings, within, places, top, storage_places, items_of}
 use Rattle.source_tree.specs.Records.{storage_areas, record_places, file_places, program_items}
 use Rattle.source_tree.specs.Broken.{each}
 use Rattle.source_tree.specs.ClauseRules.{has_items, most_item_bytes, wrong_picture}
-use Rattle.source_tree.specs.RedefinitionRules.{Redefinable, remembered}
+use Rattle.source_tree.specs.RedefinitionRules.{Redefinable, redefinable_after}
 use Rattle.source_tree.specs.ValueRules.{condition_rules}
 use Rattle.source_tree.specs.EntryRules.{Position, outermost, is_outermost, own_rules, below, forest_rules, entry_rules}
 use Rattle.source_tree.specs.FileRules.{descriptions_rules}
@@ -67,7 +67,7 @@ some_room at End some formed e = cc
 some_room at (Tree one conditions inner next) some formed e =
     let item : Item = item_with at.around one inner in
     let bytes : ℕ = occurrences one * item.length in
-    let parts = three_parts (forest_rules (below at one inner) None inner) (own_rules at one item inner None) (each (condition_rules item) conditions) (forest_rules at (remembered one bytes None) next) e in
+    let parts = three_parts (forest_rules (below at one inner) None inner) (own_rules at one item inner None) (each (condition_rules item) conditions) (forest_rules at (redefinable_after one bytes None) next) e in
     let own : KeepsOwn at one inner None = keeps_own at one inner None parts.1 in
     first_bytes (redefines one) (occurrences one) item.length (room at.around next)
     (redefines_some (is_outermost at && at.in_file) one bytes one.redefines None own.redefinition) own.some (some_bytes item formed.0.0)
@@ -76,7 +76,7 @@ formed : (at : Position) (last : Option Redefinable) (F : Forest) → forest_rul
 formed at last End e = tt
 formed at last (Tree one conditions inner next) e =
     let item : Item = item_with at.around one inner in
-    let after : Option Redefinable = remembered one (occurrences one * item.length) last in
+    let after : Option Redefinable = redefinable_after one (occurrences one * item.length) last in
     let parts = three_parts (forest_rules (below at one inner) None inner) (own_rules at one item inner last) (each (condition_rules item) conditions) (forest_rules at after next) e in
     let own : KeepsOwn at one inner last = keeps_own at one inner last parts.1 in
     let in_it : AreFormed (inside at.around one) inner = formed (below at one inner) None inner parts.0 in (
@@ -112,11 +112,11 @@ record_formed file (Tree one conditions inner next) h area =
     (places_formed (top area (file ∷ [])) 0 0 (Tree one conditions inner End) (h.0, h.1, tt)) (record_formed file next h.2 area)
 
 -- all entries, one in another
-pub forest_formed : (entries : List Entry) → entry_rules entries ≡ [] → AreFormed nothing_around (nested entries)
-forest_formed entries e = let parts = rule_parts entries e in formed (outermost false) None (nested entries) parts.1
+pub forest_formed : (entries : List Entry) → entry_rules entries ≡ [] → AreFormed nothing_around (forest_of entries)
+forest_formed entries e = let parts = rule_parts entries e in formed (outermost false) None (forest_of entries) parts.1
 
 file_formed : (one : FileDescription) → Description one → FormsFile one
-file_formed one kept = formed (outermost true) None (nested one.entries) kept.forest
+file_formed one kept = formed (outermost true) None (forest_of one.entries) kept.forest
 
 pub files_formed : (storage : List Entry) (files : List FileDescription) → descriptions_rules storage files ≡ [] → AllByRecursion FormsFile files
 files_formed storage files e = of_descriptions FormsFile file_formed files (descriptions storage files e)
@@ -124,9 +124,9 @@ files_formed storage files e = of_descriptions FormsFile file_formed files (desc
 pub formed_by_recursion : (program : Program) → entry_rules program.storage ≡ [] → descriptions_rules program.storage program.files ≡ [] → AllByRecursion IsFormed (program_items program)
 formed_by_recursion program e f =
     all_append IsFormed (items_of program.storage) (file_places (storage_areas program.storage) program.files)
-    (storage_formed 0 (nested program.storage) (forest_formed program.storage e))
+    (storage_formed 0 (forest_of program.storage) (forest_formed program.storage e))
     (of_files IsFormed (storage_areas program.storage) program.files
-    (of_descriptions _ (λ one kept. record_formed one.name (nested one.entries) (file_formed one kept)) program.files (descriptions program.storage program.files f)))
+    (of_descriptions _ (λ one kept. record_formed one.name (forest_of one.entries) (file_formed one kept)) program.files (descriptions program.storage program.files f)))
 
 pub all_formed : (program : Program) → entry_rules program.storage ≡ [] → descriptions_rules program.storage program.files ≡ [] → All IsFormed (program_items program)
 all_formed program e f = All-from_recursion IsFormed (program_items program) (formed_by_recursion program e f)

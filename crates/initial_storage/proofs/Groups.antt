@@ -12,7 +12,7 @@ use Rattle.source_tree.specs.Integers.{number_of}
 use Rattle.source_tree.specs.Levels.{Forest, End, Tree}
 use Rattle.source_tree.specs.Clauses.{inside, count_in, occurrences}
 use Rattle.source_tree.specs.Rooms.{redefines, room, extent, item_with}
-use Rattle.source_tree.specs.Places.{Placed, Surroundings, with_dimension, dimensions_of, within, places}
+use Rattle.source_tree.specs.Places.{LocatedItem, Surroundings, with_dimension, dimensions_of, within, places}
 use Rattle.initial_storage.specs.Reach.{reach}
 
 -- An item has room for those in it, and isn't longer than what it redefines, which has so many bytes.
@@ -28,7 +28,7 @@ Sized around object (Tree one conditions inner next) =
     × Sized around (if redefines one then object else extent around one (room (inside around one) inner)) next
 
 -- it lies in that area, before that place
-abbrev pub Ends : ℕ → ℕ → Placed → Type 0
+abbrev pub Ends : ℕ → ℕ → LocatedItem → Type 0
 Ends area limit one = (one.area ≡ area) × (one.offset + reach one.dimensions + one.item.length ≤ limit)
 
 pub all_append : {A : Type 0} (P : A → Type 0) (xs ys : List A) → AllByRecursion P xs → AllByRecursion P ys → AllByRecursion P (xs ++ ys)

@@ -4,7 +4,7 @@ use Rattle.source_tree.specs.declared.entry.ItemEntry.{ItemEntry}
 use Rattle.source_tree.specs.declared.entry.Entry.{Entry}
 use Rattle.source_tree.specs.declared.entry.Entry.TheVariants.{Item, Condition}
 use Rattle.source_tree.specs.Integers.{number_of}
-use Rattle.source_tree.specs.Levels.{Forest, End, Tree, level_of, deeper, beyond, nested}
+use Rattle.source_tree.specs.Levels.{Forest, End, Tree, level_of, deeper, beyond, forest_of}
 use Rattle.source_tree.specs.Broken.{each}
 use Rattle.source_tree.specs.EntryRules.{is_level, level_rules}
 use Rattle.initial_storage.proofs.Kept.{front_nil, back_nil, kept, true_where}
@@ -55,9 +55,9 @@ level_some : (one : ItemEntry) → level_rules (Item one) ≡ [] → 1 ≤ level
 level_some one e =
     from_one (number_of one.level) (number_of one.level == 77) (true_where (is_level (number_of one.level)) (kept (not (is_level (number_of one.level))) 43 one.level.place e))
 
-pub outer_nested : (entries : List Entry) → each level_rules entries ≡ [] → Outer (nested entries)
+pub outer_nested : (entries : List Entry) → each level_rules entries ≡ [] → Outer (forest_of entries)
 outer_nested [] e = tt
 outer_nested (Item one ∷ more) e =
-    let rest : Outer (nested more) = outer_nested more (back_nil (level_rules (Item one)) (each level_rules more) e) in
-    (inner_deeper (level_of one) (level_some one (front_nil (level_rules (Item one)) (each level_rules more) e)) (nested more) rest, outer_beyond (level_of one) (nested more) rest)
+    let rest : Outer (forest_of more) = outer_nested more (back_nil (level_rules (Item one)) (each level_rules more) e) in
+    (inner_deeper (level_of one) (level_some one (front_nil (level_rules (Item one)) (each level_rules more) e)) (forest_of more) rest, outer_beyond (level_of one) (forest_of more) rest)
 outer_nested (Condition one ∷ more) e = outer_nested more e

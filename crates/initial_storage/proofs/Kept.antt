@@ -15,16 +15,16 @@ use Rattle.source_tree.specs.declared.entry.Around.{Around}
 use Rattle.source_tree.specs.declared.entry.ItemEntry.{ItemEntry}
 use Rattle.source_tree.specs.declared.entry.Entry.{Entry}
 use Rattle.source_tree.specs.Integers.{number_of}
-use Rattle.source_tree.specs.Levels.{Forest, End, Tree, level_of, leading, nested}
+use Rattle.source_tree.specs.Levels.{Forest, End, Tree, level_of, leading_conditions, forest_of}
 use Rattle.source_tree.specs.Clauses.{nothing_around, count_in, occurrences, picture_in}
 use Rattle.source_tree.specs.Rooms.{redefines, item_with}
 use Rattle.source_tree.specs.Literals.{literal_sender}
-use Rattle.source_tree.specs.Broken.{Broken, where_so, each}
+use Rattle.source_tree.specs.Broken.{RuleBreach, where_so, each}
 use Rattle.source_tree.specs.ClauseRules.{most_item_bytes, most_occurrences, most_dimensions, may_be_justified, wrong_occurs, wrong_blank, wrong_form, another_usage, too_large, too_many, wrong_clause, wrong_picture}
-use Rattle.source_tree.specs.RedefinitionRules.{Redefinable, remembered}
+use Rattle.source_tree.specs.RedefinitionRules.{Redefinable, redefinable_after}
 use Rattle.source_tree.specs.ValueRules.{has_form, wrong_number, wrong_class, wrong_value, value_rules, condition_rules}
 use Rattle.source_tree.specs.EntryRules.{Position, outermost, is_outermost, level_rules, wrong_level, redefinition_rules, own_rules, below, forest_rules, storage_rules, excess, homeless, most_entries, entry_rules}
-use Rattle.entries.specs.Nesting.{AreTold}
+use Rattle.data_entries.specs.Nesting.{AreTold}
 use Rattle.initial_storage.specs.Fits.{Suits, HasValue, FitsEntry, Fits}
 
 pub front_nil : {A : Type 0} (xs ys : List A) → xs ++ ys ≡ [] → xs ≡ []
@@ -98,7 +98,7 @@ has_value forbidden item (Some one) e =
       suits item.kind item.length one.value (second_false (not (has_form one.value)) (wrong_class item.kind item.length one.value) right),
     )
 
-own_parts : (times bytes level clause picture : Bool) (place : Place) (redefinition value : List Broken)
+own_parts : (times bytes level clause picture : Bool) (place : Place) (redefinition value : List RuleBreach)
     → where_so times 69 place ++ where_so bytes 48 place ++ where_so level 43 place ++ where_so clause 44 place ++ where_so picture 45 place ++ redefinition ++ value ≡ []
     → (times ≡ false) × (bytes ≡ false) × (clause ≡ false) × (picture ≡ false) × (redefinition ≡ []) × (value ≡ [])
 own_parts true bytes level clause picture place redefinition value e = cc
@@ -137,7 +137,7 @@ entry_fits at one inner last level e =
     let own : KeepsOwn at one inner last = keeps_own at one inner last e in
     record { level = level; some = own.some; times = own.times; bytes = own.bytes; value = own.value }
 
-pub three_parts : (a b c d : List Broken) → a ++ (b ++ (c ++ d)) ≡ [] → (a ≡ []) × (b ≡ []) × (d ≡ [])
+pub three_parts : (a b c d : List RuleBreach) → a ++ (b ++ (c ++ d)) ≡ [] → (a ≡ []) × (b ≡ []) × (d ≡ [])
 three_parts a b c d e =
     let rest = back_nil a (b ++ (c ++ d)) e in
     (front_nil a (b ++ (c ++ d)) e, front_nil b (c ++ d) rest, back_nil c d (back_nil b (c ++ d) rest))
@@ -146,24 +146,24 @@ pub of_forest : (at : Position) (last : Option Redefinable) (F : Forest) → Are
 of_forest at last End levels e = tt
 of_forest at last (Tree one conditions inner next) levels e =
     let item : Items.Item = item_with at.around one inner in
-    let after : Option Redefinable = remembered one (occurrences one * item.length) last in
+    let after : Option Redefinable = redefinable_after one (occurrences one * item.length) last in
     let parts = three_parts (forest_rules (below at one inner) None inner) (own_rules at one item inner last) (each (condition_rules item) conditions) (forest_rules at after next) e in
     (entry_fits at one inner last levels.0 parts.1, of_forest (below at one inner) None inner levels.1 parts.0, of_forest at after next levels.2 parts.2)
 
 -- ---- all of working storage
 
 pub rule_parts : (entries : List Entry) → entry_rules entries ≡ []
-    → (each level_rules entries ≡ []) × (forest_rules (outermost false) None (nested entries) ≡ []) × (storage_rules 0 (nested entries) ≡ [])
+    → (each level_rules entries ≡ []) × (forest_rules (outermost false) None (forest_of entries) ≡ []) × (storage_rules 0 (forest_of entries) ≡ [])
 rule_parts entries e =
-    let counted = back_nil (each excess (drop most_entries entries)) (each level_rules entries ++ (each homeless (leading entries) ++ (forest_rules (outermost false) None (nested entries) ++ storage_rules 0 (nested entries)))) e in
-    let rest = back_nil (each homeless (leading entries)) (forest_rules (outermost false) None (nested entries) ++ storage_rules 0 (nested entries))
-    (back_nil (each level_rules entries) (each homeless (leading entries) ++ (forest_rules (outermost false) None (nested entries) ++ storage_rules 0 (nested entries))) counted) in (
-      front_nil (each level_rules entries) (each homeless (leading entries) ++ (forest_rules (outermost false) None (nested entries) ++ storage_rules 0 (nested entries))) counted,
-      front_nil (forest_rules (outermost false) None (nested entries)) (storage_rules 0 (nested entries)) rest,
-      back_nil (forest_rules (outermost false) None (nested entries)) (storage_rules 0 (nested entries)) rest,
+    let counted = back_nil (each excess (drop most_entries entries)) (each level_rules entries ++ (each homeless (leading_conditions entries) ++ (forest_rules (outermost false) None (forest_of entries) ++ storage_rules 0 (forest_of entries)))) e in
+    let rest = back_nil (each homeless (leading_conditions entries)) (forest_rules (outermost false) None (forest_of entries) ++ storage_rules 0 (forest_of entries))
+    (back_nil (each level_rules entries) (each homeless (leading_conditions entries) ++ (forest_rules (outermost false) None (forest_of entries) ++ storage_rules 0 (forest_of entries))) counted) in (
+      front_nil (each level_rules entries) (each homeless (leading_conditions entries) ++ (forest_rules (outermost false) None (forest_of entries) ++ storage_rules 0 (forest_of entries))) counted,
+      front_nil (forest_rules (outermost false) None (forest_of entries)) (storage_rules 0 (forest_of entries)) rest,
+      back_nil (forest_rules (outermost false) None (forest_of entries)) (storage_rules 0 (forest_of entries)) rest,
     )
 
-pub fits : (entries : List Entry) → entry_rules entries ≡ [] → AreTold (nested entries) → Fits nothing_around (nested entries)
+pub fits : (entries : List Entry) → entry_rules entries ≡ [] → AreTold (forest_of entries) → Fits nothing_around (forest_of entries)
 fits entries e levels =
     let parts = rule_parts entries e in
-    of_forest (outermost false) None (nested entries) levels parts.1
+    of_forest (outermost false) None (forest_of entries) levels parts.1

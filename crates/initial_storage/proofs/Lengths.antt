@@ -2,17 +2,17 @@
 use Rattle.std.proofs.Common.{◌≡◌, ℕ, ◌-◌, Bool, true, false, if◌then◌else◌, List, [], ◌∷◌, ◌++◌, length, take, refl, ap, ◌∙◌, length-append, length-take, arith}
 use Rattle.std.specs.Prelude.{map, replicate}
 use Rattle.std.proofs.lemmas.List.{length-replicate, map-append}
-use Rattle.items.specs.Texts.{padded}
+use Rattle.items.specs.Texts.{padded_text}
 use Rattle.source_tree.specs.declared.select.FileDescription.{FileDescription}
 use Rattle.source_tree.specs.declared.program.Program.{Program}
-use Rattle.source_tree.specs.Levels.{Forest, End, Tree, nested}
+use Rattle.source_tree.specs.Levels.{Forest, End, Tree, forest_of}
 use Rattle.source_tree.specs.Clauses.{nothing_around}
 use Rattle.source_tree.specs.Rooms.{redefines, area_length, area_lengths}
 use Rattle.source_tree.specs.Starts.{start, areas_from, areas_at_start}
 use Rattle.source_tree.specs.Records.{record_length, record_areas, program_areas}
 use Rattle.initial_storage.specs.Reach.{record_area_lengths, program_area_lengths}
 
-pub length-padded : (size : ℕ) (text : List ℕ) → length (padded size text) ≡ size
+pub length-padded : (size : ℕ) (text : List ℕ) → length (padded_text size text) ≡ size
 length-padded size text = omega (arith, length-append (take size text) (replicate (size - length text) 32), length-take size text, length-replicate {A = ℕ} (size - length text) 32)
 
 either : (b : Bool) (one two : List (List ℕ)) (lengths more : List ℕ) → map length one ≡ lengths → map length two ≡ more
@@ -25,7 +25,7 @@ lengths_of End = refl
 lengths_of (Tree one conditions inner next) =
     let size : ℕ = area_length one conditions inner next in
     let bytes : List ℕ = start nothing_around (Tree one conditions inner End) in
-    either (redefines one) (areas_from next) (padded size bytes ∷ areas_from next) (area_lengths next) (size ∷ area_lengths next) (lengths_of next)
+    either (redefines one) (areas_from next) (padded_text size bytes ∷ areas_from next) (area_lengths next) (size ∷ area_lengths next) (lengths_of next)
     (ap (λ n. n ∷ map length (areas_from next)) (length-padded size bytes) ∙ ap (λ l. size ∷ l) (lengths_of next))
 
 record_lengths : (files : List FileDescription) → map length (record_areas files) ≡ record_area_lengths files
@@ -36,5 +36,5 @@ record_lengths (one ∷ more) =
 pub program_lengths : (program : Program) → map length (program_areas program) ≡ program_area_lengths program
 program_lengths program =
     map-append length (areas_at_start program.storage) (record_areas program.files)
-    ∙ ap (λ l. l ++ map length (record_areas program.files)) (lengths_of (nested program.storage))
-    ∙ ap (λ l. area_lengths (nested program.storage) ++ l) (record_lengths program.files)
+    ∙ ap (λ l. l ++ map length (record_areas program.files)) (lengths_of (forest_of program.storage))
+    ∙ ap (λ l. area_lengths (forest_of program.storage) ++ l) (record_lengths program.files)

@@ -6,11 +6,11 @@ use Rattle.picture.specs.declared.picture.Picture.{Picture}
 use Rattle.picture.specs.declared.category.Category.{Category}
 use Rattle.picture.specs.declared.category.Category.TheVariants as category
 use Rattle.picture.specs.declared.class.Class.TheVariants as c
-use Rattle.picture.specs.Runs.{past, occurrences, total}
+use Rattle.picture.specs.Runs.{runs_past, occurrences, symbol_count}
 use Rattle.picture.specs.Regions.{is_digit_place, digits_in}
-use Rattle.picture.specs.Categories.{stands, is_empty, kind_of}
+use Rattle.picture.specs.Categories.{contains_class, is_empty, kind_of}
 use Rattle.picture.specs.Faults.{or_no_form}
-use Rattle.picture.specs.Pictures.{IsAnyPicture, IsWithin, picture_of}
+use Rattle.picture.specs.Pictures.{IsAnyPicture, IsWithinBounds, picture_of}
 use Rattle.picture.proofs.Counts.{at_most_all}
 use Rattle.picture.proofs.Pictures.{answer_form, any_bounded}
 use Rattle.picture.proofs.Regions.{any_editing}
@@ -46,11 +46,11 @@ has_characters false text false e = cc
 not_none : (n : ℕ) → nat_lt 0 n ≡ true → 1 ≤ n
 not_none n e = grind arith
 
-some_characters : (runs : List Run) → is_text (kind_of runs) ≡ true → 1 ≤ total runs
+some_characters : (runs : List Run) → is_text (kind_of runs) ≡ true → 1 ≤ symbol_count runs
 unfolding kind_of
 some_characters runs e =
-    let text : Category = if stands c.SimpleInsertions runs then category.AlphanumericEdited else if stands c.CharactersAndNines runs then category.Alphanumeric else category.Alphabetic in
-    let there : stands c.LettersAndCharacters runs ≡ true = has_characters (stands c.LettersAndCharacters runs) text (is_empty (past c.Numeric runs)) e in
+    let text : Category = if contains_class c.SimpleInsertions runs then category.AlphanumericEdited else if contains_class c.CharactersAndNines runs then category.Alphanumeric else category.Alphabetic in
+    let there : contains_class c.LettersAndCharacters runs ≡ true = has_characters (contains_class c.LettersAndCharacters runs) text (is_empty (runs_past c.Numeric runs)) e in
     let some : 1 ≤ occurrences c.LettersAndCharacters runs = not_none (occurrences c.LettersAndCharacters runs) there in
     omega (arith, some, at_most_all c.LettersAndCharacters runs)
 
@@ -66,7 +66,7 @@ digits_within (place ∷ right) = one_more (is_digit_place place) (digits_within
 some_digits : (places : List Place) (digits size : ℕ) → 1 ≤ digits → digits_in places ≡ digits → length places ≡ size → 1 ≤ size
 some_digits places digits size some numbered all = omega (arith, some, numbered, all, digits_within places)
 
-some_by_category : (category : Category) (picture : Picture) → kind_of picture.runs ≡ category → digits_in picture.places ≡ picture.digits → IsWithin category picture → 1 ≤ picture.size
+some_by_category : (category : Category) (picture : Picture) → kind_of picture.runs ≡ category → digits_in picture.places ≡ picture.digits → IsWithinBounds category picture → 1 ≤ picture.size
 unfolding is_text
 some_by_category category.Alphabetic picture kind numbered h = omega (arith, some_characters picture.runs (ap is_text kind), h.2)
 some_by_category category.Alphanumeric picture kind numbered h = omega (arith, some_characters picture.runs (ap is_text kind), h.2)
@@ -83,7 +83,7 @@ abbrev IsFormedBy : Picture → Kind → Type 0
 IsFormedBy picture kind =
     IsOfLength kind (length_by kind picture) × IsEditing (record { kind = kind; length = length_by kind picture }) (editing_by kind picture)
 
-by_category : (category : Category) (justified blank : Bool) (around : Around) (one : ItemEntry) (picture : Picture) → picture.category ≡ category → IsWithin category picture
+by_category : (category : Category) (justified blank : Bool) (around : Around) (one : ItemEntry) (picture : Picture) → picture.category ≡ category → IsWithinBounds category picture
     → 1 ≤ picture.size → length_by (kind_by category justified blank (numeric_by around one picture)) picture ≤ most_length
     → IsFormedBy picture (kind_by category justified blank (numeric_by around one picture))
 by_category category.Alphabetic justified blank around one picture e h some most = ((some, most), tt)

@@ -11,17 +11,17 @@ use Rattle.source_tree.specs.declared.entry.ItemEntry.{ItemEntry}
 use Rattle.source_tree.specs.declared.entry.Entry.{Entry}
 use Rattle.source_tree.specs.declared.select.FileDescription.{FileDescription}
 use Rattle.source_tree.specs.declared.program.Program.{Program}
-use Rattle.source_tree.specs.Levels.{Forest, End, Tree, nested}
+use Rattle.source_tree.specs.Levels.{Forest, End, Tree, forest_of}
 use Rattle.source_tree.specs.Clauses.{nothing_around, inside, occurrences}
-use Rattle.source_tree.specs.Rooms.{redefines, room, item_with, longest, redefining, area_lengths}
-use Rattle.source_tree.specs.Places.{Placed, top, places, storage_places, items_of}
+use Rattle.source_tree.specs.Rooms.{redefines, room, item_with, longest, leading_redefinitions, area_lengths}
+use Rattle.source_tree.specs.Places.{LocatedItem, top, places, storage_places, items_of}
 use Rattle.source_tree.specs.Records.{storage_areas, record_length, record_places, file_places, program_items}
 use Rattle.source_tree.specs.Broken.{each}
-use Rattle.source_tree.specs.RedefinitionRules.{Redefinable, remembered, wrong_object, wrong_redefinition}
+use Rattle.source_tree.specs.RedefinitionRules.{Redefinable, redefinable_after, wrong_object, wrong_redefinition}
 use Rattle.source_tree.specs.ValueRules.{condition_rules}
 use Rattle.source_tree.specs.EntryRules.{outermost, is_outermost, redefinition_rules, own_rules, below, forest_rules, entry_rules}
 use Rattle.source_tree.specs.FileRules.{descriptions_rules}
-use Rattle.initial_storage.specs.Reach.{reach, IsWithin, record_area_lengths, program_area_lengths}
+use Rattle.initial_storage.specs.Reach.{reach, IsWithinArea, record_area_lengths, program_area_lengths}
 use Rattle.initial_storage.proofs.Kept.{three_parts, kept, second_false, KeepsOwn, keeps_own, rule_parts}
 use Rattle.initial_storage.proofs.KeptFiles.{Description, descriptions}
 use Rattle.initial_storage.proofs.Inner.{Outer, outer_nested}
@@ -55,7 +55,7 @@ records in_file last (Tree one conditions inner next) levels e =
     let at = outermost in_file in
     let item : Item = item_with nothing_around one inner in
     let bytes : ℕ = occurrences one * item.length in
-    let after : Option Redefinable = remembered one bytes last in
+    let after : Option Redefinable = redefinable_after one bytes last in
     let parts = three_parts (forest_rules (below at one inner) None inner) (own_rules at one item inner last) (each (condition_rules item) conditions) (forest_rules at after next) e in
     let own : KeepsOwn at one inner last = keeps_own at one inner last parts.1 in
     let so : redefines one ≡ true → is_some last ≡ true = redefines_some (is_outermost at && at.in_file) one bytes one.redefines last own.redefinition in (
@@ -113,7 +113,7 @@ all_weaker P Q [] h k = tt
 all_weaker P Q (x ∷ xs) h k = (h x k.0, all_weaker P Q xs h k.1)
 
 -- what ends before an area does
-ends_within : (lengths : List ℕ) (area limit : ℕ) → limit ≤ get_or lengths area 0 → (one : Placed) → Ends area limit one → IsWithin lengths one
+ends_within : (lengths : List ℕ) (area limit : ℕ) → limit ≤ get_or lengths area 0 → (one : LocatedItem) → Ends area limit one → IsWithinArea lengths one
 ends_within lengths area limit h one ends =
     let same : get_or lengths one.area 0 ≡ get_or lengths area 0 = ap (λ n. get_or lengths n 0) ends.0 in
     let end = ends.1 in
@@ -121,27 +121,27 @@ ends_within lengths area limit h one ends =
     here
 
 within_storage : (areas : ℕ) (before : List ℕ) (some : Bool) (F : Forest) → length before ≡ areas → (some ≡ true → 1 ≤ areas) → Records some F
-    → longest nothing_around (redefining F) ≤ get_or before (areas - 1) 0 → AllByRecursion (IsWithin (before ++ area_lengths F)) (storage_places areas F)
+    → longest nothing_around (leading_redefinitions F) ≤ get_or before (areas - 1) 0 → AllByRecursion (IsWithinArea (before ++ area_lengths F)) (storage_places areas F)
 within_storage areas before some End e one kept h = tt
 within_storage areas before some (Tree one conditions inner next) e count kept h =
     let b : Bool = redefines one in
     let own : ℕ = occurrences one * (item_with nothing_around one inner).length in
-    let rest : ℕ = longest nothing_around (redefining next) in
+    let rest : ℕ = longest nothing_around (leading_redefinitions next) in
     let area : ℕ = if b then areas - 1 else areas in
     let lengths : List ℕ = before ++ (if b then area_lengths next else max own rest ∷ area_lengths next) in
     let after : List ℕ = if b then before else before ++ max own rest ∷ [] in
     let some_area : b ≡ true → 1 ≤ areas = λ so. count (kept.0 so) in
-    let most : b ≡ true → max own rest ≤ get_or before (areas - 1) 0 = front b (Tree one conditions inner (redefining next)) (get_or before (areas - 1) 0) h in
+    let most : b ≡ true → max own rest ≤ get_or before (areas - 1) 0 = front b (Tree one conditions inner (leading_redefinitions next)) (get_or before (areas - 1) 0) h in
     let fits : own ≤ get_or lengths area 0 = own_fits b areas own rest before (area_lengths next) e some_area most in
     let items = places (top area []) 0 0 (Tree one conditions inner End) in
     let ends : AllByRecursion (Ends area own) items =
     within_group (top area []) own 0 0 own (Tree one conditions inner End)
     (record { some = kept.1; shorter = λ so. omega arith; room = kept.2 }, kept.3, tt) (omega arith) (none_taken b own) in
-    let later : AllByRecursion (IsWithin (after ++ area_lengths next)) (storage_places (area + 1) next) =
+    let later : AllByRecursion (IsWithinArea (after ++ area_lengths next)) (storage_places (area + 1) next) =
     within_storage (area + 1) after true next (next_areas b areas (max own rest) before e some_area) (λ so. omega arith) kept.4 (next_fits b areas own rest before e most) in
-    all_append (IsWithin lengths) items (storage_places (area + 1) next)
-    (all_weaker (Ends area own) (IsWithin lengths) items (ends_within lengths area own fits) ends)
-    (subst (λ l. AllByRecursion (IsWithin l) (storage_places (area + 1) next)) (sym (same_lengths b before (area_lengths next) (max own rest))) later)
+    all_append (IsWithinArea lengths) items (storage_places (area + 1) next)
+    (all_weaker (Ends area own) (IsWithinArea lengths) items (ends_within lengths area own fits) ends)
+    (subst (λ l. AllByRecursion (IsWithinArea l) (storage_places (area + 1) next)) (sym (same_lengths b before (area_lengths next) (max own rest))) later)
 
 -- ---- all of working storage
 
@@ -149,15 +149,15 @@ no_front : (b : Bool) (F : Forest) → (b ≡ true → false ≡ true) → longe
 no_front true F h = let no : false ≡ true = h refl in cc
 no_front false F h = omega arith
 
-begins : (F : Forest) → Records false F → longest nothing_around (redefining F) ≤ 0
+begins : (F : Forest) → Records false F → longest nothing_around (leading_redefinitions F) ≤ 0
 begins End h = omega arith
-begins (Tree one conditions inner next) h = no_front (redefines one) (Tree one conditions inner (redefining next)) h.0
+begins (Tree one conditions inner next) h = no_front (redefines one) (Tree one conditions inner (leading_redefinitions next)) h.0
 
-storage_within : (entries : List Entry) → entry_rules entries ≡ [] → AllByRecursion (IsWithin (area_lengths (nested entries))) (items_of entries)
+storage_within : (entries : List Entry) → entry_rules entries ≡ [] → AllByRecursion (IsWithinArea (area_lengths (forest_of entries))) (items_of entries)
 storage_within entries e =
     let parts = rule_parts entries e in
-    let all : Records false (nested entries) = records false None (nested entries) (outer_nested entries parts.0) parts.1 in
-    within_storage 0 [] false (nested entries) refl (λ so. cc) all (begins (nested entries) all)
+    let all : Records false (forest_of entries) = records false None (forest_of entries) (outer_nested entries parts.0) parts.1 in
+    within_storage 0 [] false (forest_of entries) refl (λ so. cc) all (begins (forest_of entries) all)
 
 -- ---- records of files
 
@@ -168,7 +168,7 @@ rest_shorter : (own rest limit : ℕ) → max own rest ≤ limit → rest ≤ li
 rest_shorter own rest limit h = omega arith
 
 within_record : (lengths : List ℕ) (area : ℕ) (file : Name) (limit : ℕ) → limit ≤ get_or lengths area 0 → (some : Bool) (F : Forest) → Records some F → longest nothing_around F ≤ limit
-    → AllByRecursion (IsWithin lengths) (record_places area file F)
+    → AllByRecursion (IsWithinArea lengths) (record_places area file F)
 within_record lengths area file limit fits some End kept h = tt
 within_record lengths area file limit fits some (Tree one conditions inner next) kept h =
     let own : ℕ = occurrences one * (item_with nothing_around one inner).length in
@@ -179,24 +179,24 @@ within_record lengths area file limit fits some (Tree one conditions inner next)
     let ends : AllByRecursion (Ends area own) items =
     within_group (top area (file ∷ [])) own 0 0 own (Tree one conditions inner End)
     (record { some = kept.1; shorter = λ so. omega arith; room = kept.2 }, kept.3, tt) (omega arith) (none_taken (redefines one) own) in
-    all_append (IsWithin lengths) items (record_places area file next)
-    (all_weaker (Ends area own) (IsWithin lengths) items (ends_within lengths area own own_area) ends)
+    all_append (IsWithinArea lengths) items (record_places area file next)
+    (all_weaker (Ends area own) (IsWithinArea lengths) items (ends_within lengths area own own_area) ends)
     (within_record lengths area file limit fits true next kept.4 (rest_shorter own rest limit h))
 
-kept_records : (one : FileDescription) → Description one → Records false (nested one.entries)
-kept_records one kept = records true None (nested one.entries) (outer_nested one.entries kept.levels) kept.forest
+kept_records : (one : FileDescription) → Description one → Records false (forest_of one.entries)
+kept_records one kept = records true None (forest_of one.entries) (outer_nested one.entries kept.levels) kept.forest
 
 files_within : (before : List ℕ) (area : ℕ) (files : List FileDescription) → length before ≡ area → AllByRecursion Description files
-    → AllByRecursion (IsWithin (before ++ record_area_lengths files)) (file_places area files)
+    → AllByRecursion (IsWithinArea (before ++ record_area_lengths files)) (file_places area files)
 files_within before area [] e h = tt
 files_within before area (one ∷ more) e h =
     let size : ℕ = record_length one.entries in
     let lengths : List ℕ = before ++ size ∷ record_area_lengths more in
     let here : get_or lengths area 0 ≡ size = ap (λ n. get_or lengths n 0) (sym e) ∙ get_or-append_seam before size (record_area_lengths more) 0 in
     let behind : length (before ++ size ∷ []) ≡ area + 1 = omega (arith, e, length-append before (size ∷ [])) in
-    all_append (IsWithin lengths) (record_places area one.name (nested one.entries)) (file_places (area + 1) more)
-    (within_record lengths area one.name size (omega arith) false (nested one.entries) (kept_records one h.0) (omega arith))
-    (subst (λ l. AllByRecursion (IsWithin l) (file_places (area + 1) more)) (append_assoc before (size ∷ []) (record_area_lengths more))
+    all_append (IsWithinArea lengths) (record_places area one.name (forest_of one.entries)) (file_places (area + 1) more)
+    (within_record lengths area one.name size (omega arith) false (forest_of one.entries) (kept_records one h.0) (omega arith))
+    (subst (λ l. AllByRecursion (IsWithinArea l) (file_places (area + 1) more)) (append_assoc before (size ∷ []) (record_area_lengths more))
     (files_within (before ++ size ∷ []) (area + 1) more behind h.1))
 
 -- ---- all of a program
@@ -206,16 +206,16 @@ more_areas [] more n = omega arith
 more_areas (one ∷ others) more zero = omega arith
 more_areas (one ∷ others) more (suc n) = more_areas others more n
 
-still_within : (lengths more : List ℕ) (one : Placed) → IsWithin lengths one → IsWithin (lengths ++ more) one
+still_within : (lengths more : List ℕ) (one : LocatedItem) → IsWithinArea lengths one → IsWithinArea (lengths ++ more) one
 still_within lengths more one h = let longer = more_areas lengths more one.area in omega (arith, h, longer)
 
-pub within_by_recursion : (program : Program) → entry_rules program.storage ≡ [] → descriptions_rules program.storage program.files ≡ [] → AllByRecursion (IsWithin (program_area_lengths program)) (program_items program)
+pub within_by_recursion : (program : Program) → entry_rules program.storage ≡ [] → descriptions_rules program.storage program.files ≡ [] → AllByRecursion (IsWithinArea (program_area_lengths program)) (program_items program)
 within_by_recursion program e f =
-    let lengths = area_lengths (nested program.storage) in
+    let lengths = area_lengths (forest_of program.storage) in
     let more = record_area_lengths program.files in
-    all_append (IsWithin (lengths ++ more)) (items_of program.storage) (file_places (storage_areas program.storage) program.files)
-    (all_weaker (IsWithin lengths) (IsWithin (lengths ++ more)) (items_of program.storage) (still_within lengths more) (storage_within program.storage e))
+    all_append (IsWithinArea (lengths ++ more)) (items_of program.storage) (file_places (storage_areas program.storage) program.files)
+    (all_weaker (IsWithinArea lengths) (IsWithinArea (lengths ++ more)) (items_of program.storage) (still_within lengths more) (storage_within program.storage e))
     (files_within lengths (storage_areas program.storage) program.files refl (descriptions program.storage program.files f))
 
-pub within_areas : (program : Program) → entry_rules program.storage ≡ [] → descriptions_rules program.storage program.files ≡ [] → All (IsWithin (program_area_lengths program)) (program_items program)
-within_areas program e f = All-from_recursion (IsWithin (program_area_lengths program)) (program_items program) (within_by_recursion program e f)
+pub within_areas : (program : Program) → entry_rules program.storage ≡ [] → descriptions_rules program.storage program.files ≡ [] → All (IsWithinArea (program_area_lengths program)) (program_items program)
+within_areas program e f = All-from_recursion (IsWithinArea (program_area_lengths program)) (program_items program) (within_by_recursion program e f)

@@ -13,7 +13,7 @@ use Rattle.source_tree.specs.Clauses.{inside, form_of, item_by, occurrences}
 use Rattle.source_tree.specs.Rooms.{redefines, room, item_with}
 use Rattle.source_tree.specs.Broken.{each}
 use Rattle.source_tree.specs.ClauseRules.{wrong_picture}
-use Rattle.source_tree.specs.RedefinitionRules.{Redefinable, remembered, wrong_object, wrong_redefinition}
+use Rattle.source_tree.specs.RedefinitionRules.{Redefinable, redefinable_after, wrong_object, wrong_redefinition}
 use Rattle.source_tree.specs.ValueRules.{condition_rules}
 use Rattle.source_tree.specs.EntryRules.{Position, is_outermost, redefinition_rules, own_rules, below, forest_rules}
 use Rattle.initial_storage.proofs.Kept.{three_parts, kept, second_false, at_most, KeepsOwn, keeps_own}
@@ -57,7 +57,7 @@ remembered_if : (b : Bool) (last one : Option Redefinable) (bytes : ℕ) → byt
 remembered_if true last one bytes e = refl
 remembered_if false last one bytes e = e
 
-remembered_bytes : (one : ItemEntry) (bytes : ℕ) (last : Option Redefinable) → bytes_of (remembered one bytes last) ≡ (if redefines one then bytes_of last else bytes)
+remembered_bytes : (one : ItemEntry) (bytes : ℕ) (last : Option Redefinable) → bytes_of (redefinable_after one bytes last) ≡ (if redefines one then bytes_of last else bytes)
 remembered_bytes one bytes last = remembered_if (redefines one) last (Some (record { name = one.name; level = number_of one.level; bytes = bytes; has_occurs = is_some one.occurs })) bytes refl
 
 pub sized : (at : Position) (last : Option Redefinable) (F : Forest) → Inner F → forest_rules at last F ≡ [] → Sized at.around (bytes_of last) F
@@ -65,7 +65,7 @@ sized at last End levels e = tt
 sized at last (Tree one conditions inner next) levels e =
     let item : Item = item_with at.around one inner in
     let bytes : ℕ = occurrences one * item.length in
-    let after : Option Redefinable = remembered one bytes last in
+    let after : Option Redefinable = redefinable_after one bytes last in
     let parts = three_parts (forest_rules (below at one inner) None inner) (own_rules at one item inner last) (each (condition_rules item) conditions) (forest_rules at after next) e in
     let own : KeepsOwn at one inner last = keeps_own at one inner last parts.1 in (
       record {

@@ -10,7 +10,7 @@ use Rattle.source_tree.specs.declared.literal.Literal.{Literal}
 use Rattle.source_tree.specs.declared.entry.Around.{Around}
 use Rattle.source_tree.specs.declared.entry.ItemEntry.{ItemEntry}
 use Rattle.source_tree.specs.declared.select.FileDescription.{FileDescription}
-use Rattle.source_tree.specs.Levels.{Forest, End, Tree, level_of, nested}
+use Rattle.source_tree.specs.Levels.{Forest, End, Tree, level_of, forest_of}
 use Rattle.source_tree.specs.Clauses.{nothing_around, inside, occurrences}
 use Rattle.source_tree.specs.Rooms.{item_with}
 use Rattle.source_tree.specs.Literals.{literal_sender}
@@ -39,7 +39,7 @@ Fits around (Tree one conditions inner next) = FitsEntry around one inner × Fit
 
 -- the same of the records of a file
 abbrev pub FitsFile : FileDescription → Type 0
-FitsFile one = Fits nothing_around (nested one.entries)
+FitsFile one = Fits nothing_around (forest_of one.entries)
 
 -- A numeric item has its form, and the length of its usage.
 abbrev pub IsKindOf : Kind → ℕ → Type 0

@@ -7,8 +7,8 @@ use Rattle.source_tree.specs.declared.entry.Around.{Around}
 use Rattle.edited_move.specs.Moves.{IsPlainKind, IsEditedBy}
 use Rattle.source_tree.specs.declared.select.FileDescription.{FileDescription}
 use Rattle.source_tree.specs.Clauses.{nothing_around, inside, editing_of}
-use Rattle.source_tree.specs.Levels.{Forest, End, Tree, nested}
-use Rattle.source_tree.specs.Places.{Placed}
+use Rattle.source_tree.specs.Levels.{Forest, End, Tree, forest_of}
+use Rattle.source_tree.specs.Places.{LocatedItem}
 use Rattle.source_tree.specs.Rooms.{item_with}
 
 -- An edited item has the picture of its category and length, and no other has one.
@@ -17,7 +17,7 @@ IsEditing item None = IsPlainKind item.kind
 IsEditing item (Some picture) = IsEditedBy item picture
 
 -- A placed item has the form of its kind and, if it is edited, the picture that edits it.
-pub record IsFormed (one : Placed) : Type 0 where
+pub record IsFormed (one : LocatedItem) : Type 0 where
   pub form : IsItem one.item
   pub editing : IsEditing one.item one.editing
 
@@ -32,4 +32,4 @@ AreFormed around (Tree one conditions inner next) =
 
 -- the same of the records of a file
 abbrev pub FormsFile : FileDescription → Type 0
-FormsFile one = AreFormed nothing_around (nested one.entries)
+FormsFile one = AreFormed nothing_around (forest_of one.entries)

@@ -12,7 +12,7 @@ ghost use Rattle.source_tree.specs.References.{ItemPlace, place_of};
 ghost use Rattle.source_tree.specs.Storage.{Storage};
 ghost use Rattle.initial_storage.specs.Conditions.{CanBeSet};
 ghost use Rattle.initial_storage.specs.Formed.{IsFormed};
-ghost use Rattle.initial_storage.specs.Reach.{IsWithin, Lies, program_area_lengths};
+ghost use Rattle.initial_storage.specs.Reach.{IsWithinArea, Lies, program_area_lengths};
 
 /// Each item has the form of its kind, and an edited one the picture that edits it.
 pub fn items_have_their_form()
@@ -22,7 +22,7 @@ pub fn items_have_their_form()
 /// Each item lies within its area, with all its occurrences, and so does the place that a reference names, whatever storage
 /// holds.
 pub fn items_lie_within_areas()
-    ensures items { (program : Program) → entry_rules program.storage ≡ [] → descriptions_rules program.storage program.files ≡ [] → All (IsWithin (program_area_lengths program)) (program_items program) }
+    ensures items { (program : Program) → entry_rules program.storage ≡ [] → descriptions_rules program.storage program.files ≡ [] → All (IsWithinArea (program_area_lengths program)) (program_items program) }
     // There is an area for each item, and its last occurrence ends within it.
     ensures lie { (program : Program) → entry_rules program.storage ≡ [] → descriptions_rules program.storage program.files ≡ [] → All (Lies (program_areas program)) (program_items program) }
     ensures places { (program : Program) (reference : Reference) (storage : Storage) (place : ItemPlace) → entry_rules program.storage ≡ [] → descriptions_rules program.storage program.files ≡ [] →

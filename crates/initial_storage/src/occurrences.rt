@@ -1,19 +1,37 @@
 //! The bytes of items, one behind another.
 
 ghost use Rattle.std.specs.Prelude.{◌≡◌, ◌+◌, ◌*◌, ◌++◌, [], length, take, drop, OnOk, if◌then◌else◌};
-ghost use Rattle.source_tree.specs.Levels.{nested};
+ghost use Rattle.source_tree.specs.Levels.{forest_of};
 ghost use Rattle.source_tree.specs.Clauses as clauses;
 ghost use Rattle.source_tree.specs.Rooms.{redefines, item_with, extent, room};
-ghost use Rattle.source_tree.specs.Starts.{start, started};
+ghost use Rattle.source_tree.specs.Starts.{start, initial_bytes};
 ghost use Rattle.initial_storage.specs.Fits.{Fits, FitsEntry, HasKind, HasValue};
 ghost use Rattle.initial_storage.specs.Occurrences as spec;
 
 use crate::repeat::repeat_from;
 use crate::value::write_start;
-use entries::{Sibling, elementary, inside, next_item, occurrences, picture_of};
+use data_entries::{Sibling, elementary, inside, next_item, occurrences, picture_of};
 use items::{Item, Kind};
 use source_tree::{Around, Entry, ItemEntry};
 use std::alloc::{AllocError, Global};
+
+/// Puts all occurrences of an item behind the bytes that are there.
+#[cycle(occurrences)]
+pub fn put_item(
+    alloc: Global,
+    around: Around,
+    one: Sibling<'_>,
+    out: &mut Vec<u8>,
+) -> Result<(), AllocError>
+    requires fits { FitsEntry around one.entry.now (forest_of one.inner.now) }
+    requires within { Fits (clauses.inside around one.entry.now) (forest_of one.inner.now) }
+    ensures bytes { OnOk result (out.new.items ≡ out.old.items ++ spec.all_occurrences around one.entry.entry.now (forest_of one.entry.inner.now)) }
+    ensures length { OnOk result (length out.new.items ≡ length out.old.items + extent around one.entry.entry.now (room (clauses.inside around one.entry.entry.now) (forest_of one.entry.inner.now))) }
+{
+    let begin = out.len();
+    put_occurrence(alloc, around, one, out)?;
+    repeat_from(out, begin, occurrences(one.entry))
+}
 
 /// Writes what the item of an entry holds over the bytes from a place on.
 fn start_from(
@@ -26,7 +44,7 @@ fn start_from(
     requires kind { HasKind item }
     requires value { HasValue item.kind entry.now.value }
     requires length { begin + item.length ≡ length out.old.items }
-    ensures bytes { OnOk result (out.new.items ≡ take begin out.old.items ++ started item entry.now.value (drop begin out.old.items)) }
+    ensures bytes { OnOk result (out.new.items ≡ take begin out.old.items ++ initial_bytes item entry.now.value (drop begin out.old.items)) }
     ensures length { length out.new.items ≡ length out.old.items }
 {
     write_start(alloc, item, entry, &mut out[begin..])
@@ -40,10 +58,10 @@ fn put_occurrence(
     one: Sibling<'_>,
     out: &mut Vec<u8>,
 ) -> Result<(), AllocError>
-    requires fits { FitsEntry around one.entry.now (nested one.inner.now) }
-    requires within { Fits (clauses.inside around one.entry.now) (nested one.inner.now) }
-    ensures bytes { OnOk result (out.new.items ≡ out.old.items ++ spec.occurrence around one.entry.entry.now (nested one.entry.inner.now)) }
-    ensures length { OnOk result (length out.new.items ≡ length out.old.items + (item_with around one.entry.entry.now (nested one.entry.inner.now)).length) }
+    requires fits { FitsEntry around one.entry.now (forest_of one.inner.now) }
+    requires within { Fits (clauses.inside around one.entry.now) (forest_of one.inner.now) }
+    ensures bytes { OnOk result (out.new.items ≡ out.old.items ++ spec.occurrence around one.entry.entry.now (forest_of one.entry.inner.now)) }
+    ensures length { OnOk result (length out.new.items ≡ length out.old.items + (item_with around one.entry.entry.now (forest_of one.entry.inner.now)).length) }
 {
     let begin = out.len();
     match picture_of(alloc, one.entry)? {
@@ -61,24 +79,6 @@ fn put_occurrence(
     }
 }
 
-/// Puts all occurrences of an item behind the bytes that are there.
-#[cycle(occurrences)]
-pub fn put_item(
-    alloc: Global,
-    around: Around,
-    one: Sibling<'_>,
-    out: &mut Vec<u8>,
-) -> Result<(), AllocError>
-    requires fits { FitsEntry around one.entry.now (nested one.inner.now) }
-    requires within { Fits (clauses.inside around one.entry.now) (nested one.inner.now) }
-    ensures bytes { OnOk result (out.new.items ≡ out.old.items ++ spec.all_occurrences around one.entry.entry.now (nested one.entry.inner.now)) }
-    ensures length { OnOk result (length out.new.items ≡ length out.old.items + extent around one.entry.entry.now (room (clauses.inside around one.entry.entry.now) (nested one.entry.inner.now))) }
-{
-    let begin = out.len();
-    put_occurrence(alloc, around, one, out)?;
-    repeat_from(out, begin, occurrences(one.entry))
-}
-
 /// Puts an item that redefines nothing; others set nothing.
 #[cycle(occurrences)]
 fn put_unless_redefining(
@@ -87,10 +87,10 @@ fn put_unless_redefining(
     one: Sibling<'_>,
     out: &mut Vec<u8>,
 ) -> Result<(), AllocError>
-    requires fits { FitsEntry around one.entry.now (nested one.inner.now) }
-    requires within { Fits (clauses.inside around one.entry.now) (nested one.inner.now) }
-    ensures bytes { OnOk result (out.new.items ≡ out.old.items ++ (if redefines one.entry.entry.now then [] else spec.all_occurrences around one.entry.entry.now (nested one.entry.inner.now))) }
-    ensures length { OnOk result (length out.new.items ≡ length out.old.items + (if redefines one.entry.entry.now then 0 else extent around one.entry.entry.now (room (clauses.inside around one.entry.entry.now) (nested one.entry.inner.now)))) }
+    requires fits { FitsEntry around one.entry.now (forest_of one.inner.now) }
+    requires within { Fits (clauses.inside around one.entry.now) (forest_of one.inner.now) }
+    ensures bytes { OnOk result (out.new.items ≡ out.old.items ++ (if redefines one.entry.entry.now then [] else spec.all_occurrences around one.entry.entry.now (forest_of one.entry.inner.now))) }
+    ensures length { OnOk result (length out.new.items ≡ length out.old.items + (if redefines one.entry.entry.now then 0 else extent around one.entry.entry.now (room (clauses.inside around one.entry.entry.now) (forest_of one.entry.inner.now)))) }
 {
     if one.entry.redefines.is_some() {
         return Ok(());
@@ -106,9 +106,9 @@ fn put_group(
     entries: &[Entry],
     out: &mut Vec<u8>,
 ) -> Result<(), AllocError>
-    requires { Fits around (nested entries.now) }
-    ensures bytes { OnOk result (out.new.items ≡ out.old.items ++ start around (nested entries.now)) }
-    ensures length { OnOk result (length out.new.items ≡ length out.old.items + room around (nested entries.now)) }
+    requires { Fits around (forest_of entries.now) }
+    ensures bytes { OnOk result (out.new.items ≡ out.old.items ++ start around (forest_of entries.now)) }
+    ensures length { OnOk result (length out.new.items ≡ length out.old.items + room around (forest_of entries.now)) }
 {
     let mut rest = entries;
     'items: while let Some(one) = next_item(rest) {

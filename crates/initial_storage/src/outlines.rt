@@ -3,14 +3,14 @@
 ghost use Rattle.std.specs.Prelude.{◌≡◌, length};
 ghost use Rattle.std.specs.List.{AllByRecursion};
 ghost use Rattle.source_tree.specs.declared.entry.Around as surrounding;
-ghost use Rattle.source_tree.specs.Levels.{nested};
+ghost use Rattle.source_tree.specs.Levels.{forest_of};
 ghost use Rattle.source_tree.specs.Clauses.{nothing_around};
 ghost use Rattle.initial_storage.specs.Fits.{Fits, FitsFile};
 ghost use Rattle.initial_storage.specs.Formed.{AreFormed, FormsFile};
 ghost use Rattle.initial_storage.specs.Patterns.{IsFoundAt, outlines, file_outlines, outlines_with};
 
 use crate::storage::NOTHING_AROUND;
-use entries::{Sibling, inside, next_item};
+use data_entries::{Sibling, inside, next_item};
 use source_tree::{Around, Entry, FileDescription};
 
 /// An item, and what the groups around it say of it.
@@ -22,7 +22,7 @@ pub struct Found<'a> {
 
 /// How many of the entries are items.
 fn count_items(entries: &[Entry]) -> usize
-    ensures { (around : surrounding.Around) → result ≡ length (outlines around (nested entries.now)) }
+    ensures { (around : surrounding.Around) → result ≡ length (outlines around (forest_of entries.now)) }
 {
     let mut count = 0;
     for entry in entries {
@@ -35,9 +35,9 @@ fn count_items(entries: &[Entry]) -> usize
 
 /// The item of that number, which counts from 0, with what stands around it. Each entry is looked at once for each group around it.
 fn item_at(entries: &[Entry], number: usize) -> Option<Found<'_>>
-    requires fits { Fits nothing_around (nested entries.now) }
-    requires formed { AreFormed nothing_around (nested entries.now) }
-    ensures { IsFoundAt (outlines nothing_around (nested entries.now)) number result }
+    requires fits { Fits nothing_around (forest_of entries.now) }
+    requires formed { AreFormed nothing_around (forest_of entries.now) }
+    ensures { IsFoundAt (outlines nothing_around (forest_of entries.now)) number result }
 {
     let mut around = NOTHING_AROUND;
     let mut rest = entries;
@@ -83,8 +83,8 @@ pub fn program_item_at<'a>(
     files: &'a [FileDescription],
     number: usize,
 ) -> Option<Found<'a>>
-    requires fits { Fits nothing_around (nested storage.now) }
-    requires formed { AreFormed nothing_around (nested storage.now) }
+    requires fits { Fits nothing_around (forest_of storage.now) }
+    requires formed { AreFormed nothing_around (forest_of storage.now) }
     requires files_fit { AllByRecursion FitsFile files.now }
     requires files_formed { AllByRecursion FormsFile files.now }
     ensures { IsFoundAt (outlines_with storage.now files.now) number result }

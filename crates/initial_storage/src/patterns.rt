@@ -3,7 +3,7 @@
 ghost use Rattle.std.specs.Prelude.{◌≡◌, ◌≤◌, ◌++◌, [], ◌∷◌, None, length, take, drop, OnOk, IfOk, if◌then◌else◌};
 ghost use Rattle.std.specs.List.{repeat};
 ghost use Rattle.items.specs.Items.{IsItem};
-ghost use Rattle.source_tree.specs.Levels.{nested};
+ghost use Rattle.source_tree.specs.Levels.{forest_of};
 ghost use Rattle.source_tree.specs.Literals.{constant_of};
 ghost use Rattle.source_tree.specs.Clauses as clauses;
 ghost use Rattle.source_tree.specs.ClauseRules.{most_item_bytes};
@@ -14,12 +14,48 @@ ghost use Rattle.source_tree.specs.Initializing as spec;
 ghost use Rattle.initial_storage.specs.Fits.{Fits, FitsEntry};
 ghost use Rattle.initial_storage.specs.Formed.{IsEditing, HasForm, AreFormed};
 
+use data_entries::{Sibling, editing, elementary, inside, next_item, occurrences, picture_of};
 use edited_move::{edit_into, move_into};
-use entries::{Sibling, editing, elementary, inside, next_item, occurrences, picture_of};
 use items::{Figurative, Item, Kind, Taken, initialize};
 use picture::Picture;
 use source_tree::{Around, Entry, ItemEntry};
 use std::alloc::{AllocError, Global};
+
+/// Puts an elementary item that is named.
+pub fn put_initialized(
+    alloc: Global,
+    item: Item,
+    editing: &Option<Picture>,
+    out: &mut Vec<Option<u8>>,
+) -> Result<(), AllocError>
+    requires form { IsItem item }
+    requires editing { IsEditing item editing.now }
+    ensures { OnOk result (out.new.items ≡ out.old.items ++ spec.initial_pattern editing.now item) }
+{
+    let mut bytes = vec![in alloc; b' '; item.length as usize]?;
+    write_initialized(item, editing, &mut bytes);
+    put_new(&bytes, out)
+}
+
+/// Puts the items of a group.
+#[cycle(patterns)]
+pub fn put_within(
+    alloc: Global,
+    around: Around,
+    entries: &[Entry],
+    out: &mut Vec<Option<u8>>,
+) -> Result<(), AllocError>
+    requires fits { Fits around (forest_of entries.now) }
+    requires formed { AreFormed around (forest_of entries.now) }
+    ensures { OnOk result (out.new.items ≡ out.old.items ++ spec.entries_pattern around (forest_of entries.now)) }
+{
+    let mut rest = entries;
+    'items: while let Some(one) = next_item(rest) {
+        put_unless_redefining(alloc, around, one, out)?;
+        rest = one.next;
+    }
+    Ok(())
+}
 
 /// Zero for numbers, edited or not, and spaces for others.
 fn initial_constant(kind: Kind) -> Figurative
@@ -48,7 +84,7 @@ fn write_initialized(item: Item, editing: &Option<Picture>, bytes: &mut [u8])
 
 /// Puts bytes that are new.
 fn put_new(bytes: &[u8], out: &mut Vec<Option<u8>>) -> Result<(), AllocError>
-    ensures { OnOk result (out.new.items ≡ out.old.items ++ spec.whole bytes.now) }
+    ensures { OnOk result (out.new.items ≡ out.old.items ++ spec.whole_pattern bytes.now) }
 {
     for byte in bytes {
         out.push(Some(*byte))?;
@@ -79,22 +115,6 @@ fn repeat_pattern(out: &mut Vec<Option<u8>>, begin: usize, times: u32) -> Result
     Ok(())
 }
 
-/// Puts an elementary item that is named.
-pub fn put_initialized(
-    alloc: Global,
-    item: Item,
-    editing: &Option<Picture>,
-    out: &mut Vec<Option<u8>>,
-) -> Result<(), AllocError>
-    requires form { IsItem item }
-    requires editing { IsEditing item editing.now }
-    ensures { OnOk result (out.new.items ≡ out.old.items ++ spec.initialized editing.now item) }
-{
-    let mut bytes = vec![in alloc; b' '; item.length as usize]?;
-    write_initialized(item, editing, &mut bytes);
-    put_new(&bytes, out)
-}
-
 /// Puts an elementary item; a FILLER stays.
 fn put_elementary(
     alloc: Global,
@@ -105,7 +125,7 @@ fn put_elementary(
 ) -> Result<(), AllocError>
     requires length { (clauses.elementary around entry.now picture).length ≤ most_item_bytes }
     requires form { HasForm (clauses.elementary around entry.now picture) (clauses.editing_by (clauses.kind_of around entry.now picture) picture) }
-    ensures { OnOk result (out.new.items ≡ out.old.items ++ spec.unless_filler entry.now.name (clauses.elementary around entry.now picture) (spec.initialized (clauses.editing_by (clauses.kind_of around entry.now picture) picture) (clauses.elementary around entry.now picture))) }
+    ensures { OnOk result (out.new.items ≡ out.old.items ++ spec.unless_filler entry.now.name (clauses.elementary around entry.now picture) (spec.initial_pattern (clauses.editing_by (clauses.kind_of around entry.now picture) picture) (clauses.elementary around entry.now picture))) }
 {
     let item = elementary(around, entry, &picture);
     let editing = editing(around, entry, picture);
@@ -123,11 +143,11 @@ fn put_one(
     one: Sibling<'_>,
     out: &mut Vec<Option<u8>>,
 ) -> Result<(), AllocError>
-    requires fits { FitsEntry around one.entry.now (nested one.inner.now) }
-    requires within { Fits (clauses.inside around one.entry.now) (nested one.inner.now) }
-    requires form { HasForm (item_with around one.entry.now (nested one.inner.now)) (clauses.editing_of around one.entry.now) }
-    requires formed { AreFormed (clauses.inside around one.entry.now) (nested one.inner.now) }
-    ensures { OnOk result (out.new.items ≡ out.old.items ++ spec.entry_pattern around one.entry.entry.now (item_with around one.entry.entry.now (nested one.entry.inner.now)) (spec.entries_pattern (clauses.inside around one.entry.entry.now) (nested one.entry.inner.now))) }
+    requires fits { FitsEntry around one.entry.now (forest_of one.inner.now) }
+    requires within { Fits (clauses.inside around one.entry.now) (forest_of one.inner.now) }
+    requires form { HasForm (item_with around one.entry.now (forest_of one.inner.now)) (clauses.editing_of around one.entry.now) }
+    requires formed { AreFormed (clauses.inside around one.entry.now) (forest_of one.inner.now) }
+    ensures { OnOk result (out.new.items ≡ out.old.items ++ spec.entry_pattern around one.entry.entry.now (item_with around one.entry.entry.now (forest_of one.entry.inner.now)) (spec.entries_pattern (clauses.inside around one.entry.entry.now) (forest_of one.entry.inner.now))) }
 {
     match picture_of(alloc, one.entry)? {
         Some(picture) => put_elementary(alloc, around, one.entry, picture, out),
@@ -143,11 +163,11 @@ fn put_all(
     one: Sibling<'_>,
     out: &mut Vec<Option<u8>>,
 ) -> Result<(), AllocError>
-    requires fits { FitsEntry around one.entry.now (nested one.inner.now) }
-    requires within { Fits (clauses.inside around one.entry.now) (nested one.inner.now) }
-    requires form { HasForm (item_with around one.entry.now (nested one.inner.now)) (clauses.editing_of around one.entry.now) }
-    requires formed { AreFormed (clauses.inside around one.entry.now) (nested one.inner.now) }
-    ensures { OnOk result (out.new.items ≡ out.old.items ++ repeat (clauses.occurrences one.entry.entry.now) (spec.entry_pattern around one.entry.entry.now (item_with around one.entry.entry.now (nested one.entry.inner.now)) (spec.entries_pattern (clauses.inside around one.entry.entry.now) (nested one.entry.inner.now)))) }
+    requires fits { FitsEntry around one.entry.now (forest_of one.inner.now) }
+    requires within { Fits (clauses.inside around one.entry.now) (forest_of one.inner.now) }
+    requires form { HasForm (item_with around one.entry.now (forest_of one.inner.now)) (clauses.editing_of around one.entry.now) }
+    requires formed { AreFormed (clauses.inside around one.entry.now) (forest_of one.inner.now) }
+    ensures { OnOk result (out.new.items ≡ out.old.items ++ repeat (clauses.occurrences one.entry.entry.now) (spec.entry_pattern around one.entry.entry.now (item_with around one.entry.entry.now (forest_of one.entry.inner.now)) (spec.entries_pattern (clauses.inside around one.entry.entry.now) (forest_of one.entry.inner.now)))) }
 {
     let begin = out.len();
     put_one(alloc, around, one, out)?;
@@ -162,34 +182,14 @@ fn put_unless_redefining(
     one: Sibling<'_>,
     out: &mut Vec<Option<u8>>,
 ) -> Result<(), AllocError>
-    requires fits { FitsEntry around one.entry.now (nested one.inner.now) }
-    requires within { Fits (clauses.inside around one.entry.now) (nested one.inner.now) }
-    requires form { HasForm (item_with around one.entry.now (nested one.inner.now)) (clauses.editing_of around one.entry.now) }
-    requires formed { AreFormed (clauses.inside around one.entry.now) (nested one.inner.now) }
-    ensures { OnOk result (out.new.items ≡ out.old.items ++ (if redefines one.entry.entry.now then [] else repeat (clauses.occurrences one.entry.entry.now) (spec.entry_pattern around one.entry.entry.now (item_with around one.entry.entry.now (nested one.entry.inner.now)) (spec.entries_pattern (clauses.inside around one.entry.entry.now) (nested one.entry.inner.now))))) }
+    requires fits { FitsEntry around one.entry.now (forest_of one.inner.now) }
+    requires within { Fits (clauses.inside around one.entry.now) (forest_of one.inner.now) }
+    requires form { HasForm (item_with around one.entry.now (forest_of one.inner.now)) (clauses.editing_of around one.entry.now) }
+    requires formed { AreFormed (clauses.inside around one.entry.now) (forest_of one.inner.now) }
+    ensures { OnOk result (out.new.items ≡ out.old.items ++ (if redefines one.entry.entry.now then [] else repeat (clauses.occurrences one.entry.entry.now) (spec.entry_pattern around one.entry.entry.now (item_with around one.entry.entry.now (forest_of one.entry.inner.now)) (spec.entries_pattern (clauses.inside around one.entry.entry.now) (forest_of one.entry.inner.now))))) }
 {
     if one.entry.redefines.is_some() {
         return Ok(());
     }
     put_all(alloc, around, one, out)
-}
-
-/// Puts the items of a group.
-#[cycle(patterns)]
-pub fn put_within(
-    alloc: Global,
-    around: Around,
-    entries: &[Entry],
-    out: &mut Vec<Option<u8>>,
-) -> Result<(), AllocError>
-    requires fits { Fits around (nested entries.now) }
-    requires formed { AreFormed around (nested entries.now) }
-    ensures { OnOk result (out.new.items ≡ out.old.items ++ spec.entries_pattern around (nested entries.now)) }
-{
-    let mut rest = entries;
-    'items: while let Some(one) = next_item(rest) {
-        put_unless_redefining(alloc, around, one, out)?;
-        rest = one.next;
-    }
-    Ok(())
 }

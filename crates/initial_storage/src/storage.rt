@@ -2,22 +2,22 @@
 
 ghost use Rattle.std.specs.Prelude.{◌≡◌, ◌++◌, [], length, map, IfOk, OnOk};
 ghost use Rattle.std.specs.List.{AllByRecursion};
-ghost use Rattle.items.specs.Texts.{padded};
-ghost use Rattle.source_tree.specs.Levels.{nested, leading};
+ghost use Rattle.items.specs.Texts.{padded_text};
+ghost use Rattle.source_tree.specs.Levels.{forest_of, leading_conditions};
 ghost use Rattle.source_tree.specs.Clauses.{nothing_around};
 ghost use Rattle.source_tree.specs.Clauses as clauses;
-ghost use Rattle.source_tree.specs.Rooms.{redefining, longest, area_length};
+ghost use Rattle.source_tree.specs.Rooms.{leading_redefinitions, longest, area_length};
 ghost use Rattle.source_tree.specs.EntryRules.{entry_rules};
 ghost use Rattle.source_tree.specs.FileRules.{descriptions_rules};
 ghost use Rattle.source_tree.specs.Records.{record_length, record_areas, program_areas};
 ghost use Rattle.source_tree.specs.Starts.{areas_from};
-ghost use Rattle.entries.specs.Nesting.{HasLevel};
+ghost use Rattle.data_entries.specs.Nesting.{HasLevel};
 ghost use Rattle.initial_storage.specs.Fits.{Fits, FitsEntry, FitsFile};
 ghost use Rattle.initial_storage.specs.Occurrences as spec;
 ghost use Rattle.initial_storage.specs.Reach.{program_area_lengths};
 
 use crate::occurrences::put_item;
-use entries::{Sibling, levels_are_told, next_item, record_levels_are_told};
+use data_entries::{Sibling, levels_are_told, next_item, record_levels_are_told};
 use source_tree::{Around, Entry, FileDescription, Program};
 use sqlite_items::Items;
 use std::alloc::{AllocError, Global};
@@ -37,7 +37,7 @@ pub struct InitialStorage {
 
 /// The first item, where it redefines.
 fn next_redefinition(entries: &[Entry]) -> Option<Sibling<'_>>
-    requires { HasLevel (nested entries.now) }
+    requires { HasLevel (forest_of entries.now) }
     ensures { spec.IsNextRedefinition entries.now result }
 {
     let one = next_item(entries)?;
@@ -49,8 +49,8 @@ fn next_redefinition(entries: &[Entry]) -> Option<Sibling<'_>>
 
 /// The bytes of the longest of the 01 at the front that redefine.
 fn longest_redefinition(alloc: Global, entries: &[Entry]) -> Result<usize, AllocError>
-    requires { Fits nothing_around (nested entries.now) }
-    ensures { IfOk result (λ bytes. bytes ≡ longest nothing_around (redefining (nested entries.now))) }
+    requires { Fits nothing_around (forest_of entries.now) }
+    ensures { IfOk result (λ bytes. bytes ≡ longest nothing_around (leading_redefinitions (forest_of entries.now))) }
 {
     let mut bytes: usize = 0;
     let mut rest = entries;
@@ -65,10 +65,10 @@ fn longest_redefinition(alloc: Global, entries: &[Entry]) -> Result<usize, Alloc
 
 /// The area that a 01 or 77 begins, as long as the longest of it and those after it that redefine it.
 fn area(alloc: Global, one: Sibling<'_>) -> Result<Items<u8>, AllocError>
-    requires fits { FitsEntry nothing_around one.entry.now (nested one.inner.now) }
-    requires within { Fits (clauses.inside nothing_around one.entry.now) (nested one.inner.now) }
-    requires next { Fits nothing_around (nested one.next.now) }
-    ensures { IfOk result (λ area. area ≡ padded (area_length one.entry.entry.now (leading one.entry.inner.now) (nested one.entry.inner.now) (nested one.entry.next.now)) (spec.all_occurrences nothing_around one.entry.entry.now (nested one.entry.inner.now))) }
+    requires fits { FitsEntry nothing_around one.entry.now (forest_of one.inner.now) }
+    requires within { Fits (clauses.inside nothing_around one.entry.now) (forest_of one.inner.now) }
+    requires next { Fits nothing_around (forest_of one.next.now) }
+    ensures { IfOk result (λ area. area ≡ padded_text (area_length one.entry.entry.now (leading_conditions one.entry.inner.now) (forest_of one.entry.inner.now) (forest_of one.entry.next.now)) (spec.all_occurrences nothing_around one.entry.entry.now (forest_of one.entry.inner.now))) }
 {
     let mut bytes = Vec::new(alloc);
     put_item(alloc, NOTHING_AROUND, one, &mut bytes)?;
@@ -79,8 +79,8 @@ fn area(alloc: Global, one: Sibling<'_>) -> Result<Items<u8>, AllocError>
 
 /// Puts the area of each 01 and 77 that redefines nothing.
 fn put_areas(alloc: Global, entries: &[Entry], out: &mut Vec<Items<u8>>) -> Result<(), AllocError>
-    requires { Fits nothing_around (nested entries.now) }
-    ensures { OnOk result (out.new.items ≡ out.old.items ++ areas_from (nested entries.now)) }
+    requires { Fits nothing_around (forest_of entries.now) }
+    ensures { OnOk result (out.new.items ≡ out.old.items ++ areas_from (forest_of entries.now)) }
 {
     let mut rest = entries;
     'records: while let Some(one) = next_item(rest) {
@@ -94,7 +94,7 @@ fn put_areas(alloc: Global, entries: &[Entry], out: &mut Vec<Items<u8>>) -> Resu
 
 /// The bytes of the longest of some records.
 fn longest_record(alloc: Global, entries: &[Entry]) -> Result<usize, AllocError>
-    requires { Fits nothing_around (nested entries.now) }
+    requires { Fits nothing_around (forest_of entries.now) }
     ensures { IfOk result (λ bytes. bytes ≡ record_length entries.now) }
 {
     let mut bytes: usize = 0;
@@ -110,8 +110,8 @@ fn longest_record(alloc: Global, entries: &[Entry]) -> Result<usize, AllocError>
 
 /// The area of a file's records, as long as the longest.
 fn record_area(alloc: Global, entries: &[Entry]) -> Result<Items<u8>, AllocError>
-    requires { Fits nothing_around (nested entries.now) }
-    ensures { IfOk result (λ area. area ≡ padded (record_length entries.now) []) }
+    requires { Fits nothing_around (forest_of entries.now) }
+    ensures { IfOk result (λ area. area ≡ padded_text (record_length entries.now) []) }
 {
     let length = longest_record(alloc, entries)?;
     let mut bytes = Vec::new(alloc);

@@ -11,19 +11,6 @@ use literals::Sender;
 use source_tree::ItemEntry;
 use std::alloc::{AllocError, Global};
 
-/// Writes what an item without VALUE holds: a group what its items do.
-fn write_initial(item: Item, bytes: &mut [u8])
-    requires kind { HasKind item }
-    requires length { length bytes.old ≡ item.length }
-    ensures { bytes.new ≡ spec.without_value item.kind item bytes.old }
-{
-    match item.kind {
-        Kind::Group => {}
-        Kind::Numeric(_) => initialize(item, bytes),
-        _ => bytes.fill(b' '),
-    }
-}
-
 /// Writes a value: a number is moved in, others are written by their characters, without editing and without JUSTIFIED.
 pub(crate) fn write_sent(item: Item, sender: &Sender, bytes: &mut [u8])
     requires kind { HasKind item }
@@ -51,7 +38,7 @@ pub fn write_start(
     requires kind { HasKind item }
     requires value { HasValue item.kind entry.now.value }
     requires length { length bytes.old ≡ item.length }
-    ensures { OnOk result (bytes.new ≡ spec.started item entry.now.value bytes.old) }
+    ensures { OnOk result (bytes.new ≡ spec.initial_bytes item entry.now.value bytes.old) }
 {
     match &entry.value {
         Some(literal) => {
@@ -61,4 +48,17 @@ pub fn write_start(
         None => write_initial(item, bytes),
     }
     Ok(())
+}
+
+/// Writes what an item without VALUE holds: a group what its items do.
+fn write_initial(item: Item, bytes: &mut [u8])
+    requires kind { HasKind item }
+    requires length { length bytes.old ≡ item.length }
+    ensures { bytes.new ≡ spec.without_value item.kind item bytes.old }
+{
+    match item.kind {
+        Kind::Group => {}
+        Kind::Numeric(_) => initialize(item, bytes),
+        _ => bytes.fill(b' '),
+    }
 }

@@ -5,10 +5,10 @@ use Rattle.std.proofs.lemmas.Bool.{and_left, and_right, eq-eqb, ne_eqb, lt-leb}
 use Rattle.std.proofs.lemmas.Nat.{pow-add}
 use Rattle.std.proofs.Math.Nat.{div-div-eq-div-mul}
 use Rattle.std.specs.Char.{is_ascii_digit}
-use Rattle.decimal18.specs.Fraction.{signed}
+use Rattle.decimal18.specs.Fraction.{signed_integer}
 use Rattle.decimal18.specs.Digits.{digits_behind, digit_text}
 use Rattle.items.specs.Display.{are_digits, integer_of}
-use Rattle.items.specs.Packed.{halves, joined, characters_of, digit_halves, sign_half, by_sign_half, of_halves, packed_integer, packed_bytes}
+use Rattle.items.specs.Packed.{halves, bytes_of_halves, characters_of, digit_halves, sign_half, by_sign_half, of_halves, packed_integer, packed_bytes}
 use Rattle.items.proofs.Digits.{one_digit, last_same, integer_front, integer_digit, integer_both, next_rest}
 use Rattle.items.proofs.Bounds.{hundreds_below}
 use Rattle.items.proofs.Ends.{last_is, all_but_last}
@@ -113,10 +113,10 @@ no_last signed bytes h above =
     by_last signed bytes h ∙ neither signed _ (front ++ d ∷ []) (integer_digit false front d e) (integer_digit true front d e)
 
 both : (negative : Bool) (front : List ℕ) (d : ℕ) → are_digits front ≡ true → d ≤ 9
-    → integer_of negative (front ++ (48 + d) ∷ []) ≡ Some (signed negative (10 * digits_behind 0 front + d))
+    → integer_of negative (front ++ (48 + d) ∷ []) ≡ Some (signed_integer negative (10 * digits_behind 0 front + d))
 both negative front d e h =
     let same : 48 + d - 48 ≡ d = omega arith in
-    integer_both negative front (48 + d) e (digit d h) ∙ ap (λ n. Some (signed negative (10 * digits_behind 0 front + n))) same
+    integer_both negative front (48 + d) e (digit d h) ∙ ap (λ n. Some (signed_integer negative (10 * digits_behind 0 front + n))) same
 
 pub of_sign : (s negative : Bool) (half : ℕ) (digits : List ℕ) → half ≡ sign_half s negative → (negative ≡ true → (half ≡ sign_half s false → ⊥)) → by_sign_half s half digits ≡ integer_of negative digits
 of_sign s false half digits e other = ap (λ t. if t then integer_of false digits else if nat_eq half (sign_half s true) then integer_of true digits else None) (eq-eqb half (sign_half s false) e)
@@ -132,7 +132,7 @@ no_sign s half digits e f =
 pub both_last : (s negative : Bool) (bytes : List ℕ) → 1 ≤ length bytes → are_digits (shown (take (length bytes - 1) bytes)) ≡ true
     → get_or bytes (length bytes - 1) 0 / 16 ≤ 9
     → get_or bytes (length bytes - 1) 0 % 16 ≡ sign_half s negative → (negative ≡ true → (get_or bytes (length bytes - 1) 0 % 16 ≡ sign_half s false → ⊥))
-    → packed_integer s bytes ≡ Some (signed negative (10 * digits_behind 0 (shown (take (length bytes - 1) bytes)) + get_or bytes (length bytes - 1) 0 / 16))
+    → packed_integer s bytes ≡ Some (signed_integer negative (10 * digits_behind 0 (shown (take (length bytes - 1) bytes)) + get_or bytes (length bytes - 1) 0 / 16))
 both_last s negative bytes h front last sign other =
     by_last s bytes h
     ∙ of_sign s negative (get_or bytes (length bytes - 1) 0 % 16) (shown (take (length bytes - 1) bytes) ++ (48 + get_or bytes (length bytes - 1) 0 / 16) ∷ []) sign other
@@ -156,16 +156,16 @@ ten : (k : ℕ) → 10 ^ (k + 1) ≡ 10 ^ k * 10
 ten k = pow-add 10 k 1
 
 pair_front : (k m rest : ℕ) → rest ≡ m / 10 ^ (2 * k)
-    → joined (digit_halves (2 * (k + 1)) m) ≡ (16 * (rest % 100 / 10) + rest % 100 % 10) ∷ joined (digit_halves (2 * k) m)
+    → bytes_of_halves (digit_halves (2 * (k + 1)) m) ≡ (16 * (rest % 100 / 10) + rest % 100 % 10) ∷ bytes_of_halves (digit_halves (2 * k) m)
 pair_front k m rest e =
     let two : 2 * (k + 1) ≡ suc (suc (2 * k)) = omega arith in
     let one : suc (2 * k) ≡ 2 * k + 1 = omega arith in
     let high : m / 10 ^ suc (2 * k) ≡ rest / 10 = ap (λ j. m / 10 ^ j) one ∙ sym (next_rest m rest (2 * k) e) in
     let value : 16 * (48 + rest / 10 % 10 - 48) + (48 + rest % 10 - 48) ≡ 16 * (rest % 100 / 10) + rest % 100 % 10 = omega arith in
-    ap (λ n. joined (digit_halves n m)) two
-    ∙ ap (λ h. (16 * (48 + h % 10 - 48) + (48 + m / 10 ^ (2 * k) % 10 - 48)) ∷ joined (digit_halves (2 * k) m)) high
-    ∙ ap (λ l. (16 * (48 + rest / 10 % 10 - 48) + (48 + l % 10 - 48)) ∷ joined (digit_halves (2 * k) m)) (sym e)
-    ∙ ap (λ b. b ∷ joined (digit_halves (2 * k) m)) value
+    ap (λ n. bytes_of_halves (digit_halves n m)) two
+    ∙ ap (λ h. (16 * (48 + h % 10 - 48) + (48 + m / 10 ^ (2 * k) % 10 - 48)) ∷ bytes_of_halves (digit_halves (2 * k) m)) high
+    ∙ ap (λ l. (16 * (48 + rest / 10 % 10 - 48) + (48 + l % 10 - 48)) ∷ bytes_of_halves (digit_halves (2 * k) m)) (sym e)
+    ∙ ap (λ b. b ∷ bytes_of_halves (digit_halves (2 * k) m)) value
 
 next_pair_rest : (m rest k : ℕ) → rest ≡ m / 10 ^ (2 * k) → rest / 100 ≡ m / 10 ^ (2 * (k + 1))
 next_pair_rest m rest k e =
@@ -177,15 +177,15 @@ next_pair_rest m rest k e =
 
 -- one turn: the pair to the left of those that are written
 pub pair_step : (bytes : List ℕ) (at m rest : ℕ) → 0 < at → at ≤ length bytes → rest ≡ m / 10 ^ (2 * (length bytes - at))
-    → drop at bytes ≡ joined (digit_halves (2 * (length bytes - at)) m)
+    → drop at bytes ≡ bytes_of_halves (digit_halves (2 * (length bytes - at)) m)
     → let new = set bytes (at - 1) (16 * (rest % 100 / 10) + rest % 100 % 10) in
-    (at - 1 ≤ length new) × (rest / 100 ≡ m / 10 ^ (2 * (length new - (at - 1)))) × (drop (at - 1) new ≡ joined (digit_halves (2 * (length new - (at - 1))) m))
+    (at - 1 ≤ length new) × (rest / 100 ≡ m / 10 ^ (2 * (length new - (at - 1)))) × (drop (at - 1) new ≡ bytes_of_halves (digit_halves (2 * (length new - (at - 1))) m))
 pair_step bytes at m rest some h e written =
     let value = 16 * (rest % 100 / 10) + rest % 100 % 10 in
     let same = length-set bytes (at - 1) value in
     let one : at - 1 + 1 ≡ at = omega arith in
     let size : length bytes - at + 1 ≡ length bytes - (at - 1) = omega arith in
-    let P : ℕ → Type 0 = λ n. (at - 1 ≤ n) × (rest / 100 ≡ m / 10 ^ (2 * (n - (at - 1)))) × (drop (at - 1) (set bytes (at - 1) value) ≡ joined (digit_halves (2 * (n - (at - 1))) m)) in
+    let P : ℕ → Type 0 = λ n. (at - 1 ≤ n) × (rest / 100 ≡ m / 10 ^ (2 * (n - (at - 1)))) × (drop (at - 1) (set bytes (at - 1) value) ≡ bytes_of_halves (digit_halves (2 * (n - (at - 1))) m)) in
     let left : at - 1 ≤ length bytes = omega arith in
     let inside : at - 1 < length bytes = omega arith in
     subst P (sym same) (
@@ -195,11 +195,11 @@ pair_step bytes at m rest some h e written =
           ∙ ap (λ j. value ∷ drop j bytes) one
           ∙ ap (λ t. value ∷ t) written
           ∙ sym (pair_front (length bytes - at) m rest e)
-          ∙ ap (λ k. joined (digit_halves (2 * k) m)) size,
+          ∙ ap (λ k. bytes_of_halves (digit_halves (2 * k) m)) size,
     )
 
 -- the last digit with the sign behind it
-pub last_pair : (k m s : ℕ) → joined (digit_halves (suc (2 * k)) m ++ s ∷ []) ≡ joined (digit_halves (2 * k) (m / 10)) ++ (16 * (m % 10) + s) ∷ []
+pub last_pair : (k m s : ℕ) → bytes_of_halves (digit_halves (suc (2 * k)) m ++ s ∷ []) ≡ bytes_of_halves (digit_halves (2 * k) (m / 10)) ++ (16 * (m % 10) + s) ∷ []
 last_pair zero m s =
     let value : 16 * (48 + m / 1 % 10 - 48) + s ≡ 16 * (m % 10) + s = omega arith in
     ap (λ b. b ∷ []) value
@@ -207,18 +207,18 @@ last_pair (suc k) m s =
     let two : 2 * suc k ≡ suc (suc (2 * k)) = omega arith in
     let digit : (j : ℕ) → m / 10 ^ suc j ≡ m / 10 / 10 ^ j =
     λ j. ap (λ p. m / p) (ap (λ i. 10 ^ i) (let e : suc j ≡ 1 + j = omega arith in e) ∙ pow-add 10 1 j) ∙ sym (div-div-eq-div-mul m 10 (10 ^ j)) in
-    ap (λ n. joined (digit_halves (suc n) m ++ s ∷ [])) two
-    ∙ ap (λ h. (16 * (48 + h % 10 - 48) + (48 + m / 10 ^ suc (2 * k) % 10 - 48)) ∷ joined (digit_halves (suc (2 * k)) m ++ s ∷ [])) (digit (suc (2 * k)))
-    ∙ ap (λ l. (16 * (48 + m / 10 / 10 ^ suc (2 * k) % 10 - 48) + (48 + l % 10 - 48)) ∷ joined (digit_halves (suc (2 * k)) m ++ s ∷ [])) (digit (2 * k))
+    ap (λ n. bytes_of_halves (digit_halves (suc n) m ++ s ∷ [])) two
+    ∙ ap (λ h. (16 * (48 + h % 10 - 48) + (48 + m / 10 ^ suc (2 * k) % 10 - 48)) ∷ bytes_of_halves (digit_halves (suc (2 * k)) m ++ s ∷ [])) (digit (suc (2 * k)))
+    ∙ ap (λ l. (16 * (48 + m / 10 / 10 ^ suc (2 * k) % 10 - 48) + (48 + l % 10 - 48)) ∷ bytes_of_halves (digit_halves (suc (2 * k)) m ++ s ∷ [])) (digit (2 * k))
     ∙ ap (λ t. (16 * (48 + m / 10 / 10 ^ suc (2 * k) % 10 - 48) + (48 + m / 10 / 10 ^ (2 * k) % 10 - 48)) ∷ t) (last_pair k m s)
-    ∙ ap (λ n. joined (digit_halves n (m / 10)) ++ (16 * (m % 10) + s) ∷ []) (sym two)
+    ∙ ap (λ n. bytes_of_halves (digit_halves n (m / 10)) ++ (16 * (m % 10) + s) ∷ []) (sym two)
 
-pub put_last : (size m s : ℕ) (front last : List ℕ) → 1 ≤ size → front ≡ joined (digit_halves (2 * (size - 1)) (m / 10)) → last ≡ (16 * (m % 10) + s) ∷ []
-    → front ++ last ≡ joined (digit_halves (2 * size - 1) m ++ s ∷ [])
+pub put_last : (size m s : ℕ) (front last : List ℕ) → 1 ≤ size → front ≡ bytes_of_halves (digit_halves (2 * (size - 1)) (m / 10)) → last ≡ (16 * (m % 10) + s) ∷ []
+    → front ++ last ≡ bytes_of_halves (digit_halves (2 * size - 1) m ++ s ∷ [])
 put_last size m s front last some e f =
     let odd : suc (2 * (size - 1)) ≡ 2 * size - 1 = omega arith in
-    ap (λ t. t ++ last) e ∙ ap (λ t. joined (digit_halves (2 * (size - 1)) (m / 10)) ++ t) f
-    ∙ sym (last_pair (size - 1) m s) ∙ ap (λ n. joined (digit_halves n m ++ s ∷ [])) odd
+    ap (λ t. t ++ last) e ∙ ap (λ t. bytes_of_halves (digit_halves (2 * (size - 1)) (m / 10)) ++ t) f
+    ∙ sym (last_pair (size - 1) m s) ∙ ap (λ n. bytes_of_halves (digit_halves n m ++ s ∷ [])) odd
 
 -- ---- the bytes of a number read
 
@@ -228,7 +228,7 @@ half_of_joined a b h = omega arith
 rest_of_joined : (a b : ℕ) → b < 16 → (16 * a + b) % 16 ≡ b
 rest_of_joined a b h = omega arith
 
-halves_joined : (k m s : ℕ) → s < 16 → halves (joined (digit_halves (suc (2 * k)) m ++ s ∷ [])) ≡ digit_halves (suc (2 * k)) m ++ s ∷ []
+halves_joined : (k m s : ℕ) → s < 16 → halves (bytes_of_halves (digit_halves (suc (2 * k)) m ++ s ∷ [])) ≡ digit_halves (suc (2 * k)) m ++ s ∷ []
 halves_joined zero m s h =
     let a = 48 + m / 1 % 10 - 48 in
     ap (λ x. x ∷ (16 * a + s) % 16 ∷ []) (half_of_joined a s h) ∙ ap (λ x. a ∷ x ∷ []) (rest_of_joined a s h)
@@ -238,9 +238,9 @@ halves_joined (suc k) m s h =
     let b = 48 + m / 10 ^ suc (2 * k) % 10 - 48 in
     let low : b < 16 = omega arith in
     let rest = digit_halves (suc (2 * k)) m ++ s ∷ [] in
-    ap (λ n. halves (joined (digit_halves (suc n) m ++ s ∷ []))) two
-    ∙ ap (λ x. x ∷ (16 * a + b) % 16 ∷ halves (joined rest)) (half_of_joined a b low)
-    ∙ ap (λ x. a ∷ x ∷ halves (joined rest)) (rest_of_joined a b low)
+    ap (λ n. halves (bytes_of_halves (digit_halves (suc n) m ++ s ∷ []))) two
+    ∙ ap (λ x. x ∷ (16 * a + b) % 16 ∷ halves (bytes_of_halves rest)) (half_of_joined a b low)
+    ∙ ap (λ x. a ∷ x ∷ halves (bytes_of_halves rest)) (rest_of_joined a b low)
     ∙ ap (λ t. a ∷ b ∷ t) (halves_joined k m s h)
     ∙ ap (λ n. digit_halves (suc n) m ++ s ∷ []) (sym two)
 
@@ -259,7 +259,7 @@ pub packed_back : (s negative : Bool) (k m : ℕ) → packed_integer s (packed_b
 packed_back s negative k m =
     let half = sign_half s negative in
     let odd : 2 * (k + 1) - 1 ≡ suc (2 * k) = omega arith in
-    ap (λ n. of_halves s (halves (joined (digit_halves n m ++ half ∷ [])))) odd
+    ap (λ n. of_halves s (halves (bytes_of_halves (digit_halves n m ++ half ∷ [])))) odd
     ∙ ap (of_halves s) (halves_joined k m half (sign_small s negative))
     ∙ ends s (digit_halves (suc (2 * k)) m) half
     ∙ ap (by_sign_half s half) (characters_back (suc (2 * k)) m)
@@ -282,10 +282,10 @@ packed_of_table i d h = packed_at 100 0 i d h ∙ ap (λ j. 16 * (j / 10) + j % 
 
 -- The same turn, where the byte is found otherwise.
 pub pair_put : (bytes : List ℕ) (at m rest value : ℕ) → 0 < at → at ≤ length bytes → rest ≡ m / 10 ^ (2 * (length bytes - at))
-    → drop at bytes ≡ joined (digit_halves (2 * (length bytes - at)) m) → value ≡ 16 * (rest % 100 / 10) + rest % 100 % 10
+    → drop at bytes ≡ bytes_of_halves (digit_halves (2 * (length bytes - at)) m) → value ≡ 16 * (rest % 100 / 10) + rest % 100 % 10
     → let new = set bytes (at - 1) value in
-    (at - 1 ≤ length new) × (rest / 100 ≡ m / 10 ^ (2 * (length new - (at - 1)))) × (drop (at - 1) new ≡ joined (digit_halves (2 * (length new - (at - 1))) m))
+    (at - 1 ≤ length new) × (rest / 100 ≡ m / 10 ^ (2 * (length new - (at - 1)))) × (drop (at - 1) new ≡ bytes_of_halves (digit_halves (2 * (length new - (at - 1))) m))
 pair_put bytes at m rest value some h e written is =
     let P : ℕ → Type 0 = λ v. (at - 1 ≤ length (set bytes (at - 1) v)) × (rest / 100 ≡ m / 10 ^ (2 * (length (set bytes (at - 1) v) - (at - 1))))
-    × (drop (at - 1) (set bytes (at - 1) v) ≡ joined (digit_halves (2 * (length (set bytes (at - 1) v) - (at - 1))) m)) in
+    × (drop (at - 1) (set bytes (at - 1) v) ≡ bytes_of_halves (digit_halves (2 * (length (set bytes (at - 1) v) - (at - 1))) m)) in
     subst P (sym is) (pair_step bytes at m rest some h e written)

@@ -3,7 +3,7 @@ use Rattle.std.proofs.Common.{◌≡◌, ℕ, zero, suc, ◌+◌, ◌-◌, ◌<�
 use Rattle.std.proofs.lemmas.List.{append_assoc, append-nil, length-append, length-set, take-append-le, at_drop_more, take_more_set, drop_all}
 use Rattle.std.specs.List.{repeat}
 use Rattle.std.specs.Prelude.{replicate}
-use Rattle.items.specs.Texts.{repeated, padded, space}
+use Rattle.items.specs.Texts.{repeated_text, padded_text, space}
 
 repeat_long : (n : ℕ) (text : List ℕ) → 1 ≤ length text → n ≤ length (repeat n text)
 repeat_long zero text h = omega arith
@@ -29,8 +29,8 @@ come_next k size at text h = at_drop_more (λ rest. take (suc k) (rest ++ repeat
 
 -- one character written
 pub written_next : (bytes text : List ℕ) (i at : ℕ) → i < length bytes → at < length text
-    → take i bytes ++ to_come (length bytes - i) (length bytes) text at ≡ repeated (length bytes) text
-    → take (i + 1) (set bytes i (get_or text at 0)) ++ to_come (length bytes - (i + 1)) (length bytes) text (at + 1) ≡ repeated (length bytes) text
+    → take i bytes ++ to_come (length bytes - i) (length bytes) text at ≡ repeated_text (length bytes) text
+    → take (i + 1) (set bytes i (get_or text at 0)) ++ to_come (length bytes - (i + 1)) (length bytes) text (at + 1) ≡ repeated_text (length bytes) text
 written_next bytes text i at h w e =
     let c = get_or text at 0 in
     let k = length bytes - (i + 1) in
@@ -49,17 +49,17 @@ come_again k size text at some few e =
 
 -- one turn: the place of the next character begins again at the text's end
 pub turn : (bytes text : List ℕ) (i at next : ℕ) → 1 ≤ length text → i < length bytes → at < length text
-    → take i bytes ++ to_come (length bytes - i) (length bytes) text at ≡ repeated (length bytes) text
+    → take i bytes ++ to_come (length bytes - i) (length bytes) text at ≡ repeated_text (length bytes) text
     → ((at + 1 ≡ length text) × (next ≡ 0)) ⊎ ((at + 1 ≡ length text → ⊥) × (next ≡ at + 1))
     → let new = set bytes i (get_or text at 0) in
-    (next < length text) × (take (i + 1) new ++ to_come (length new - (i + 1)) (length new) text next ≡ repeated (length new) text)
+    (next < length text) × (take (i + 1) new ++ to_come (length new - (i + 1)) (length new) text next ≡ repeated_text (length new) text)
 turn bytes text i at next some h w e place =
     let new = set bytes i (get_or text at 0) in
-    let P : ℕ → Type 0 = λ n. (next < length text) × (take (i + 1) new ++ to_come (n - (i + 1)) n text next ≡ repeated n text) in
+    let P : ℕ → Type 0 = λ n. (next < length text) × (take (i + 1) new ++ to_come (n - (i + 1)) n text next ≡ repeated_text n text) in
     subst P (sym (length-set bytes i (get_or text at 0))) (by_place place)
   where
     by_place : ((at + 1 ≡ length text) × (next ≡ 0)) ⊎ ((at + 1 ≡ length text → ⊥) × (next ≡ at + 1))
-        → (next < length text) × (take (i + 1) (set bytes i (get_or text at 0)) ++ to_come (length bytes - (i + 1)) (length bytes) text next ≡ repeated (length bytes) text)
+        → (next < length text) × (take (i + 1) (set bytes i (get_or text at 0)) ++ to_come (length bytes - (i + 1)) (length bytes) text next ≡ repeated_text (length bytes) text)
     by_place (inl again) =
         let k = length bytes - (i + 1) in
         let few : k ≤ length bytes = omega arith in
@@ -79,7 +79,7 @@ turn bytes text i at next some h w e place =
               ∙ written_next bytes text i at h w e,
         )
 
-pub begin : (size : ℕ) (text : List ℕ) → 1 ≤ length text → to_come (size - 0) size text 0 ≡ repeated size text
+pub begin : (size : ℕ) (text : List ℕ) → 1 ≤ length text → to_come (size - 0) size text 0 ≡ repeated_text size text
 begin size text some =
     let all : size - 0 ≡ size = omega arith in
     let enough : size ≤ size = omega arith in
@@ -88,7 +88,7 @@ begin size text some =
 -- ---- a text that fills its room
 
 -- A text that is no shorter than its room has no spaces behind it.
-pub full_text : (size : ℕ) (new text : List ℕ) → size ≤ length text → new ≡ take size text → new ≡ padded size text
+pub full_text : (size : ℕ) (new text : List ℕ) → size ≤ length text → new ≡ take size text → new ≡ padded_text size text
 full_text size new text h e =
     let none : 0 ≡ size - length text = omega arith in
     e ∙ sym (append-nil (take size text)) ∙ ap (λ n. take size text ++ replicate n space) none

@@ -54,6 +54,42 @@ static NUMBERS: [u8; BYTES] = [
 /// The greatest number of two digits.
 const MOST: u8 = 99;
 
+/// The integer that the bytes of a packed number are.
+pub fn packed_integer(signed: bool, bytes: &[u8]) -> Option<i128>
+    requires some { 1 ≤ length bytes.now }
+    requires most { length bytes.now ≤ 10 }
+    ensures { result ≡ spec.packed_integer signed bytes.now }
+{
+    let [front @ .., last] = bytes else {
+        return None;
+    };
+    let front = pairs(front)?;
+    let digit = *last / HALF;
+    if digit > 9 {
+        return None;
+    }
+    let magnitude = 10 * front + u64::from(digit);
+    let half = *last % HALF;
+    if half == sign_half(signed, false) {
+        Some(signed_number(false, magnitude))
+    } else if half == sign_half(signed, true) {
+        Some(signed_number(true, magnitude))
+    } else {
+        None
+    }
+}
+
+/// Writes a packed number.
+pub fn put_packed(signed: bool, negative: bool, magnitude: u64, bytes: &mut [u8])
+    requires { 1 ≤ length bytes.old }
+    ensures { bytes.new ≡ spec.packed_bytes signed (length bytes.old) negative magnitude }
+{
+    let size = bytes.len();
+    let (front, last) = bytes.split_at_mut(size - 1);
+    put_pairs(magnitude / 10, front);
+    last.fill(HALF * (magnitude % 10) as u8 + sign_half(signed, negative));
+}
+
 /// The half that tells the sign.
 fn sign_half(signed: bool, negative: bool) -> u8
     ensures value { result ≡ spec.sign_half signed negative }
@@ -94,40 +130,15 @@ fn pairs(bytes: &[u8]) -> Option<u64>
 
 /// A number by its sign and its absolute value.
 fn signed_number(negative: bool, magnitude: u64) -> i128
-    ensures { result ≡ numbers.signed negative magnitude }
+    ensures { result ≡ numbers.signed_integer negative magnitude }
 {
     let value = i128::from(magnitude);
     if negative { -value } else { value }
 }
 
-/// The integer that the bytes of a packed number are.
-pub fn packed_integer(signed: bool, bytes: &[u8]) -> Option<i128>
-    requires some { 1 ≤ length bytes.now }
-    requires most { length bytes.now ≤ 10 }
-    ensures { result ≡ spec.packed_integer signed bytes.now }
-{
-    let [front @ .., last] = bytes else {
-        return None;
-    };
-    let front = pairs(front)?;
-    let digit = *last / HALF;
-    if digit > 9 {
-        return None;
-    }
-    let magnitude = 10 * front + u64::from(digit);
-    let half = *last % HALF;
-    if half == sign_half(signed, false) {
-        Some(signed_number(false, magnitude))
-    } else if half == sign_half(signed, true) {
-        Some(signed_number(true, magnitude))
-    } else {
-        None
-    }
-}
-
 /// Writes the last digits of a number, two a byte.
 fn put_pairs(magnitude: u64, bytes: &mut [u8])
-    ensures { bytes.new ≡ spec.joined (spec.digit_halves (2 * length bytes.old) magnitude) }
+    ensures { bytes.new ≡ spec.bytes_of_halves (spec.digit_halves (2 * length bytes.old) magnitude) }
 {
     let mut rest = magnitude;
     let mut at = bytes.len();
@@ -136,15 +147,4 @@ fn put_pairs(magnitude: u64, bytes: &mut [u8])
         bytes[at] = PAIRS[(rest % 100) as usize];
         rest /= 100;
     }
-}
-
-/// Writes a packed number.
-pub fn put_packed(signed: bool, negative: bool, magnitude: u64, bytes: &mut [u8])
-    requires { 1 ≤ length bytes.old }
-    ensures { bytes.new ≡ spec.packed_bytes signed (length bytes.old) negative magnitude }
-{
-    let size = bytes.len();
-    let (front, last) = bytes.split_at_mut(size - 1);
-    put_pairs(magnitude / 10, front);
-    last.fill(HALF * (magnitude % 10) as u8 + sign_half(signed, negative));
 }

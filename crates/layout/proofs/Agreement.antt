@@ -6,13 +6,13 @@ use Rattle.source_tree.specs.declared.entry.ItemEntry.{ItemEntry}
 use Rattle.source_tree.specs.declared.name.Name.{Name}
 use Rattle.source_tree.specs.declared.select.FileDescription.{FileDescription}
 use Rattle.source_tree.specs.declared.program.Program.{Program}
-use Rattle.source_tree.specs.Levels.{Forest, End, Tree, nested}
+use Rattle.source_tree.specs.Levels.{Forest, End, Tree, forest_of}
 use Rattle.source_tree.specs.Clauses.{nothing_around, inside}
 use Rattle.source_tree.specs.Rooms.{redefines, item_with}
 use Rattle.source_tree.specs.Places.{Surroundings, with_dimension, within, places, top, storage_places, items_of}
 use Rattle.source_tree.specs.Records.{storage_areas, record_places, file_places, program_items}
 use Rattle.layout.specs.declared.placed.PlacedItem.{PlacedItem}
-use Rattle.layout.specs.Placing.{placed_item, taken, own_item, entry_items, group_items, storage_items, record_items, file_items}
+use Rattle.layout.specs.Placing.{placed_item, occupied_bytes, own_item, entry_items, group_items, storage_items, record_items, file_items}
 
 pub of_group : (around : Surroundings) (last here : ℕ) (F : Forest)
     → map placed_item (places around last here F) ≡ group_items around.around around.area around.dimensions last here F
@@ -21,9 +21,9 @@ of_group around last here End = refl
 of_group around last here (Tree one conditions inner next) =
     let at : ℕ = if redefines one then last else here in
     let own : PlacedItem = own_item around.around around.area around.dimensions one (item_with around.around one inner) at in
-    ap (λ l. own ∷ l) (map-append placed_item (places (within around one (item_with around.around one inner)) at at inner) (places around at (here + taken around.around one inner) next))
-    ∙ ap (λ l. own ∷ (l ++ map placed_item (places around at (here + taken around.around one inner) next))) (of_group (within around one (item_with around.around one inner)) at at inner)
-    ∙ ap (λ l. own ∷ (group_items (inside around.around one) around.area (with_dimension one.occurs (item_with around.around one inner).length around.dimensions) at at inner ++ l)) (of_group around at (here + taken around.around one inner) next)
+    ap (λ l. own ∷ l) (map-append placed_item (places (within around one (item_with around.around one inner)) at at inner) (places around at (here + occupied_bytes around.around one inner) next))
+    ∙ ap (λ l. own ∷ (l ++ map placed_item (places around at (here + occupied_bytes around.around one inner) next))) (of_group (within around one (item_with around.around one inner)) at at inner)
+    ∙ ap (λ l. own ∷ (group_items (inside around.around one) around.area (with_dimension one.occurs (item_with around.around one inner).length around.dimensions) at at inner ++ l)) (of_group around at (here + occupied_bytes around.around one inner) next)
 
 same_place : (b : Bool) → ◌≡◌ {A = ℕ} (if b then 0 else 0) 0
 same_place true = refl
@@ -63,12 +63,12 @@ of_files : (area : ℕ) (files : List FileDescription) → map placed_item (file
 unfolding file_items
 of_files area [] = refl
 of_files area (one ∷ more) =
-    map-append placed_item (record_places area one.name (nested one.entries)) (file_places (area + 1) more)
-    ∙ ap (λ l. l ++ map placed_item (file_places (area + 1) more)) (of_records area one.name (nested one.entries))
-    ∙ ap (λ l. record_items area (nested one.entries) ++ l) (of_files (area + 1) more)
+    map-append placed_item (record_places area one.name (forest_of one.entries)) (file_places (area + 1) more)
+    ∙ ap (λ l. l ++ map placed_item (file_places (area + 1) more)) (of_records area one.name (forest_of one.entries))
+    ∙ ap (λ l. record_items area (forest_of one.entries) ++ l) (of_files (area + 1) more)
 
-pub of_program : (program : Program) → map placed_item (program_items program) ≡ storage_items 0 (nested program.storage) ++ file_items (storage_areas program.storage) program.files
+pub of_program : (program : Program) → map placed_item (program_items program) ≡ storage_items 0 (forest_of program.storage) ++ file_items (storage_areas program.storage) program.files
 of_program program =
     map-append placed_item (items_of program.storage) (file_places (storage_areas program.storage) program.files)
-    ∙ ap (λ l. l ++ map placed_item (file_places (storage_areas program.storage) program.files)) (of_storage 0 (nested program.storage))
-    ∙ ap (λ l. storage_items 0 (nested program.storage) ++ l) (of_files (storage_areas program.storage) program.files)
+    ∙ ap (λ l. l ++ map placed_item (file_places (storage_areas program.storage) program.files)) (of_storage 0 (forest_of program.storage))
+    ∙ ap (λ l. storage_items 0 (forest_of program.storage) ++ l) (of_files (storage_areas program.storage) program.files)

@@ -9,12 +9,12 @@ use Rattle.source_tree.specs.declared.entry.ItemEntry.{ItemEntry}
 use Rattle.source_tree.specs.declared.entry.Entry.{Entry}
 use Rattle.source_tree.specs.declared.entry.Entry.TheVariants.{Item, Condition}
 use Rattle.source_tree.specs.Integers.{number_of}
-use Rattle.source_tree.specs.Levels.{Forest, End, Tree, level_of, deeper, beyond, leading, nested}
+use Rattle.source_tree.specs.Levels.{Forest, End, Tree, level_of, deeper, beyond, leading_conditions, forest_of}
 use Rattle.source_tree.specs.Clauses.{nothing_around, inside, form_of, item_by, occurrences}
 use Rattle.source_tree.specs.Rooms.{redefines, room, item_with}
-use Rattle.source_tree.specs.Broken.{Broken, where_so, each}
+use Rattle.source_tree.specs.Broken.{RuleBreach, where_so, each}
 use Rattle.source_tree.specs.ClauseRules.{most_item_bytes, most_occurrences, too_large, too_many, wrong_clause, wrong_picture}
-use Rattle.source_tree.specs.RedefinitionRules.{Redefinable, remembered}
+use Rattle.source_tree.specs.RedefinitionRules.{Redefinable, redefinable_after}
 use Rattle.source_tree.specs.ValueRules.{value_rules, condition_rules}
 use Rattle.source_tree.specs.EntryRules.{Position, outermost, is_outermost, is_level, level_rules, wrong_level, redefinition_rules, own_rules, below, forest_rules, storage_rules, excess, homeless, most_entries, entry_rules}
 use Rattle.layout.specs.Fits.{FitsEntry, Fits}
@@ -83,11 +83,11 @@ known_level : (one : ItemEntry) → level_rules (Item one) ≡ [] → level_of o
 known_level one e =
     known_by (number_of one.level == 77) (number_of one.level) (true_where (is_level (number_of one.level)) (kept (not (is_level (number_of one.level))) 43 one.level.place e))
 
-pub leveled : (entries : List Entry) → each level_rules entries ≡ [] → Leveled (nested entries)
+pub leveled : (entries : List Entry) → each level_rules entries ≡ [] → Leveled (forest_of entries)
 leveled [] e = tt
 leveled (Item one ∷ more) e =
     let rest = leveled more (back_nil (level_rules (Item one)) (each level_rules more) e) in
-    (known_level one (front_nil (level_rules (Item one)) (each level_rules more) e), leveled_deeper (level_of one) (nested more) rest, leveled_beyond (level_of one) (nested more) rest)
+    (known_level one (front_nil (level_rules (Item one)) (each level_rules more) e), leveled_deeper (level_of one) (forest_of more) rest, leveled_beyond (level_of one) (forest_of more) rest)
 leveled (Condition one ∷ more) e = leveled more e
 
 -- ---- lengths
@@ -107,12 +107,12 @@ within_of around one (Tree other conditions inner next) e h =
     let bytes : ℕ = room (inside around one) (Tree other conditions inner next) in
     subst (λ p. (item_by around one (form_of p) bytes).length ≤ most_item_bytes) (none_of one.picture false e) h
 
-three_parts : (a b c d : List Broken) → a ++ (b ++ (c ++ d)) ≡ [] → (a ≡ []) × (b ≡ []) × (d ≡ [])
+three_parts : (a b c d : List RuleBreach) → a ++ (b ++ (c ++ d)) ≡ [] → (a ≡ []) × (b ≡ []) × (d ≡ [])
 three_parts a b c d e =
     let rest = back_nil a (b ++ (c ++ d)) e in
     (front_nil a (b ++ (c ++ d)) e, front_nil b (c ++ d) rest, back_nil c d (back_nil b (c ++ d) rest))
 
-own_parts : (times bytes level clause picture : Bool) (place : Place) (redefinition value : List Broken)
+own_parts : (times bytes level clause picture : Bool) (place : Place) (redefinition value : List RuleBreach)
     → where_so times 69 place ++ where_so bytes 48 place ++ where_so level 43 place ++ where_so clause 44 place ++ where_so picture 45 place ++ redefinition ++ value ≡ []
     → (times ≡ false) × (bytes ≡ false) × (picture ≡ false)
 own_parts true bytes level clause picture place redefinition value e = cc
@@ -135,21 +135,21 @@ pub of_forest : (at : Position) (last : Option Redefinable) (F : Forest) → Lev
 of_forest at last End levels e = tt
 of_forest at last (Tree one conditions inner next) levels e =
     let item : Items.Item = item_with at.around one inner in
-    let after : Option Redefinable = remembered one (occurrences one * item.length) last in
+    let after : Option Redefinable = redefinable_after one (occurrences one * item.length) last in
     let parts = three_parts (forest_rules (below at one inner) None inner) (own_rules at one item inner last) (each (condition_rules item) conditions) (forest_rules at after next) e in
     (entry_fits at one inner last levels.0 parts.1, of_forest (below at one inner) None inner levels.1 parts.0, of_forest at after next levels.2 parts.2)
 
 -- ---- all of working storage
 
-pub fits : (entries : List Entry) → entry_rules entries ≡ [] → Fits nothing_around (nested entries)
+pub fits : (entries : List Entry) → entry_rules entries ≡ [] → Fits nothing_around (forest_of entries)
 fits entries e =
-    let counted = back_nil (each excess (drop most_entries entries)) (each level_rules entries ++ (each homeless (leading entries) ++ (forest_rules (outermost false) None (nested entries) ++ storage_rules 0 (nested entries)))) e in
-    let parts = three_parts (each level_rules entries) (each homeless (leading entries)) (forest_rules (outermost false) None (nested entries)) (storage_rules 0 (nested entries)) counted in
-    let rest = back_nil (each homeless (leading entries)) (forest_rules (outermost false) None (nested entries) ++ storage_rules 0 (nested entries))
-    (back_nil (each level_rules entries) (each homeless (leading entries) ++ (forest_rules (outermost false) None (nested entries) ++ storage_rules 0 (nested entries))) counted) in
-    of_forest (outermost false) None (nested entries) (leveled entries parts.0) (front_nil (forest_rules (outermost false) None (nested entries)) (storage_rules 0 (nested entries)) rest)
+    let counted = back_nil (each excess (drop most_entries entries)) (each level_rules entries ++ (each homeless (leading_conditions entries) ++ (forest_rules (outermost false) None (forest_of entries) ++ storage_rules 0 (forest_of entries)))) e in
+    let parts = three_parts (each level_rules entries) (each homeless (leading_conditions entries)) (forest_rules (outermost false) None (forest_of entries)) (storage_rules 0 (forest_of entries)) counted in
+    let rest = back_nil (each homeless (leading_conditions entries)) (forest_rules (outermost false) None (forest_of entries) ++ storage_rules 0 (forest_of entries))
+    (back_nil (each level_rules entries) (each homeless (leading_conditions entries) ++ (forest_rules (outermost false) None (forest_of entries) ++ storage_rules 0 (forest_of entries))) counted) in
+    of_forest (outermost false) None (forest_of entries) (leveled entries parts.0) (front_nil (forest_rules (outermost false) None (forest_of entries)) (storage_rules 0 (forest_of entries)) rest)
 
 pub not_many : (entries : List Entry) → entry_rules entries ≡ [] → length entries ≤ most_entries
 not_many entries e =
     dropped_all most_entries entries (few (drop most_entries entries)
-    (front_nil (each excess (drop most_entries entries)) (each level_rules entries ++ (each homeless (leading entries) ++ (forest_rules (outermost false) None (nested entries) ++ storage_rules 0 (nested entries)))) e))
+    (front_nil (each excess (drop most_entries entries)) (each level_rules entries ++ (each homeless (leading_conditions entries) ++ (forest_rules (outermost false) None (forest_of entries) ++ storage_rules 0 (forest_of entries)))) e))

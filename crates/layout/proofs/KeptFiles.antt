@@ -2,7 +2,7 @@
 use Rattle.std.proofs.Common.{◌≡◌, ℕ, ◌+◌, ◌-◌, ◌≤◌, nat_lt, true, false, not, List, [], ◌∷◌, ◌++◌, length, drop, None, sum, length-append, arith}
 use Rattle.source_tree.specs.declared.entry.Entry.{Entry}
 use Rattle.source_tree.specs.declared.select.FileDescription.{FileDescription}
-use Rattle.source_tree.specs.Levels.{leading, nested}
+use Rattle.source_tree.specs.Levels.{leading_conditions, forest_of}
 use Rattle.source_tree.specs.Clauses.{nothing_around}
 use Rattle.source_tree.specs.Records.{record_length}
 use Rattle.source_tree.specs.Rooms.{area_lengths}
@@ -17,14 +17,14 @@ use Rattle.layout.proofs.Kept.{front_nil, back_nil, kept, few, dropped_all, leve
 
 record Description (one : FileDescription) : Type 0 where
   levels : each level_rules one.entries ≡ []
-  forest : forest_rules (outermost true) None (nested one.entries) ≡ []
+  forest : forest_rules (outermost true) None (forest_of one.entries) ≡ []
   bytes : not (are_some most_record_bytes (record_length one.entries)) ≡ false
 
 parts : (one : FileDescription) → description_rules one ≡ [] → Description one
 parts one e =
     let levels = each level_rules one.entries in
-    let homes = each homeless (leading one.entries) in
-    let forest = forest_rules (outermost true) None (nested one.entries) in
+    let homes = each homeless (leading_conditions one.entries) in
+    let forest = forest_rules (outermost true) None (forest_of one.entries) in
     let bytes = where_so (not (are_some most_record_bytes (record_length one.entries))) 69 one.name.place in
     let front = front_nil (levels ++ homes ++ forest) bytes e in
     record {
@@ -33,10 +33,10 @@ parts one e =
       bytes = kept (not (are_some most_record_bytes (record_length one.entries))) 69 one.name.place (back_nil (levels ++ homes ++ forest) bytes e);
     }
 
-pub description_fits : (one : FileDescription) → description_rules one ≡ [] → Fits nothing_around (nested one.entries)
+pub description_fits : (one : FileDescription) → description_rules one ≡ [] → Fits nothing_around (forest_of one.entries)
 description_fits one e =
     let kept = parts one e in
-    of_forest (outermost true) None (nested one.entries) (leveled one.entries kept.levels) kept.forest
+    of_forest (outermost true) None (forest_of one.entries) (leveled one.entries kept.levels) kept.forest
 
 -- ---- the number of entries
 
@@ -80,12 +80,12 @@ first_counted before (one ∷ more) e f =
 record Descriptions (storage : List Entry) (files : List FileDescription) : Type 0 where
   entries : each excess (drop (most_entries - length storage) (file_entries files)) ≡ []
   each_one : each description_rules files ≡ []
-  bytes : record_storage_rules (sum (area_lengths (nested storage))) files ≡ []
+  bytes : record_storage_rules (sum (area_lengths (forest_of storage))) files ≡ []
 
 all_parts : (storage : List Entry) (files : List FileDescription) → descriptions_rules storage files ≡ [] → Descriptions storage files
 all_parts storage files e =
     let entries = each excess (drop (most_entries - length storage) (file_entries files)) in
-    let bytes = record_storage_rules (sum (area_lengths (nested storage))) files in
+    let bytes = record_storage_rules (sum (area_lengths (forest_of storage))) files in
     let front = front_nil (entries ++ each description_rules files) bytes e in
     record { entries = front_nil entries (each description_rules files) front; each_one = back_nil entries (each description_rules files) front; bytes = back_nil (entries ++ each description_rules files) bytes e }
 
@@ -98,4 +98,4 @@ files_fit storage files e =
 pub not_many_files : (storage : List Entry) (files : List FileDescription) → descriptions_rules storage files ≡ [] → length files ≤ most_storage
 not_many_files storage files e =
     let kept = all_parts storage files e in
-    first_counted (sum (area_lengths (nested storage))) files kept.each_one kept.bytes
+    first_counted (sum (area_lengths (forest_of storage))) files kept.each_one kept.bytes

@@ -6,20 +6,20 @@ use Rattle.source_tree.specs.declared.entry.Around.{Around}
 use Rattle.source_tree.specs.declared.entry.ItemEntry.{ItemEntry}
 use Rattle.source_tree.specs.declared.entry.ConditionEntry.{ConditionEntry}
 use Rattle.source_tree.specs.declared.select.FileDescription.{FileDescription}
-use Rattle.source_tree.specs.Levels.{Forest, End, Tree, nested}
+use Rattle.source_tree.specs.Levels.{Forest, End, Tree, forest_of}
 use Rattle.source_tree.specs.Clauses.{nothing_around, inside}
 use Rattle.source_tree.specs.Rooms.{redefines, room}
-use Rattle.entries.specs.Nesting.{HasLevel}
+use Rattle.data_entries.specs.Nesting.{HasLevel}
 use Rattle.layout.specs.declared.placed.PlacedItem.{PlacedItem}
 use Rattle.layout.specs.Fits.{FitsEntry, Fits, FitsFile, FitFiles}
-use Rattle.layout.specs.Placing.{taken, entry_items, group_items, storage_items, record_items, file_items}
+use Rattle.layout.specs.Placing.{occupied_bytes, entry_items, group_items, storage_items, record_items, file_items}
 
 pub fits_tree : (around : Around) (F : Forest) (one : ItemEntry) (conditions : List ConditionEntry) (inner next : Forest)
     → F ≡ Tree one conditions inner next → Fits around F → FitsEntry around one inner × Fits (inside around one) inner × Fits around next
 fits_tree around F one conditions inner next e h = subst (λ G. Fits around G) e h
 
 pub room_tree : (around : Around) (F : Forest) (one : ItemEntry) (conditions : List ConditionEntry) (inner next : Forest)
-    → F ≡ Tree one conditions inner next → room around F ≡ taken around one inner + room around next
+    → F ≡ Tree one conditions inner next → room around F ≡ occupied_bytes around one inner + room around next
 room_tree around F one conditions inner next e = ap (room around) e
 
 pub has_level : (around : Around) (F : Forest) → Fits around F → HasLevel F
@@ -34,12 +34,12 @@ placed_entry old one two inside own placed same pushed behind =
 -- the first item of a group, those in it, and the items after it
 pub placed_tree : (out : List PlacedItem) (around : Around) (area : ℕ) (dimensions : List Dimension) (last here at : ℕ) (F : Forest) (one : ItemEntry) (conditions : List ConditionEntry) (inner next : Forest)
     → F ≡ Tree one conditions inner next → at ≡ (if redefines one then last else here)
-    → (out ++ entry_items around area dimensions one inner at) ++ group_items around area dimensions at (here + taken around one inner) next
+    → (out ++ entry_items around area dimensions one inner at) ++ group_items around area dimensions at (here + occupied_bytes around one inner) next
     ≡ out ++ group_items around area dimensions last here F
 unfolding group_items
 placed_tree out around area dimensions last here at F one conditions inner next e begin =
-    append_assoc out (entry_items around area dimensions one inner at) (group_items around area dimensions at (here + taken around one inner) next)
-    ∙ ap (λ n. out ++ (entry_items around area dimensions one inner n ++ group_items around area dimensions n (here + taken around one inner) next)) begin
+    append_assoc out (entry_items around area dimensions one inner at) (group_items around area dimensions at (here + occupied_bytes around one inner) next)
+    ∙ ap (λ n. out ++ (entry_items around area dimensions one inner n ++ group_items around area dimensions n (here + occupied_bytes around one inner) next)) begin
     ∙ ap (λ G. out ++ group_items around area dimensions last here G) (sym e)
 
 -- the first 01 or 77, and those after it
@@ -59,7 +59,7 @@ below_if true n x y m e hx hy = omega (arith, e)
 below_if false n x y m e hx hy = omega (arith, e)
 
 pub group_step : (new out all : List PlacedItem) (around : Around) (area : ℕ) (dimensions : List Dimension) (last here at n : ℕ) (F : Forest) (one : ItemEntry) (conditions : List ConditionEntry) (inner next : Forest)
-    → F ≡ Tree one conditions inner next → at ≡ (if redefines one then last else here) → n ≡ taken around one inner
+    → F ≡ Tree one conditions inner next → at ≡ (if redefines one then last else here) → n ≡ occupied_bytes around one inner
     → new ≡ out ++ entry_items around area dimensions one inner at → out ++ group_items around area dimensions last here F ≡ all
     → new ++ group_items around area dimensions at (here + n) next ≡ all
 group_step new out all around area dimensions last here at n F one conditions inner next e begin bytes added before =
@@ -104,11 +104,11 @@ pub fits_first : (files more : List FileDescription) (one : FileDescription) →
 fits_first files more one e h = subst FitFiles e h
 
 pub file_step : (new out all : List PlacedItem) (area after : ℕ) (files more : List FileDescription) (one : FileDescription) → files ≡ one ∷ more → after ≡ area + 1
-    → new ≡ out ++ record_items area (nested one.entries) → out ++ file_items area files ≡ all → new ++ file_items after more ≡ all
+    → new ≡ out ++ record_items area (forest_of one.entries) → out ++ file_items area files ≡ all → new ++ file_items after more ≡ all
 unfolding file_items
 file_step new out all area after files more one e next added before =
-    ap (λ l. l ++ file_items after more) added ∙ append_assoc out (record_items area (nested one.entries)) (file_items after more)
-    ∙ ap (λ n. out ++ (record_items area (nested one.entries) ++ file_items n more)) next
+    ap (λ l. l ++ file_items after more) added ∙ append_assoc out (record_items area (forest_of one.entries)) (file_items after more)
+    ∙ ap (λ n. out ++ (record_items area (forest_of one.entries) ++ file_items n more)) next
     ∙ ap (λ l. out ++ file_items area l) (sym e) ∙ before
 
 pub file_end : (out all : List PlacedItem) (area : ℕ) (files : List FileDescription) → files ≡ [] → out ++ file_items area files ≡ all → out ≡ all

@@ -3,7 +3,7 @@ use Rattle.std.specs.Prelude.{ℕ, ◌≤◌, ◌<◌, List, [], ◌∷◌, leng
 use Rattle.source_tree.specs.declared.entry.Around.{Around}
 use Rattle.source_tree.specs.declared.entry.ItemEntry.{ItemEntry}
 use Rattle.source_tree.specs.declared.select.FileDescription.{FileDescription}
-use Rattle.source_tree.specs.Levels.{Forest, End, Tree, level_of, nested}
+use Rattle.source_tree.specs.Levels.{Forest, End, Tree, level_of, forest_of}
 use Rattle.source_tree.specs.Clauses.{nothing_around, inside, occurrences}
 use Rattle.source_tree.specs.Rooms.{room, item_with}
 use Rattle.source_tree.specs.ClauseRules.{most_item_bytes, most_occurrences}
@@ -20,7 +20,7 @@ Fits around End = Unit {0}
 Fits around (Tree one conditions inner next) = FitsEntry around one inner × Fits (inside around one) inner × Fits around next
 
 pub record FitsFile (one : FileDescription) : Type 0 where
-  pub entries : Fits nothing_around (nested one.entries)
+  pub entries : Fits nothing_around (forest_of one.entries)
   pub most : length one.entries ≤ most_entries
 
 abbrev pub FitFiles : List FileDescription → Type 0

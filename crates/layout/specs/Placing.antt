@@ -5,19 +5,19 @@ use Rattle.source_tree.specs.declared.table.Dimension.{Dimension}
 use Rattle.source_tree.specs.declared.entry.Around.{Around}
 use Rattle.source_tree.specs.declared.entry.ItemEntry.{ItemEntry}
 use Rattle.source_tree.specs.declared.select.FileDescription.{FileDescription}
-use Rattle.source_tree.specs.Levels.{Forest, End, Tree, nested}
+use Rattle.source_tree.specs.Levels.{Forest, End, Tree, forest_of}
 use Rattle.source_tree.specs.Clauses.{nothing_around, inside, editing_of, occurrences}
 use Rattle.source_tree.specs.Rooms.{redefines, item_with}
-use Rattle.source_tree.specs.Places.{Placed, with_dimension}
+use Rattle.source_tree.specs.Places.{LocatedItem, with_dimension}
 use Rattle.layout.specs.declared.placed.PlacedItem.{PlacedItem}
 
 -- what the layout tells of an item
-abbrev pub placed_item : Placed → PlacedItem
+abbrev pub placed_item : LocatedItem → PlacedItem
 placed_item one = record { item = one.item; editing = one.editing; area = one.area; offset = one.offset; dimensions = one.dimensions }
 
 -- the bytes that an entry takes
-abbrev pub taken : Around → ItemEntry → Forest → ℕ
-taken around one inner = if redefines one then 0 else occurrences one * (item_with around one inner).length
+abbrev pub occupied_bytes : Around → ItemEntry → Forest → ℕ
+occupied_bytes around one inner = if redefines one then 0 else occurrences one * (item_with around one inner).length
 
 abbrev pub own_item : Around → ℕ → List Dimension → ItemEntry → Item → ℕ → PlacedItem
 own_item around area dimensions one item offset = record {
@@ -35,7 +35,7 @@ group_items around area dimensions last here (Tree one conditions inner next) =
     let at : ℕ = if redefines one then last else here in
     own_item around area dimensions one (item_with around one inner) at
     ∷ (group_items (inside around one) area (with_dimension one.occurs (item_with around one inner).length dimensions) at at inner
-    ++ group_items around area dimensions at (here + taken around one inner) next)
+    ++ group_items around area dimensions at (here + occupied_bytes around one inner) next)
 
 -- an entry's item, and those in it
 abbrev pub entry_items : Around → ℕ → List Dimension → ItemEntry → Forest → ℕ → List PlacedItem
@@ -58,4 +58,4 @@ record_items area (Tree one conditions inner next) = entry_items nothing_around 
 -- those of files of which the first has this area
 unfoldable pub file_items : ℕ → List FileDescription → List PlacedItem
 file_items area [] = []
-file_items area (one ∷ more) = record_items area (nested one.entries) ++ file_items (area + 1) more
+file_items area (one ∷ more) = record_items area (forest_of one.entries) ++ file_items (area + 1) more

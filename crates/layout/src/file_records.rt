@@ -1,7 +1,7 @@
 //! Where the items of records stand, and how long records are.
 
 ghost use Rattle.std.specs.Prelude.{◌≡◌, ◌+◌, ◌<◌, ◌≤◌, ◌^◌, ◌++◌, [], length, IfOk, OnOk};
-ghost use Rattle.source_tree.specs.Levels.{nested};
+ghost use Rattle.source_tree.specs.Levels.{forest_of};
 ghost use Rattle.source_tree.specs.Clauses.{nothing_around};
 ghost use Rattle.source_tree.specs.EntryRules.{most_entries};
 ghost use Rattle.source_tree.specs.FileRules.{description_rules};
@@ -13,34 +13,10 @@ ghost use Rattle.layout.specs.Placing as spec;
 use crate::placed::PlacedItem;
 use crate::places::{NOTHING_AROUND, Surroundings, place_item};
 use crate::rooms::{describe, extent};
-use entries::next_item;
+use data_entries::next_item;
 use items::{Item, Kind};
 use source_tree::{Entry, FileDescription};
 use std::alloc::{AllocError, Global};
-
-/// Places the items of a file's records. Each record begins the area.
-fn place_records(
-    alloc: Global,
-    entries: &[Entry],
-    area: u32,
-    out: &mut Vec<PlacedItem>,
-) -> Result<(), AllocError>
-    requires fits { Fits nothing_around (nested entries.now) }
-    requires most { length entries.now ≤ most_entries }
-    ensures { OnOk result (out.new.items ≡ out.old.items ++ spec.record_items area (nested entries.now)) }
-{
-    let around = Surroundings {
-        around: NOTHING_AROUND,
-        area,
-        dimensions: &[],
-    };
-    let mut rest = entries;
-    'records: while let Some(one) = next_item(rest) {
-        place_item(alloc, around, one, 0, out)?;
-        rest = one.next;
-    }
-    Ok(())
-}
 
 /// Places the items of the records of files, of which the first has this area.
 pub(crate) fn place_files(
@@ -61,21 +37,6 @@ pub(crate) fn place_files(
     Ok(())
 }
 
-/// The bytes of the longest of some records.
-fn longest(alloc: Global, entries: &[Entry]) -> Result<u32, AllocError>
-    requires { Fits nothing_around (nested entries.now) }
-    ensures { IfOk result (λ bytes. bytes ≡ tree.record_length entries.now) }
-{
-    let mut most = 0;
-    let mut rest = entries;
-    'records: while let Some(one) = next_item(rest) {
-        let described = describe(alloc, NOTHING_AROUND, one.entry, one.inner)?;
-        most = extent(one.entry, described.item.length).max(most);
-        rest = one.next;
-    }
-    Ok(most)
-}
-
 /// The bytes of a file's longest record, where its description keeps the rules.
 pub fn record_length(alloc: Global, file: &FileDescription) -> Result<u32, AllocError>
     requires { description_rules file.now ≡ [] }
@@ -88,15 +49,54 @@ pub fn record_length(alloc: Global, file: &FileDescription) -> Result<u32, Alloc
 /// a group.
 pub fn sent_item(alloc: Global, file: &FileDescription) -> Result<Item, AllocError>
     requires { description_rules file.now ≡ [] }
-    ensures { IfOk result (λ item. item ≡ sent_of (tree.record_length file.now.entries) (nested file.now.entries)) }
+    ensures { IfOk result (λ item. item ≡ sent_of (tree.record_length file.now.entries) (forest_of file.now.entries)) }
 {
     sent_of(alloc, file.entries.as_slice())
 }
 
+/// Places the items of a file's records. Each record begins the area.
+fn place_records(
+    alloc: Global,
+    entries: &[Entry],
+    area: u32,
+    out: &mut Vec<PlacedItem>,
+) -> Result<(), AllocError>
+    requires fits { Fits nothing_around (forest_of entries.now) }
+    requires most { length entries.now ≤ most_entries }
+    ensures { OnOk result (out.new.items ≡ out.old.items ++ spec.record_items area (forest_of entries.now)) }
+{
+    let around = Surroundings {
+        around: NOTHING_AROUND,
+        area,
+        dimensions: &[],
+    };
+    let mut rest = entries;
+    'records: while let Some(one) = next_item(rest) {
+        place_item(alloc, around, one, 0, out)?;
+        rest = one.next;
+    }
+    Ok(())
+}
+
+/// The bytes of the longest of some records.
+fn longest(alloc: Global, entries: &[Entry]) -> Result<u32, AllocError>
+    requires { Fits nothing_around (forest_of entries.now) }
+    ensures { IfOk result (λ bytes. bytes ≡ tree.record_length entries.now) }
+{
+    let mut most = 0;
+    let mut rest = entries;
+    'records: while let Some(one) = next_item(rest) {
+        let described = describe(alloc, NOTHING_AROUND, one.entry, one.inner)?;
+        most = extent(one.entry, described.item.length).max(most);
+        rest = one.next;
+    }
+    Ok(most)
+}
+
 /// The only one of some records, or a group as long as the longest.
 fn sent_of(alloc: Global, entries: &[Entry]) -> Result<Item, AllocError>
-    requires { Fits nothing_around (nested entries.now) }
-    ensures { IfOk result (λ item. item ≡ sent_of (tree.record_length entries.now) (nested entries.now)) }
+    requires { Fits nothing_around (forest_of entries.now) }
+    ensures { IfOk result (λ item. item ≡ sent_of (tree.record_length entries.now) (forest_of entries.now)) }
 {
     if let Some(one) = next_item(entries) {
         if next_item(one.next).is_none() {

@@ -1,7 +1,7 @@
 //! Where the items of a group stand.
 
 ghost use Rattle.std.specs.Prelude.{◌≡◌, ◌+◌, ◌*◌, ◌≤◌, ◌++◌, length, IfOk, OnOk, if◌then◌else◌};
-ghost use Rattle.source_tree.specs.Levels.{nested};
+ghost use Rattle.source_tree.specs.Levels.{forest_of};
 ghost use Rattle.source_tree.specs.Clauses as clauses;
 ghost use Rattle.source_tree.specs.ClauseRules.{most_item_bytes, most_occurrences};
 ghost use Rattle.source_tree.specs.Rooms.{redefines, room};
@@ -11,7 +11,7 @@ ghost use Rattle.layout.specs.Placing as spec;
 
 use crate::placed::PlacedItem;
 use crate::rooms::{describe, taken};
-use entries::{Sibling, inside, next_item, number};
+use data_entries::{Sibling, inside, next_item, number};
 use source_tree::{Around, Dimension, Entry, ItemEntry};
 use sqlite_items::Items;
 use std::alloc::{AllocError, Global};
@@ -69,11 +69,11 @@ pub fn place_item(
     offset: u32,
     out: &mut Vec<PlacedItem>,
 ) -> Result<u32, AllocError>
-    requires fits { FitsEntry around.around one.entry.now (nested one.inner.now) }
-    requires within { Fits (clauses.inside around.around one.entry.now) (nested one.inner.now) }
+    requires fits { FitsEntry around.around one.entry.now (forest_of one.inner.now) }
+    requires within { Fits (clauses.inside around.around one.entry.now) (forest_of one.inner.now) }
     requires offset { offset + 65536 * length one.inner.now ≤ most_offset }
-    ensures items { OnOk result (out.new.items ≡ out.old.items ++ spec.entry_items around.entry.around around.entry.area around.entry.dimensions.now one.entry.entry.now (nested one.entry.inner.now) offset) }
-    ensures bytes { IfOk result (λ bytes. bytes ≡ spec.taken around.entry.around one.entry.entry.now (nested one.entry.inner.now)) }
+    ensures items { OnOk result (out.new.items ≡ out.old.items ++ spec.entry_items around.entry.around around.entry.area around.entry.dimensions.now one.entry.entry.now (forest_of one.entry.inner.now) offset) }
+    ensures bytes { IfOk result (λ bytes. bytes ≡ spec.occupied_bytes around.entry.around one.entry.entry.now (forest_of one.entry.inner.now)) }
 {
     let described = describe(alloc, around.around, one.entry, one.inner)?;
     let length = described.item.length;
@@ -104,10 +104,10 @@ fn place_group(
     start: u32,
     out: &mut Vec<PlacedItem>,
 ) -> Result<(), AllocError>
-    requires fits { Fits around.around (nested entries.now) }
-    requires most { room around.around (nested entries.now) ≤ most_item_bytes }
+    requires fits { Fits around.around (forest_of entries.now) }
+    requires most { room around.around (forest_of entries.now) ≤ most_item_bytes }
     requires offset { start + 65536 * length entries.now ≤ most_offset }
-    ensures { OnOk result (out.new.items ≡ out.old.items ++ spec.group_items around.entry.around around.entry.area around.entry.dimensions.now start start (nested entries.now)) }
+    ensures { OnOk result (out.new.items ≡ out.old.items ++ spec.group_items around.entry.around around.entry.area around.entry.dimensions.now start start (forest_of entries.now)) }
 {
     let mut last = start;
     let mut here = start;

@@ -1,13 +1,13 @@
 //! The bytes that entries take.
 
 ghost use Rattle.std.specs.Prelude.{◌≡◌, ◌*◌, ◌≤◌, IfOk, if◌then◌else◌};
-ghost use Rattle.source_tree.specs.Levels.{nested};
+ghost use Rattle.source_tree.specs.Levels.{forest_of};
 ghost use Rattle.source_tree.specs.Clauses as clauses;
 ghost use Rattle.source_tree.specs.ClauseRules.{most_item_bytes, most_occurrences};
 ghost use Rattle.source_tree.specs.Rooms as spec;
 ghost use Rattle.layout.specs.Fits.{Fits};
 
-use entries::{editing, elementary, inside, next_item, occurrences, picture_of};
+use data_entries::{editing, elementary, inside, next_item, occurrences, picture_of};
 use items::{Item, Kind};
 use picture::Picture;
 use source_tree::{Around, Entry, ItemEntry};
@@ -50,9 +50,9 @@ pub fn describe(
     entry: &ItemEntry,
     inner: &[Entry],
 ) -> Result<Described, AllocError>
-    requires length { (spec.item_with around entry.now (nested inner.now)).length ≤ most_item_bytes }
-    requires fits { Fits (clauses.inside around entry.now) (nested inner.now) }
-    ensures item { IfOk result (λ d. d.item ≡ spec.item_with around entry.now (nested inner.now)) }
+    requires length { (spec.item_with around entry.now (forest_of inner.now)).length ≤ most_item_bytes }
+    requires fits { Fits (clauses.inside around entry.now) (forest_of inner.now) }
+    ensures item { IfOk result (λ d. d.item ≡ spec.item_with around entry.now (forest_of inner.now)) }
     ensures editing { IfOk result (λ d. d.editing ≡ clauses.editing_of around entry.now) }
 {
     match picture_of(alloc, entry)? {
@@ -75,9 +75,9 @@ pub fn describe(
 /// The bytes that the entries of a group take.
 #[cycle(rooms)]
 fn room(alloc: Global, around: Around, entries: &[Entry]) -> Result<u32, AllocError>
-    requires most { spec.room around (nested entries.now) ≤ most_item_bytes }
-    requires fits { Fits around (nested entries.now) }
-    ensures { IfOk result (λ bytes. bytes ≡ spec.room around (nested entries.now)) }
+    requires most { spec.room around (forest_of entries.now) ≤ most_item_bytes }
+    requires fits { Fits around (forest_of entries.now) }
+    ensures { IfOk result (λ bytes. bytes ≡ spec.room around (forest_of entries.now)) }
 {
     let mut bytes = 0;
     let mut rest = entries;

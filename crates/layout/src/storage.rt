@@ -1,7 +1,7 @@
 //! Where the items of working storage stand, and how many areas it has.
 
 ghost use Rattle.std.specs.Prelude.{◌≡◌, ◌-◌, ◌≤◌, ◌++◌, [], length, OnOk, if◌then◌else◌};
-ghost use Rattle.source_tree.specs.Levels.{nested};
+ghost use Rattle.source_tree.specs.Levels.{forest_of};
 ghost use Rattle.source_tree.specs.Clauses.{nothing_around};
 ghost use Rattle.source_tree.specs.EntryRules.{entry_rules, most_entries};
 ghost use Rattle.source_tree.specs.Records as tree;
@@ -11,20 +11,9 @@ ghost use Rattle.layout.specs.Placing as spec;
 
 use crate::placed::PlacedItem;
 use crate::places::{NOTHING_AROUND, Surroundings, place_item};
-use entries::next_item;
+use data_entries::next_item;
 use source_tree::{Entry, ItemEntry};
 use std::alloc::{AllocError, Global};
-
-/// The area of a 01 or 77 with so many areas before it: a new one, or the last one where it redefines.
-fn area_of(entry: &ItemEntry, areas: u32) -> u32
-    ensures { result ≡ (if redefines entry.now then areas - 1 else areas) }
-{
-    if entry.redefines.is_some() {
-        areas.saturating_sub(1)
-    } else {
-        areas
-    }
-}
 
 /// Places the items of each 01 and 77. One that redefines has the area of the last one that doesn't.
 pub(crate) fn place_storage(
@@ -32,9 +21,9 @@ pub(crate) fn place_storage(
     entries: &[Entry],
     out: &mut Vec<PlacedItem>,
 ) -> Result<(), AllocError>
-    requires fits { Fits nothing_around (nested entries.now) }
+    requires fits { Fits nothing_around (forest_of entries.now) }
     requires most { length entries.now ≤ most_entries }
-    ensures { OnOk result (out.new.items ≡ out.old.items ++ spec.storage_items 0 (nested entries.now)) }
+    ensures { OnOk result (out.new.items ≡ out.old.items ++ spec.storage_items 0 (forest_of entries.now)) }
 {
     let mut areas: u32 = 0;
     let mut rest = entries;
@@ -67,4 +56,15 @@ pub fn storage_areas(entries: &[Entry]) -> u32
         rest = one.next;
     }
     areas
+}
+
+/// The area of a 01 or 77 with so many areas before it: a new one, or the last one where it redefines.
+fn area_of(entry: &ItemEntry, areas: u32) -> u32
+    ensures { result ≡ (if redefines entry.now then areas - 1 else areas) }
+{
+    if entry.redefines.is_some() {
+        areas.saturating_sub(1)
+    } else {
+        areas
+    }
 }

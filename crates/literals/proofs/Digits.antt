@@ -5,12 +5,12 @@ use Rattle.std.specs.Prelude.{zero, suc, unsigned_abs}
 use Rattle.std.specs.Char.{is_ascii_digit}
 use Rattle.std.specs.List.{list_all}
 use Rattle.decimal18.specs.Digits.{digits_behind, number_behind}
-use Rattle.decimal18.specs.Fraction.{Fraction, of_parts, signed, is_negative}
+use Rattle.decimal18.specs.Fraction.{Fraction, of_parts, signed_integer, is_negative}
 use Rattle.lexical.specs.declared.number.Sign.{Sign}
 use Rattle.lexical.specs.declared.number.Sign.TheVariants as sign
 use Rattle.lexical.specs.declared.number.NumericLiteral.{NumericLiteral}
 use Rattle.items.specs.declared.usage.Usage.TheVariants as usage
-use Rattle.items.specs.Numbers.{Holds, is_signed}
+use Rattle.items.specs.Numbers.{CanHold, is_signed}
 use Rattle.source_tree.specs.Literals.{is_minus, literal_sign, literal_number, literal_numeric}
 use Rattle.source_tree.specs.ValueRules.{has_form}
 use Rattle.source_tree.specs.declared.literal.LiteralValue.TheVariants as literal
@@ -71,13 +71,13 @@ pub number_of : (one : NumericLiteral) (negative : Bool) (magnitude scale : ℕ)
     → of_parts negative magnitude scale ≡ literal_number one
 number_of one negative magnitude scale e f g = cc
 
-size_of : (negative : Bool) (magnitude : ℕ) → unsigned_abs (signed negative magnitude) ≡ magnitude
+size_of : (negative : Bool) (magnitude : ℕ) → unsigned_abs (signed_integer negative magnitude) ≡ magnitude
 size_of true zero = refl
 size_of true (suc magnitude) = refl
 size_of false magnitude = refl
 
 -- a sign where one is written
-signed_so : (one : Sign) (digits scale magnitude : ℕ) → (is_signed (record { digits = digits; scale = scale; usage = usage.Display (literal_sign one) }) || not (is_negative (signed (is_minus one) magnitude))) ≡ true
+signed_so : (one : Sign) (digits scale magnitude : ℕ) → (is_signed (record { digits = digits; scale = scale; usage = usage.Display (literal_sign one) }) || not (is_negative (signed_integer (is_minus one) magnitude))) ≡ true
 signed_so sign.Unsigned digits scale magnitude = refl
 signed_so sign.Plus digits scale magnitude = refl
 signed_so sign.Minus digits scale magnitude = refl
@@ -85,14 +85,14 @@ signed_so sign.Minus digits scale magnitude = refl
 -- The item of the literal's digits can hold it.
 pub held : (one : NumericLiteral) (x : Fraction) (front back : List ℕ) (whole magnitude : ℕ) → front ≡ one.whole → back ≡ one.decimals
     → x ≡ literal_number one → magnitude ≡ digits_behind 0 (one.whole ++ one.decimals)
-    → whole < 1 * 10 ^ length front → magnitude < (whole + 1) * 10 ^ length back → Holds (literal_numeric one) x
+    → whole < 1 * 10 ^ length front → magnitude < (whole + 1) * 10 ^ length back → CanHold (literal_numeric one) x
 held one x front back whole magnitude e f is m below bound =
     let all : ℕ = digits_behind 0 (one.whole ++ one.decimals) in
     let size : unsigned_abs (literal_number one).coefficient ≡ all = size_of (is_minus one.sign) all in
     let top : (whole + 1) * 10 ^ length back ≤ 10 ^ (length front + length back) = times_pow whole (length front) (length back) below in
     let count : length (one.whole ++ one.decimals) ≡ length front + length back = omega (arith, length-append one.whole one.decimals, ap length e, ap length f) in
     let same : 10 ^ length (one.whole ++ one.decimals) ≡ 10 ^ (length front + length back) = ap (λ n. 10 ^ n) count in
-    subst (Holds (literal_numeric one)) (sym is) (record {
+    subst (CanHold (literal_numeric one)) (sym is) (record {
       scale = refl;
       digits = omega (arith, size, m, bound, top, same);
       sign = signed_so one.sign (length (one.whole ++ one.decimals)) (length one.decimals) all;

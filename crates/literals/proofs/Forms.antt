@@ -10,7 +10,7 @@ use Rattle.lexical.specs.declared.number.Sign.{Sign}
 use Rattle.lexical.specs.declared.number.Sign.TheVariants as sign
 use Rattle.lexical.specs.declared.number.NumericLiteral.{NumericLiteral}
 use Rattle.items.specs.Numbers.{IsNumeric, sign_length, length_of}
-use Rattle.items.specs.Display.{marked, display_bytes}
+use Rattle.items.specs.Display.{with_minus_mark, display_bytes}
 use Rattle.items.specs.Values.{bytes_of}
 use Rattle.items.specs.Items.{IsTaken}
 use Rattle.items.proofs.Digits.{text_length}
@@ -39,7 +39,7 @@ numeric_formed one e =
     record { some = count.0; most = count.1; decimals = omega (arith, length-append one.whole one.decimals) }
 
 -- A minus is held with the last digit.
-marked_length : (digits magnitude : ℕ) → length (marked (digits - 1) (digit_text digits magnitude)) ≡ digits
+marked_length : (digits magnitude : ℕ) → length (with_minus_mark (digits - 1) (digit_text digits magnitude)) ≡ digits
 marked_length digits magnitude = omega (arith, length-set (digit_text digits magnitude) (digits - 1) (slice_index (digit_text digits magnitude) (digits - 1) + 64), text_length digits magnitude)
 
 display_length : (one : Sign) (digits : ℕ) (negative : Bool) (magnitude : ℕ)

@@ -1,7 +1,7 @@
 //! Numeric literals (COBOL-85, Nucleus, "Literals").
 
 ghost use Rattle.std.specs.Prelude.{◌≡◌, true};
-ghost use Rattle.items.specs.Numbers.{IsNumeric, Holds};
+ghost use Rattle.items.specs.Numbers.{IsNumeric, CanHold};
 ghost use Rattle.source_tree.specs.Literals as spec;
 ghost use Rattle.source_tree.specs.ValueRules.{has_form};
 ghost use Rattle.source_tree.specs.declared.literal.LiteralValue.TheVariants as literals;
@@ -9,22 +9,6 @@ ghost use Rattle.source_tree.specs.declared.literal.LiteralValue.TheVariants as 
 use decimal18::{Dec, number_behind};
 use items::{Numeric, OperationalSign, Usage};
 use lexical::{NumericLiteral, Sign};
-
-/// A written sign is held with the last digit.
-fn operational_sign(sign: Sign) -> OperationalSign
-    ensures { result ≡ spec.literal_sign sign }
-{
-    match sign {
-        Sign::Unsigned => OperationalSign::Unsigned,
-        Sign::Plus | Sign::Minus => OperationalSign::Trailing,
-    }
-}
-
-fn is_minus(sign: Sign) -> bool
-    ensures { result ≡ spec.is_minus sign }
-{
-    matches!(sign, Sign::Minus)
-}
 
 /// The DISPLAY item of the digits with which the literal is written.
 pub fn numeric(literal: &NumericLiteral) -> Numeric
@@ -44,7 +28,7 @@ pub fn numeric(literal: &NumericLiteral) -> Numeric
 pub fn number(literal: &NumericLiteral) -> Dec
     requires { has_form (literals.Numeric literal.now) ≡ true }
     ensures value { result ≡ spec.literal_number literal.now }
-    ensures holds { Holds (spec.literal_numeric literal.now) result }
+    ensures holds { CanHold (spec.literal_numeric literal.now) result }
 {
     let Some(whole) = number_behind(0, literal.whole.as_slice()) else {
         unreachable!()
@@ -54,4 +38,20 @@ pub fn number(literal: &NumericLiteral) -> Dec
     };
     let scale = literal.decimals.len() as u8;
     Dec::from_parts(is_minus(literal.sign), u128::from(magnitude), scale)
+}
+
+/// A written sign is held with the last digit.
+fn operational_sign(sign: Sign) -> OperationalSign
+    ensures { result ≡ spec.literal_sign sign }
+{
+    match sign {
+        Sign::Unsigned => OperationalSign::Unsigned,
+        Sign::Plus | Sign::Minus => OperationalSign::Trailing,
+    }
+}
+
+fn is_minus(sign: Sign) -> bool
+    ensures { result ≡ spec.is_minus sign }
+{
+    matches!(sign, Sign::Minus)
 }

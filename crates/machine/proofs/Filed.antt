@@ -4,7 +4,7 @@ use Rattle.std.specs.Prelude.{slice_get, false, Result, OnOk, OnErr}
 use Rattle.std.proofs.lemmas.List.{length-append}
 use Rattle.station.specs.declared.note.Note.{Note}
 use Rattle.station.specs.Disk.{Sector, IsCrashImage}
-use Rattle.station.specs.State.{State, Event, Noted, noted}
+use Rattle.station.specs.State.{State, Event, Noted, state_after_note}
 use Rattle.station.specs.History.{Moves, Through, EachImage}
 use Rattle.station.specs.Blocks.{CrashLeaves}
 use Rattle.station.proofs.Spans.{either, weakens, moves_on}
@@ -24,11 +24,11 @@ use Rattle.source_tree.specs.ProgramFiles.{FilePlaces}
 use Rattle.source_tree.specs.FileStatements.{area_of, stored_by, step_by, step_on}
 use Rattle.source_tree.proofs.Telling.{notes_append}
 use Rattle.data_instructions.specs.Scratch.{Scratch}
-use Rattle.run_time_data.specs.Data as held
-use Rattle.run_time_data.specs.Held.{Held}
-use Rattle.file_tables.specs.declared.file.CodeFile.{CodeFile}
-use Rattle.file_tables.specs.declared.file.FileIndex.{FileIndex}
-use Rattle.file_tables.specs.Files.{entries_of, places_of}
+use Rattle.data_machine.specs.Data as held
+use Rattle.data_machine.specs.Held.{StackView}
+use Rattle.file_image.specs.declared.file.CodeFile.{CodeFile}
+use Rattle.file_image.specs.declared.file.FileIndex.{FileIndex}
+use Rattle.file_image.specs.Files.{entries_of, places_of}
 use Rattle.code_image.specs.declared.code.Code.{Code}
 use Rattle.code_image.specs.declared.instruction.Instruction.TheVariants as instruction
 use Rattle.code_image.specs.Points.{Return, Point}
@@ -38,9 +38,9 @@ use Rattle.machine.specs.Prefix.{files_at, HoldsSoFar, Moment}
 use Rattle.machine.specs.declared.ended.Refusal.{Refusal}
 use Rattle.machine.specs.declared.ended.Refusal.TheVariants.{Device, Full, Damaged, Memory}
 use Rattle.machine.specs.declared.ended.Ended.TheVariants.{Refused}
-use Rattle.machine.specs.Ends.{is_barring, BeforeNote, LacksRoom, EndsAs}
+use Rattle.machine.specs.Ends.{is_barring, BeforeNote, LacksRoomForChange, EndsAs}
 use Rattle.machine.specs.Filing.{store_fault}
-use Rattle.machine.specs.Progress.{Running}
+use Rattle.machine.specs.Progress.{IsRunning}
 use Rattle.machine.proofs.Moments.{as_many_taken}
 use Rattle.machine.proofs.Placed.{entry_here}
 use Rattle.machine.proofs.Beginnings.{RunsTo, tells_more, files_here}
@@ -50,7 +50,7 @@ no_zero : (n m k : ℕ) → n ≡ m + suc k → n ≡ 0 → (let never : Type 0 
 no_zero n m k sum none = omega arith
 
 module _ (code : Code) (day : List ℕ) (run : Run) (before : State) (files : Files) (connectors : List Connector) (address left : ℕ)
-    (r : Registers) (now : State) (so_far : Running code day run before files connectors address left r now)
+    (r : Registers) (now : State) (so_far : IsRunning code day run before files connectors address left r now)
     (file_index : FileIndex) (verb : Verb) (one : CodeFile) (here : slice_get code.instructions address ≡ Some (instruction.File file_index verb))
     (there : slice_get code.files file_index.number ≡ Some one) (did : file.Step)
     (is : did ≡ step_by (entries_of code.tables code.files) (places_of code.tables file_index.number one) verb files connectors r.scratch.areas) where
@@ -141,7 +141,7 @@ module _ (code : Code) (day : List ℕ) (run : Run) (before : State) (files : Fi
     pub room : lacks_room s.disk.present (makes_file verb) one.name files did.files
 
   no_room : (lacks_room : List Sector → Bool → List ℕ → Files → Files → Type 0) (s : State) → s.events ≡ now.events → s.lines ≡ now.lines → is_barring did.status ≡ false
-      → NoRoom lacks_room s → LacksRoom lacks_room (entries_of code.tables code.files) run before s
+      → NoRoom lacks_room s → LacksRoomForChange lacks_room (entries_of code.tables code.files) run before s
   unfolding step_by given_up
   no_room lacks_room s events lines asks lacking = record {
     given_up = given_up s events lines asks;
@@ -172,13 +172,13 @@ module _ (code : Code) (day : List ℕ) (run : Run) (before : State) (files : Fi
       → s.lines ≡ now.lines → status ≡ did.status → after ≡ connectors_after connectors file_index.number did
       → held.scratch_of new.scratch ≡ record (held.scratch_of r.scratch) { storage = stored_by places did r.scratch.areas }
       → new.counters.items ≡ r.counters.items → new.returns ≡ r.returns → new.line ≡ r.line → new.status ≡ status
-      → Running code day run before did.files after (address + 1) left new s
+      → IsRunning code day run before did.files after (address + 1) left new s
   after_file s new status after events lines status_is connectors_are does counters returns line status_now = record {
     point = next_point;
     stands = ap (λ n. n + 1) so_far.stands;
     left_is = so_far.left_is;
     counted = so_far.counted ∙ sym counters;
-    returned = so_far.returned ∙ ap (λ (stack : Held Return). stack.newest_first) (sym returns);
+    returned = so_far.returned ∙ ap (λ (stack : StackView Return). stack.newest_first) (sym returns);
     worked = ap (λ (x : Scratch). record x { storage = stored_by places did x.storage }) so_far.worked ∙ sym does;
     status_is = sym status_is ∙ sym status_now;
     line_is = so_far.line_is ∙ sym line;
@@ -202,7 +202,7 @@ module _ (code : Code) (day : List ℕ) (run : Run) (before : State) (files : Fi
 
     -- once it was received
     received_then : (new : State) (status : Status) → s.lines ≡ now.lines → status ≡ did.status
-        → new ≡ noted s (record { file = file_index.number; status = bytes_of status }) → EachImage (λ image. holds image did.files) s
+        → new ≡ state_after_note s (record { file = file_index.number; status = bytes_of status }) → EachImage (λ image. holds image did.files) s
         → Moment holds run before new
     received_then new status lines status_is is images = record {
       told = record {
@@ -223,7 +223,7 @@ module _ (code : Code) (day : List ℕ) (run : Run) (before : State) (files : Fi
 
     -- heard, or not heard
     pub noted_through : {E : Type 0} (r : Result (Unit {0}) E) (h2 : List State) (new : State) (status : Status) → Moves h s h2 new
-        → s.lines ≡ now.lines → status ≡ did.status → OnOk r (new ≡ noted s (record { file = file_index.number; status = bytes_of status }))
+        → s.lines ≡ now.lines → status ≡ did.status → OnOk r (new ≡ state_after_note s (record { file = file_index.number; status = bytes_of status }))
         → OnErr r (new ≡ s) → EachImage (λ image. holds image did.files) s → Through old h2 new (Moment holds run before)
     noted_through r h2 new status moves lines status_is heard unheard images =
         moves_on old h h2 s new (Moment holds run before) under_way moves

@@ -3,7 +3,7 @@ use Rattle.std.proofs.Common.{◌≡◌, ℕ, List, [], ◌∷◌, length, take,
 use Rattle.std.specs.Prelude.{slice_get, slice_index_or, option_map, unwrap_or}
 use Rattle.station.specs.State.{overlaid}
 use Rattle.source_tree.specs.Accepting.{next_line}
-use Rattle.run_time_data.proofs.AreaBytes.{seam}
+use Rattle.data_machine.proofs.AreaBytes.{seam}
 
 no_front : (n : ℕ) → take n [] ≡ (let none : List ℕ = [] in none)
 no_front n = grind arith

@@ -11,13 +11,13 @@ use Rattle.data_instructions.specs.declared.tables.DataItem.{DataItem}
 use Rattle.data_instructions.specs.declared.tables.DataTables.{DataTables}
 use Rattle.data_instructions.specs.declared.shape.Shape.{Shape}
 use Rattle.data_instructions.proofs.Known.{area_there}
-use Rattle.run_time_data.specs.declared.data.Data.{Data}
-use Rattle.run_time_data.specs.Ready.{IsAt}
-use Rattle.run_time_data.proofs.Inspects.{entry_read}
-use Rattle.run_time_data.proofs.ReadyTogether.{stands_there}
-use Rattle.file_tables.specs.declared.file.CodeFile.{CodeFile}
-use Rattle.file_tables.specs.declared.file.FileIndex.{FileIndex}
-use Rattle.file_tables.specs.Files.{standing, place_at, entry_of, entries_of, IsItemIndex, IsTwoCharacters, NamesPlaces, IsCodeFile}
+use Rattle.data_machine.specs.declared.data.Data.{Data}
+use Rattle.data_machine.specs.Ready.{IsAt}
+use Rattle.data_machine.proofs.Inspects.{entry_read}
+use Rattle.data_machine.proofs.ReadyTogether.{stands_there}
+use Rattle.file_image.specs.declared.file.CodeFile.{CodeFile}
+use Rattle.file_image.specs.declared.file.FileIndex.{FileIndex}
+use Rattle.file_image.specs.Files.{place_of_item, place_at, entry_of, entries_of, IsItemIndex, IsTwoCharacters, NamesPlaces, IsCodeFile}
 use Rattle.code_image.specs.declared.code.Code.{Code}
 use Rattle.code_image.specs.declared.instruction.Instruction.TheVariants as instruction
 use Rattle.code_image.specs.Demands.{IsVerified}
@@ -92,7 +92,7 @@ module _ (tables : DataTables) (d : Data) (shape : Shape) (at : IsAt tables d sh
   number_found area (Some index) there sound =
       let one = some_there tables.items index.number there in
       let found = stands_there tables d shape at index one.0 one.1 in
-      record { found = found; kind = (subst (λ (o : Option DataItem). IfSome (option_map standing o) (IsRelativeKey area)) found.here sound).kind }
+      record { found = found; kind = (subst (λ (o : Option DataItem). IfSome (option_map place_of_item o) (IsRelativeKey area)) found.here sound).kind }
 
   status_found : (item : Option ItemIndex) → IfSome item (IsItemIndex tables) → IfSome (place_at tables item) IsTwoCharacters
       → IfSome item (FindsStatus tables d.areas)
@@ -100,7 +100,7 @@ module _ (tables : DataTables) (d : Data) (shape : Shape) (at : IsAt tables d sh
   status_found (Some index) there sound =
       let one = some_there tables.items index.number there in
       let found = stands_there tables d shape at index one.0 one.1 in
-      record { found = found; kind = subst (λ (o : Option DataItem). IfSome (option_map standing o) IsTwoCharacters) found.here sound }
+      record { found = found; kind = subst (λ (o : Option DataItem). IfSome (option_map place_of_item o) IsTwoCharacters) found.here sound }
 
   pub finds_places : (one : CodeFile) → NamesPlaces tables one → IsCodeFile tables one → FindsPlaces tables d.areas one
   finds_places one names sound =

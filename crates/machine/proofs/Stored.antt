@@ -17,8 +17,8 @@ use Rattle.source_tree.specs.FileStatements.{number_stored, with_number, with_st
 use Rattle.data_instructions.specs.declared.index.ItemIndex.{ItemIndex}
 use Rattle.data_instructions.specs.declared.tables.DataItem.{DataItem}
 use Rattle.data_instructions.specs.declared.tables.DataTables.{DataTables}
-use Rattle.file_tables.specs.declared.file.CodeFile.{CodeFile}
-use Rattle.file_tables.specs.Files.{standing, place_at, entry_of}
+use Rattle.file_image.specs.declared.file.CodeFile.{CodeFile}
+use Rattle.file_image.specs.Files.{place_of_item, place_at, entry_of}
 use Rattle.machine.specs.Filing.{FindsNumber, FindsStatus, with_low_number}
 use Rattle.machine.specs.Ends.{is_barring}
 use Rattle.machine.proofs.Table.{StaysOrFits, number_fits, looks_at_files}
@@ -164,10 +164,10 @@ step_looks entries places verb files connectors storage asks =
 
 pub low_number_stored : (tables : DataTables) (item : Option ItemIndex) (index : ItemIndex) (one : DataItem) (old new : ℕ) (storage after : Storage)
     → item ≡ Some index → slice_get tables.items index.number ≡ Some one → (old == new) ≡ false
-    → after ≡ number_stored one.item.kind (standing one) (new % 10 ^ digits_in one.item.kind) storage
+    → after ≡ number_stored one.item.kind (place_of_item one) (new % 10 ^ digits_in one.item.kind) storage
     → after ≡ with_low_number (place_at tables item) old new storage
 low_number_stored tables item index one old new storage after some here other is =
     is
-    ∙ ap (λ (b : Bool). if b then storage else number_stored one.item.kind (standing one) (new % 10 ^ digits_in one.item.kind) storage) (sym other)
-    ∙ ap (λ (o : Option DataItem). with_low_number (option_map standing o) old new storage) (sym here)
+    ∙ ap (λ (b : Bool). if b then storage else number_stored one.item.kind (place_of_item one) (new % 10 ^ digits_in one.item.kind) storage) (sym other)
+    ∙ ap (λ (o : Option DataItem). with_low_number (option_map place_of_item o) old new storage) (sym here)
     ∙ ap (λ (i : Option ItemIndex). with_low_number (place_at tables i) old new storage) (sym some)

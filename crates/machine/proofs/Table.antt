@@ -20,15 +20,15 @@ use Rattle.records.specs.declared.verb.Relation.TheVariants as relation
 use Rattle.records.specs.declared.verb.Verb.{Verb}
 use Rattle.records.specs.declared.verb.Verb.TheVariants.{Open, Close, ReadNext, Read, Write, Rewrite, Delete, Start}
 use Rattle.records.specs.Spec.{Spec, same_spec, is_spec, are_keys}
-use Rattle.records.specs.Rows.{Row, Pair, numbered, named_pair, pair_cmp, pair_under}
-use Rattle.records.specs.Order.{Bound, is_behind, is_repeated, lesser, least, sought}
+use Rattle.records.specs.Rows.{Row, Pair, number_pair, named_pair, pair_cmp, pair_under}
+use Rattle.records.specs.Order.{RowBound, is_behind, is_repeated, lesser, least_row, sought_row}
 use Rattle.records.specs.Files.{File, Files}
-use Rattle.records.specs.Changes.{Changed, inserted, replaced, removed}
+use Rattle.records.specs.Changes.{FileChange, insertion, replacement, removal}
 use Rattle.records.specs.Stores.{IsKey, key_length, is_change}
 use Rattle.records.specs.Tests.{is_sequential}
 use Rattle.records.specs.Connector.{Entry, Connector, Area}
 use Rattle.records.specs.Steps as steps
-use Rattle.records.specs.Steps.{Step, is_relative, is_too_long, is_number, is_past, is_out, is_other, next_number, status_after, ends, takes, step}
+use Rattle.records.specs.Steps.{Step, is_relative, is_too_long, is_row_number, is_past, is_out, is_other, next_number, status_after, end_step, takes, step}
 use Rattle.records.specs.FileStep.{entry_at, connector_at, own_step, barred_at, file_step, is_close, needs_no_store, Suits}
 use Rattle.machine.specs.Ends.{is_barring}
 
@@ -87,19 +87,19 @@ kept first spec key (Some other) row e = by (is_gt (pair_cmp (pair_under spec ke
     by false e = inl (sym e)
 
 filtered_by : (spec : Spec) (key : KeyOfReference) (P : Row → Bool) (first : Row) (more : List Row) (row : Row)
-    → (least spec key (filter P more) ≡ Some row → P row ≡ true) → (b : Bool) → P first ≡ b
-    → least spec key (if b then first ∷ filter P more else filter P more) ≡ Some row → P row ≡ true
-filtered_by spec key P first more row later true is e = elim (kept first spec key (least spec key (filter P more)) row e) [
+    → (least_row spec key (filter P more) ≡ Some row → P row ≡ true) → (b : Bool) → P first ≡ b
+    → least_row spec key (if b then first ∷ filter P more else filter P more) ≡ Some row → P row ≡ true
+filtered_by spec key P first more row later true is e = elim (kept first spec key (least_row spec key (filter P more)) row e) [
   | inl same ↦ subst (λ (r : Row). P r ≡ true) (sym same) is
   | inr found ↦ later found
 ]
 filtered_by spec key P first more row later false is e = later e
 
-filtered : (spec : Spec) (key : KeyOfReference) (P : Row → Bool) (rows : List Row) (row : Row) → least spec key (filter P rows) ≡ Some row → P row ≡ true
+filtered : (spec : Spec) (key : KeyOfReference) (P : Row → Bool) (rows : List Row) (row : Row) → least_row spec key (filter P rows) ≡ Some row → P row ≡ true
 filtered spec key P [] row e = absurd cc
 filtered spec key P (first ∷ more) row e = filtered_by spec key P first more row (filtered spec key P more row) (P first) refl e
 
-sought_behind : (spec : Spec) (key : KeyOfReference) (bound : Bound) (rows : List Row) (row : Row) → sought spec key bound rows ≡ Some row
+sought_behind : (spec : Spec) (key : KeyOfReference) (bound : RowBound) (rows : List Row) (row : Row) → sought_row spec key bound rows ≡ Some row
     → is_behind bound.side bound.pair (pair_under spec key row) ≡ true
 sought_behind spec key bound rows row e = filtered spec key (λ r. is_behind bound.side bound.pair (pair_under spec key r)) rows row e
 
@@ -123,7 +123,7 @@ module _ (entry : Entry) (files : Files) (c : Connector) (area : Area) where
 
   -- under its prime key
   own_number : (o : Organization) → entry.spec.organization ≡ o → is_relative o ≡ true → (key : KeyOfReference) → is_spec entry.spec ≡ true
-      → IsKey entry.spec key → (row : Row) → pair_under entry.spec key row ≡ numbered row.number
+      → IsKey entry.spec key → (row : Row) → pair_under entry.spec key row ≡ number_pair row.number
   own_number organization.Relative is so Prime e has row = ap (λ (o : Organization). named_pair o row.number row.bytes) is
   own_number organization.Relative is so (Alternate i) e has row =
       absurd (no_alternate (length entry.spec.alternates) i
@@ -134,7 +134,7 @@ module _ (entry : Entry) (files : Files) (c : Connector) (area : Area) where
   own_number organization.Sequential is so key e has row = absurd cc
   own_number (organization.Indexed place) is so key e has row = absurd cc
 
-  named_number : (o : Organization) → is_relative o ≡ true → (key : KeyOfReference) (count : ℕ) → steps.named entry.spec o key count area ≡ numbered area.number
+  named_number : (o : Organization) → is_relative o ≡ true → (key : KeyOfReference) (count : ℕ) → steps.area_pair entry.spec o key count area ≡ number_pair area.number
   named_number organization.Relative so key count = refl
   named_number organization.Sequential so key count = absurd cc
   named_number (organization.Indexed place) so key count = absurd cc
@@ -146,36 +146,36 @@ module _ (entry : Entry) (files : Files) (c : Connector) (area : Area) where
 
   -- the row that a number names has it
   found_number : is_relative entry.spec.organization ≡ true → (key : KeyOfReference) → is_spec entry.spec ≡ true → IsKey entry.spec key → (count : ℕ) (row : Row)
-      → steps.first_fitting entry files c area relation.Equal key (steps.named entry.spec entry.spec.organization key count area) ≡ Some row
+      → steps.first_fitting entry files c area relation.Equal key (steps.area_pair entry.spec entry.spec.organization key count area) ≡ Some row
       → row.number ≡ area.number
   found_number so key e has count row found =
-      by (sought entry.spec key (record { side = From; pair = place }) (steps.rows entry files c area)) refl found
+      by (sought_row entry.spec key (record { side = From; pair = place }) (steps.rows entry files c area)) refl found
     where
       place : Pair
-      place = steps.named entry.spec entry.spec.organization key count area
+      place = steps.area_pair entry.spec entry.spec.organization key count area
 
-      place_is : place ≡ numbered area.number
+      place_is : place ≡ number_pair area.number
       place_is = named_number entry.spec.organization so key count
 
       by_fit : (other : Row) (b : Bool) → steps.if_fits entry.spec.organization relation.Equal place (pair_under entry.spec key other) ≡ b
-          → sought entry.spec key (record { side = From; pair = place }) (steps.rows entry files c area) ≡ Some other
+          → sought_row entry.spec key (record { side = From; pair = place }) (steps.rows entry files c area) ≡ Some other
           → (if b then Some other else None) ≡ Some row → row.number ≡ area.number
       by_fit other true fit is e3 =
           let same : other ≡ row = same_Some other row e3 in
-          let own : pair_under entry.spec key other ≡ numbered other.number = own_number entry.spec.organization refl so key e has other in
+          let own : pair_under entry.spec key other ≡ number_pair other.number = own_number entry.spec.organization refl so key e has other in
           let behind = sought_behind entry.spec key (record { side = From; pair = place }) (steps.rows entry files c area) other is in
           let no_less : is_lt (nat_cmp other.number area.number) ≡ false =
           untrue (is_lt (nat_cmp other.number area.number))
-          (sym (ap (λ (q : Pair). is_behind From place q) own ∙ ap (λ (q : Pair). is_behind From q (numbered other.number)) place_is) ∙ behind) in
+          (sym (ap (λ (q : Pair). is_behind From place q) own ∙ ap (λ (q : Pair). is_behind From q (number_pair other.number)) place_is) ∙ behind) in
           let no_more : is_gt (nat_cmp other.number area.number) ≡ false =
           untrue (is_gt (nat_cmp other.number area.number))
           (sym (fits_place entry.spec.organization so place (pair_under entry.spec key other)
-          ∙ ap (λ (q : Pair). not (is_behind After place q)) own ∙ ap (λ (q : Pair). not (is_behind After q (numbered other.number))) place_is) ∙ fit) in
+          ∙ ap (λ (q : Pair). not (is_behind After place q)) own ∙ ap (λ (q : Pair). not (is_behind After q (number_pair other.number))) place_is) ∙ fit) in
           ap (λ (r : Row). r.number) (sym same) ∙ between other.number area.number no_less no_more
       by_fit other false fit is e = absurd cc
 
-      by : (o : Option Row) → sought entry.spec key (record { side = From; pair = place }) (steps.rows entry files c area) ≡ o
-          → steps.fitting entry files c area relation.Equal key place o ≡ Some row → row.number ≡ area.number
+      by : (o : Option Row) → sought_row entry.spec key (record { side = From; pair = place }) (steps.rows entry files c area) ≡ o
+          → steps.row_if_fits entry files c area relation.Equal key place o ≡ Some row → row.number ≡ area.number
       by None is e = absurd cc
       by (Some other) is e = by_fit other (steps.if_fits entry.spec.organization relation.Equal place (pair_under entry.spec key other)) refl is e
 
@@ -194,10 +194,10 @@ module _ (entry : Entry) (files : Files) (c : Connector) (area : Area) where
   absent_fits Extend = same
 
   there_fits : (mode : OpenMode) (o : Option File) → Stays (steps.open_there entry files c area mode o)
-  there_fits mode None = by_test Stays entry.optional (steps.open_absent entry files c area mode) (steps.ends entry files c area status.FileMissing) (λ so. absent_fits mode) (λ not_so. same)
-  there_fits mode (Some there) = by_test Stays (same_spec there.spec entry.spec) (steps.opens entry files c area mode status.Success) (steps.ends entry files c area status.FileDiffers) (λ so. same) (λ not_so. same)
+  there_fits mode None = by_test Stays entry.optional (steps.open_absent entry files c area mode) (steps.end_step entry files c area status.FileMissing) (λ so. absent_fits mode) (λ not_so. same)
+  there_fits mode (Some there) = by_test Stays (same_spec there.spec entry.spec) (steps.opens entry files c area mode status.Success) (steps.end_step entry files c area status.FileDiffers) (λ so. same) (λ not_so. same)
 
-  open_fits : (mode : OpenMode) → Stays (steps.opening entry files c area mode)
+  open_fits : (mode : OpenMode) → Stays (steps.open_step entry files c area mode)
   open_fits Output = same
   open_fits Input = there_fits Input (steps.file entry files c area)
   open_fits InputOutput = there_fits InputOutput (steps.file entry files c area)
@@ -216,16 +216,16 @@ module _ (entry : Entry) (files : Files) (c : Connector) (area : Area) where
       (λ not_so. taken_fits c.reference row (λ relative. fits_by entry.key_digits area.number row.number
       (not_too_long (is_relative entry.spec.organization) (is_too_long entry.key_digits row.number) not_so relative)))
 
-  position_fits : (o : Option Bound) → Stays (steps.next_from entry files c area o)
+  position_fits : (o : Option RowBound) → Stays (steps.next_from entry files c area o)
   position_fits None = same
-  position_fits (Some bound) = next_fits (sought entry.spec c.reference bound (steps.rows entry files c area))
+  position_fits (Some bound) = next_fits (sought_row entry.spec c.reference bound (steps.rows entry files c area))
 
   equal_number : (digits : Option ℕ) (old new : ℕ) → new ≡ old → StaysOrFits digits old new
   equal_number None old new is = tt
   equal_number (Some digits) old new is = inl is
 
   read_fits : (key : KeyOfReference) (count : ℕ) → is_spec entry.spec ≡ true → IsKey entry.spec key → (o : Option Row)
-      → steps.first_fitting entry files c area relation.Equal key (steps.named entry.spec entry.spec.organization key count area) ≡ o
+      → steps.first_fitting entry files c area relation.Equal key (steps.area_pair entry.spec entry.spec.organization key count area) ≡ o
       → Stays (steps.read_found entry files c area key o)
   read_fits key count is has None found = same
   read_fits key count is has (Some row) found =
@@ -244,18 +244,18 @@ module _ (entry : Entry) (files : Files) (c : Connector) (area : Area) where
       → StaysOrFits entry.key_digits area.number (next_number o entry.access c.last.number area.number)
   written_fits organization.Relative so past = by (is_sequential entry.access) past
     where
-      by : (b : Bool) → (not (is_number (if b then c.last.number + 1 else area.number)) || b && is_too_long entry.key_digits (if b then c.last.number + 1 else area.number)) ≡ false
+      by : (b : Bool) → (not (is_row_number (if b then c.last.number + 1 else area.number)) || b && is_too_long entry.key_digits (if b then c.last.number + 1 else area.number)) ≡ false
           → StaysOrFits entry.key_digits area.number (if b then c.last.number + 1 else area.number)
       by true e = fits_by entry.key_digits area.number (c.last.number + 1)
-          (or_second (not (is_number (c.last.number + 1))) (is_too_long entry.key_digits (c.last.number + 1)) e)
+          (or_second (not (is_row_number (c.last.number + 1))) (is_too_long entry.key_digits (c.last.number + 1)) e)
       by false e = same
   written_fits organization.Sequential so past = absurd cc
   written_fits (organization.Indexed place) so past = absurd cc
 
   write_fits : Stays (steps.write entry files c area)
   write_fits =
-      by_test Stays (is_past entry.spec.organization entry.access entry.key_digits number) (ends entry files c area status.Boundary) _ (λ so. same)
-      (λ past. by_test Stays (is_out entry.spec.organization entry.access area.bytes c.last.value) (ends entry files c area status.OutOfSequence)
+      by_test Stays (is_past entry.spec.organization entry.access entry.key_digits number) (end_step entry files c area status.Boundary) _ (λ so. same)
+      (λ past. by_test Stays (is_out entry.spec.organization entry.access area.bytes c.last.value) (end_step entry files c area status.OutOfSequence)
       (steps.writes entry files c area changed) (λ so. same) (λ not_so. chosen entry.key_digits (is_change changed.outcome && is_relative entry.spec.organization && is_some entry.key_digits)
       area.number number (λ all. written_fits entry.spec.organization
       (and_second (is_change changed.outcome) (is_relative entry.spec.organization)
@@ -264,12 +264,12 @@ module _ (entry : Entry) (files : Files) (c : Connector) (area : Area) where
       number : ℕ
       number = steps.number_to_write entry files c area
 
-      changed : Changed
-      changed = inserted number area.bytes (steps.held entry files c area)
+      changed : FileChange
+      changed = insertion number area.bytes (steps.held_file entry files c area)
 
   rewrite_fits : Stays (steps.rewrite entry files c area)
   rewrite_fits = by_test Stays (is_other entry.spec.organization entry.access area.bytes (steps.row_to_change entry files c area).value)
-      (ends entry files c area status.OutOfSequence) (steps.changes entry files c area (replaced (steps.row_to_change entry files c area).number area.bytes (steps.held entry files c area)))
+      (end_step entry files c area status.OutOfSequence) (steps.changes entry files c area (replacement (steps.row_to_change entry files c area).number area.bytes (steps.held_file entry files c area)))
       (λ so. same) (λ not_so. same)
 
   step_fits : (verb : Verb) → is_spec entry.spec ≡ true → Suits entry verb → Stays (step entry files c area verb)
@@ -298,10 +298,10 @@ module _ (entry : Entry) (files : Files) (c : Connector) (area : Area) where
   absent_looks Extend = refl
 
   there_looks : (mode : OpenMode) (o : Option File) → Looks (steps.open_there entry files c area mode o)
-  there_looks mode None = by_test Looks entry.optional (steps.open_absent entry files c area mode) (steps.ends entry files c area status.FileMissing) (λ so. absent_looks mode) (λ not_so. refl)
-  there_looks mode (Some there) = by_test Looks (same_spec there.spec entry.spec) (steps.opens entry files c area mode status.Success) (steps.ends entry files c area status.FileDiffers) (λ so. refl) (λ not_so. refl)
+  there_looks mode None = by_test Looks entry.optional (steps.open_absent entry files c area mode) (steps.end_step entry files c area status.FileMissing) (λ so. absent_looks mode) (λ not_so. refl)
+  there_looks mode (Some there) = by_test Looks (same_spec there.spec entry.spec) (steps.opens entry files c area mode status.Success) (steps.end_step entry files c area status.FileDiffers) (λ so. refl) (λ not_so. refl)
 
-  open_looks : (mode : OpenMode) → Looks (steps.opening entry files c area mode)
+  open_looks : (mode : OpenMode) → Looks (steps.open_step entry files c area mode)
   open_looks Output = refl
   open_looks Input = there_looks Input (steps.file entry files c area)
   open_looks InputOutput = there_looks InputOutput (steps.file entry files c area)
@@ -320,9 +320,9 @@ module _ (entry : Entry) (files : Files) (c : Connector) (area : Area) where
       (steps.ends_nowhere entry files c area c.reference status.NumberTooLong) (takes entry files c area c.reference row) (λ so. refl)
       (λ not_so. taken_looks c.reference row)
 
-  position_looks : (o : Option Bound) → Looks (steps.next_from entry files c area o)
+  position_looks : (o : Option RowBound) → Looks (steps.next_from entry files c area o)
   position_looks None = refl
-  position_looks (Some bound) = next_looks (sought entry.spec c.reference bound (steps.rows entry files c area))
+  position_looks (Some bound) = next_looks (sought_row entry.spec c.reference bound (steps.rows entry files c area))
 
   read_looks : (key : KeyOfReference) (o : Option Row) → Looks (steps.read_found entry files c area key o)
   read_looks key None = refl
@@ -340,15 +340,15 @@ module _ (entry : Entry) (files : Files) (c : Connector) (area : Area) where
 
   write_looks : Looks (steps.write entry files c area)
   write_looks =
-      by_test Looks (is_past entry.spec.organization entry.access entry.key_digits (steps.number_to_write entry files c area)) (ends entry files c area status.Boundary) _ (λ so. refl)
-      (λ past. by_test Looks (is_out entry.spec.organization entry.access area.bytes c.last.value) (ends entry files c area status.OutOfSequence)
-      (steps.writes entry files c area (inserted (steps.number_to_write entry files c area) area.bytes (steps.held entry files c area))) (λ so. refl)
-      (λ not_so. after_looks (inserted (steps.number_to_write entry files c area) area.bytes (steps.held entry files c area)).outcome))
+      by_test Looks (is_past entry.spec.organization entry.access entry.key_digits (steps.number_to_write entry files c area)) (end_step entry files c area status.Boundary) _ (λ so. refl)
+      (λ past. by_test Looks (is_out entry.spec.organization entry.access area.bytes c.last.value) (end_step entry files c area status.OutOfSequence)
+      (steps.writes entry files c area (insertion (steps.number_to_write entry files c area) area.bytes (steps.held_file entry files c area))) (λ so. refl)
+      (λ not_so. after_looks (insertion (steps.number_to_write entry files c area) area.bytes (steps.held_file entry files c area)).outcome))
 
   rewrite_looks : Looks (steps.rewrite entry files c area)
   rewrite_looks = by_test Looks (is_other entry.spec.organization entry.access area.bytes (steps.row_to_change entry files c area).value)
-      (ends entry files c area status.OutOfSequence) (steps.changes entry files c area (replaced (steps.row_to_change entry files c area).number area.bytes (steps.held entry files c area)))
-      (λ so. refl) (λ not_so. after_looks (replaced (steps.row_to_change entry files c area).number area.bytes (steps.held entry files c area)).outcome)
+      (end_step entry files c area status.OutOfSequence) (steps.changes entry files c area (replacement (steps.row_to_change entry files c area).number area.bytes (steps.held_file entry files c area)))
+      (λ so. refl) (λ not_so. after_looks (replacement (steps.row_to_change entry files c area).number area.bytes (steps.held_file entry files c area)).outcome)
 
   step_looks : (verb : Verb) → is_close verb ≡ false → Looks (step entry files c area verb)
   step_looks (Open mode) other = open_looks mode
@@ -357,7 +357,7 @@ module _ (entry : Entry) (files : Files) (c : Connector) (area : Area) where
   step_looks (Read key) other = read_looks key _
   step_looks Write other = write_looks
   step_looks Rewrite other = rewrite_looks
-  step_looks Delete other = after_looks (removed (steps.row_to_change entry files c area) (steps.held entry files c area)).outcome
+  step_looks Delete other = after_looks (removal (steps.row_to_change entry files c area) (steps.held_file entry files c area)).outcome
   step_looks (Start relation key count) other = stands_looks key _
 
   own_looks : (verb : Verb) (o : Option Status) → (is_some o || is_close verb) ≡ false → Looks (own_step entry files c area verb o)

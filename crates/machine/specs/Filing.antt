@@ -14,9 +14,9 @@ use Rattle.source_tree.specs.FileRules.{is_unsigned_integer, is_two_characters}
 use Rattle.source_tree.specs.FileStatements.{number_stored, stored_by}
 use Rattle.data_instructions.specs.declared.index.ItemIndex.{ItemIndex}
 use Rattle.data_instructions.specs.declared.tables.DataTables.{DataTables}
-use Rattle.run_time_data.specs.FindsFirst.{StandsFirst}
-use Rattle.file_tables.specs.declared.file.CodeFile.{CodeFile}
-use Rattle.file_tables.specs.Files.{entries_of}
+use Rattle.data_machine.specs.FindsFirst.{IsAtFirst}
+use Rattle.file_image.specs.declared.file.CodeFile.{CodeFile}
+use Rattle.file_image.specs.Files.{entries_of}
 use Rattle.code_image.specs.declared.code.Code.{Code}
 use Rattle.machine.specs.declared.ended.Refusal.{Refusal}
 use Rattle.machine.specs.declared.ended.Refusal.TheVariants.{Device, Full, Damaged, Memory}
@@ -30,12 +30,12 @@ store_fault Memory = fault.Memory
 
 -- an unsigned integer stands there
 pub record FindsNumber (tables : DataTables) (storage : Storage) (index : ItemIndex) : Type 0 where
-  pub found : StandsFirst tables storage index
+  pub found : IsAtFirst tables storage index
   pub kind : is_unsigned_integer found.one.item.kind ≡ true
 
 -- two characters stand there
 pub record FindsStatus (tables : DataTables) (storage : Storage) (index : ItemIndex) : Type 0 where
-  pub found : StandsFirst tables storage index
+  pub found : IsAtFirst tables storage index
   pub kind : is_two_characters found.one.item.kind found.one.item.length ≡ true
 
 -- A file's record area and its items stand in these areas.

@@ -9,7 +9,7 @@ use Rattle.source_tree.specs.Told.{note_count}
 use Rattle.source_tree.specs.Meaning.{Run}
 
 -- Since these events, a beginning of a run's events was told.
-pub record Told (run : Run) (old now : List Event) : Type 0 where
+pub record ShownPrefix (run : Run) (old now : List Event) : Type 0 where
   pub seen : List Event
   pub rest : List Event
   pub since : now ≡ old ++ seen
@@ -41,7 +41,7 @@ pub record TakesLines (old now : State) : Type 0 where
 -- A moment of a run that began in a state: of its events a beginning was told, and whatever a crash leaves holds the files of that
 -- beginning. Of lines nothing is said while a file statement is under way. A run without file statements writes no sector.
 pub record Moment (holds : List Sector → Files → Type 0) (run : Run) (old now : State) : Type 0 where
-  pub told : Told run old.events now.events
+  pub told : ShownPrefix run old.events now.events
   pub files : EachImage (HoldsSoFar holds run told.seen told.rest) now
   pub console : TakesLines old now ⊎ NoteComes told.rest
   pub disk : note_count run.events ≡ 0 → now.disk ≡ old.disk

@@ -2,11 +2,11 @@
 //! it at each moment, and only a failed device keeps it from its end.
 #![tactic(auto)]
 
-mod accept;
+mod accept_statement;
 mod acting;
 mod counting;
 mod ended;
-mod filing;
+mod file_statement;
 mod leading;
 mod loaded;
 mod machine;

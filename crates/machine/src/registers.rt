@@ -8,8 +8,8 @@ ghost use Rattle.machine.specs.Counting.{BeginsTurns};
 use crate::returns::Returns;
 use crate::room::room_along;
 use code_image::{Code, CounterIndex};
+use data_machine::{Data, longest_item};
 use records::Status;
-use run_time_data::{Data, longest_item};
 use std::alloc::{AllocError, Global};
 
 /// What a run changes, in room that is made once.

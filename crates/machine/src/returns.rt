@@ -42,10 +42,10 @@ pub(crate) struct Returns {
 impl Model for Returns {
     ghost use Rattle.std.specs.Prelude.{◌≤◌, reverse, take, length};
     ghost use Rattle.code_image.specs.Points as points;
-    ghost use Rattle.run_time_data.specs.Held.{Held, coded_held};
+    ghost use Rattle.data_machine.specs.Held.{StackView, coded_held};
     ghost use Rattle.machine.specs.Returns.{coded_return};
 
-    ghost Value = { Held points.Return };
+    ghost Value = { StackView points.Return };
 
     ghost coded = { coded_held coded_return };
 

@@ -2,12 +2,12 @@
 
 ghost use Rattle.std.specs.Prelude.{IfOk};
 ghost use Rattle.data_instructions.specs.Shapes.{empty};
-ghost use Rattle.machine.specs.Rooms.{Holds, IsNoMore, HasRoomAlong};
-ghost use Rattle.run_time_data.specs.declared.data.Room.{Room};
+ghost use Rattle.machine.specs.Rooms.{HasRoomFor, IsNoMore, HasRoomAlong};
+ghost use Rattle.data_machine.specs.declared.data.Room.{Room};
 
 use code_image::Code;
 use data_instructions::Shape;
-use run_time_data::Room;
+use data_machine::Room;
 use std::alloc::{AllocError, Global};
 
 const NO_ROOM: Room = Room {
@@ -15,19 +15,6 @@ const NO_ROOM: Room = Room {
     places: 0,
     line: 0,
 };
-
-/// The least that is no less than a room, and has room for what a shape knows.
-fn widened(room: Room, shape: &Shape) -> Room
-    ensures holds { Holds result shape.now }
-    ensures wider { IsNoMore room result }
-    ensures least { (other : Room) → Holds other shape.now → IsNoMore room other → IsNoMore result other }
-{
-    Room {
-        numbers: room.numbers.max(shape.stacks.numbers),
-        places: room.places.max(shape.stacks.places.len()),
-        line: room.line.max(shape.line),
-    }
-}
 
 /// The least room for what is known along code, from its first instruction on.
 pub(crate) fn room_along(alloc: Global, code: &Code) -> Result<Room, AllocError>
@@ -46,4 +33,17 @@ pub(crate) fn room_along(alloc: Global, code: &Code) -> Result<Room, AllocError>
         }
     }
     Ok(room)
+}
+
+/// The least that is no less than a room, and has room for what a shape knows.
+fn widened(room: Room, shape: &Shape) -> Room
+    ensures holds { HasRoomFor result shape.now }
+    ensures wider { IsNoMore room result }
+    ensures least { (other : Room) → HasRoomFor other shape.now → IsNoMore room other → IsNoMore result other }
+{
+    Room {
+        numbers: room.numbers.max(shape.stacks.numbers),
+        places: room.places.max(shape.stacks.places.len()),
+        line: room.line.max(shape.line),
+    }
 }

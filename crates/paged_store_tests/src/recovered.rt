@@ -9,6 +9,36 @@ use std::alloc::Global;
 use std::fmt::Debug;
 use std::process::Abort;
 
+/// Whether these are exactly the model's files, which are in the order of their names.
+pub fn are_files(stored: &[StoredFile], files: &[ModelFile]) -> bool {
+    let mut count = 0usize;
+    for file in files.iter() {
+        if file.is_there {
+            match stored.get(count) {
+                Some(one) if is_file(one, file) => count = count.saturating_add(1),
+                _ => return false,
+            }
+        }
+    }
+    count == stored.len()
+}
+
+/// Asserts that recovery finds exactly the model's files.
+pub fn recovers(
+    rt: &impl Abort,
+    alloc: Global,
+    case: &impl Debug,
+    station: &mut MemoryStation,
+    files: &[ModelFile],
+)
+    ensures { ⟦<MemoryStation as Device>⟧.sectors station.new ≡ ⟦<MemoryStation as Device>⟧.sectors station.old }
+{
+    match recover(alloc, station) {
+        Ok(stored) => assert!(rt; are_files(&stored, files), "{case:?}"),
+        Err(fault) => panic!(rt; "{case:?}: {fault:?}"),
+    }
+}
+
 fn is_row(shape: &Shape, stored: &StoredRow, row: &Row) -> bool {
     let record = record_of(shape, &row.bytes);
     let count = key_count(shape);
@@ -40,34 +70,4 @@ fn is_file(stored: &StoredFile, file: &ModelFile) -> bool {
         }
     }
     true
-}
-
-/// Whether these are exactly the model's files, which are in the order of their names.
-pub fn are_files(stored: &[StoredFile], files: &[ModelFile]) -> bool {
-    let mut count = 0usize;
-    for file in files.iter() {
-        if file.is_there {
-            match stored.get(count) {
-                Some(one) if is_file(one, file) => count = count.saturating_add(1),
-                _ => return false,
-            }
-        }
-    }
-    count == stored.len()
-}
-
-/// Asserts that recovery finds exactly the model's files.
-pub fn recovers(
-    rt: &impl Abort,
-    alloc: Global,
-    case: &impl Debug,
-    station: &mut MemoryStation,
-    files: &[ModelFile],
-)
-    ensures { ⟦<MemoryStation as Device>⟧.sectors station.new ≡ ⟦<MemoryStation as Device>⟧.sectors station.old }
-{
-    match recover(alloc, station) {
-        Ok(stored) => assert!(rt; are_files(&stored, files), "{case:?}"),
-        Err(fault) => panic!(rt; "{case:?}: {fault:?}"),
-    }
 }

@@ -6,36 +6,6 @@ use crate::volume::Volume;
 use records::{Found, Side, StoreFault};
 use std::process::Abort;
 
-/// Bytes with this value of a key.
-fn like(key: usize, value: u64) -> [u8; 8] {
-    let [_, _, _, _, _, _, high, low] = value.to_be_bytes();
-    match key {
-        0 => [high, low, 0, 0, 0, 0, 0, 0],
-        1 => [0, 0, high, low, 0, 0, 0, 0],
-        _ => [0, 0, 0, 0, low, 0, 0, 0],
-    }
-}
-
-fn behind(place: Place) -> Place {
-    Place {
-        value: place.value,
-        number: place.number.saturating_add(1),
-    }
-}
-
-// What is to be told of a row in the order of a key.
-fn found(model: &ModelFile, key: usize, row: &Row) -> Found {
-    let here = row.place(key);
-    let repeated = match model.seek(key, behind(here)) {
-        Some(next) => key > 0 && next.place(key).value == here.value,
-        None => false,
-    };
-    Found {
-        number: here.number,
-        repeated,
-    }
-}
-
 /// Seeks the first row from a place on, or behind it, and asserts that it is told as the model has it, or that the device failed. Answers
 /// whether it was told, and where the row stands.
 pub fn seeks(
@@ -82,5 +52,35 @@ pub fn seeks(
             same_in(rt, &case, told, Ok(None));
             (true, None)
         }
+    }
+}
+
+/// Bytes with this value of a key.
+fn like(key: usize, value: u64) -> [u8; 8] {
+    let [_, _, _, _, _, _, high, low] = value.to_be_bytes();
+    match key {
+        0 => [high, low, 0, 0, 0, 0, 0, 0],
+        1 => [0, 0, high, low, 0, 0, 0, 0],
+        _ => [0, 0, 0, 0, low, 0, 0, 0],
+    }
+}
+
+fn behind(place: Place) -> Place {
+    Place {
+        value: place.value,
+        number: place.number.saturating_add(1),
+    }
+}
+
+// What is to be told of a row in the order of a key.
+fn found(model: &ModelFile, key: usize, row: &Row) -> Found {
+    let here = row.place(key);
+    let repeated = match model.seek(key, behind(here)) {
+        Some(next) => key > 0 && next.place(key).value == here.value,
+        None => false,
+    };
+    Found {
+        number: here.number,
+        repeated,
     }
 }

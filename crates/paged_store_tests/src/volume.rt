@@ -7,43 +7,6 @@ use station::{Device, MemoryStation};
 use std::alloc::{AllocError, Global};
 use std::process::Abort;
 
-fn zeros(alloc: Global, count: usize) -> Result<MemoryStation, AllocError> {
-    let bytes = vec![in alloc; [0; 4096]; count.min(10_000)]?;
-    MemoryStation::new(alloc, bytes, Vec::new(alloc))
-}
-
-/// A station of so many sectors of zeros.
-pub fn blank_station(rt: &impl Abort, alloc: Global, count: usize) -> MemoryStation {
-    match zeros(alloc, count) {
-        Ok(station) => station,
-        Err(_) => panic!(rt; "no memory"),
-    }
-}
-
-/// A station with these sectors.
-pub fn station_with(rt: &impl Abort, alloc: Global, sectors: &[[u8; 4096]]) -> MemoryStation {
-    let Ok(bytes) = Vec::from_slice(alloc, sectors) else {
-        panic!(rt; "no memory")
-    };
-    assert!(rt; bytes.len() <= 10_000);
-    match MemoryStation::new(alloc, bytes, Vec::new(alloc)) {
-        Ok(station) => station,
-        Err(_) => panic!(rt; "no memory"),
-    }
-}
-
-/// The sectors as a read gives them.
-pub fn sectors_of(rt: &impl Abort, alloc: Global, station: &mut MemoryStation) -> Vec<[u8; 4096]> {
-    let mut sectors = Vec::new(alloc);
-    for sector in 0..station.count() {
-        let mut bytes = [0; 4096];
-        assert!(rt; sector < station.count());
-        assert!(rt; station.read(sector, &mut bytes).is_ok());
-        assert!(rt; sectors.push(bytes).is_ok());
-    }
-    sectors
-}
-
 /// A store and the station that it is on.
 #[derive(Drop)]
 pub struct Volume {
@@ -172,4 +135,41 @@ impl Volume {
         self.store
             .seek(&mut self.station, file, key, side, value, number, into)
     }
+}
+
+/// A station of so many sectors of zeros.
+pub fn blank_station(rt: &impl Abort, alloc: Global, count: usize) -> MemoryStation {
+    match zeros(alloc, count) {
+        Ok(station) => station,
+        Err(_) => panic!(rt; "no memory"),
+    }
+}
+
+/// A station with these sectors.
+pub fn station_with(rt: &impl Abort, alloc: Global, sectors: &[[u8; 4096]]) -> MemoryStation {
+    let Ok(bytes) = Vec::from_slice(alloc, sectors) else {
+        panic!(rt; "no memory")
+    };
+    assert!(rt; bytes.len() <= 10_000);
+    match MemoryStation::new(alloc, bytes, Vec::new(alloc)) {
+        Ok(station) => station,
+        Err(_) => panic!(rt; "no memory"),
+    }
+}
+
+/// The sectors as a read gives them.
+pub fn sectors_of(rt: &impl Abort, alloc: Global, station: &mut MemoryStation) -> Vec<[u8; 4096]> {
+    let mut sectors = Vec::new(alloc);
+    for sector in 0..station.count() {
+        let mut bytes = [0; 4096];
+        assert!(rt; sector < station.count());
+        assert!(rt; station.read(sector, &mut bytes).is_ok());
+        assert!(rt; sectors.push(bytes).is_ok());
+    }
+    sectors
+}
+
+fn zeros(alloc: Global, count: usize) -> Result<MemoryStation, AllocError> {
+    let bytes = vec![in alloc; [0; 4096]; count.min(10_000)]?;
+    MemoryStation::new(alloc, bytes, Vec::new(alloc))
 }

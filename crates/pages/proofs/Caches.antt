@@ -13,8 +13,8 @@ use Rattle.station.specs.Disk.{Sector, sector_at}
 use Rattle.lru.specs.LruCache.{LruCache, lru_cache, promoted, put_entries}
 use Rattle.lru.proofs.Splits.{Contains-head}
 use Rattle.lru.proofs.CallerLemmas.{Contains-lookup, Contains-promoted, Contains-remove_entry, Contains-put_entries}
-use Rattle.pages.specs.Cache.{IsCacheOf, Recalls, StaysOut, ComesIn, Keeps, KeepsChanges, Gathers}
-use Rattle.pages.specs.Changes.{changed, changed_pages, ChangesPage}
+use Rattle.pages.specs.Cache.{IsCacheOf, Recalls, StaysOut, ComesIn, CachesPage, KeepsChanges, Gathers}
+use Rattle.pages.specs.Changes.{pages_after, changed_pages, ChangesPage}
 use Rattle.pages.specs.declared.change.Change.{Change}
 use Rattle.pages.proofs.Edits.{changed_at, away_same, is_only, only_same}
 use Rattle.pages.specs.Image.{NamesOnce, pages_in, page_at}
@@ -62,7 +62,7 @@ after_put pages changed cache page bytes here away is = record {
       (Contains-put_entries nat_eq cache page bytes e has);
 }
 
-pub after_kept : (pages : List (Option Sector)) (changed : List ℕ) (old new : LruCache ℕ Sector) (page : ℕ) (bytes : Sector) → get_or pages page None ≡ Some bytes → (Contains changed page → ⊥) → IsCacheOf pages changed old.entries → Keeps page bytes old new → IsCacheOf pages changed new.entries
+pub after_kept : (pages : List (Option Sector)) (changed : List ℕ) (old new : LruCache ℕ Sector) (page : ℕ) (bytes : Sector) → get_or pages page None ≡ Some bytes → (Contains changed page → ⊥) → IsCacheOf pages changed old.entries → CachesPage page bytes old new → IsCacheOf pages changed new.entries
 after_kept pages changed old new page bytes here away is kept = ⊎_elim
     (λ same. subst (λ (l : LruCache ℕ Sector). IsCacheOf pages changed l.entries) (sym same) is)
     (λ put. subst (λ (l : LruCache ℕ Sector). IsCacheOf pages changed l.entries) (sym put) (after_put pages changed old page bytes here away is))
@@ -95,7 +95,7 @@ pub none_found : {A : Type 0} (found : Option A) (Told : Type 0) → is_some fou
 none_found None Told none told = told
 none_found (Some x) Told none told = absurd (false≢true (sym none))
 
-pub recalls_kept : (old new : LruCache ℕ Sector) (page : ℕ) (bytes : Sector) → lookup (nat_eq page) old.entries ≡ None → Keeps page bytes old new → Recalls page (Some bytes) old new
+pub recalls_kept : (old new : LruCache ℕ Sector) (page : ℕ) (bytes : Sector) → lookup (nat_eq page) old.entries ≡ None → CachesPage page bytes old new → Recalls page (Some bytes) old new
 recalls_kept old new page bytes none kept = ⊎_elim (λ same. StaysOut none same) (λ put. ComesIn bytes none refl put) kept
 
 -- the key of an entry
@@ -140,7 +140,7 @@ change_there : (changes : List Change) (c : Change) (page : ℕ) → Contains ch
 change_there changes c page has is = changed_at changes has.0 page c has.1 (ap (λ (x : Change). x.page) has.2 ∙ is)
 
 -- and its bytes are the page
-change_now : (pages : List (Option Sector)) (changes : List Change) (c : Change) (e : ℕ × Sector) → NamesOnce (changed_pages changes) → All (λ (c : Change). (0 < c.page) × (c.page < length pages)) changes → Contains changes c → c.page ≡ e.0 → c.bytes ≡ Some e.1 → get_or (changed pages changes) e.0 None ≡ Some e.1
+change_now : (pages : List (Option Sector)) (changes : List Change) (c : Change) (e : ℕ × Sector) → NamesOnce (changed_pages changes) → All (λ (c : Change). (0 < c.page) × (c.page < length pages)) changes → Contains changes c → c.page ≡ e.0 → c.bytes ≡ Some e.1 → get_or (pages_after pages changes) e.0 None ≡ Some e.1
 change_now pages changes c e once bounds has page bytes =
     let i = has.0 in
     let same : get_or changes i c ≡ c = has.2 in
@@ -153,7 +153,7 @@ change_now pages changes c e once bounds has page bytes =
 pub keeps_none : (c : Change) (cache : LruCache ℕ Sector) → KeepsChanges (c ∷ []) cache cache
 keeps_none c cache = record { capacity = refl; entries = λ e has. inl has }
 
-pub keeps_one : (c : Change) (bytes : Sector) (old new : LruCache ℕ Sector) → c.bytes ≡ Some bytes → Keeps c.page bytes old new → KeepsChanges (c ∷ []) old new
+pub keeps_one : (c : Change) (bytes : Sector) (old new : LruCache ℕ Sector) → c.bytes ≡ Some bytes → CachesPage c.page bytes old new → KeepsChanges (c ∷ []) old new
 keeps_one c bytes old new is kept = ⊎_elim
     (λ same. subst (KeepsChanges (c ∷ []) old) (sym same) (keeps_none c old))
     (λ put. subst (KeepsChanges (c ∷ []) old) (sym put) (record {
@@ -175,7 +175,7 @@ keeps_more changes c old between new first then = record {
 }
 
 -- the changes as pages of the map
-pub gathers : (pages : List (Option Sector)) (changes : List Change) (old new : LruCache ℕ Sector) → NamesOnce (changed_pages changes) → All (λ (c : Change). (0 < c.page) × (c.page < length pages)) changes → KeepsChanges changes old new → Gathers (changed_pages changes) (changed pages changes) old new
+pub gathers : (pages : List (Option Sector)) (changes : List Change) (old new : LruCache ℕ Sector) → NamesOnce (changed_pages changes) → All (λ (c : Change). (0 < c.page) × (c.page < length pages)) changes → KeepsChanges changes old new → Gathers (changed_pages changes) (pages_after pages changes) old new
 gathers pages changes old new once bounds keeps = record {
   capacity = keeps.capacity;
   entries = λ e has. ⊎_elim (λ was. inl was)
@@ -184,7 +184,7 @@ gathers pages changes old new once bounds keeps = record {
 }
 
 -- After a commit of what was changed the cache is that of the new pages.
-pub after_commit : (pages after : List (Option Sector)) (changes left : List Change) (old new : LruCache ℕ Sector) → after ≡ changed pages changes → left ≡ [] → Gathers (changed_pages changes) (changed pages changes) old new → IsCacheOf pages (changed_pages changes) old.entries → IsCacheOf after (changed_pages left) new.entries
+pub after_commit : (pages after : List (Option Sector)) (changes left : List Change) (old new : LruCache ℕ Sector) → after ≡ pages_after pages changes → left ≡ [] → Gathers (changed_pages changes) (pages_after pages changes) old new → IsCacheOf pages (changed_pages changes) old.entries → IsCacheOf after (changed_pages left) new.entries
 after_commit pages after changes left old new next none gathered is = record {
   right = λ e has. ap (λ (l : List (Option Sector)). get_or l e.0 None) next ∙ ⊎_elim
       (λ was. away_same (λ (o : Option Sector). o) pages changes e.0 None (λ k d lt same. is.unchanged e was (changed_at changes k e.0 d lt same)) ∙ is.right e was)

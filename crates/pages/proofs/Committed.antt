@@ -2,7 +2,7 @@
 use Rattle.std.proofs.Common.{◌≡◌, inl, inr, ⊎_elim, ◌≤◌, ◌%◌, ℕ, List, [], length, set, refl, sym, ◌∙◌, ap, subst, arith, get_or-set_other}
 use Rattle.std.specs.Prelude.{Option, Some}
 use Rattle.std.proofs.lemmas.List.Elements.{Contains-append_right}
-use Rattle.station.specs.Disk.{Disk, Sector, settled, IsCrashImage}
+use Rattle.station.specs.Disk.{Disk, Sector, idle_disk, IsCrashImage}
 use Rattle.station.specs.State.{State, Event}
 use Rattle.station.specs.Blocks.{CrashLeaves, OldOrNew, Old, New, with_all}
 use Rattle.station.specs.declared.blocks.Block.{Block}
@@ -11,9 +11,9 @@ use Rattle.station.proofs.TwoPhase.{all_same_outside, with_all_count}
 use Rattle.roots.specs.Root.{root_in}
 use Rattle.roots.specs.declared.root.RootSector.TheVariants.{Valid}
 use Rattle.pages.specs.declared.change.Change.{Change}
-use Rattle.pages.specs.Layout.{newest, marks}
-use Rattle.pages.specs.Image.{Map, pages_in, Volume, names, Reads, map_of, Holds, KeepsUsed, IsCommitted}
-use Rattle.pages.specs.Changes.{changed, next_map, BeforeOrAfter}
+use Rattle.pages.specs.Layout.{newest, known_marks}
+use Rattle.pages.specs.Image.{Map, pages_in, Volume, names, Reads, map_of, IsImageOf, KeepsUsed, IsCommitted}
+use Rattle.pages.specs.Changes.{pages_after, next_map, BeforeOrAfter}
 use Rattle.pages.specs.Plan.{IsPlan}
 use Rattle.pages.specs.Payload.{SpellsRoot}
 use Rattle.pages.proofs.Roots.{next_newest, enough}
@@ -24,7 +24,7 @@ use Rattle.pages.proofs.Staging.{keeps_used}
 pub at_rest : (v : Volume) (after : Map) (s : State) → IsCommitted v s.disk → CrashLeaves s.events (BeforeOrAfter (map_of s.disk.present v) after) s
 at_rest v after s rests = record {
   events = refl;
-  images = λ image crash. inl (subst (λ (l : List Sector). Holds l (map_of s.disk.present v)) (sym (settled_image s.disk.present image (subst (λ (d : Disk). IsCrashImage d image) rests.settled crash))) (v, rests.reads, refl));
+  images = λ image crash. inl (subst (λ (l : List Sector). IsImageOf l (map_of s.disk.present v)) (sym (settled_image s.disk.present image (subst (λ (d : Disk). IsCrashImage d image) rests.settled crash))) (v, rests.reads, refl));
 }
 
 module _ (v w : Volume) (base : List Sector) (blocks : List Block) (changes : List Change) (bytes : Sector) (reads : Reads base v) (plan : IsPlan v w blocks changes) (spells : SpellsRoot w.root bytes) where
@@ -43,8 +43,8 @@ module _ (v w : Volume) (base : List Sector) (blocks : List Block) (changes : Li
   keeps : KeepsUsed v base staged
   keeps = keeps_used v base blocks staged plan.free (all_same_outside base blocks)
 
-  valid : root_in marks (length staged) (spells.root.generation % 2) bytes ≡ Valid spells.root
-  valid = subst (λ (g : ℕ). root_in marks (length staged) (g % 2) bytes ≡ Valid spells.root) (sym spells.generation) (spells.valid (length staged) (omega (arith, plan.sectors, all, with_all_count base blocks)))
+  valid : root_in known_marks (length staged) (spells.root.generation % 2) bytes ≡ Valid spells.root
+  valid = subst (λ (g : ℕ). root_in known_marks (length staged) (g % 2) bytes ≡ Valid spells.root) (sym spells.generation) (spells.valid (length staged) (omega (arith, plan.sectors, all, with_all_count base blocks)))
 
   image_newest : newest image ≡ Some w.root
   image_newest = ap (λ (g : ℕ). newest (set staged (g % 2) bytes)) (sym spells.generation)
@@ -56,29 +56,29 @@ module _ (v w : Volume) (base : List Sector) (blocks : List Block) (changes : Li
   pub next_reads : Reads image w
   next_reads = record { root = image_newest; maps = same_maps w staged image (plan.maps base all reads) same_named }
 
-  next_pages : pages_in image w.table ≡ changed (pages_in base v.table) changes
+  next_pages : pages_in image w.table ≡ pages_after (pages_in base v.table) changes
   next_pages = pages_same image staged w.table (λ s has. same_named s (Contains-append_right w.root.maps w.table s has)) ∙ plan.pages base all reads
 
   pub next_is : map_of image w ≡ next_map (map_of base v) changes w.root.catalog
   next_is = ap (λ (pages : List (Option Sector)). record { generation = w.root.generation; catalog = w.root.catalog; pages = pages }) next_pages
-      ∙ ap (λ (g : ℕ). record { generation = g; catalog = w.root.catalog; pages = changed (pages_in base v.table) changes }) plan.generation
+      ∙ ap (λ (g : ℕ). record { generation = g; catalog = w.root.catalog; pages = pages_after (pages_in base v.table) changes }) plan.generation
 
   before_or_after : (left : List Sector) → OldOrNew base blocks root bytes left → BeforeOrAfter (map_of base v) (next_map (map_of base v) changes w.root.catalog) left
   before_or_after left (Old spares) = inl (still_holds v base left reads (keeps_used v base blocks left plan.free spares))
-  before_or_after left (New is) = inr (subst (λ (l : List Sector). Holds l (next_map (map_of base v) changes w.root.catalog)) (sym is) (w, next_reads, next_is))
+  before_or_after left (New is) = inr (subst (λ (l : List Sector). IsImageOf l (next_map (map_of base v) changes w.root.catalog)) (sym is) (w, next_reads, next_is))
 
   pub amid_maps : (seen : List Event) (s : State) → CrashLeaves seen (OldOrNew base blocks root bytes) s → CrashLeaves seen (BeforeOrAfter (map_of base v) (next_map (map_of base v) changes w.root.catalog)) s
   amid_maps seen s amid = record { events = amid.events; images = λ left crash. before_or_after left (amid.images left crash) }
 
-  pub now_committed : (d : Disk) → d ≡ settled image → IsCommitted w d
+  pub now_committed : (d : Disk) → d ≡ idle_disk image → IsCommitted w d
   now_committed d is = subst (IsCommitted w) (sym is) (record { settled = refl; reads = next_reads })
 
-  pub now_is : (d : Disk) → d ≡ settled image → map_of d.present w ≡ next_map (map_of base v) changes w.root.catalog
+  pub now_is : (d : Disk) → d ≡ idle_disk image → map_of d.present w ≡ next_map (map_of base v) changes w.root.catalog
   now_is d is = ap (λ (e : Disk). map_of e.present w) is ∙ next_is
 
   -- the same, with the catalog's page by another name
   pub amid_maps_as : (page : ℕ) → w.root.catalog ≡ page → (seen : List Event) (s : State) → CrashLeaves seen (OldOrNew base blocks root bytes) s → CrashLeaves seen (BeforeOrAfter (map_of base v) (next_map (map_of base v) changes page)) s
   amid_maps_as page is seen s amid = subst (λ (n : ℕ). CrashLeaves seen (BeforeOrAfter (map_of base v) (next_map (map_of base v) changes n)) s) is (amid_maps seen s amid)
 
-  pub now_is_as : (page : ℕ) → w.root.catalog ≡ page → (d : Disk) → d ≡ settled image → map_of d.present w ≡ next_map (map_of base v) changes page
+  pub now_is_as : (page : ℕ) → w.root.catalog ≡ page → (d : Disk) → d ≡ idle_disk image → map_of d.present w ≡ next_map (map_of base v) changes page
   now_is_as page is d same = now_is d same ∙ ap (next_map (map_of base v) changes) is

@@ -7,7 +7,7 @@ use Rattle.std.proofs.lemmas.List.Sums.{sum_by-append, sum_by-cons, sum_by-set}
 use Rattle.station.specs.Disk.{Sector}
 use Rattle.pages.specs.Image.{IsPlace, NamesOnce, names, pages_in}
 use Rattle.pages.specs.Use.{IsUse, free_count}
-use Rattle.pages.specs.Changes.{applied, kept}
+use Rattle.pages.specs.Changes.{list_after, mapped_after}
 use Rattle.pages.specs.Volumes.{IsSound, unused_count, volume_of}
 use Rattle.pages.specs.declared.change.Change.{Change}
 use Rattle.pages.specs.declared.volume.VolumeMap.{VolumeMap}
@@ -48,7 +48,7 @@ set_up [] i b = omega arith
 set_up (x ∷ bs) zero b = omega (arith, trues_cons b bs, trues_cons x bs, one_or_none b)
 set_up (x ∷ bs) (suc i) b = omega (arith, trues_cons x (set bs i b), trues_cons x bs, set_up bs i b)
 
-all_up : (f : Option Sector → Bool) (bs : List Bool) (changes : List Change) → trues (applied f bs changes) ≤ trues bs + length changes
+all_up : (f : Option Sector → Bool) (bs : List Bool) (changes : List Change) → trues (list_after f bs changes) ≤ trues bs + length changes
 all_up f bs [] = omega arith
 all_up f bs (c ∷ changes) = omega (arith, all_up f (set bs c.page (f c.bytes)) changes, set_up bs c.page (f c.bytes))
 
@@ -115,20 +115,20 @@ marked_least n list used least once places right =
     omega (arith, zero_down, one_down, count)
 
 -- each page number from 1 on is used
-each_used : (table : List ℕ) (changes : List Change) → ((page : ℕ) → 0 < page → page < length table → get_or (kept table changes) page false ≡ true) → length table ≤ some_of table + length changes + 1
+each_used : (table : List ℕ) (changes : List Change) → ((page : ℕ) → 0 < page → page < length table → get_or (mapped_after table changes) page false ≡ true) → length table ≤ some_of table + length changes + 1
 each_used table changes all =
     let before = map (λ (s : ℕ). not (s == 0)) table in
-    let count : length (kept table changes) ≡ length table = length-applied is_some before changes ∙ length-map table (λ (s : ℕ). not (s == 0)) in
-    let many = but_first (kept table changes) (λ k some low. all k some (omega (arith, low, count))) in
+    let count : length (mapped_after table changes) ≡ length table = length-applied is_some before changes ∙ length-map table (λ (s : ℕ). not (s == 0)) in
+    let many = but_first (mapped_after table changes) (λ k some low. all k some (omega (arith, low, count))) in
     omega (arith, many, count, all_up is_some before changes, map_trues table)
 
-kept_where : (image : List Sector) (table : List ℕ) (changes : List Change) (page : ℕ) → (get_or (applied (λ o. o) (pages_in image table) changes) page None ≢ None) → get_or (kept table changes) page false ≡ true
-kept_where image table changes page there = ⊎_elim (λ is. is) (λ is. absurd (there (unused_none image table changes page is))) (cases_Bool (get_or (kept table changes) page false))
+kept_where : (image : List Sector) (table : List ℕ) (changes : List Change) (page : ℕ) → (get_or (list_after (λ o. o) (pages_in image table) changes) page None ≢ None) → get_or (mapped_after table changes) page false ≡ true
+kept_where image table changes page there = ⊎_elim (λ is. is) (λ is. absurd (there (unused_none image table changes page is))) (cases_Bool (get_or (mapped_after table changes) page false))
 
 table_covers : (sectors maps table : ℕ) → maps ≡ (sectors + 1023) / 1024 → table ≡ 1024 * maps → sectors ≤ table
 table_covers sectors maps table maps_is table_is = omega arith
 
-pub crowded : (m : VolumeMap) (changes : List Change) → IsSound m → ((image : List Sector) (page : ℕ) → (0 < page) × (page < length m.table) → get_or (applied (λ o. o) (pages_in image m.table) changes) page None ≢ None)
+pub crowded : (m : VolumeMap) (changes : List Change) → IsSound m → ((image : List Sector) (page : ℕ) → (0 < page) × (page < length m.table) → get_or (list_after (λ o. o) (pages_in image m.table) changes) page None ≢ None)
     → free_count (volume_of m) < length changes
 crowded m changes sound each =
     let list = names (volume_of m) in

@@ -8,12 +8,12 @@ use Rattle.station.specs.Disk.{Sector}
 use Rattle.station.specs.declared.blocks.Block.{Block}
 use Rattle.pages.specs.declared.change.Change.{Change}
 use Rattle.pages.specs.declared.draft.Draft.{Draft}
-use Rattle.pages.specs.declared.draft.Turn.{Turn}
+use Rattle.pages.specs.declared.draft.UseChange.{UseChange}
 use Rattle.pages.specs.declared.volume.VolumeMap.{VolumeMap}
 use Rattle.pages.specs.Layout.{words, zeros}
 use Rattle.pages.specs.Image.{Volume, names, IsFree, map_part}
 use Rattle.pages.specs.Use.{IsUse, turns_of}
-use Rattle.pages.specs.Draft.{Naming, IsStaged, IsMapped}
+use Rattle.pages.specs.Draft.{NamesSectors, IsStaged, IsMapped}
 use Rattle.pages.specs.Volumes.{IsDraft, IsMappedDraft, SameSize, PlacesBlock, SetsPage, SetsMap, ReleasesPage, HadNone, HadOne}
 use Rattle.pages.proofs.Naming.{renamed}
 use Rattle.pages.proofs.Staging.{page_staged, page_released, map_kept, map_blank, blank_staged, map_written, written_staged}
@@ -26,7 +26,7 @@ unused_free v used s right lt is =
     record { high = free.0; low = below; unnamed = free.1 }
 
 -- a free sector from `next` on isn't named by the draft
-pub unnamed_yet : (v : Volume) (used : List Bool) (named : List ℕ) (turns : List Turn) (next s : ℕ) → Naming v used named turns next → next ≤ s → IsFree v s → Contains named s → ⊥
+pub unnamed_yet : (v : Volume) (used : List Bool) (named : List ℕ) (turns : List UseChange) (next s : ℕ) → NamesSectors v used named turns next → next ≤ s → IsFree v s → Contains named s → ⊥
 unnamed_yet v used named turns next s naming later free has = ⊎_elim (λ old. free.unnamed old) (λ lt. omega (arith, lt, later)) (naming.fresh s has)
 
 -- equal lists have equal facts
@@ -40,10 +40,10 @@ mapped_as : (v : Volume) (maps maps' table table' : List ℕ) (blocks blocks' : 
 mapped_as v maps maps' table table' blocks blocks' next m t b is =
     subst (λ (x : List ℕ). IsMapped v x table' blocks' next) (sym m) (subst (λ (x : List ℕ). IsMapped v maps x blocks' next) (sym t) (subst (λ (x : List Block). IsMapped v maps table x next) (sym b) is))
 
-naming_as : (v : Volume) (used used' : List Bool) (named named' : List ℕ) (turns turns' : List Turn) (next next' : ℕ) → used' ≡ used → named' ≡ named → turns' ≡ turns → next' ≡ next → Naming v used named turns next → Naming v used' named' turns' next'
+naming_as : (v : Volume) (used used' : List Bool) (named named' : List ℕ) (turns turns' : List UseChange) (next next' : ℕ) → used' ≡ used → named' ≡ named → turns' ≡ turns → next' ≡ next → NamesSectors v used named turns next → NamesSectors v used' named' turns' next'
 naming_as v used used' named named' turns turns' next next' u n t k is =
-    subst (λ (x : List Bool). Naming v x named' turns' next') (sym u) (subst (λ (x : List ℕ). Naming v used x turns' next') (sym n)
-    (subst (λ (x : List Turn). Naming v used named x next') (sym t) (subst (λ (x : ℕ). Naming v used named turns x) (sym k) is)))
+    subst (λ (x : List Bool). NamesSectors v x named' turns' next') (sym u) (subst (λ (x : List ℕ). NamesSectors v used x turns' next') (sym n)
+    (subst (λ (x : List UseChange). NamesSectors v used named x next') (sym t) (subst (λ (x : ℕ). NamesSectors v used named turns x) (sym k) is)))
 
 module _ (v : Volume) (m : VolumeMap) (d : Draft) (changes : List Change) (draft : IsDraft v m d changes) (c : Change) (some : 0 < c.page) (in_table : c.page < length m.table) (low : c.page / 1024 < length d.changed_maps.items) where
   abbrev maps : List ℕ
@@ -65,9 +65,9 @@ module _ (v : Volume) (m : VolumeMap) (d : Draft) (changes : List Change) (draft
       here = omega arith
 
   table_renamed : (s after : ℕ) → ((s ≡ 0) × (after ≡ d.next)) ⊎ ((d.next ≤ s) × IsFree v s × (after ≡ s + 1))
-      → Naming v m.used (maps ++ set table c.page s) (d.turns.items ++ turns_of (get_or table c.page 0) s) after
-  table_renamed s after choice = subst (λ (l : List ℕ). Naming v m.used l (d.turns.items ++ turns_of (get_or table c.page 0) s) after) (set_place s)
-      (subst (λ (t : ℕ). Naming v m.used (set (maps ++ table) place s) (d.turns.items ++ turns_of t s) after) at_place
+      → NamesSectors v m.used (maps ++ set table c.page s) (d.turns.items ++ turns_of (get_or table c.page 0) s) after
+  table_renamed s after choice = subst (λ (l : List ℕ). NamesSectors v m.used l (d.turns.items ++ turns_of (get_or table c.page 0) s) after) (set_place s)
+      (subst (λ (t : ℕ). NamesSectors v m.used (set (maps ++ table) place s) (d.turns.items ++ turns_of t s) after) at_place
       (renamed v m.used (maps ++ table) d.turns.items d.next place s after draft.some (omega (arith, in_table, length-append maps table)) draft.naming choice))
 
   -- a page with new bytes
@@ -84,7 +84,7 @@ module _ (v : Volume) (m : VolumeMap) (d : Draft) (changes : List Change) (draft
             (page_staged v maps table d.changed_maps.items d.blocks.items changes c draft.staged some low b free (λ has. unnamed (Contains-append_right maps table s has)) is);
         naming = naming_as v m.used after.used (maps ++ set table c.page s) (after.maps.items ++ after.table) (d.turns.items ++ turns_of (get_or table c.page 0) s) last.turns.items (s + 1) last.next
             sets.size.used (ap (λ (x : Vec ℕ Global). x.items ++ after.table) sets.maps ∙ ap (λ (l : List ℕ). maps ++ l) sets.table)
-            (sets.turns ∙ ap (λ (x : Vec Turn Global). x.items ++ turns_of (get_or table c.page 0) s) placed.turns) (sets.next ∙ placed.next)
+            (sets.turns ∙ ap (λ (x : Vec UseChange Global). x.items ++ turns_of (get_or table c.page 0) s) placed.turns) (sets.next ∙ placed.next)
             (table_renamed s (s + 1) (inr (placed.later, free, refl)));
       }
 
@@ -117,9 +117,9 @@ module _ (v : Volume) (m : VolumeMap) (d : Draft) (changes : List Change) (j : �
   kept_mapped is = record { draft = draft.draft; mapped = map_kept v m.maps.items m.table d.changed_maps.items d.blocks.items changes j draft.draft.staged draft.mapped low is }
 
   maps_renamed : (s after : ℕ) → ((s ≡ 0) × (after ≡ d.next)) ⊎ ((d.next ≤ s) × IsFree v s × (after ≡ s + 1))
-      → Naming v m.used (set m.maps.items j s ++ m.table) (d.turns.items ++ turns_of (get_or m.maps.items j 0) s) after
-  maps_renamed s after choice = subst (λ (l : List ℕ). Naming v m.used l (d.turns.items ++ turns_of (get_or m.maps.items j 0) s) after) (set-append_left m.maps.items m.table j s low)
-      (subst (λ (t : ℕ). Naming v m.used (set (m.maps.items ++ m.table) j s) (d.turns.items ++ turns_of t s) after) (get_or_append_left m.maps.items m.table 0 j low)
+      → NamesSectors v m.used (set m.maps.items j s ++ m.table) (d.turns.items ++ turns_of (get_or m.maps.items j 0) s) after
+  maps_renamed s after choice = subst (λ (l : List ℕ). NamesSectors v m.used l (d.turns.items ++ turns_of (get_or m.maps.items j 0) s) after) (set-append_left m.maps.items m.table j s low)
+      (subst (λ (t : ℕ). NamesSectors v m.used (set (m.maps.items ++ m.table) j s) (d.turns.items ++ turns_of t s) after) (get_or_append_left m.maps.items m.table 0 j low)
       (renamed v m.used (m.maps.items ++ m.table) d.turns.items d.next j s after draft.draft.some (omega (arith, low, length-append m.maps.items m.table)) draft.draft.naming choice))
 
   -- one of zeros
@@ -161,7 +161,7 @@ module _ (v : Volume) (m : VolumeMap) (d : Draft) (changes : List Change) (j : �
               (written_staged v m.maps.items m.table d.changed_maps.items d.blocks.items changes j draft.draft.staged draft.mapped low b free unnamed);
           naming = naming_as v m.used after.used (set m.maps.items j s ++ m.table) (after.maps.items ++ after.table) (d.turns.items ++ turns_of (get_or m.maps.items j 0) s) last.turns.items (s + 1) last.next
               sets.size.used (ap (λ (x : List ℕ). x ++ after.table) maps_is ∙ ap (λ (l : List ℕ). set m.maps.items j s ++ l) table_is)
-              (sets.turns ∙ ap (λ (x : Vec Turn Global). x.items ++ turns_of (get_or m.maps.items j 0) s) placed.turns) (sets.next ∙ placed.next)
+              (sets.turns ∙ ap (λ (x : Vec UseChange Global). x.items ++ turns_of (get_or m.maps.items j 0) s) placed.turns) (sets.next ∙ placed.next)
               (maps_renamed s (s + 1) (inr (placed.later, free, refl)));
         };
         mapped = mapped_as v (set m.maps.items j s) after.maps.items m.table after.table (d.blocks.items ++ b ∷ []) last.blocks.items (j + 1) maps_is table_is blocks_is

@@ -7,19 +7,19 @@ use Rattle.std.proofs.lemmas.List.Elements.{Contains-append_left, Contains-push}
 use Rattle.station.specs.Disk.{Sector}
 use Rattle.pages.specs.declared.change.Change.{Change}
 use Rattle.pages.specs.Image.{Volume}
-use Rattle.pages.specs.Needed.{filled, is_written, written_below, needed, HasBytes, Fills}
+use Rattle.pages.specs.Needed.{filled_count, is_written, written_below, needed_sectors, HasBytes, Fills}
 use Rattle.pages.proofs.Counting.{count_push}
 use Rattle.pages.proofs.Edits.{Away, IsOnly}
 
 -- one change is replaced
-pub filled_set : (changes : List Change) (i : ℕ) (new d : Change) → i < length changes → filled (set changes i new) + cond (is_some (get_or changes i d).bytes) 1 0 ≡ filled changes + cond (is_some new.bytes) 1 0
+pub filled_set : (changes : List Change) (i : ℕ) (new d : Change) → i < length changes → filled_count (set changes i new) + cond (is_some (get_or changes i d).bytes) 1 0 ≡ filled_count changes + cond (is_some new.bytes) 1 0
 filled_set changes i new d low = sum_by-set (λ (c : Change). cond (is_some c.bytes) 1 0) changes i new d low
 
-pub filled_replaced : (changes : List Change) (i : ℕ) (new : Change) → i < length changes → filled (set changes i new) ≤ filled changes + cond (is_some new.bytes) 1 0
+pub filled_replaced : (changes : List Change) (i : ℕ) (new : Change) → i < length changes → filled_count (set changes i new) ≤ filled_count changes + cond (is_some new.bytes) 1 0
 filled_replaced changes i new low = omega (arith, filled_set changes i new new low)
 
 -- one change comes
-pub filled_pushed : (changes : List Change) (new : Change) → filled (changes ++ new ∷ []) ≤ filled changes + cond (is_some new.bytes) 1 0
+pub filled_pushed : (changes : List Change) (new : Change) → filled_count (changes ++ new ∷ []) ≤ filled_count changes + cond (is_some new.bytes) 1 0
 filled_pushed changes new = omega (arith, count_push (λ (c : Change). is_some c.bytes) changes new)
 
 -- the one change of a page gets bytes
@@ -70,8 +70,8 @@ pub written_le_count : (v : Volume) (changes : List Change) (n : ℕ) → writte
 written_le_count v changes zero = omega arith
 written_le_count v changes (suc i) = omega (arith, written_le_count v changes i, one_bit (is_written v changes i))
 
-pub needed_le : (v : Volume) (changes : List Change) → needed v changes ≤ filled changes + length v.root.maps
+pub needed_le : (v : Volume) (changes : List Change) → needed_sectors v changes ≤ filled_count changes + length v.root.maps
 needed_le v changes = omega (arith, written_le_count v changes (length v.root.maps))
 
-pub filled_le : (changes : List Change) → filled changes ≤ length changes
+pub filled_le : (changes : List Change) → filled_count changes ≤ length changes
 filled_le changes = count_by-le-length (λ (c : Change). is_some c.bytes) changes

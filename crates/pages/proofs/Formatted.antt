@@ -3,7 +3,7 @@ use Rattle.std.proofs.Common.{◌≡◌, inl, ⊎_elim, ◌<◌, ◌≤◌, ◌+
 use Rattle.std.specs.Prelude.{Option, Some, None, Ok, Err, Contains, nat_lt}
 use Rattle.std.proofs.lemmas.Bool.{cond-true, lt-ltb, cases_lt}
 use Rattle.std.proofs.lemmas.List.{replicate-append-replicate, get_or-replicate, length-replicate, drop-replicate, take-replicate, get_or_past}
-use Rattle.station.specs.Disk.{Disk, Sector, sector_at, settled, IsCrashImage}
+use Rattle.station.specs.Disk.{Disk, Sector, sector_at, idle_disk, IsCrashImage}
 use Rattle.station.specs.State.{State}
 use Rattle.station.specs.History.{EachImage}
 use Rattle.station.proofs.Crash.{settled_image}
@@ -11,10 +11,10 @@ use Rattle.roots.specs.declared.root.RootSector.{RootSector}
 use Rattle.roots.specs.declared.root.RootSector.TheVariants.{Blank, Valid}
 use Rattle.roots.specs.declared.pair.RootsFault.TheVariants.{ForeignMark}
 use Rattle.roots.specs.declared.pair.Roots.{Roots}
-use Rattle.roots.specs.Root.{root_in, marked, mark_index, is_blank}
+use Rattle.roots.specs.Root.{root_in, root_with_mark, mark_index, is_blank}
 use Rattle.roots.specs.Pair.{newest_root}
-use Rattle.pages.specs.Layout.{map_count, newest, marks, root_of, zeros}
-use Rattle.pages.specs.Image.{map_at, map_part, pages_in, Reads, Holds, IsCommitted}
+use Rattle.pages.specs.Layout.{map_count, newest, known_marks, root_of, zeros}
+use Rattle.pages.specs.Image.{map_at, map_part, pages_in, Reads, IsImageOf, IsCommitted}
 use Rattle.pages.specs.Payload.{SpellsRoot}
 use Rattle.pages.specs.Empty.{empty_volume, empty_map}
 
@@ -60,16 +60,16 @@ module _ (base : List Sector) (sectors : ℕ) (bytes : Sector) (all : length bas
   second : sector_at image 1 ≡ replicate 4096 0
   second = get_or-set_other (set base 1 (replicate 4096 0)) 0 1 bytes [] (λ e. omega (arith, e)) ∙ get_or-set_same base 1 (replicate 4096 0) [] (omega (arith, all, least))
 
-  blank_there : root_in marks (length image) 1 (sector_at image 1) ≡ Blank
-  blank_there = ap (root_in marks (length image) 1) second ∙ cond-true (is_blank (replicate 4096 0)) Blank (marked (length image) 1 (replicate 4096 0) (mark_index marks (replicate 4096 0))) (all_blank 4096)
+  blank_there : root_in known_marks (length image) 1 (sector_at image 1) ≡ Blank
+  blank_there = ap (root_in known_marks (length image) 1) second ∙ cond-true (is_blank (replicate 4096 0)) Blank (root_with_mark (length image) 1 (replicate 4096 0) (mark_index known_marks (replicate 4096 0))) (all_blank 4096)
 
-  root_there : root_in marks (length image) 0 (sector_at image 0) ≡ Valid spells.root
-  root_there = ap (root_in marks (length image) 0) first ∙ spells.valid (length image) (omega (arith, count))
+  root_there : root_in known_marks (length image) 0 (sector_at image 0) ≡ Valid spells.root
+  root_there = ap (root_in known_marks (length image) 0) first ∙ spells.valid (length image) (omega (arith, count))
 
   newest_there : newest image ≡ Some (empty_volume sectors).root
   newest_there =
       let one : Roots = record { newest = spells.root; older = None } in
-      ap (λ (s : RootSector). root_of (newest_root 1 s (root_in marks (length image) 1 (sector_at image 1)))) root_there
+      ap (λ (s : RootSector). root_of (newest_root 1 s (root_in known_marks (length image) 1 (sector_at image 1)))) root_there
       ∙ ap (λ (s : RootSector). root_of (newest_root 1 (Valid spells.root) s)) blank_there
       ∙ ap root_of (cond-true (nat_lt spells.root.mark 1) (Ok one) (Err ForeignMark) (lt-ltb spells.root.mark 1 (omega (arith, spells.mark))))
       ∙ spells.reads
@@ -88,11 +88,11 @@ module _ (base : List Sector) (sectors : ℕ) (bytes : Sector) (all : length bas
     };
   }
 
-  pub empty_holds : Holds image (empty_map sectors)
+  pub empty_holds : IsImageOf image (empty_map sectors)
   empty_holds = (empty_volume sectors, empty_reads, ap (λ (pages : List (Option Sector)). record { generation = 0; catalog = 0; pages = pages }) (no_pages image (1024 * map_count sectors)))
 
-  pub empty_images : (s : State) → s.disk ≡ settled image → EachImage (λ i. Holds i (empty_map sectors)) s
-  empty_images s is left crash = subst (λ (l : List Sector). Holds l (empty_map sectors)) (sym (settled_image image left (subst (λ (d : Disk). IsCrashImage d left) is crash))) empty_holds
+  pub empty_images : (s : State) → s.disk ≡ idle_disk image → EachImage (λ i. IsImageOf i (empty_map sectors)) s
+  empty_images s is left crash = subst (λ (l : List Sector). IsImageOf l (empty_map sectors)) (sym (settled_image image left (subst (λ (d : Disk). IsCrashImage d left) is crash))) empty_holds
 
-  pub empty_committed : (d : Disk) → d ≡ settled image → IsCommitted (empty_volume sectors) d
+  pub empty_committed : (d : Disk) → d ≡ idle_disk image → IsCommitted (empty_volume sectors) d
   empty_committed d is = subst (IsCommitted (empty_volume sectors)) (sym is) (record { settled = refl; reads = empty_reads })

@@ -7,8 +7,8 @@ use Rattle.std.proofs.lemmas.Bool.{cases_lt}
 use Rattle.station.specs.Disk.{Sector, sector_at}
 use Rattle.roots.specs.Root.{root_in}
 use Rattle.roots.specs.Pair.{newest_root}
-use Rattle.pages.specs.Layout.{words, newest, root_of, marks}
-use Rattle.pages.specs.Image.{map_at, page_at, pages_in, Volume, names, Maps, Reads, map_of, Holds, KeepsUsed}
+use Rattle.pages.specs.Layout.{words, newest, root_of, known_marks}
+use Rattle.pages.specs.Image.{map_at, page_at, pages_in, Volume, names, Maps, Reads, map_of, IsImageOf, KeepsUsed}
 use Rattle.pages.proofs.Roots.{enough}
 
 head_in : (x : ℕ) (xs : List ℕ) → Contains (x ∷ xs) x
@@ -59,9 +59,9 @@ pub newest_same : (v : Volume) (base image : List Sector) → KeepsUsed v base i
 newest_same v base image keeps =
     let one = low_same v base image keeps 0 (omega arith) in
     let two = low_same v base image keeps 1 (omega arith) in
-    ap (λ (n : ℕ). root_of (newest_root 1 (root_in marks n 0 (sector_at image 0)) (root_in marks n 1 (sector_at image 1)))) keeps.count
-    ∙ ap (λ (s : Sector). root_of (newest_root 1 (root_in marks (length base) 0 s) (root_in marks (length base) 1 (sector_at image 1)))) one
-    ∙ ap (λ (s : Sector). root_of (newest_root 1 (root_in marks (length base) 0 (sector_at base 0)) (root_in marks (length base) 1 s))) two
+    ap (λ (n : ℕ). root_of (newest_root 1 (root_in known_marks n 0 (sector_at image 0)) (root_in known_marks n 1 (sector_at image 1)))) keeps.count
+    ∙ ap (λ (s : Sector). root_of (newest_root 1 (root_in known_marks (length base) 0 s) (root_in known_marks (length base) 1 (sector_at image 1)))) one
+    ∙ ap (λ (s : Sector). root_of (newest_root 1 (root_in known_marks (length base) 0 (sector_at base 0)) (root_in known_marks (length base) 1 s))) two
 
 pub still_reads : (v : Volume) (base image : List Sector) → Reads base v → KeepsUsed v base image → Reads image v
 still_reads v base image reads keeps = record {
@@ -74,5 +74,5 @@ same_map v base image reads keeps = ap (λ (pages : List (Option Sector)). recor
     (pages_same image base v.table (λ s has. named_same v base image reads keeps s (Contains-append_right v.root.maps v.table s has)))
 
 -- the frame: what the base holds, the image holds
-pub still_holds : (v : Volume) (base image : List Sector) → Reads base v → KeepsUsed v base image → Holds image (map_of base v)
+pub still_holds : (v : Volume) (base image : List Sector) → Reads base v → KeepsUsed v base image → IsImageOf image (map_of base v)
 still_holds v base image reads keeps = (v, still_reads v base image reads keeps, same_map v base image reads keeps)

@@ -6,9 +6,9 @@ use Rattle.std.proofs.lemmas.List.{get_or_default}
 use Rattle.std.specs.List.{All}
 use Rattle.std.proofs.lemmas.List.Elements.{All-nil, All-cons, All-append}
 use Rattle.pages.specs.Image.{Volume, names, IsPlace, NamesOnce, IsFree}
-use Rattle.pages.specs.Use.{IsUse, turned, turns_of}
-use Rattle.pages.specs.Draft.{Naming}
-use Rattle.pages.specs.declared.draft.Turn.{Turn}
+use Rattle.pages.specs.Use.{IsUse, use_after, turns_of}
+use Rattle.pages.specs.Draft.{NamesSectors}
+use Rattle.pages.specs.declared.draft.UseChange.{UseChange}
 
 -- the place of a number in a list of which some place has it
 at_place : (list : List ℕ) (t : ℕ) (has : Contains list t) → (k : ℕ) × (k < length list) × (get_or list k 0 ≡ t)
@@ -108,49 +108,49 @@ module _ (n : ℕ) (list : List ℕ) (i s : ℕ) (used : List Bool) (low : i < l
   Fresh = (s ≡ 0) ⊎ ((2 ≤ s) × (s < n) × (Contains list s → ⊥))
 
   then_taken : (now : List Bool) → ButAt n (set list i s) s now → (get_or now 0 false ≡ false → ⊥) → Fresh
-      → IsUse n (set list i s) (turned now (cond (s == 0) [] (record { sector = s; used = true } ∷ [])))
+      → IsUse n (set list i s) (use_after now (cond (s == 0) [] (record { sector = s; used = true } ∷ [])))
   then_taken now but root fresh = ⊎_elim
-      (λ none. subst (λ (l : List Turn). IsUse n (set list i s) (turned now l)) (sym (cond-true (s == 0) [] (record { sector = s; used = true } ∷ []) (eq-eqb s 0 none))) (none_taken now but none root))
-      (λ (high, below, unnamed). subst (λ (l : List Turn). IsUse n (set list i s) (turned now l)) (sym (cond-false (s == 0) [] (record { sector = s; used = true } ∷ []) (ne_eqb s 0 (λ e. omega (arith, e, high))))) (one_taken now but high below))
+      (λ none. subst (λ (l : List UseChange). IsUse n (set list i s) (use_after now l)) (sym (cond-true (s == 0) [] (record { sector = s; used = true } ∷ []) (eq-eqb s 0 none))) (none_taken now but none root))
+      (λ (high, below, unnamed). subst (λ (l : List UseChange). IsUse n (set list i s) (use_after now l)) (sym (cond-false (s == 0) [] (record { sector = s; used = true } ∷ []) (ne_eqb s 0 (λ e. omega (arith, e, high))))) (one_taken now but high below))
       fresh
 
   -- one name of a list replaced, and the use of the sectors after the turns for it
-  pub use_set : 0 < n → IsPlace n old → Fresh → IsUse n (set list i s) (turned used (turns_of old s))
+  pub use_set : 0 < n → IsPlace n old → Fresh → IsUse n (set list i s) (use_after used (turns_of old s))
   use_set some place fresh = ⊎_elim
-      (λ none. subst (λ (l : List Turn). IsUse n (set list i s) (turned used (l ++ cond (s == 0) [] (record { sector = s; used = true } ∷ []))))
+      (λ none. subst (λ (l : List UseChange). IsUse n (set list i s) (use_after used (l ++ cond (s == 0) [] (record { sector = s; used = true } ∷ []))))
       (sym (cond-true (old == 0) [] (record { sector = old; used = false } ∷ []) (eq-eqb old 0 none)))
       (then_taken used (none_left none) (root_used some) fresh))
-      (λ (high, below). subst (λ (l : List Turn). IsUse n (set list i s) (turned used (l ++ cond (s == 0) [] (record { sector = s; used = true } ∷ []))))
+      (λ (high, below). subst (λ (l : List UseChange). IsUse n (set list i s) (use_after used (l ++ cond (s == 0) [] (record { sector = s; used = true } ∷ []))))
       (sym (cond-false (old == 0) [] (record { sector = old; used = false } ∷ []) (ne_eqb old 0 (λ e. omega (arith, e, high)))))
       (then_taken (set used old false) (one_left (λ e. omega (arith, e, high)) high below) (λ is. root_used some (sym (get_or-set_other used old 0 false false (λ e. omega (arith, e, high))) ∙ is)) fresh))
       place
 
 -- turns after others
-pub turned_more : (used : List Bool) (turns more : List Turn) → turned used (turns ++ more) ≡ turned (turned used turns) more
+pub turned_more : (used : List Bool) (turns more : List UseChange) → use_after used (turns ++ more) ≡ use_after (use_after used turns) more
 turned_more used [] more = refl
 turned_more used (t ∷ turns) more = turned_more (set used t.sector t.used) turns more
 
-one_low : (n s : ℕ) (used : Bool) → (s ≡ 0 → ⊥) → IsPlace n s → All (λ (t : Turn). t.sector < n) (record { sector = s; used = used } ∷ [])
-one_low n s used some place = All-cons (λ (t : Turn). t.sector < n) (record { sector = s; used = used }) [] (⊎_elim (λ none. absurd (some none)) (λ (high, below). below) place) (All-nil (λ (t : Turn). t.sector < n))
+one_low : (n s : ℕ) (used : Bool) → (s ≡ 0 → ⊥) → IsPlace n s → All (λ (t : UseChange). t.sector < n) (record { sector = s; used = used } ∷ [])
+one_low n s used some place = All-cons (λ (t : UseChange). t.sector < n) (record { sector = s; used = used }) [] (⊎_elim (λ none. absurd (some none)) (λ (high, below). below) place) (All-nil (λ (t : UseChange). t.sector < n))
 
 -- the turns for two places are within the volume
-turns_within : (n old new : ℕ) → IsPlace n old → IsPlace n new → All (λ (t : Turn). t.sector < n) (turns_of old new)
-turns_within n old new old_place new_place = All-append (λ (t : Turn). t.sector < n) (cond (old == 0) [] (record { sector = old; used = false } ∷ [])) (cond (new == 0) [] (record { sector = new; used = true } ∷ []))
-    (cond_both (old == 0) [] (record { sector = old; used = false } ∷ []) (λ l. All (λ (t : Turn). t.sector < n) l) (λ _. All-nil (λ (t : Turn). t.sector < n)) (λ is. one_low n old false (eqb-false old 0 is) old_place))
-    (cond_both (new == 0) [] (record { sector = new; used = true } ∷ []) (λ l. All (λ (t : Turn). t.sector < n) l) (λ _. All-nil (λ (t : Turn). t.sector < n)) (λ is. one_low n new true (eqb-false new 0 is) new_place))
+turns_within : (n old new : ℕ) → IsPlace n old → IsPlace n new → All (λ (t : UseChange). t.sector < n) (turns_of old new)
+turns_within n old new old_place new_place = All-append (λ (t : UseChange). t.sector < n) (cond (old == 0) [] (record { sector = old; used = false } ∷ [])) (cond (new == 0) [] (record { sector = new; used = true } ∷ []))
+    (cond_both (old == 0) [] (record { sector = old; used = false } ∷ []) (λ l. All (λ (t : UseChange). t.sector < n) l) (λ _. All-nil (λ (t : UseChange). t.sector < n)) (λ is. one_low n old false (eqb-false old 0 is) old_place))
+    (cond_both (new == 0) [] (record { sector = new; used = true } ∷ []) (λ l. All (λ (t : UseChange). t.sector < n) l) (λ _. All-nil (λ (t : UseChange). t.sector < n)) (λ is. one_low n new true (eqb-false new 0 is) new_place))
 
 -- a name replaced by none, or by a sector from `next` on that is free in v
-pub renamed : (v : Volume) (used : List Bool) (named : List ℕ) (turns : List Turn) (next : ℕ) (i s after : ℕ) → 0 < v.root.sectors → i < length named → Naming v used named turns next
-    → ((s ≡ 0) × (after ≡ next)) ⊎ ((next ≤ s) × IsFree v s × (after ≡ s + 1)) → Naming v used (set named i s) (turns ++ turns_of (get_or named i 0) s) after
+pub renamed : (v : Volume) (used : List Bool) (named : List ℕ) (turns : List UseChange) (next : ℕ) (i s after : ℕ) → 0 < v.root.sectors → i < length named → NamesSectors v used named turns next
+    → ((s ≡ 0) × (after ≡ next)) ⊎ ((next ≤ s) × IsFree v s × (after ≡ s + 1)) → NamesSectors v used (set named i s) (turns ++ turns_of (get_or named i 0) s) after
 renamed v used named turns next i s after some low naming choice = record {
   start = ⊎_elim (λ (_, same). omega (arith, same, naming.start)) (λ (later, _, is). omega (arith, later, is, naming.start)) choice;
   places = λ t has. ⊎_elim (λ at. subst (IsPlace v.root.sectors) (sym at) place) (λ (k, k_lt, _, is). naming.places t (contains_at named k t k_lt is)) (set_cases named i s t low has);
   once = set_once named i s low naming.once (⊎_elim (λ (none, _). inl none) (λ (later, free, _). inr (unnamed later free)) choice);
   fresh = λ t has. ⊎_elim (λ at. ⊎_elim (λ (none, _). inr_zero t (at ∙ none) has) (λ (_, _, is). inr (omega (arith, at, is))) choice) (λ (k, k_lt, _, is). older t (naming.fresh t (contains_at named k t k_lt is))) (set_cases named i s t low has);
   in_use = subst (IsUse v.root.sectors (set named i s)) (sym (turned_more used turns (turns_of (get_or named i 0) s)))
-      (use_set v.root.sectors named i s (turned used turns) low naming.once naming.in_use some (naming.places (get_or named i 0) (contains_at named i (get_or named i 0) low refl))
+      (use_set v.root.sectors named i s (use_after used turns) low naming.once naming.in_use some (naming.places (get_or named i 0) (contains_at named i (get_or named i 0) low refl))
       (⊎_elim (λ (none, _). inl none) (λ (later, free, _). inr (free.high, free.low, unnamed later free)) choice));
-  turns_low = All-append (λ (t : Turn). t.sector < v.root.sectors) turns (turns_of (get_or named i 0) s) naming.turns_low
+  turns_low = All-append (λ (t : UseChange). t.sector < v.root.sectors) turns (turns_of (get_or named i 0) s) naming.turns_low
       (turns_within v.root.sectors (get_or named i 0) s (naming.places (get_or named i 0) (contains_at named i (get_or named i 0) low refl)) place);
 }
   where

@@ -4,7 +4,7 @@ use Rattle.std.specs.Prelude.{◌++◌}
 use Rattle.std.proofs.lemmas.List.{take-append-drop, drop-drop, nil_from_length}
 use Rattle.station.specs.Disk.{Sector}
 use Rattle.pages.specs.Layout.{VolumeRoot, newest}
-use Rattle.pages.specs.Image.{map_part, map_at, pages_in, Volume, Map, map_of, Reads, Holds}
+use Rattle.pages.specs.Image.{map_part, map_at, pages_in, Volume, Map, map_of, Reads, IsImageOf}
 use Rattle.pages.proofs.Roots.{one_root}
 
 -- tables of equal parts are equal
@@ -30,5 +30,5 @@ one_volume image v w first second =
     ap (λ (r : VolumeRoot). record { generation = r.generation; catalog = r.catalog; pages = pages_in image v.table }) root
     ∙ ap (λ (t : List ℕ). record { generation = w.root.generation; catalog = w.root.catalog; pages = pages_in image t }) table
 
-pub one_map : (image : List Sector) (m n : Map) → Holds image m → Holds image n → m ≡ n
+pub one_map : (image : List Sector) (m n : Map) → IsImageOf image m → IsImageOf image n → m ≡ n
 one_map image m n first second = sym first.2 ∙ one_volume image first.0 second.0 first.1 second.1 ∙ second.2

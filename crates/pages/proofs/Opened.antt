@@ -3,8 +3,8 @@ use Rattle.std.proofs.Common.{◌≡◌, ◌⊎◌, inl, inr, ⊎_elim, ◌<◌,
 use Rattle.std.specs.Prelude.{Some}
 use Rattle.std.proofs.lemmas.Bool.{cases_lt, false≢true}
 use Rattle.std.proofs.lemmas.List.{get_or-replicate, length-replicate}
-use Rattle.station.specs.Disk.{Sector, settled}
-use Rattle.station.specs.State.{State, synced}
+use Rattle.station.specs.Disk.{Sector, idle_disk}
+use Rattle.station.specs.State.{State, state_after_sync}
 use Rattle.pages.specs.Layout.{newest, map_count}
 use Rattle.pages.specs.Image.{map_at, map_part, Volume, IsPlace, Reads, IsCommitted}
 use Rattle.pages.specs.Use.{IsUse}
@@ -70,8 +70,8 @@ sound_now m generation least most maps count marked all first free = record {
   free = free;
 }
 
-pub committed_now : (old : State) (mid new : State) (v : Volume) → mid ≡ synced old → new ≡ mid → Reads mid.disk.present v → IsCommitted v new.disk
+pub committed_now : (old : State) (mid new : State) (v : Volume) → mid ≡ state_after_sync old → new ≡ mid → Reads mid.disk.present v → IsCommitted v new.disk
 committed_now old mid new v sync same reads = record {
-  settled = ap (λ (s : State). s.disk) (same ∙ sync) ∙ sym (ap (λ (s : State). settled s.disk.present) (same ∙ sync));
+  settled = ap (λ (s : State). s.disk) (same ∙ sync) ∙ sym (ap (λ (s : State). idle_disk s.disk.present) (same ∙ sync));
   reads = subst (λ (s : State). Reads s.disk.present v) (sym same) reads;
 }

@@ -11,16 +11,16 @@ use Rattle.roots.specs.declared.root.Root.{Root}
 use Rattle.roots.specs.Root.{put_at, root_bytes}
 use Rattle.roots.proofs.Spelled.{reads_back}
 use Rattle.byteorder.specs.Endian.{big_bytes}
-use Rattle.pages.specs.Layout.{words, spelled, map_count, marks}
+use Rattle.pages.specs.Layout.{words, number_bytes, map_count, known_marks}
 use Rattle.pages.specs.Payload.{payload_words, SpellsRoot}
 use Rattle.pages.proofs.Roots.{spelled_payload}
 use Rattle.pages.proofs.Words.{words-spelled}
 
-spelled_count : (numbers : List ℕ) → length (spelled numbers) ≡ 4 * length numbers
+spelled_count : (numbers : List ℕ) → length (number_bytes numbers) ≡ 4 * length numbers
 spelled_count [] = refl
 spelled_count (n ∷ numbers) = omega (arith, spelled_count numbers)
 
-spelled_zeros : (n : ℕ) → spelled (replicate n 0) ≡ replicate (4 * n) 0
+spelled_zeros : (n : ℕ) → number_bytes (replicate n 0) ≡ replicate (4 * n) 0
 spelled_zeros zero = refl
 spelled_zeros (suc n) =
     let four : 4 * suc n ≡ suc (suc (suc (suc (4 * n)))) = omega arith in
@@ -32,22 +32,22 @@ behind n p part rest at =
     rw (take_at p rest n at) (ap (λ (l : List ℕ). p ++ part ++ l) (sym (drop-drop (length part) n (p ++ rest)) ∙ ap (drop (length part)) (drop_at p rest n at)))
 
 pub filled : (catalog count : ℕ) (maps blank first last : List ℕ) → count ≡ length maps → length maps ≤ 900 → catalog < 2 ^ 32 → All (λ n. n < 2 ^ 32) maps
-    → blank ≡ replicate 4096 0 → first ≡ put_at 20 (spelled (catalog ∷ count ∷ [])) blank → last ≡ put_at 28 (spelled maps) first → words (drop 20 last) ≡ payload_words catalog maps
+    → blank ≡ replicate 4096 0 → first ≡ put_at 20 (number_bytes (catalog ∷ count ∷ [])) blank → last ≡ put_at 28 (number_bytes maps) first → words (drop 20 last) ≡ payload_words catalog maps
 filled catalog count maps blank first last same few low lows is_blank is_first is_last =
     let front : List ℕ = replicate 20 0 in
-    let head : List ℕ = spelled (catalog ∷ count ∷ []) in
-    let zeros_left : List ℕ = spelled (replicate (1017 - length maps) 0) in
-    let rest : drop (length (spelled maps)) (replicate 4068 0) ≡ zeros_left
-    = drop-replicate (length (spelled maps)) 4068 0
+    let head : List ℕ = number_bytes (catalog ∷ count ∷ []) in
+    let zeros_left : List ℕ = number_bytes (replicate (1017 - length maps) 0) in
+    let rest : drop (length (number_bytes maps)) (replicate 4068 0) ≡ zeros_left
+    = drop-replicate (length (number_bytes maps)) 4068 0
     ∙ ap (λ (n : ℕ). replicate n 0) {y = 4 * (1017 - length maps)} (omega (arith, spelled_count maps, few)) ∙ sym (spelled_zeros (1017 - length maps)) in
     let parted : replicate 4096 0 ≡ front ++ replicate 4076 0 = refl in
     let one : first ≡ front ++ head ++ replicate 4068 0
     = is_first ∙ ap (put_at 20 head) (is_blank ∙ parted) ∙ behind 20 front head (replicate 4076 0) refl ∙ ap (λ (l : List ℕ). front ++ head ++ l) (drop-replicate 8 4076 0) in
-    let two : last ≡ front ++ head ++ spelled maps ++ zeros_left
-    = is_last ∙ ap (put_at 28 (spelled maps)) one ∙ behind 28 (front ++ head) (spelled maps) (replicate 4068 0) refl ∙ ap (λ (l : List ℕ). front ++ head ++ spelled maps ++ l) rest in
-    let whole : drop 20 last ≡ spelled (payload_words catalog maps)
-    = ap (drop 20) two ∙ ap (λ (l : List ℕ). spelled (catalog ∷ count ∷ []) ++ l) (sym (flat_map-append (big_bytes 4) maps (replicate (1017 - length maps) 0)))
-    ∙ ap (λ (n : ℕ). spelled (catalog ∷ n ∷ maps ++ replicate (1017 - length maps) 0)) same in
+    let two : last ≡ front ++ head ++ number_bytes maps ++ zeros_left
+    = is_last ∙ ap (put_at 28 (number_bytes maps)) one ∙ behind 28 (front ++ head) (number_bytes maps) (replicate 4068 0) refl ∙ ap (λ (l : List ℕ). front ++ head ++ number_bytes maps ++ l) rest in
+    let whole : drop 20 last ≡ number_bytes (payload_words catalog maps)
+    = ap (drop 20) two ∙ ap (λ (l : List ℕ). number_bytes (catalog ∷ count ∷ []) ++ l) (sym (flat_map-append (big_bytes 4) maps (replicate (1017 - length maps) 0)))
+    ∙ ap (λ (n : ℕ). number_bytes (catalog ∷ n ∷ maps ++ replicate (1017 - length maps) 0)) same in
     ap words whole ∙ words-spelled (payload_words catalog maps)
     (All-cons (λ (n : ℕ). n < 2 ^ 32) catalog (length maps ∷ maps ++ replicate (1017 - length maps) 0) low
     (All-cons (λ (n : ℕ). n < 2 ^ 32) (length maps) (maps ++ replicate (1017 - length maps) 0) (omega (arith, few))
@@ -63,7 +63,7 @@ spells root catalog maps payload bytes own has reads generation least most count
   generation = refl;
   sectors = refl;
   reads = spelled_payload root catalog (1017 - length maps) maps (ap words has ∙ reads) count;
-  valid = λ n there. rw spelled (reads_back marks n (root.generation % 2) (67 ∷ 79 ∷ 66 ∷ 86 ∷ 79 ∷ 76 ∷ 48 ∷ 49 ∷ []) root refl refl (ap Some (sym own))
+  valid = λ n there. rw spelled (reads_back known_marks n (root.generation % 2) (67 ∷ 79 ∷ 66 ∷ 86 ∷ 79 ∷ 76 ∷ 48 ∷ 49 ∷ []) root refl refl (ap Some (sym own))
       (and_from (nat_lt root.generation (2 ^ 63) && (root.generation % 2 == root.generation % 2) && nat_le 1024 root.sectors && nat_le root.sectors 921600) (nat_le root.sectors n)
       (and_from (nat_lt root.generation (2 ^ 63) && (root.generation % 2 == root.generation % 2) && nat_le 1024 root.sectors) (nat_le root.sectors 921600)
       (and_from (nat_lt root.generation (2 ^ 63) && (root.generation % 2 == root.generation % 2)) (nat_le 1024 root.sectors)

@@ -9,11 +9,11 @@ use Rattle.station.specs.Blocks.{SectorsAre, with_all}
 use Rattle.station.specs.declared.blocks.Block.{Block}
 use Rattle.pages.specs.declared.change.Change.{Change}
 use Rattle.pages.specs.declared.draft.Draft.{Draft}
-use Rattle.pages.specs.declared.draft.Turn.{Turn}
+use Rattle.pages.specs.declared.draft.UseChange.{UseChange}
 use Rattle.pages.specs.declared.volume.VolumeMap.{VolumeMap}
 use Rattle.pages.specs.Image.{Volume, names, IsPlace, IsFree, pages_in, map_at, map_part}
 use Rattle.pages.specs.Layout.{map_count}
-use Rattle.pages.specs.Use.{IsUse, turned}
+use Rattle.pages.specs.Use.{IsUse, use_after}
 use Rattle.pages.specs.Plan.{IsPlan}
 use Rattle.pages.specs.Volumes.{volume_of, IsSound, IsSoundAfter, IsDraft, IsMappedDraft, IsFresh, IsNext, SameSize, unused_count}
 
@@ -36,8 +36,8 @@ started m d start sound some fresh = record {
     places = sound.places;
     once = sound.once;
     fresh = λ s has. inl has;
-    in_use = subst (λ (l : List Turn). IsUse m.sectors (names (volume_of m)) (turned m.used l)) (sym fresh.turns) sound.in_use;
-    turns_low = subst (All (λ (t : Turn). t.sector < m.sectors)) (sym fresh.turns) (All-nil (λ (t : Turn). t.sector < m.sectors));
+    in_use = subst (λ (l : List UseChange). IsUse m.sectors (names (volume_of m)) (use_after m.used l)) (sym fresh.turns) sound.in_use;
+    turns_low = subst (All (λ (t : UseChange). t.sector < m.sectors)) (sym fresh.turns) (All-nil (λ (t : UseChange). t.sector < m.sectors));
   };
 }
 

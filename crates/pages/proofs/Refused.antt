@@ -3,9 +3,9 @@ use Rattle.std.proofs.Common.{◌≡◌, ◌≢◌, inl, inr, ◌<◌, ◌*◌, 
 use Rattle.std.specs.Prelude.{Some, None, Result, Ok, Err, IfOk, IfErr}
 use Rattle.station.specs.Disk.{Sector}
 use Rattle.pages.specs.Layout.{VolumeRoot, root_of, newest, IsForeign}
-use Rattle.pages.specs.Image.{map_at, map_part, Volume, Map, map_of, names, Reads, Holds, IsDamaged}
+use Rattle.pages.specs.Image.{map_at, map_part, Volume, Map, map_of, names, Reads, IsImageOf, IsDamaged}
 use Rattle.pages.specs.Marked.{AreNames}
-use Rattle.pages.specs.Errors.{Refuses, IsReadError, Tells}
+use Rattle.pages.specs.Errors.{RefusesImage, IsReadError, FailsWithError}
 use Rattle.pages.specs.Volumes.{volume_of}
 use Rattle.pages.specs.declared.volume.VolumeMap.{VolumeMap}
 use Rattle.pages.specs.declared.error.PagesError.{PagesError}
@@ -18,7 +18,7 @@ use Rattle.pages.proofs.Marking.{front_names}
 root_is_own : (image : List Sector) (r : VolumeRoot) → newest image ≡ Some r → IsForeign image → ⊥
 root_is_own image r is foreign = that None r (sym (ap root_of foreign) ∙ is)
 
-pub map_is_own : (image : List Sector) (m : Map) → Holds image m → IsForeign image → ⊥
+pub map_is_own : (image : List Sector) (m : Map) → IsImageOf image m → IsForeign image → ⊥
 map_is_own image m holds foreign = root_is_own image holds.0.root holds.1.root foreign
 
 -- what the maps name
@@ -51,7 +51,7 @@ module _ (image : List Sector) (r : VolumeRoot) (is : newest image ≡ Some r) w
     bad_first bad = damaged (λ v same reads. bad (sym (ap (λ (t : List ℕ). get_or t 0 0) (one_table v same reads)) ∙ reads.maps.unused))
 
 -- what holds a map is opened
-pub map_opens : {T : Type 0} (image : List Sector) (m : Map) (result : Result T PagesError) → IfErr result (λ error. Refuses image error) → Holds image m → IsReadError result
+pub map_opens : {T : Type 0} (image : List Sector) (m : Map) (result : Result T PagesError) → IfErr result (λ error. RefusesImage image error) → IsImageOf image m → IsReadError result
 map_opens image m (Ok x) refuses holds = tt
 map_opens image m (Err Device) refuses holds = inl refl
 map_opens image m (Err Full) never holds = absurd never
@@ -62,7 +62,7 @@ map_opens image m (Err ForeignMark) refuses holds = absurd (map_is_own image m h
 
 module _ (image : List Sector) where
   -- another format is told
-  pub foreign_told : (result : Result VolumeMap PagesError) → IfOk result (λ volume. Reads image (volume_of volume)) → IfErr result (λ error. Refuses image error) → IsForeign image → Tells ForeignMark result
+  pub foreign_told : (result : Result VolumeMap PagesError) → IfOk result (λ volume. Reads image (volume_of volume)) → IfErr result (λ error. RefusesImage image error) → IsForeign image → FailsWithError ForeignMark result
   foreign_told (Ok m) reads _ foreign = root_is_own image (volume_of m).root reads.root foreign
   foreign_told (Err Device) _ refuses foreign = inr (inl refl)
   foreign_told (Err Full) _ never foreign = absurd never
@@ -72,7 +72,7 @@ module _ (image : List Sector) where
   foreign_told (Err ForeignMark) _ refuses foreign = inl refl
 
   -- damage is told
-  pub damage_told : (result : Result VolumeMap PagesError) → IfOk result (λ volume. Reads image (volume_of volume)) → IfErr result (λ error. Refuses image error) → IsDamaged image → Tells Damaged result
+  pub damage_told : (result : Result VolumeMap PagesError) → IfOk result (λ volume. Reads image (volume_of volume)) → IfErr result (λ error. RefusesImage image error) → IsDamaged image → FailsWithError Damaged result
   damage_told (Ok m) reads _ damage = damage.none (map_of image (volume_of m)) (volume_of m, reads, refl)
   damage_told (Err Device) _ refuses damage = inr (inl refl)
   damage_told (Err Full) _ never damage = absurd never

@@ -8,14 +8,14 @@ use Rattle.std.specs.Int.{from_bool}
 use Rattle.memchr.specs.Find.{Nowhere, Passes, is_byte}
 use Rattle.std.proofs.Math.Seq.{take-set-lt}
 use Rattle.std.proofs.lemmas.List.Sums.{count_by_more_yes, count_by-le-length, sum_by-cons, sum_by-set, sum_by-take-drop}
-use Rattle.pages.specs.Runs.{marked, unused_count, unused_below, AreRuns}
+use Rattle.pages.specs.Runs.{used_flags, unused_count, unused_below, AreRuns}
 
 -- as many sectors as bytes
-pub length_marked : (bytes : List ℕ) → length (marked bytes) ≡ length bytes
+pub length_marked : (bytes : List ℕ) → length (used_flags bytes) ≡ length bytes
 length_marked bytes = length-map bytes (λ byte. not (byte == 0))
 
 -- whether a sector is marked, by its byte
-marked_at : (bytes : List ℕ) (s : ℕ) → get_or (marked bytes) s false ≡ not (get_or bytes s 0 == 0)
+marked_at : (bytes : List ℕ) (s : ℕ) → get_or (used_flags bytes) s false ≡ not (get_or bytes s 0 == 0)
 marked_at bytes s = get_or-map (λ byte. not (byte == 0)) bytes s 0
 
 -- 1 marks, and 0 doesn't
@@ -23,13 +23,13 @@ mark_is : (b : Bool) → not (from_bool b == 0) ≡ b
 mark_is true = refl
 mark_is false = refl
 
-pub marked_bytes : (used : List Bool) → marked (map from_bool used) ≡ used
+pub marked_bytes : (used : List Bool) → used_flags (map from_bool used) ≡ used
 marked_bytes [] = refl
-marked_bytes (u ∷ more) = ap (λ v. v ∷ marked (map from_bool more)) (mark_is u) ∙ ap (λ vs. u ∷ vs) (marked_bytes more)
+marked_bytes (u ∷ more) = ap (λ v. v ∷ used_flags (map from_bool more)) (mark_is u) ∙ ap (λ vs. u ∷ vs) (marked_bytes more)
 
-pub marked_set : (bytes : List ℕ) (s mark : ℕ) (b : Bool) → mark ≡ from_bool b → marked (set bytes s mark) ≡ set (marked bytes) s b
+pub marked_set : (bytes : List ℕ) (s mark : ℕ) (b : Bool) → mark ≡ from_bool b → used_flags (set bytes s mark) ≡ set (used_flags bytes) s b
 marked_set bytes s mark b is =
-    map-set (λ byte. not (byte == 0)) bytes s mark ∙ ap (λ byte. set (marked bytes) s (not (byte == 0))) is ∙ ap (λ u. set (marked bytes) s u) (mark_is b)
+    map-set (λ byte. not (byte == 0)) bytes s mark ∙ ap (λ byte. set (used_flags bytes) s (not (byte == 0))) is ∙ ap (λ u. set (used_flags bytes) s u) (mark_is b)
 
 not_zero : (b : Bool) → (b ≡ true → ⊥) → not b ≡ true
 not_zero true h = absurd (h refl)
@@ -41,7 +41,7 @@ module _ (bytes part : List ℕ) (start end : ℕ) (is : part ≡ take (end - st
   part_at k low = ap (λ xs. get_or xs k 0) is ∙ get_or-take (end - start) (drop start bytes) k 0 (omega arith) ∙ get_or-drop start bytes k 0
 
   -- each sector is marked as far as there is no zero
-  pub marked_before : (k t : ℕ) → k ≤ length part → Nowhere (Passes (is_byte 0) part) 0 k → start ≤ t → t < start + k → get_or (marked bytes) t false ≡ true
+  pub marked_before : (k t : ℕ) → k ≤ length part → Nowhere (Passes (is_byte 0) part) 0 k → start ≤ t → t < start + k → get_or (used_flags bytes) t false ≡ true
   marked_before k t most none from below =
       let low : t - start < length part = omega arith in
       let place : start + (t - start) ≡ t = omega arith in
@@ -168,45 +168,45 @@ module _ (used : List Bool) (counts : List ℕ) (are : AreRuns used counts) wher
       }
 
 -- of a sector, its byte and the count of its run, as they are read
-module _ (bytes counts : List ℕ) (are : AreRuns (marked bytes) counts) (s count byte : ℕ) (low : s < length (marked bytes)) (counted : count ≡ get_or counts (s / 1024) count) (reads : byte ≡ get_or bytes s byte) where
-  mark_read : not (byte == 0) ≡ get_or (marked bytes) s false
+module _ (bytes counts : List ℕ) (are : AreRuns (used_flags bytes) counts) (s count byte : ℕ) (low : s < length (used_flags bytes)) (counted : count ≡ get_or counts (s / 1024) count) (reads : byte ≡ get_or bytes s byte) where
+  mark_read : not (byte == 0) ≡ get_or (used_flags bytes) s false
   mark_read =
       let there : s < length bytes = omega (arith, low, length_marked bytes) in
       ap (λ b. not (b == 0)) (get_or_read bytes s byte there reads 0) ∙ sym (marked_at bytes s)
 
   count_read : count ≡ get_or counts (s / 1024) 0
-  count_read = get_or_read counts (s / 1024) count (run_there (marked bytes) counts are s low) counted 0
+  count_read = get_or_read counts (s / 1024) count (run_there (used_flags bytes) counts are s low) counted 0
 
   pub read_few : count ≤ 921600
-  read_few = omega (arith, run_few (marked bytes) counts are (s / 1024) (run_there (marked bytes) counts are s low), count_read)
+  read_few = omega (arith, run_few (used_flags bytes) counts are (s / 1024) (run_there (used_flags bytes) counts are s low), count_read)
 
   pub read_some : not (byte == 0) ≡ false → 0 < count
-  read_some unset = omega (arith, run_some (marked bytes) counts are s low (sym mark_read ∙ unset), count_read)
+  read_some unset = omega (arith, run_some (used_flags bytes) counts are s low (sym mark_read ∙ unset), count_read)
 
-  pub use_set : (c mark : ℕ) (b : Bool) → mark ≡ from_bool b → c + cond (not (byte == 0)) 0 1 ≡ count + cond b 0 1 → AreRuns (marked (set bytes s mark)) (set counts (s / 1024) c)
+  pub use_set : (c mark : ℕ) (b : Bool) → mark ≡ from_bool b → c + cond (not (byte == 0)) 0 1 ≡ count + cond b 0 1 → AreRuns (used_flags (set bytes s mark)) (set counts (s / 1024) c)
   use_set c mark b is turned =
       let was = ap {B = ℕ} (λ u. cond u 0 1) mark_read in
       subst (λ (used : List Bool). AreRuns used (set counts (s / 1024) c)) (sym (marked_set bytes s mark b is))
-      (runs_set (marked bytes) counts are s c b low (omega (arith, turned, count_read, was)))
+      (runs_set (used_flags bytes) counts are s c b low (omega (arith, turned, count_read, was)))
 
 -- how many aren't marked, by the bytes
 one_marked : (b : Bool) → bit (not b) ≡ cond b 1 0
 one_marked true = refl
 one_marked false = refl
 
-count_marked : (bytes : List ℕ) → unused_count (marked bytes) ≡ count_by (λ byte. byte == 0) bytes
+count_marked : (bytes : List ℕ) → unused_count (used_flags bytes) ≡ count_by (λ byte. byte == 0) bytes
 count_marked [] = refl
-count_marked (byte ∷ more) = omega (arith, sum_by-cons bit (not (byte == 0)) (marked more), sum_by-cons (λ (b : ℕ). cond (b == 0) 1 0) byte more, one_marked (byte == 0), count_marked more)
+count_marked (byte ∷ more) = omega (arith, sum_by-cons bit (not (byte == 0)) (used_flags more), sum_by-cons (λ (b : ℕ). cond (b == 0) 1 0) byte more, one_marked (byte == 0), count_marked more)
 
 -- a front has no more than the whole
 pub below_all : (used : List Bool) (n : ℕ) → unused_below used n ≤ unused_count used
 below_all used n = omega (arith, sum_by-take-drop bit used n)
 
 -- part of the bytes has no more that aren't marked than the whole has behind its start
-pub room_counted : (bytes part : List ℕ) (start end : ℕ) → part ≡ take (end - start) (drop start bytes) → unused_below (marked bytes) start + count_by (λ byte. byte == 0) part ≤ unused_count (marked bytes)
+pub room_counted : (bytes part : List ℕ) (start end : ℕ) → part ≡ take (end - start) (drop start bytes) → unused_below (used_flags bytes) start + count_by (λ byte. byte == 0) part ≤ unused_count (used_flags bytes)
 room_counted bytes part start end is =
-    let parts = part_counted (marked bytes) start (end - start) in
-    let same : marked part ≡ take (end - start) (drop start (marked bytes)) =
-    ap marked is ∙ sym (take-map (λ byte. not (byte == 0)) (end - start) (drop start bytes)) ∙ ap (take (end - start)) (sym (drop-map (λ byte. not (byte == 0)) start bytes)) in
-    let counted : unused_count (marked part) ≡ unused_count (take (end - start) (drop start (marked bytes))) = ap unused_count same in
-    omega (arith, parts, counted, count_marked part, below_all (marked bytes) (start + (end - start)))
+    let parts = part_counted (used_flags bytes) start (end - start) in
+    let same : used_flags part ≡ take (end - start) (drop start (used_flags bytes)) =
+    ap used_flags is ∙ sym (take-map (λ byte. not (byte == 0)) (end - start) (drop start bytes)) ∙ ap (take (end - start)) (sym (drop-map (λ byte. not (byte == 0)) start bytes)) in
+    let counted : unused_count (used_flags part) ≡ unused_count (take (end - start) (drop start (used_flags bytes))) = ap unused_count same in
+    omega (arith, parts, counted, count_marked part, below_all (used_flags bytes) (start + (end - start)))

@@ -5,14 +5,14 @@ use Rattle.std.proofs.lemmas.List.{drop-take, drop-drop, take-append-drop, lengt
 use Rattle.std.proofs.Math.Seq.{take-set-lt}
 use Rattle.std.proofs.lemmas.List.Elements.{All-set, All-take, All-drop}
 use Rattle.byteorder.specs.Endian.{big_bytes}
-use Rattle.pages.specs.Layout.{words, spelled}
+use Rattle.pages.specs.Layout.{words, number_bytes}
 use Rattle.pages.specs.Image.{map_part}
 use Rattle.pages.specs.Table.{AreSpelled}
 use Rattle.pages.proofs.Words.{words-spelled}
 
 -- another number is four other bytes
 spelled_set : (numbers : List ℕ) (j s : ℕ) → j < length numbers
-    → spelled (set numbers j s) ≡ take (4 * j) (spelled numbers) ++ (big_bytes 4 s ++ drop 4 (drop (4 * j) (spelled numbers)))
+    → number_bytes (set numbers j s) ≡ take (4 * j) (number_bytes numbers) ++ (big_bytes 4 s ++ drop 4 (drop (4 * j) (number_bytes numbers)))
 spelled_set [] j s low = absurd (omega (arith, low))
 spelled_set (n ∷ numbers) zero s low = refl
 spelled_set (n ∷ numbers) (suc j) s low =
@@ -20,8 +20,8 @@ spelled_set (n ∷ numbers) (suc j) s low =
     rw four (ap (λ (l : List ℕ). big_bytes 4 n ++ l) (spelled_set numbers j s (omega (arith, low))))
 
 -- four bytes that are put among those of a sector
-pub put_spelled : (numbers bytes part : List ℕ) (j s k : ℕ) → j < length numbers → 4 ≤ k → bytes ≡ spelled numbers
-    → part ≡ big_bytes 4 s ++ drop 4 (take k (drop (4 * j) bytes)) → take (4 * j) bytes ++ (part ++ drop k (drop (4 * j) bytes)) ≡ spelled (set numbers j s)
+pub put_spelled : (numbers bytes part : List ℕ) (j s k : ℕ) → j < length numbers → 4 ≤ k → bytes ≡ number_bytes numbers
+    → part ≡ big_bytes 4 s ++ drop 4 (take k (drop (4 * j) bytes)) → take (4 * j) bytes ++ (part ++ drop k (drop (4 * j) bytes)) ≡ number_bytes (set numbers j s)
 put_spelled numbers bytes part j s k low wide is put =
     let rest : List ℕ = drop (4 * j) bytes in
     let parted : 4 + (k - 4) ≡ k = omega (arith, wide) in
@@ -55,21 +55,21 @@ length_part sectors i n count low = omega (arith, count, low, length-take 1024 (
 
 -- a page gets another sector, and its map other bytes
 pub table_set : (sectors : List ℕ) (maps : List (List ℕ)) (m j page sector : ℕ) (old bytes : List ℕ) → AreSpelled sectors maps → page ≡ 1024 * m + j → j < 1024 → page < length sectors → sector < 2 ^ 32
-    → old ≡ get_or maps m old → ((numbers : List ℕ) → length numbers ≡ 1024 → old ≡ spelled numbers → bytes ≡ spelled (set numbers j sector))
+    → old ≡ get_or maps m old → ((numbers : List ℕ) → length numbers ≡ 1024 → old ≡ number_bytes numbers → bytes ≡ number_bytes (set numbers j sector))
     → AreSpelled (set sectors page sector) (set maps m bytes)
 table_set sectors maps m j page sector old bytes are place low within fits read put =
     let map_low : m < length maps = omega (arith, are.count, place, within) in
-    let before : old ≡ spelled (map_part sectors m) = get_or_read maps m old map_low read [] ∙ are.bytes m map_low in
-    let after : bytes ≡ spelled (map_part (set sectors page sector) m)
+    let before : old ≡ number_bytes (map_part sectors m) = get_or_read maps m old map_low read [] ∙ are.bytes m map_low in
+    let after : bytes ≡ number_bytes (map_part (set sectors page sector) m)
     = put (map_part sectors m) (length_part sectors m (length maps) are.count map_low) before
-    ∙ ap spelled (sym (part_set sectors m j sector low)) ∙ ap (λ (p : ℕ). spelled (map_part (set sectors p sector) m)) (sym place) in
+    ∙ ap number_bytes (sym (part_set sectors m j sector low)) ∙ ap (λ (p : ℕ). number_bytes (map_part (set sectors p sector) m)) (sym place) in
     record {
       count = length-set sectors page sector ∙ are.count ∙ ap (λ (n : ℕ). 1024 * n) (sym (length-set maps m bytes));
       small = All-set (λ (s : ℕ). s < 2 ^ 32) sectors page sector fits are.small;
       bytes = λ i lt. ⊎_elim
-          (λ same. ap (λ (k : ℕ). get_or (set maps m bytes) k []) same ∙ get_or-set_same maps m bytes [] map_low ∙ after ∙ ap (λ (k : ℕ). spelled (map_part (set sectors page sector) k)) (sym same))
+          (λ same. ap (λ (k : ℕ). get_or (set maps m bytes) k []) same ∙ get_or-set_same maps m bytes [] map_low ∙ after ∙ ap (λ (k : ℕ). number_bytes (map_part (set sectors page sector) k)) (sym same))
           (λ other. get_or-set_other maps m i bytes [] other ∙ are.bytes i (omega (arith, lt, length-set maps m bytes))
-          ∙ ap spelled (sym (part_beside sectors m j sector i low other)) ∙ ap (λ (p : ℕ). spelled (map_part (set sectors p sector) i)) (sym place))
+          ∙ ap number_bytes (sym (part_beside sectors m j sector i low other)) ∙ ap (λ (p : ℕ). number_bytes (map_part (set sectors p sector) i)) (sym place))
           (cases_eq i m);
     }
 

@@ -12,7 +12,7 @@ use Rattle.station.proofs.TwoPhase.{with_all_count, all_same_outside}
 use Rattle.pages.specs.declared.change.Change.{Change}
 use Rattle.pages.specs.Layout.{words, zeros}
 use Rattle.pages.specs.Image.{map_at, map_part, page_at, pages_in, Volume, Reads, IsFree, KeepsUsed}
-use Rattle.pages.specs.Changes.{applied}
+use Rattle.pages.specs.Changes.{list_after}
 use Rattle.pages.specs.Draft.{IsStaged, IsMapped}
 use Rattle.pages.proofs.Frame.{pages_same, map_same, named_same, SameAt}
 
@@ -20,7 +20,7 @@ pub with_all_more : (base : List Sector) (blocks : List Block) (b : Block) → w
 with_all_more base [] b = refl
 with_all_more base (x ∷ blocks) b = with_all_more (set base x.sector x.bytes) blocks b
 
-pub applied_more : {X : Type 0} (f : Option Sector → X) (pages : List X) (changes : List Change) (c : Change) → applied f pages (changes ++ c ∷ []) ≡ set (applied f pages changes) c.page (f c.bytes)
+pub applied_more : {X : Type 0} (f : Option Sector → X) (pages : List X) (changes : List Change) (c : Change) → list_after f pages (changes ++ c ∷ []) ≡ set (list_after f pages changes) c.page (f c.bytes)
 applied_more f pages [] c = refl
 applied_more f pages (x ∷ changes) c = applied_more f (set pages x.page (f x.bytes)) changes c
 

@@ -13,8 +13,8 @@ use Rattle.pages.specs.declared.draft.Draft.{Draft}
 use Rattle.pages.specs.declared.volume.VolumeMap.{VolumeMap}
 use Rattle.pages.specs.Image.{Volume, NamesOnce, names, map_part}
 use Rattle.pages.specs.Use.{free_count}
-use Rattle.pages.specs.Changes.{changed_pages, kept}
-use Rattle.pages.specs.Needed.{filled, alters, has_pages, is_written, written_below, needed}
+use Rattle.pages.specs.Changes.{changed_pages, mapped_after}
+use Rattle.pages.specs.Needed.{filled_count, alters, has_pages, is_written, written_below, needed_sectors}
 use Rattle.pages.specs.Volumes.{volume_of, IsSound, IsFresh, IsCounted, PlacesBlock, SetsPage, SetsMap, ReleasesPage, HadNone, HadOne, unused_count, unused_below, MayStart}
 use Rattle.pages.proofs.Counting.{count_rest, front_le, count_push, roots_marked, taken_next, taken_as, taken_start}
 use Rattle.pages.proofs.Counted.{counted}
@@ -76,16 +76,16 @@ changed_same : (v : Volume) (changes : List Change) (c : Change) (changed_maps :
 changed_same v changes c changed_maps are is i lt = are i lt ∙ sym (any_no (alters v i) changes c (alters_none v i c is))
 
 -- one more change, with bytes and without
-filled_yes : (changes : List Change) (c : Change) → is_some c.bytes ≡ true → filled (changes ++ c ∷ []) ≡ filled changes + 1
-filled_yes changes c is = count_push (λ (x : Change). is_some x.bytes) changes c ∙ ap (λ (n : ℕ). filled changes + n) (cond-true (is_some c.bytes) 1 0 is)
+filled_yes : (changes : List Change) (c : Change) → is_some c.bytes ≡ true → filled_count (changes ++ c ∷ []) ≡ filled_count changes + 1
+filled_yes changes c is = count_push (λ (x : Change). is_some x.bytes) changes c ∙ ap (λ (n : ℕ). filled_count changes + n) (cond-true (is_some c.bytes) 1 0 is)
 
-filled_no : (changes : List Change) (c : Change) → is_some c.bytes ≡ false → filled (changes ++ c ∷ []) ≡ filled changes
-filled_no changes c is = count_push (λ (x : Change). is_some x.bytes) changes c ∙ ap (λ (n : ℕ). filled changes + n) (cond-false (is_some c.bytes) 1 0 is) ∙ add-zero (filled changes)
+filled_no : (changes : List Change) (c : Change) → is_some c.bytes ≡ false → filled_count (changes ++ c ∷ []) ≡ filled_count changes
+filled_no changes c is = count_push (λ (x : Change). is_some x.bytes) changes c ∙ ap (λ (n : ℕ). filled_count changes + n) (cond-false (is_some c.bytes) 1 0 is) ∙ add-zero (filled_count changes)
 
 -- the pages after one more
-kept_set : (v : Volume) (table : List ℕ) (changes : List Change) (c : Change) (s : ℕ) → map names_sector table ≡ kept v.table changes → names_sector s ≡ is_some c.bytes → map names_sector (set table c.page s) ≡ kept v.table (changes ++ c ∷ [])
+kept_set : (v : Volume) (table : List ℕ) (changes : List Change) (c : Change) (s : ℕ) → map names_sector table ≡ mapped_after v.table changes → names_sector s ≡ is_some c.bytes → map names_sector (set table c.page s) ≡ mapped_after v.table (changes ++ c ∷ [])
 kept_set v table changes c s pages is =
-    map-set names_sector table c.page s ∙ ap (λ (l : List Bool). set l c.page (names_sector s)) pages ∙ ap (set (kept v.table changes) c.page) is
+    map-set names_sector table c.page s ∙ ap (λ (l : List Bool). set l c.page (names_sector s)) pages ∙ ap (set (mapped_after v.table changes) c.page) is
     ∙ sym (applied_more is_some (map names_sector v.table) changes c)
 
 module _ (v : Volume) (m : VolumeMap) (d : Draft) (changes : List Change) (maps : ℕ) (counted : IsCounted v m d changes maps) where
@@ -136,11 +136,11 @@ module _ (v : Volume) (m : VolumeMap) (d : Draft) (changes : List Change) (maps 
         }
 
   -- no sector is left
-  pub full_count : ((s : ℕ) → d.next ≤ s → s < length m.used → get_or m.used s false ≡ true) → free_count v ≡ unused_below m.used d.start + (filled changes + maps)
+  pub full_count : ((s : ℕ) → d.next ≤ s → s < length m.used → get_or m.used s false ≡ true) → free_count v ≡ unused_below m.used d.start + (filled_count changes + maps)
   full_count all = omega (arith, counted.free, count_rest m.used d.next all, counted.taken.count, counted.blocks)
 
   -- what was taken was free
-  pub enough_free : filled changes + maps ≤ free_count v
+  pub enough_free : filled_count changes + maps ≤ free_count v
   enough_free = omega (arith, counted.free, counted.taken.count, counted.blocks, front_le (λ u. not u) m.used d.next)
 
 -- the next map sector, written or not
@@ -185,7 +185,7 @@ module _ (v : Volume) (m : VolumeMap) (d : Draft) (changes : List Change) (j : �
   blank_counted last after is sets = record {
     free = ap unused_count sets.size.used ∙ counted.free;
     taken = taken_as m.used after.used d.start last.start d.next last.next d.blocks.items last.blocks.items sets.size.used sets.start sets.next (ap (λ (b : Vec Block Global). b.items) sets.blocks) counted.taken;
-    blocks = ap (λ (b : Vec Block Global). length b.items) sets.blocks ∙ counted.blocks ∙ ap (λ (n : ℕ). filled changes + n) (sym (step_no v changes j (blank_unwritten is)));
+    blocks = ap (λ (b : Vec Block Global). length b.items) sets.blocks ∙ counted.blocks ∙ ap (λ (n : ℕ). filled_count changes + n) (sym (step_no v changes j (blank_unwritten is)));
     pages = ap (λ (t : List ℕ). map names_sector t) sets.table ∙ counted.pages;
     changed_maps = subst (λ (x : Vec Bool Global). AreChanged v changes x.items) (sym sets.changed_maps) counted.changed_maps;
   }
@@ -201,7 +201,7 @@ module _ (v : Volume) (m : VolumeMap) (d : Draft) (changes : List Change) (j : �
     changed_maps = subst (λ (x : Vec Bool Global). AreChanged v changes x.items) (sym (sets.changed_maps ∙ placed.changed_maps)) counted.changed_maps;
   }
 
-  pub full_map : is_written v changes j ≡ true → ((s : ℕ) → d.next ≤ s → s < length m.used → get_or m.used s false ≡ true) → free_count v < unused_below m.used d.start + (filled changes + written_below v changes (j + 1))
+  pub full_map : is_written v changes j ≡ true → ((s : ℕ) → d.next ≤ s → s < length m.used → get_or m.used s false ≡ true) → free_count v < unused_below m.used d.start + (filled_count changes + written_below v changes (j + 1))
   full_map is all = omega (arith, full_count v m d changes (written_below v changes j) counted all, step_yes v changes j is)
 
 pub written_mono : (v : Volume) (changes : List Change) (i j : ℕ) → i ≤ j → written_below v changes i ≤ written_below v changes j
@@ -271,12 +271,12 @@ written_changed v changes zero = omega arith
 written_changed v changes (suc i) = omega (arith, written_changed v changes i, and_le (list_any (alters v i) changes) (has_pages v changes i))
 
 -- at most two sectors for each change
-pub few_needed_lem : (v : Volume) (changes : List Change) → needed v changes ≤ 2 * length changes
+pub few_needed_lem : (v : Volume) (changes : List Change) → needed_sectors v changes ≤ 2 * length changes
 few_needed_lem v changes = omega (arith, count_by-le-length (λ (c : Change). is_some c.bytes) changes, written_changed v changes (length v.root.maps), changed_le v changes (length v.root.maps))
 
 -- where a commit may start and finds too few sectors, too few are free
 pub short_start : (m : VolumeMap) (changes : List Change) (start passed : ℕ) → IsSound m → MayStart m.used (length changes) start → passed ≡ unused_below m.used start
-    → free_count (volume_of m) < passed + needed (volume_of m) changes → free_count (volume_of m) < needed (volume_of m) changes
+    → free_count (volume_of m) < passed + needed_sectors (volume_of m) changes → free_count (volume_of m) < needed_sectors (volume_of m) changes
 short_start m changes start passed sound may is few = ⊎_elim
     (λ front. let none : unused_below m.used start ≡ 0 = ap (unused_below m.used) front ∙ roots_marked m.sectors (names (volume_of m)) m.used (omega (arith, sound.least)) sound.in_use in omega (arith, none, is, few))
     (λ room. absurd (omega (arith, room, is, few, counted m.sectors (names (volume_of m)) m.used sound.in_use, few_needed_lem (volume_of m) changes)))

@@ -7,7 +7,7 @@ use Rattle.std.proofs.lemmas.List.{ext_get_or}
 use Rattle.std.proofs.lemmas.List.Elements.{All-head, All-tail}
 use Rattle.byteorder.specs.Endian.{big_number, big_bytes, IsRead}
 use Rattle.byteorder.specs.Numbers.{big_number-reads_back}
-use Rattle.pages.specs.Layout.{words, spelled, zeros}
+use Rattle.pages.specs.Layout.{words, number_bytes, zeros}
 
 -- as many numbers as there are four bytes
 pub length-words : (n : ℕ) (xs : List ℕ) → length xs ≡ 4 * n → length (words xs) ≡ n
@@ -37,7 +37,7 @@ all_words n xs numbers all count reads = ext_get_or 0 numbers (words xs) (count 
     (λ i lt. reads i lt ∙ sym (word_at n i xs all (omega (arith, lt, count))))
 
 -- what is written is read again
-pub words-spelled : (numbers : List ℕ) → All (λ n. n < 2 ^ 32) numbers → words (spelled numbers) ≡ numbers
+pub words-spelled : (numbers : List ℕ) → All (λ n. n < 2 ^ 32) numbers → words (number_bytes numbers) ≡ numbers
 unfolding words
 words-spelled [] small = refl
 words-spelled (n ∷ numbers) small =

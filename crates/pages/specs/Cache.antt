@@ -11,8 +11,8 @@ pub record IsCacheOf (pages : List (Option Sector)) (changed : List ℕ) (entrie
   pub unchanged : (e : ℕ × Sector) → Contains entries e → Contains changed e.0 → ⊥
 
 -- without a page
-abbrev pub forgotten : ℕ → LruCache ℕ Sector → LruCache ℕ Sector
-forgotten page cache = lru_cache (remove_entry (nat_eq page) cache.entries) cache.cap
+abbrev pub cache_without : ℕ → LruCache ℕ Sector → LruCache ℕ Sector
+cache_without page cache = lru_cache (remove_entry (nat_eq page) cache.entries) cache.cap
 
 -- What becomes of the cache where a page is asked for, with this answer: a page that is there becomes the most recently used one.
 -- A page that isn't there stays out, or comes in as the most recently used one.
@@ -22,12 +22,12 @@ pub data Recalls (page : ℕ) (answer : Option Sector) (old new : LruCache ℕ S
   ComesIn : (bytes : Sector) → lookup (nat_eq page) old.entries ≡ None → answer ≡ Some bytes → new ≡ lru_cache (put_entries nat_eq old page bytes) old.cap → Recalls page answer old new
 
 -- a page comes in as the most recently used one, or stays out
-abbrev pub Keeps : ℕ → Sector → LruCache ℕ Sector → LruCache ℕ Sector → Type 0
-Keeps page bytes old new = (new ≡ old) ⊎ (new ≡ lru_cache (put_entries nat_eq old page bytes) old.cap)
+abbrev pub CachesPage : ℕ → Sector → LruCache ℕ Sector → LruCache ℕ Sector → Type 0
+CachesPage page bytes old new = (new ≡ old) ⊎ (new ≡ lru_cache (put_entries nat_eq old page bytes) old.cap)
 
 -- a page comes in, with some bytes, or stays out
 abbrev pub Loads : ℕ → LruCache ℕ Sector → LruCache ℕ Sector → Type 0
-Loads page old new = (bytes : Sector) × Keeps page bytes old new
+Loads page old new = (bytes : Sector) × CachesPage page bytes old new
 
 -- Pages with these new bytes come in or stay out: what is there then was there, or is one of them.
 pub record KeepsChanges (changes : List Change) (old new : LruCache ℕ Sector) : Type 0 where

@@ -5,29 +5,29 @@ use Rattle.std.specs.declared.hash.FoldHasher.{FoldHasher}
 use Rattle.std.specs.declared.hash.BuildHasherDefault.{BuildHasherDefault}
 use Rattle.std.specs.HashMap.{HashMap, get}
 use Rattle.station.specs.Disk.{Sector}
-use Rattle.pages.specs.Image.{Map, Holds}
+use Rattle.pages.specs.Image.{Map, IsImageOf}
 use Rattle.pages.specs.declared.change.Change.{Change}
 
 -- a list by page number, after these changes, which f reads
-abbrev pub applied : {X : Type 0} → (Option Sector → X) → List X → List Change → List X
-applied f pages [] = pages
-applied f pages (c ∷ changes) = applied f (slice_set pages c.page (f c.bytes)) changes
+abbrev pub list_after : {X : Type 0} → (Option Sector → X) → List X → List Change → List X
+list_after f pages [] = pages
+list_after f pages (c ∷ changes) = list_after f (slice_set pages c.page (f c.bytes)) changes
 
 -- the pages after them
-abbrev pub changed : List (Option Sector) → List Change → List (Option Sector)
-changed pages changes = applied (λ bytes. bytes) pages changes
+abbrev pub pages_after : List (Option Sector) → List Change → List (Option Sector)
+pages_after pages changes = list_after (λ bytes. bytes) pages changes
 
 -- whether each page is in the map after them, where the table names the sectors of the pages before
-abbrev pub kept : List ℕ → List Change → List Bool
-kept table changes = applied is_some (map (λ s. not (s == 0)) table) changes
+abbrev pub mapped_after : List ℕ → List Change → List Bool
+mapped_after table changes = list_after is_some (map (λ s. not (s == 0)) table) changes
 
 -- the map of the next generation
 abbrev pub next_map : Map → List Change → ℕ → Map
-next_map m changes catalog = record { generation = m.generation + 1; catalog = catalog; pages = changed m.pages changes }
+next_map m changes catalog = record { generation = m.generation + 1; catalog = catalog; pages = pages_after m.pages changes }
 
 -- the map before a commit, or after it
 abbrev pub BeforeOrAfter : Map → Map → List Sector → Type 0
-BeforeOrAfter before after image = Holds image before ⊎ Holds image after
+BeforeOrAfter before after image = IsImageOf image before ⊎ IsImageOf image after
 
 -- the pages that were changed
 abbrev pub changed_pages : List Change → List ℕ

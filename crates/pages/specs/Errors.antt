@@ -32,13 +32,13 @@ IsReadError (Ok x) = Unit {0}
 IsReadError (Err e) = (e ≡ Device) ⊎ (e ≡ Memory)
 
 -- What an error of opening tells of the image: `Device` and `Memory` tell nothing of it, and `Full` and `Spent` don't come.
-abbrev pub Refuses : List Sector → PagesError → Type 0
-Refuses image Device = Unit {0}
-Refuses image Full = ⊥
-Refuses image Damaged = IsDamaged image
-Refuses image Memory = Unit {0}
-Refuses image Spent = ⊥
-Refuses image ForeignMark = IsForeign image
+abbrev pub RefusesImage : List Sector → PagesError → Type 0
+RefusesImage image Device = Unit {0}
+RefusesImage image Full = ⊥
+RefusesImage image Damaged = IsDamaged image
+RefusesImage image Memory = Unit {0}
+RefusesImage image Spent = ⊥
+RefusesImage image ForeignMark = IsForeign image
 
 -- an error of opening alone
 abbrev pub IsOpenError : {T : Type 0} → Result T PagesError → Type 0
@@ -46,9 +46,9 @@ IsOpenError (Ok x) = Unit {0}
 IsOpenError (Err e) = (e ≡ Device) ⊎ (e ≡ Damaged) ⊎ (e ≡ Memory) ⊎ (e ≡ ForeignMark)
 
 -- this error, unless the device or memory failed
-abbrev pub Tells : {T : Type 0} → PagesError → Result T PagesError → Type 0
-Tells fault (Ok x) = ⊥
-Tells fault (Err e) = (e ≡ fault) ⊎ (e ≡ Device) ⊎ (e ≡ Memory)
+abbrev pub FailsWithError : {T : Type 0} → PagesError → Result T PagesError → Type 0
+FailsWithError fault (Ok x) = ⊥
+FailsWithError fault (Err e) = (e ≡ fault) ⊎ (e ≡ Device) ⊎ (e ≡ Memory)
 
 -- an error of planning alone
 abbrev pub IsPlanError : {T : Type 0} → Result T PagesError → Type 0

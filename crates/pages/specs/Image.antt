@@ -59,12 +59,12 @@ abbrev pub map_of : List Sector → Volume → Map
 map_of image v = record { generation = v.root.generation; catalog = v.root.catalog; pages = pages_in image v.table }
 
 -- the image holds this map
-abbrev pub Holds : List Sector → Map → Type 0
-Holds image m = (v : Volume) × Reads image v × (map_of image v ≡ m)
+abbrev pub IsImageOf : List Sector → Map → Type 0
+IsImageOf image m = (v : Volume) × Reads image v × (map_of image v ≡ m)
 
 -- the image holds no map, and its newest root isn't another format's
 pub record IsDamaged (image : List Sector) : Type 0 where
-  pub none : (m : Map) → Holds image m → ⊥
+  pub none : (m : Map) → IsImageOf image m → ⊥
   pub own : IsForeign image → ⊥
 
 -- a sector that neither the root nor its maps name

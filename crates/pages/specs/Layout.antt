@@ -10,8 +10,8 @@ use Rattle.roots.specs.declared.pair.RootsFault.TheVariants.{ForeignMark}
 use Rattle.roots.specs.Reading.{roots_in}
 
 -- the marks of a volume of pages, and of the other format
-abbrev pub marks : List (List ℕ)
-marks = codes "COBVOL01" ∷ codes "COBHALF1" ∷ []
+abbrev pub known_marks : List (List ℕ)
+known_marks = codes "COBVOL01" ∷ codes "COBHALF1" ∷ []
 
 -- the numbers of four bytes
 unfoldable pub words : List ℕ → List ℕ
@@ -19,8 +19,8 @@ words (a ∷ b ∷ c ∷ d ∷ more) = big_number 4 (a ∷ b ∷ c ∷ d ∷ [])
 words _ = []
 
 -- numbers as four bytes each
-abbrev pub spelled : List ℕ → List ℕ
-spelled numbers = flat_map (big_bytes 4) numbers
+abbrev pub number_bytes : List ℕ → List ℕ
+number_bytes numbers = flat_map (big_bytes 4) numbers
 
 pub record VolumeRoot : Type 0 where
   pub generation : ℕ
@@ -56,11 +56,11 @@ root_of (Err fault) = None
 
 -- the newest root of an image
 abbrev pub newest : List Sector → Option VolumeRoot
-newest image = root_of (roots_in marks 1 image)
+newest image = root_of (roots_in known_marks 1 image)
 
 -- the newest root of an image has the other format's mark
 abbrev pub IsForeign : List Sector → Type 0
-IsForeign image = roots_in marks 1 image ≡ Err ForeignMark
+IsForeign image = roots_in known_marks 1 image ≡ Err ForeignMark
 
 -- a map sector that is not used
 unfoldable pub zeros : List ℕ

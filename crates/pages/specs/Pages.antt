@@ -3,10 +3,10 @@ use Rattle.std.specs.Prelude.{◌≡◌, ◌≢◌, ◌⊎◌, ◌<◌, ◌≤�
 use Rattle.std.specs.List.{All}
 use Rattle.station.specs.Disk.{Disk, Sector}
 use Rattle.pages.specs.Layout.{map_count}
-use Rattle.pages.specs.Image.{Volume, Map, Holds, NamesOnce, pages_in, IsCommitted}
-use Rattle.pages.specs.Changes.{changed, changed_pages, ArePlaced}
+use Rattle.pages.specs.Image.{Volume, Map, IsImageOf, NamesOnce, pages_in, IsCommitted}
+use Rattle.pages.specs.Changes.{pages_after, changed_pages, ArePlaced}
 use Rattle.pages.specs.Use.{free_count}
-use Rattle.pages.specs.Needed.{needed, filled, Fills}
+use Rattle.pages.specs.Needed.{needed_sectors, filled_count, Fills}
 use Rattle.pages.specs.Volumes.{volume_of, IsSound}
 use Rattle.pages.specs.Cache.{IsCacheOf}
 use Rattle.lru.specs.LruCache.{LruCache}
@@ -19,7 +19,7 @@ committed_of p = volume_of p.volume
 
 -- the map, over the image of the last commit, with what was changed since
 abbrev pub map_now : PageMap → List Sector → Map
-map_now p image = record { generation = p.volume.generation; catalog = p.catalog; pages = changed (pages_in image p.volume.table) p.changes.items }
+map_now p image = record { generation = p.volume.generation; catalog = p.catalog; pages = pages_after (pages_in image p.volume.table) p.changes.items }
 
 -- the page of that number, or none
 abbrev pub page_of : Map → ℕ → Option Sector
@@ -31,7 +31,7 @@ changed_pages_of p = changed_pages p.changes.items
 
 -- how many of them have bytes: those that weren't released
 abbrev pub filled_of : PageMap → ℕ
-filled_of p = filled p.changes.items
+filled_of p = filled_count p.changes.items
 
 -- A page got bytes. Where it had been given some since the last commit, no more pages have some than before.
 abbrev pub FillsPage : PageMap → ℕ → PageMap → Type 0
@@ -73,7 +73,7 @@ HasEachPage p = (image : List Sector) (page : ℕ) → IsPage p page → page_of
 
 -- how many sectors the next commit needs
 abbrev pub needed_of : PageMap → ℕ
-needed_of p = needed (committed_of p) p.changes.items
+needed_of p = needed_sectors (committed_of p) p.changes.items
 
 -- a page or the page of the catalog's root was changed
 abbrev pub HasChanges : PageMap → Type 0
@@ -94,8 +94,8 @@ abbrev pub IsOpen : PageMap → Type 0
 IsOpen p = p.spent ≡ false → IsReady p
 
 -- the map of the next generation
-abbrev pub advanced : Map → Map
-advanced m = record { generation = m.generation + 1; catalog = m.catalog; pages = m.pages }
+abbrev pub next_generation : Map → Map
+next_generation m = record { generation = m.generation + 1; catalog = m.catalog; pages = m.pages }
 
 -- one generation or another of the same pages
 pub record SamePages (m n : Map) : Type 0 where
@@ -108,14 +108,14 @@ pub record SameCommitted (old new : PageMap) : Type 0 where
   pub spent : new.spent ≡ old.spent
 
 -- what a call that only reads leaves: the map, what was changed of it, and what is committed
-pub record Unchanged (old new : PageMap) : Type 0 where
+pub record IsUnchanged (old new : PageMap) : Type 0 where
   pub map : (image : List Sector) → map_now new image ≡ map_now old image
   pub changed_pages : changed_pages_of new ≡ changed_pages_of old
   pub filled : filled_of new ≡ filled_of old
   pub committed : SameCommitted old new
 
 -- what each call keeps but a commit: what is committed, the page of the catalog's root, what the disk and the cache agree on, and being open
-pub record Keeps (old new : PageMap) : Type 0 where
+pub record KeepsCommitted (old new : PageMap) : Type 0 where
   pub committed : SameCommitted old new
   pub catalog : catalog_of new ≡ catalog_of old
   pub agrees : (disk : Disk) → Agrees old disk → Agrees new disk
@@ -135,7 +135,7 @@ ShortBy = (p : PageMap) → IsOpen p → is_spent p ≡ false → IsFull p → (
 
 -- a map that an image holds is within the bounds of a volume
 abbrev pub MapBounds : Type 0
-MapBounds = (image : List Sector) (m : Map) → Holds image m → (m.generation < 2 ^ 63) × (length m.pages ≤ 921600)
+MapBounds = (image : List Sector) (m : Map) → IsImageOf image m → (m.generation < 2 ^ 63) × (length m.pages ≤ 921600)
 
 -- and so is that of an opened volume
 abbrev pub OpenBounds : Type 0

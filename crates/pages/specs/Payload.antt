@@ -4,7 +4,7 @@ use Rattle.station.specs.Disk.{Sector}
 use Rattle.roots.specs.declared.root.Root.{Root}
 use Rattle.roots.specs.declared.root.RootSector.TheVariants.{Valid}
 use Rattle.roots.specs.Root.{root_in}
-use Rattle.pages.specs.Layout.{VolumeRoot, volume_root, marks}
+use Rattle.pages.specs.Layout.{VolumeRoot, volume_root, known_marks}
 
 -- the numbers of a payload
 abbrev pub payload_words : ℕ → List ℕ → List ℕ
@@ -17,4 +17,4 @@ pub record SpellsRoot (w : VolumeRoot) (bytes : Sector) : Type 0 where
   pub generation : root.generation ≡ w.generation
   pub sectors : root.sectors ≡ w.sectors
   pub reads : volume_root root ≡ Some w
-  pub valid : (count : ℕ) → w.sectors ≤ count → root_in marks count (w.generation % 2) bytes ≡ Valid root
+  pub valid : (count : ℕ) → w.sectors ≤ count → root_in known_marks count (w.generation % 2) bytes ≡ Valid root

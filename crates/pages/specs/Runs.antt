@@ -2,8 +2,8 @@
 use Rattle.std.specs.Prelude.{◌≡◌, ◌<◌, ◌≤◌, ◌+◌, ◌*◌, ◌==◌, not, map, count_by, take, Bool, ℕ, List, length, slice_index}
 
 -- of each byte, whether it marks its sector as used: whether it is other than zero
-abbrev pub marked : List ℕ → List Bool
-marked bytes = map (λ byte. not (byte == 0)) bytes
+abbrev pub used_flags : List ℕ → List Bool
+used_flags bytes = map (λ byte. not (byte == 0)) bytes
 
 -- how many sectors aren't marked as used
 abbrev pub unused_count : List Bool → ℕ

@@ -2,7 +2,7 @@
 use Rattle.std.specs.Prelude.{◌≡◌, ◌⊎◌, ◌<◌, ◌≤◌, ◌+◌, ◌==◌, ◌||◌, nat_lt, if◌then◌else◌, Bool, true, false, ℕ, zero, suc, List, [], ◌∷◌, ◌++◌, length, slice_index_or, slice_set, Contains}
 use Rattle.std.specs.List.{list_any}
 use Rattle.pages.specs.Image.{Volume, names}
-use Rattle.pages.specs.declared.draft.Turn.{Turn}
+use Rattle.pages.specs.declared.draft.UseChange.{UseChange}
 
 -- Each sector by its number: the roots and what is named are used, and nothing else.
 pub record IsUse (sectors : ℕ) (named : List ℕ) (used : List Bool) : Type 0 where
@@ -11,12 +11,12 @@ pub record IsUse (sectors : ℕ) (named : List ℕ) (used : List Bool) : Type 0 
   pub taken : (s : ℕ) → s < sectors → slice_index_or used s false ≡ true → (s < 2) ⊎ Contains named s
 
 -- the use after these turns
-abbrev pub turned : List Bool → List Turn → List Bool
-turned used [] = used
-turned used (t ∷ turns) = turned (slice_set used t.sector t.used) turns
+abbrev pub use_after : List Bool → List UseChange → List Bool
+use_after used [] = used
+use_after used (t ∷ turns) = use_after (slice_set used t.sector t.used) turns
 
 -- a name is replaced by another; 0 names no sector
-abbrev pub turns_of : ℕ → ℕ → List Turn
+abbrev pub turns_of : ℕ → ℕ → List UseChange
 turns_of old new = (if old == 0 then [] else record { sector = old; used = false } ∷ []) ++ (if new == 0 then [] else record { sector = new; used = true } ∷ [])
 
 abbrev pub is_used : List ℕ → ℕ → Bool

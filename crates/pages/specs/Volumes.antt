@@ -5,14 +5,14 @@ use Rattle.station.specs.Disk.{Sector}
 use Rattle.station.specs.declared.blocks.Block.{Block}
 use Rattle.pages.specs.Layout.{map_count}
 use Rattle.pages.specs.Image.{Volume, names, IsPlace, NamesOnce}
-use Rattle.pages.specs.Use.{IsUse, turned, turns_of, free_count}
-use Rattle.pages.specs.Changes.{kept}
-use Rattle.pages.specs.Needed.{filled, alters}
-use Rattle.pages.specs.Draft.{Naming, IsStaged, IsMapped}
+use Rattle.pages.specs.Use.{IsUse, use_after, turns_of, free_count}
+use Rattle.pages.specs.Changes.{mapped_after}
+use Rattle.pages.specs.Needed.{filled_count, alters}
+use Rattle.pages.specs.Draft.{NamesSectors, IsStaged, IsMapped}
 pub use Rattle.pages.specs.Runs.{unused_count, unused_below}
 use Rattle.pages.specs.declared.volume.VolumeMap.{VolumeMap}
 use Rattle.pages.specs.declared.draft.Draft.{Draft}
-use Rattle.pages.specs.declared.draft.Turn.{Turn}
+use Rattle.pages.specs.declared.draft.UseChange.{UseChange}
 use Rattle.pages.specs.declared.change.Change.{Change}
 
 abbrev pub volume_of : VolumeMap → Volume
@@ -36,7 +36,7 @@ pub record IsDraft (v : Volume) (m : VolumeMap) (d : Draft) (changes : List Chan
   pub in_use : IsUse v.root.sectors (names v) m.used
   pub some : 0 < v.root.sectors
   pub staged : IsStaged v m.maps.items m.table d.changed_maps.items d.blocks.items changes
-  pub naming : Naming v m.used (m.maps.items ++ m.table) d.turns.items d.next
+  pub naming : NamesSectors v m.used (m.maps.items ++ m.table) d.turns.items d.next
 
 -- the first maps of it are on their way too
 pub record IsMappedDraft (v : Volume) (m : VolumeMap) (d : Draft) (changes : List Change) (next : ℕ) : Type 0 where
@@ -64,8 +64,8 @@ pub record IsTaken (used : List Bool) (from next : ℕ) (blocks : List Block) : 
 pub record IsCounted (v : Volume) (m : VolumeMap) (d : Draft) (changes : List Change) (maps : ℕ) : Type 0 where
   pub free : unused_count m.used ≡ free_count v
   pub taken : IsTaken m.used d.start d.next d.blocks.items
-  pub blocks : length d.blocks.items ≡ filled changes + maps
-  pub pages : map (λ s. not (s == 0)) m.table ≡ kept v.table changes
+  pub blocks : length d.blocks.items ≡ filled_count changes + maps
+  pub pages : map (λ s. not (s == 0)) m.table ≡ mapped_after v.table changes
   pub changed_maps : (i : ℕ) → i < length d.changed_maps.items → slice_index_or d.changed_maps.items i false ≡ list_any (alters v i) changes
 
 -- nothing but the two lists of names changed, and not their lengths
@@ -136,7 +136,7 @@ pub record IsNext (old new : VolumeMap) (page : ℕ) : Type 0 where
   pub free : new.free ≡ old.free
 
 -- sound, once these turns are marked
-pub record IsSoundAfter (m : VolumeMap) (turns : List Turn) : Type 0 where
+pub record IsSoundAfter (m : VolumeMap) (turns : List UseChange) : Type 0 where
   pub generation : m.generation < 2 ^ 63
   pub least : 1024 ≤ m.sectors
   pub most : m.sectors ≤ 921600
@@ -145,6 +145,6 @@ pub record IsSoundAfter (m : VolumeMap) (turns : List Turn) : Type 0 where
   pub places : (s : ℕ) → Contains (names (volume_of m)) s → IsPlace m.sectors s
   pub once : NamesOnce (names (volume_of m))
   pub unused : slice_index m.table 0 ≡ 0
-  pub in_use : IsUse m.sectors (names (volume_of m)) (turned m.used turns)
-  pub turns_low : All (λ (t : Turn). t.sector < length m.used) turns
+  pub in_use : IsUse m.sectors (names (volume_of m)) (use_after m.used turns)
+  pub turns_low : All (λ (t : UseChange). t.sector < length m.used) turns
   pub free : m.free ≡ unused_count m.used

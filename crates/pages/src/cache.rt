@@ -5,7 +5,7 @@ ghost use Rattle.std.specs.Map.{lookup};
 ghost use Rattle.station.specs.Calls.{OnlyReads};
 ghost use Rattle.lru.specs.LruCache.{lru_cache, promoted, IsValid};
 ghost use Rattle.pages.specs.Image.{pages_in};
-ghost use Rattle.pages.specs.Cache.{IsCacheOf, Recalls, Keeps, Loads, KeepsChanges, forgotten};
+ghost use Rattle.pages.specs.Cache.{IsCacheOf, Recalls, CachesPage, Loads, KeepsChanges, cache_without};
 
 use crate::change::Change;
 use crate::error::PagesError;
@@ -97,7 +97,7 @@ pub(crate) fn recall_page<D: Device>(
 #[cold]
 #[inline(never)]
 fn keep_page(alloc: Global, cache: &mut LruCache<u32, PageBytes>, page: u32, bytes: [u8; 4096])
-    ensures { Keeps page bytes cache.old cache.new }
+    ensures { CachesPage page bytes cache.old cache.new }
 {
     match PageBytes::new(alloc, bytes) {
         Ok(kept) => put_page(cache, page, kept),
@@ -107,7 +107,7 @@ fn keep_page(alloc: Global, cache: &mut LruCache<u32, PageBytes>, page: u32, byt
 
 /// The same of a page that stands on the heap.
 fn put_page(cache: &mut LruCache<u32, PageBytes>, page: u32, bytes: PageBytes)
-    ensures { Keeps page bytes cache.old cache.new }
+    ensures { CachesPage page bytes cache.old cache.new }
 {
     match cache.put(page, bytes) {
         Ok(_) => {}
@@ -117,7 +117,7 @@ fn put_page(cache: &mut LruCache<u32, PageBytes>, page: u32, bytes: PageBytes)
 
 /// The same. A page that leaves the cache for it is answered, for its place in memory.
 fn push_page(cache: &mut LruCache<u32, PageBytes>, page: u32, bytes: PageBytes) -> Option<PageBytes>
-    ensures { Keeps page bytes cache.old cache.new }
+    ensures { CachesPage page bytes cache.old cache.new }
 {
     match cache.push(page, bytes) {
         Ok(Some((_, left))) => Some(left),
@@ -195,7 +195,7 @@ pub(crate) fn take_page(
 ) -> Option<PageBytes>
     ensures bytes { IsSome (lookup (nat_eq page) cache.old.entries) → result ≡ Some bytes.now }
     ensures missing { lookup (nat_eq page) cache.old.entries ≡ None → result ≡ None }
-    ensures entries { cache.new ≡ forgotten page cache.old }
+    ensures entries { cache.new ≡ cache_without page cache.old }
     ensures valid { IsValid nat_eq cache.old }
 {
     // This tells that each page is there once.
@@ -207,7 +207,7 @@ pub(crate) fn take_page(
 
 /// A page leaves the cache.
 pub(crate) fn forget_page(cache: &mut LruCache<u32, PageBytes>, page: u32)
-    ensures entries { cache.new ≡ forgotten page cache.old }
+    ensures entries { cache.new ≡ cache_without page cache.old }
     ensures valid { IsValid nat_eq cache.old }
 {
     // This tells that each page is there once.

@@ -5,8 +5,8 @@ ghost use Rattle.std.specs.Vec.{vec_len, vec_capacity};
 ghost use Rattle.std.specs.HashMap.{spare};
 ghost use Rattle.station.specs.Disk.{Sector};
 ghost use Rattle.pages.specs.Image.{NamesOnce};
-ghost use Rattle.pages.specs.Changes.{changed, changed_pages, kept, ChangesPage, ArePlaced};
-ghost use Rattle.pages.specs.Needed.{filled, Fills};
+ghost use Rattle.pages.specs.Changes.{pages_after, changed_pages, mapped_after, ChangesPage, ArePlaced};
+ghost use Rattle.pages.specs.Needed.{filled_count, Fills};
 
 use crate::page_bytes::PageBytes;
 use crate::volume::MAP_ENTRIES;
@@ -113,10 +113,10 @@ pub(crate) fn set_change(
     requires some { 0 < page }
     requires placed { ArePlaced changes.old.items places.old }
     ensures placed { ArePlaced changes.new.items places.new }
-    ensures changed { NamesOnce (changed_pages changes.old.items) → OnOk result ((pages : List (Option Sector)) → changed pages changes.new.items ≡ slice_set (changed pages changes.old.items) page bytes) }
+    ensures changed { NamesOnce (changed_pages changes.old.items) → OnOk result ((pages : List (Option Sector)) → pages_after pages changes.new.items ≡ slice_set (pages_after pages changes.old.items) page bytes) }
     ensures once { NamesOnce (changed_pages changes.old.items) → OnOk result (NamesOnce (changed_pages changes.new.items)) }
     ensures changes_page { OnOk result (ChangesPage (changed_pages changes.old.items) page (changed_pages changes.new.items)) }
-    ensures filled { NamesOnce (changed_pages changes.old.items) → filled changes.new.items ≤ filled changes.old.items + (if is_some bytes then 1 else 0) }
+    ensures filled { NamesOnce (changed_pages changes.old.items) → filled_count changes.new.items ≤ filled_count changes.old.items + (if is_some bytes then 1 else 0) }
     ensures fills { NamesOnce (changed_pages changes.old.items) → OnOk result (IfSome bytes (λ _. Fills changes.old.items page changes.new.items)) }
     ensures bounds { (n : ℕ) → page < n → All (λ c. (0 < c.page) × (c.page < n)) changes.old.items → OnOk result (All (λ c. (0 < c.page) × (c.page < n)) changes.new.items) }
     ensures err { OnErr result (changes.new.items ≡ changes.old.items) }
@@ -145,7 +145,7 @@ pub(crate) fn is_kept(
     requires page { page < length table.now }
     requires once { NamesOnce (changed_pages changes.now) }
     requires placed { ArePlaced changes.now places.now }
-    ensures { result ≡ slice_index_or (kept table.now changes.now) page false }
+    ensures { result ≡ slice_index_or (mapped_after table.now changes.now) page false }
 {
     match find_change(changes, places, page) {
         Some(i) => changes[i].bytes.is_some(),
@@ -166,8 +166,8 @@ fn unused_between(
     requires end { end ≤ length table.now }
     requires once { NamesOnce (changed_pages changes.now) }
     requires placed { ArePlaced changes.now places.now }
-    ensures found { IfSome result (λ page. (start ≤ page) × (page < end) × (slice_index_or (kept table.now changes.now) page false ≡ false)) }
-    ensures full { IfNone result ((n : ℕ) → start ≤ n → n < end → slice_index_or (kept table.now changes.now) n false ≡ true) }
+    ensures found { IfSome result (λ page. (start ≤ page) × (page < end) × (slice_index_or (mapped_after table.now changes.now) page false ≡ false)) }
+    ensures full { IfNone result ((n : ℕ) → start ≤ n → n < end → slice_index_or (mapped_after table.now changes.now) n false ≡ true) }
 {
     for page in start..end {
         let number = page as u32;
@@ -191,7 +191,7 @@ fn unused_in_run(
     requires once { NamesOnce (changed_pages changes.now) }
     requires placed { ArePlaced changes.now places.now }
     requires run { run < length passed.now }
-    ensures { IfSome result (λ page. (0 < page) × (page < length table.now) × (slice_index_or (kept table.now changes.now) page false ≡ false)) }
+    ensures { IfSome result (λ page. (0 < page) × (page < length table.now) × (slice_index_or (mapped_after table.now changes.now) page false ≡ false)) }
 {
     if passed[run] {
         return None;
@@ -216,7 +216,7 @@ fn unused_from(
     requires few { length table.now < 2 ^ 32 }
     requires once { NamesOnce (changed_pages changes.now) }
     requires placed { ArePlaced changes.now places.now }
-    ensures { IfSome result (λ page. (0 < page) × (page < length table.now) × (slice_index_or (kept table.now changes.now) page false ≡ false)) }
+    ensures { IfSome result (λ page. (0 < page) × (page < length table.now) × (slice_index_or (mapped_after table.now changes.now) page false ≡ false)) }
 {
     for run in from / MAP_ENTRIES..passed.len() {
         if let Some(page) = unused_in_run(table, changes, places, from, passed, run) {
@@ -237,8 +237,8 @@ pub(crate) fn unused_page(
     requires few { length table.now < 2 ^ 32 }
     requires once { NamesOnce (changed_pages changes.now) }
     requires placed { ArePlaced changes.now places.now }
-    ensures found { IfSome result (λ page. (0 < page) × (page < length table.now) × (slice_index_or (kept table.now changes.now) page false ≡ false)) }
-    ensures full { IfNone result ((n : ℕ) → 0 < n → n < length table.now → slice_index_or (kept table.now changes.now) n false ≡ true) }
+    ensures found { IfSome result (λ page. (0 < page) × (page < length table.now) × (slice_index_or (mapped_after table.now changes.now) page false ≡ false)) }
+    ensures full { IfNone result ((n : ℕ) → 0 < n → n < length table.now → slice_index_or (mapped_after table.now changes.now) n false ≡ true) }
 {
     if let Some(page) = unused_from(table, changes, places, from, passed) {
         return Some(page);

@@ -7,7 +7,7 @@ ghost use Rattle.station.specs.Failures.{Blames};
 ghost use Rattle.station.specs.Blocks.{CrashLeaves};
 ghost use Rattle.pages.specs.Image.{IsCommitted, NamesOnce, map_of};
 ghost use Rattle.pages.specs.Changes.{next_map, changed_pages, BeforeOrAfter};
-ghost use Rattle.pages.specs.Needed.{IsShort};
+ghost use Rattle.pages.specs.Needed.{LacksSectors};
 ghost use Rattle.pages.specs.Errors.{IsCommitError};
 ghost use Rattle.pages.specs.Volumes.{volume_of, IsSound};
 
@@ -53,8 +53,8 @@ pub(crate) fn commit_volume<D: Device>(
     ensures next { OnOk result ((volume.new.generation ≡ volume.old.generation + 1) × (volume.new.catalog ≡ catalog)) }
 
     // `Full` tells that too few sectors are free, or that no generation is left, and then nothing was done.
-    ensures short { result ≡ Err PagesError.Full → IsShort (volume_of volume.old) changes.now }
-    ensures told { IsShort (volume_of volume.old) changes.now → (result ≡ Err PagesError.Full) ⊎ (result ≡ Err PagesError.Memory) }
+    ensures short { result ≡ Err PagesError.Full → LacksSectors (volume_of volume.old) changes.now }
+    ensures told { LacksSectors (volume_of volume.old) changes.now → (result ≡ Err PagesError.Full) ⊎ (result ≡ Err PagesError.Memory) }
     ensures full { result ≡ Err PagesError.Full → D.is_honest device.old → (D.state device.new ≡ D.state device.old) × (D.history device.new ≡ D.history device.old) }
 {
     let draft = next_volume(alloc, volume, changes, catalog)?;

@@ -12,7 +12,7 @@ use std::alloc::AllocError;
 
 /// A sector that becomes used, or is used no longer.
 #[derive(Clone, Copy, PartialEq, Eq)]
-pub(crate) struct Turn {
+pub(crate) struct UseChange {
     pub sector: u32,
     pub used: bool,
 }
@@ -24,7 +24,7 @@ pub(crate) struct Draft<'a> {
     /// The maps whose entries changed.
     pub changed_maps: Vec<bool>,
     /// The sectors whose use changed.
-    pub turns: Vec<Turn>,
+    pub turns: Vec<UseChange>,
     /// The first sector that may be taken.
     pub start: u32,
     /// No sector from here on is taken yet.
@@ -32,17 +32,17 @@ pub(crate) struct Draft<'a> {
 }
 
 /// Notes that a name was replaced by another.
-pub(crate) fn note_turns(turns: &mut Vec<Turn>, old: u32, new: u32) -> Result<(), AllocError>
+pub(crate) fn note_turns(turns: &mut Vec<UseChange>, old: u32, new: u32) -> Result<(), AllocError>
     ensures { OnOk result (turns.new.items ≡ turns.old.items ++ turns_of old new) }
 {
     if old != 0 {
-        turns.push(Turn {
+        turns.push(UseChange {
             sector: old,
             used: false,
         })?;
     }
     if new != 0 {
-        turns.push(Turn {
+        turns.push(UseChange {
             sector: new,
             used: true,
         })?;

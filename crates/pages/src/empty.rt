@@ -3,23 +3,13 @@ ghost use Rattle.std.specs.Prelude.{◌≡◌, ◌≤◌, ◌↔◌, OnOk};
 ghost use Rattle.station.specs.History.{EachImage};
 ghost use Rattle.station.specs.State.{SameConsole};
 ghost use Rattle.station.specs.Failures.{CountsFailure};
-ghost use Rattle.pages.specs.Image.{Holds, IsCommitted};
+ghost use Rattle.pages.specs.Image.{IsImageOf, IsCommitted};
 ghost use Rattle.pages.specs.Payload.{SpellsRoot};
 ghost use Rattle.pages.specs.Empty.{empty_map, empty_volume};
 
 use crate::payload::root_bytes_with;
 use crate::root::map_count_of;
 use station::{Device, DeviceError};
-
-/// The root sector of a volume without pages.
-fn empty_root(sectors: u32) -> [u8; 4096]
-    requires least { 1024 ≤ sectors }
-    requires most { sectors ≤ 921600 }
-    ensures { SpellsRoot (empty_volume sectors).root result }
-{
-    let maps = [0; 900];
-    root_bytes_with(0, sectors, 0, &maps[..map_count_of(sectors)])
-}
 
 /// Writes zeros to sector 1 and the root of generation 0 to sector 0, and syncs. What the device held before is gone.
 pub fn format<D: Device>(device: &mut D) -> Result<(), DeviceError>
@@ -30,11 +20,21 @@ pub fn format<D: Device>(device: &mut D) -> Result<(), DeviceError>
     ensures failures { CountsFailure result (D.failures device.old) (D.failures device.new) }
 
     // After `Ok` a crash leaves the empty map.
-    ensures empty { D.is_honest device.old → OnOk result (EachImage (λ image. Holds image (empty_map (D.sectors device.old))) (D.state device.new)) }
+    ensures empty { D.is_honest device.old → OnOk result (EachImage (λ image. IsImageOf image (empty_map (D.sectors device.old))) (D.state device.new)) }
     ensures committed { D.is_honest device.old → OnOk result (IsCommitted (empty_volume (D.sectors device.old)) (D.state device.new).disk) }
 {
     let root = empty_root(device.count());
     device.write(1, &[0; 4096])?;
     device.write(0, &root)?;
     device.sync()
+}
+
+/// The root sector of a volume without pages.
+fn empty_root(sectors: u32) -> [u8; 4096]
+    requires least { 1024 ≤ sectors }
+    requires most { sectors ≤ 921600 }
+    ensures { SpellsRoot (empty_volume sectors).root result }
+{
+    let maps = [0; 900];
+    root_bytes_with(0, sectors, 0, &maps[..map_count_of(sectors)])
 }

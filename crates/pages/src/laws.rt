@@ -2,17 +2,17 @@
 ghost use Rattle.std.specs.Prelude.{◌≡◌, List};
 ghost use Rattle.station.specs.Disk.{Sector};
 ghost use Rattle.pages.specs.Layout.{IsForeign};
-ghost use Rattle.pages.specs.Image.{Map, Holds};
+ghost use Rattle.pages.specs.Image.{Map, IsImageOf};
 ghost use Rattle.pages.specs.Pages.{FewNeeded, NeededBy, ShortBy, MapBounds, OpenBounds, FewFree};
 
 /// An image holds at most one map.
 pub fn one_map()
-    ensures { (image : List Sector) (m n : Map) → Holds image m → Holds image n → m ≡ n }
+    ensures { (image : List Sector) (m n : Map) → IsImageOf image m → IsImageOf image n → m ≡ n }
 {}
 
 /// An image that holds a map isn't of another format.
 pub fn map_is_own()
-    ensures { (image : List Sector) (m : Map) → Holds image m → IsForeign image → ⊥ }
+    ensures { (image : List Sector) (m : Map) → IsImageOf image m → IsForeign image → ⊥ }
 {}
 
 /// A commit needs at most two sectors for each page that was changed: one for its bytes, and one for its map sector.

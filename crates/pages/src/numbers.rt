@@ -1,6 +1,6 @@
 //! A sector as 1,024 numbers of four bytes.
 ghost use Rattle.std.specs.Prelude.{◌≡◌, ◌<◌, ℕ, List, length, slice_set};
-ghost use Rattle.pages.specs.Layout.{words, spelled};
+ghost use Rattle.pages.specs.Layout.{words, number_bytes};
 
 use byteorder::{BigEndian, ByteOrder};
 
@@ -16,7 +16,7 @@ pub(crate) fn numbers_in(bytes: &[u8; 4096]) -> [u32; 1024]
 /// A sector of these numbers.
 pub(crate) fn spelled_numbers(numbers: &[u32]) -> [u8; 4096]
     requires { length numbers.now ≡ 1024 }
-    ensures bytes { result ≡ spelled numbers.now }
+    ensures bytes { result ≡ number_bytes numbers.now }
     ensures reads { words result ≡ numbers.now }
 {
     let mut bytes = [0; 4096];
@@ -27,7 +27,7 @@ pub(crate) fn spelled_numbers(numbers: &[u32]) -> [u8; 4096]
 /// Puts a number in the place of another of a sector.
 pub(crate) fn put_number(bytes: &mut [u8; 4096], place: usize, number: u32)
     requires { place < 1024 }
-    ensures { (numbers : List ℕ) → length numbers ≡ 1024 → bytes.old ≡ spelled numbers → bytes.new ≡ spelled (slice_set numbers place number) }
+    ensures { (numbers : List ℕ) → length numbers ≡ 1024 → bytes.old ≡ number_bytes numbers → bytes.new ≡ number_bytes (slice_set numbers place number) }
 {
     BigEndian::write_u32(&mut bytes[4 * place..], number);
 }

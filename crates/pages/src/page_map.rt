@@ -1,15 +1,15 @@
 //! The pages of a volume, as their user sees them: a finite map from page numbers to pages, beside the page of the catalog's root.
 ghost use Rattle.std.specs.Prelude.{◌≡◌, ◌⊎◌, ◌+◌, ◌^◌, is_some, IfSome, IsOkUnless, if◌then◌else◌, ◌<◌, ◌≤◌, ◌↔◌, Err, Some, None, true, false, replicate, List, [], length, slice_set, map, IsOk, IfOk, IfErr, OnOk, OnErr};
 ghost use Rattle.station.specs.Disk.{Sector};
-ghost use Rattle.station.specs.State.{synced, SameConsole};
+ghost use Rattle.station.specs.State.{state_after_sync, SameConsole};
 ghost use Rattle.station.specs.History.{Through};
 ghost use Rattle.station.specs.Calls.{OnlyReads};
 ghost use Rattle.station.specs.Failures.{Blames};
-ghost use Rattle.station.specs.Opening.{Opening};
+ghost use Rattle.station.specs.Opening.{IsOpening};
 ghost use Rattle.station.specs.Blocks.{CrashLeaves};
 ghost use Rattle.pages.specs.Layout.{IsForeign};
-ghost use Rattle.pages.specs.Image.{Map, Holds, IsDamaged, map_of};
-ghost use Rattle.pages.specs.Errors.{Refuses, IsOpenError, IsReadError, Tells};
+ghost use Rattle.pages.specs.Image.{Map, IsImageOf, IsDamaged, map_of};
+ghost use Rattle.pages.specs.Errors.{RefusesImage, IsOpenError, IsReadError, FailsWithError};
 ghost use Rattle.pages.specs.Changes.{BeforeOrAfter, ChangesPage};
 ghost use Rattle.pages.specs.Errors.{IsEditRefusal, IsAllocateRefusal, IsCommitRefusal};
 ghost use Rattle.pages.specs.Use.{free_count};
@@ -55,11 +55,11 @@ pub struct PageMap {
 }
 
 impl PageMap {
-    ghost use Rattle.pages.specs.Pages.{committed_of, map_now, page_of, changed_pages_of, filled_of, FillsPage, HasChanges, catalog_of, is_spent, sectors_of, page_count, IsPage, HasEachPage, IsFull, Agrees, IsOpen, advanced, SamePages, SameCommitted, Unchanged, Keeps, cache_of};
+    ghost use Rattle.pages.specs.Pages.{committed_of, map_now, page_of, changed_pages_of, filled_of, FillsPage, HasChanges, catalog_of, is_spent, sectors_of, page_count, IsPage, HasEachPage, IsFull, Agrees, IsOpen, next_generation, SamePages, SameCommitted, IsUnchanged, KeepsCommitted, cache_of};
     ghost use Rattle.std.specs.Map.{lookup};
     ghost use Rattle.std.specs.Prelude.{Ok, nat_eq, option_copied, Contains, IsSome};
     ghost use Rattle.lru.specs.LruCache.{lru_cache, promoted};
-    ghost use Rattle.pages.specs.Cache.{Recalls, Loads, Gathers, forgotten};
+    ghost use Rattle.pages.specs.Cache.{Recalls, Loads, Gathers, cache_without};
     ghost use Rattle.station.specs.Disk.{Disk};
 
     /// Opens the volume of a device. It syncs first, and writes nothing. The cache holds at most `capacity` pages, from 1 to 4,096.
@@ -75,9 +75,9 @@ impl PageMap {
         ensures failures { Blames (result ≡ Err PagesError.Device) (D.failures device.old) (D.failures device.new) }
 
         // Until it has succeeded, a crash leaves what was possible before.
-        ensures moments { D.is_honest device.old → Through (D.history device.old) (D.history device.new) (D.state device.new) (Opening (D.state device.old)) }
-        ensures state { D.is_honest device.old → OnOk result (D.state device.new ≡ synced (D.state device.old)) }
-        ensures unwritten { D.is_honest device.old → OnErr result ((D.state device.new ≡ D.state device.old) ⊎ (D.state device.new ≡ synced (D.state device.old))) }
+        ensures moments { D.is_honest device.old → Through (D.history device.old) (D.history device.new) (D.state device.new) (IsOpening (D.state device.old)) }
+        ensures state { D.is_honest device.old → OnOk result (D.state device.new ≡ state_after_sync (D.state device.old)) }
+        ensures unwritten { D.is_honest device.old → OnErr result ((D.state device.new ≡ D.state device.old) ⊎ (D.state device.new ≡ state_after_sync (D.state device.old))) }
 
         // The map is the one that the disk holds.
         ensures agrees { D.is_honest device.old → IfOk result (λ pages. Agrees pages (D.state device.new).disk) }
@@ -88,10 +88,10 @@ impl PageMap {
 
         // Where neither the device nor memory fails, it opens exactly what holds a map, and answers `ForeignMark` exactly where the
         // newest root is another format's, and `Damaged` otherwise.
-        ensures refused { D.is_honest device.old → IfErr result (λ error. Refuses (D.state device.old).disk.present error) }
-        ensures opens { D.is_honest device.old → (m : Map) → Holds (D.state device.old).disk.present m → IsReadError result }
-        ensures foreign { D.is_honest device.old → IsForeign (D.state device.old).disk.present → Tells PagesError.ForeignMark result }
-        ensures damaged { D.is_honest device.old → IsDamaged (D.state device.old).disk.present → Tells PagesError.Damaged result }
+        ensures refused { D.is_honest device.old → IfErr result (λ error. RefusesImage (D.state device.old).disk.present error) }
+        ensures opens { D.is_honest device.old → (m : Map) → IsImageOf (D.state device.old).disk.present m → IsReadError result }
+        ensures foreign { D.is_honest device.old → IsForeign (D.state device.old).disk.present → FailsWithError PagesError.ForeignMark result }
+        ensures damaged { D.is_honest device.old → IsDamaged (D.state device.old).disk.present → FailsWithError PagesError.Damaged result }
         ensures cause { IsOpenError result }
     {
         let volume = open_volume(alloc, device)?;
@@ -219,7 +219,7 @@ impl PageMap {
         ensures page { D.is_honest device.old → Agrees self.old (D.state device.old).disk → IfOk result (λ bytes. bytes ≡ page_of (map_now self.old (D.state device.old).disk.present) page) }
 
         // The map stays, and what is known of it. A refusal changes nothing.
-        ensures unchanged { Unchanged self.old self.new }
+        ensures unchanged { IsUnchanged self.old self.new }
         ensures agrees { D.is_honest device.old → Agrees self.old (D.state device.old).disk → Agrees self.new (D.state device.new).disk }
         ensures open { IsOpen self.new }
         ensures err { OnErr result (self.new ≡ self.old) }
@@ -260,7 +260,7 @@ impl PageMap {
         ensures only { OnlyReads D.Device (result ≡ Err PagesError.Device) device.old device.new }
 
         // The map stays, and what is known of it. A refusal leaves the cache too.
-        ensures unchanged { Unchanged self.old self.new }
+        ensures unchanged { IsUnchanged self.old self.new }
         ensures agrees { D.is_honest device.old → Agrees self.old (D.state device.old).disk → Agrees self.new (D.state device.new).disk }
         ensures open { IsOpen self.new }
         ensures err { OnErr result (cache_of self.new ≡ cache_of self.old) }
@@ -314,8 +314,8 @@ impl PageMap {
 
     /// A page of the cache becomes the most recently used one.
     pub fn note_use(&mut self, page: u32)
-        ensures unchanged { Unchanged self.old self.new }
-        ensures keeps { Keeps self.old self.new }
+        ensures unchanged { IsUnchanged self.old self.new }
+        ensures keeps { KeepsCommitted self.old self.new }
         ensures cache { cache_of self.new ≡ lru_cache (promoted (nat_eq page) (cache_of self.old).entries) (cache_of self.old).cap }
     {
         promote_page(&mut self.cache, page);
@@ -333,9 +333,9 @@ impl PageMap {
         ensures unfilled { OnErr result (filled_of self.new ≡ filled_of self.old) }
         ensures err { OnErr result ((image : List Sector) → map_now self.new image ≡ map_now self.old image) }
         ensures capacity { (cache_of self.new).cap ≡ (cache_of self.old).cap }
-        ensures forgets { OnOk result (cache_of self.new ≡ forgotten page (cache_of self.old)) }
+        ensures forgets { OnOk result (cache_of self.new ≡ cache_without page (cache_of self.old)) }
         ensures cache { OnErr result (cache_of self.new ≡ cache_of self.old) }
-        ensures keeps { Keeps self.old self.new }
+        ensures keeps { KeepsCommitted self.old self.new }
         ensures cause { IsEditRefusal result }
         ensures spent { (result ≡ Err PagesError.Spent) ↔ (is_spent self.old ≡ true) }
     {
@@ -362,9 +362,9 @@ impl PageMap {
         ensures unfilled { OnErr result (filled_of self.new ≡ filled_of self.old) }
         ensures err { OnErr result ((image : List Sector) → map_now self.new image ≡ map_now self.old image) }
         ensures capacity { (cache_of self.new).cap ≡ (cache_of self.old).cap }
-        ensures forgets { IfOk result (λ page. cache_of self.new ≡ forgotten page (cache_of self.old)) }
+        ensures forgets { IfOk result (λ page. cache_of self.new ≡ cache_without page (cache_of self.old)) }
         ensures cache { OnErr result (cache_of self.new ≡ cache_of self.old) }
-        ensures keeps { Keeps self.old self.new }
+        ensures keeps { KeepsCommitted self.old self.new }
         ensures full { is_spent self.old ≡ false → (result ≡ Err PagesError.Full) ↔ HasEachPage self.old }
         ensures same { result ≡ Err PagesError.Full → self.new ≡ self.old }
         ensures cause { IsAllocateRefusal result }
@@ -401,9 +401,9 @@ impl PageMap {
         ensures unfilled { OnErr result (filled_of self.new ≡ filled_of self.old) }
         ensures err { OnErr result ((image : List Sector) → map_now self.new image ≡ map_now self.old image) }
         ensures capacity { (cache_of self.new).cap ≡ (cache_of self.old).cap }
-        ensures forgets { OnOk result (cache_of self.new ≡ forgotten page (cache_of self.old)) }
+        ensures forgets { OnOk result (cache_of self.new ≡ cache_without page (cache_of self.old)) }
         ensures cache { OnErr result (cache_of self.new ≡ cache_of self.old) }
-        ensures keeps { Keeps self.old self.new }
+        ensures keeps { KeepsCommitted self.old self.new }
         ensures cause { IsEditRefusal result }
         ensures spent { (result ≡ Err PagesError.Spent) ↔ (is_spent self.old ≡ true) }
     {
@@ -427,9 +427,9 @@ impl PageMap {
         ensures unfilled { OnErr result (filled_of self.new ≡ filled_of self.old) }
         ensures err { OnErr result ((image : List Sector) → map_now self.new image ≡ map_now self.old image) }
         ensures capacity { (cache_of self.new).cap ≡ (cache_of self.old).cap }
-        ensures forgets { OnOk result (cache_of self.new ≡ forgotten page (cache_of self.old)) }
+        ensures forgets { OnOk result (cache_of self.new ≡ cache_without page (cache_of self.old)) }
         ensures cache { OnErr result (cache_of self.new ≡ cache_of self.old) }
-        ensures keeps { Keeps self.old self.new }
+        ensures keeps { KeepsCommitted self.old self.new }
         ensures cause { IsEditRefusal result }
         ensures spent { (result ≡ Err PagesError.Spent) ↔ (is_spent self.old ≡ true) }
     {
@@ -455,9 +455,9 @@ impl PageMap {
         ensures unfilled { OnErr result (filled_of self.new ≡ filled_of self.old) }
         ensures err { OnErr result ((image : List Sector) → map_now self.new image ≡ map_now self.old image) }
         ensures capacity { (cache_of self.new).cap ≡ (cache_of self.old).cap }
-        ensures forgets { OnOk result (cache_of self.new ≡ forgotten page (cache_of self.old)) }
+        ensures forgets { OnOk result (cache_of self.new ≡ cache_without page (cache_of self.old)) }
         ensures cache { OnErr result (cache_of self.new ≡ cache_of self.old) }
-        ensures keeps { Keeps self.old self.new }
+        ensures keeps { KeepsCommitted self.old self.new }
         ensures cause { IsOkUnless result PagesError.Memory }
     {
         reserve_change(&mut self.changes, &mut self.places)?;
@@ -479,7 +479,7 @@ impl PageMap {
         // At each moment a crash leaves the map of the last commit, or this one.
         ensures moments { D.is_honest device.old → Agrees self.old (D.state device.old).disk →
             Through (D.history device.old) (D.history device.new) (D.state device.new)
-            (CrashLeaves (D.state device.old).events (BeforeOrAfter (map_of (D.state device.old).disk.present (committed_of self.old)) (advanced (map_now self.old (D.state device.old).disk.present)))) }
+            (CrashLeaves (D.state device.old).events (BeforeOrAfter (map_of (D.state device.old).disk.present (committed_of self.old)) (next_generation (map_now self.old (D.state device.old).disk.present)))) }
 
         // After `Ok` the disk holds this one.
         ensures agrees { D.is_honest device.old → Agrees self.old (D.state device.old).disk → OnOk result (Agrees self.new (D.state device.new).disk) }
@@ -490,7 +490,7 @@ impl PageMap {
         ensures unspent { OnOk result (is_spent self.new ≡ false) }
 
         // Where something was changed, it is the map of the next generation, and else nothing is other than before.
-        ensures advances { D.is_honest device.old → Agrees self.old (D.state device.old).disk → HasChanges self.old → OnOk result (map_now self.new (D.state device.new).disk.present ≡ advanced (map_now self.old (D.state device.old).disk.present)) }
+        ensures advances { D.is_honest device.old → Agrees self.old (D.state device.old).disk → HasChanges self.old → OnOk result (map_now self.new (D.state device.new).disk.present ≡ next_generation (map_now self.old (D.state device.old).disk.present)) }
         ensures rests { (HasChanges self.old → ⊥) → is_spent self.old ≡ false → self.new ≡ self.old }
 
         // With nothing changed nothing is done.

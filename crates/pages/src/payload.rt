@@ -1,7 +1,7 @@
 //! The root sector of a volume of pages.
 ghost use Rattle.std.specs.Prelude.{◌≡◌, ◌<◌, ◌≤◌, ◌+◌, ◌*◌, ◌^◌, length, drop};
 ghost use Rattle.roots.specs.Root.{put_at};
-ghost use Rattle.pages.specs.Layout.{words, spelled, map_count};
+ghost use Rattle.pages.specs.Layout.{words, number_bytes, map_count};
 ghost use Rattle.pages.specs.Payload.{payload_words, SpellsRoot};
 ghost use Rattle.pages.specs.Volumes.{volume_of};
 
@@ -14,25 +14,6 @@ pub(crate) const MARK: [u8; 8] = *b"COBVOL01";
 
 /// The mark of the other format.
 pub(crate) const FOREIGN_MARK: [u8; 8] = *b"COBHALF1";
-
-/// Spells numbers from this byte of a root sector on.
-fn put_numbers(bytes: &mut [u8; 4096], at: usize, numbers: &[u32])
-    requires { at + 4 * length numbers.now ≤ 4096 }
-    ensures { bytes.new ≡ put_at at (spelled numbers.now) bytes.old }
-{
-    BigEndian::write_u32_into(numbers, &mut bytes[at..at + 4 * numbers.len()]);
-}
-
-/// A sector with a payload behind what stands in front of it: the catalog's page, the number of map sectors, these, and zeros.
-fn payload_bytes(catalog: u32, maps: &[u32]) -> [u8; 4096]
-    requires { length maps.now ≤ 900 }
-    ensures { words (drop 20 result) ≡ payload_words catalog maps.now }
-{
-    let mut bytes = [0; 4096];
-    put_numbers(&mut bytes, PAYLOAD_AT, &[catalog, maps.len() as u32]);
-    put_numbers(&mut bytes, PAYLOAD_AT + 8, maps);
-    bytes
-}
 
 /// The bytes of a root sector.
 pub(crate) fn root_bytes_with(
@@ -66,4 +47,23 @@ pub(crate) fn root_bytes_of(volume: &VolumeMap) -> [u8; 4096]
         volume.catalog,
         &volume.maps,
     )
+}
+
+/// Spells numbers from this byte of a root sector on.
+fn put_numbers(bytes: &mut [u8; 4096], at: usize, numbers: &[u32])
+    requires { at + 4 * length numbers.now ≤ 4096 }
+    ensures { bytes.new ≡ put_at at (number_bytes numbers.now) bytes.old }
+{
+    BigEndian::write_u32_into(numbers, &mut bytes[at..at + 4 * numbers.len()]);
+}
+
+/// A sector with a payload behind what stands in front of it: the catalog's page, the number of map sectors, these, and zeros.
+fn payload_bytes(catalog: u32, maps: &[u32]) -> [u8; 4096]
+    requires { length maps.now ≤ 900 }
+    ensures { words (drop 20 result) ≡ payload_words catalog maps.now }
+{
+    let mut bytes = [0; 4096];
+    put_numbers(&mut bytes, PAYLOAD_AT, &[catalog, maps.len() as u32]);
+    put_numbers(&mut bytes, PAYLOAD_AT + 8, maps);
+    bytes
 }

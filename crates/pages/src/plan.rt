@@ -5,12 +5,12 @@ ghost use Rattle.pages.specs.Errors.{IsPlanError};
 ghost use Rattle.pages.specs.Plan.{IsPlan};
 ghost use Rattle.pages.specs.Image.{NamesOnce};
 ghost use Rattle.pages.specs.Changes.{changed_pages};
-ghost use Rattle.pages.specs.Needed.{IsShort, needed};
-ghost use Rattle.pages.specs.Use.{turned};
+ghost use Rattle.pages.specs.Needed.{LacksSectors, needed_sectors};
+ghost use Rattle.pages.specs.Use.{use_after};
 ghost use Rattle.pages.specs.Volumes.{volume_of, IsSound, IsSoundAfter, SameSize, IsNext, IsFresh, MayStart, AreAscending, unused_count};
 
 use crate::change::Change;
-use crate::draft::{Draft, Turn};
+use crate::draft::{Draft, UseChange};
 use crate::error::PagesError;
 use crate::sector_use::SectorUse;
 use crate::stage::{stage_changes, stage_maps};
@@ -32,6 +32,54 @@ const BEHIND: u32 = 8;
 
 /// How far the next search is from one that found nothing.
 const STEP: u32 = 256;
+
+/// The next volume, with these changes and this page of the catalog's root.
+pub(crate) fn next_volume<'a>(
+    alloc: Global,
+    volume: &mut VolumeMap,
+    changes: &'a [Change],
+    catalog: u32,
+) -> Result<Draft<'a>, PagesError>
+    requires sound { IsSound volume.old }
+    requires pages { All (λ c. (0 < c.page) × (c.page < length volume.old.table)) changes.now }
+    requires once { NamesOnce (changed_pages changes.now) }
+    ensures cause { IsPlanError result }
+    ensures plan { IfOk result (λ draft. IsPlan (volume_of volume.old) (volume_of volume.new) draft.blocks.items changes.now) }
+    ensures sectors { volume.new.sectors ≡ volume.old.sectors }
+    ensures next { OnOk result (IsNext volume.old volume.new catalog) }
+    ensures sound { IfOk result (λ draft. IsSoundAfter volume.new draft.turns.items) }
+    ensures full { result ≡ Err PagesError.Full → LacksSectors (volume_of volume.old) changes.now }
+    ensures room { OnOk result (¬ (LacksSectors (volume_of volume.old) changes.now)) }
+
+    // Each changed page and each changed map sector is written once, in ascending sectors.
+    ensures blocks { IfOk result (λ draft. AreAscending draft.blocks.items × (length draft.blocks.items ≡ needed_sectors (volume_of volume.old) changes.now)) }
+{
+    if volume.generation + 1 >= GENERATIONS {
+        return Err(PagesError::Full);
+    }
+    let start = start_of(volume, changes.len());
+    let mut draft = fresh_draft(alloc, volume.maps.len(), start.sector)?;
+    stage_changes(volume, &mut draft, changes)?;
+    stage_maps(alloc, volume, &mut draft)?;
+    volume.generation += 1;
+    volume.catalog = catalog;
+    volume.near = volume.last_start;
+    volume.last_start = start.near;
+    Ok(draft)
+}
+
+/// Marks the sectors whose use changed.
+pub(crate) fn mark_turns(used: &mut SectorUse, free: &mut u32, turns: &[UseChange])
+    requires low { All (λ t. t.sector < length used.old) turns.now }
+    requires few { length used.old < 2 ^ 32 }
+    requires free { free.old ≡ unused_count used.old }
+    ensures used { used.new ≡ use_after used.old turns.now }
+    ensures free { free.new ≡ unused_count used.new }
+{
+    for turn in turns {
+        mark_turn(used, free, *turn);
+    }
+}
 
 /// Where the blocks of a commit begin, and around which sector the commit behind the next one looks.
 #[derive(Clone, Copy)]
@@ -95,43 +143,8 @@ fn fresh_draft<'a>(alloc: Global, maps: usize, start: u32) -> Result<Draft<'a>, 
     })
 }
 
-/// The next volume, with these changes and this page of the catalog's root.
-pub(crate) fn next_volume<'a>(
-    alloc: Global,
-    volume: &mut VolumeMap,
-    changes: &'a [Change],
-    catalog: u32,
-) -> Result<Draft<'a>, PagesError>
-    requires sound { IsSound volume.old }
-    requires pages { All (λ c. (0 < c.page) × (c.page < length volume.old.table)) changes.now }
-    requires once { NamesOnce (changed_pages changes.now) }
-    ensures cause { IsPlanError result }
-    ensures plan { IfOk result (λ draft. IsPlan (volume_of volume.old) (volume_of volume.new) draft.blocks.items changes.now) }
-    ensures sectors { volume.new.sectors ≡ volume.old.sectors }
-    ensures next { OnOk result (IsNext volume.old volume.new catalog) }
-    ensures sound { IfOk result (λ draft. IsSoundAfter volume.new draft.turns.items) }
-    ensures full { result ≡ Err PagesError.Full → IsShort (volume_of volume.old) changes.now }
-    ensures room { OnOk result (¬ (IsShort (volume_of volume.old) changes.now)) }
-
-    // Each changed page and each changed map sector is written once, in ascending sectors.
-    ensures blocks { IfOk result (λ draft. AreAscending draft.blocks.items × (length draft.blocks.items ≡ needed (volume_of volume.old) changes.now)) }
-{
-    if volume.generation + 1 >= GENERATIONS {
-        return Err(PagesError::Full);
-    }
-    let start = start_of(volume, changes.len());
-    let mut draft = fresh_draft(alloc, volume.maps.len(), start.sector)?;
-    stage_changes(volume, &mut draft, changes)?;
-    stage_maps(alloc, volume, &mut draft)?;
-    volume.generation += 1;
-    volume.catalog = catalog;
-    volume.near = volume.last_start;
-    volume.last_start = start.near;
-    Ok(draft)
-}
-
 /// Marks a sector whose use changed.
-fn mark_turn(used: &mut SectorUse, free: &mut u32, turn: Turn)
+fn mark_turn(used: &mut SectorUse, free: &mut u32, turn: UseChange)
     requires low { turn.sector < length used.old }
     requires few { length used.old < 2 ^ 32 }
     requires free { free.old ≡ unused_count used.old }
@@ -144,18 +157,5 @@ fn mark_turn(used: &mut SectorUse, free: &mut u32, turn: Turn)
     used.set(turn.sector, turn.used);
     if turn.used {
         *free -= 1;
-    }
-}
-
-/// Marks the sectors whose use changed.
-pub(crate) fn mark_turns(used: &mut SectorUse, free: &mut u32, turns: &[Turn])
-    requires low { All (λ t. t.sector < length used.old) turns.now }
-    requires few { length used.old < 2 ^ 32 }
-    requires free { free.old ≡ unused_count used.old }
-    ensures used { used.new ≡ turned used.old turns.now }
-    ensures free { free.new ≡ unused_count used.new }
-{
-    for turn in turns {
-        mark_turn(used, free, *turn);
     }
 }

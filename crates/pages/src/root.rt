@@ -4,7 +4,7 @@ ghost use Rattle.std.specs.List.{list_all};
 ghost use Rattle.station.specs.Calls.{OnlyReads};
 ghost use Rattle.pages.specs.Layout.{words, map_count, newest, volume_root, beside, VolumeRoot};
 ghost use Rattle.pages.specs.Found.{found_root, IsFoundWithin};
-ghost use Rattle.pages.specs.Errors.{Refuses, IsOpenError};
+ghost use Rattle.pages.specs.Errors.{RefusesImage, IsOpenError};
 
 use crate::error::PagesError;
 use crate::payload::{FOREIGN_MARK, MARK};
@@ -84,7 +84,7 @@ pub(crate) fn read_root<D: Device>(alloc: Global, device: &mut D) -> Result<Foun
     ensures only { OnlyReads D.Device (result ≡ Err PagesError.Device) device.old device.new }
     ensures root { D.is_honest device.old → IfOk result (λ root. newest (D.state device.old).disk.present ≡ Some (found_root root)) }
     ensures within { IfOk result (λ root. IsFoundWithin (D.sectors device.old) root) }
-    ensures refused { D.is_honest device.old → IfErr result (λ error. Refuses (D.state device.old).disk.present error) }
+    ensures refused { D.is_honest device.old → IfErr result (λ error. RefusesImage (D.state device.old).disk.present error) }
     ensures cause { IsOpenError result }
 {
     let roots = read_roots(device, &[MARK, FOREIGN_MARK], 1)?;

@@ -1,6 +1,6 @@
 //! Which sectors of a volume are used.
 ghost use Rattle.std.specs.Prelude.{◌≡◌, ◌<◌, ◌≤◌, ◌+◌, ◌*◌, ◌==◌, count_by, ℕ, false, true, if◌then◌else◌, length, slice_index_or, IfOk, IfSome, IfNone};
-ghost use Rattle.pages.specs.Runs.{marked, unused_below, unused_count, AreRuns};
+ghost use Rattle.pages.specs.Runs.{used_flags, unused_below, unused_count, AreRuns};
 
 use crate::volume::count_free;
 use memchr::memchr;
@@ -25,13 +25,13 @@ pub(crate) struct SectorUse {
 
 impl Model for SectorUse {
     ghost use Rattle.std.specs.Prelude.{Bool, List};
-    ghost use Rattle.pages.specs.Runs.{marked, AreRuns};
+    ghost use Rattle.pages.specs.Runs.{used_flags, AreRuns};
 
     ghost Value = { List Bool };
 
-    ghost view = { λ sectors. marked sectors.used.items };
+    ghost view = { λ sectors. used_flags sectors.used.items };
 
-    ghost invariant = { λ sectors. AreRuns (marked sectors.used.items) sectors.unused.items };
+    ghost invariant = { λ sectors. AreRuns (used_flags sectors.used.items) sectors.unused.items };
 }
 
 /// How many sectors of a run aren't used.
@@ -71,7 +71,7 @@ fn turned_count(count: u32, was: bool, used: bool) -> u32
 
 /// For each sector the byte that marks it as used, or as not.
 fn mark_bytes(alloc: Global, used: &[bool]) -> Result<Vec<u8>, AllocError>
-    ensures { IfOk result (λ bytes. marked bytes.items ≡ used.now) }
+    ensures { IfOk result (λ bytes. used_flags bytes.items ≡ used.now) }
 {
     used.iter().map(|used| u8::from(*used)).collect(alloc)
 }
@@ -80,9 +80,9 @@ fn mark_bytes(alloc: Global, used: &[bool]) -> Result<Vec<u8>, AllocError>
 fn first_unused(used: &[u8], start: usize, end: usize) -> Option<u32>
     requires few { length used.now ≤ 921600 }
     requires end { end ≤ length used.now }
-    ensures found { IfSome result (λ s. (start ≤ s) × (s < end) × (slice_index_or (marked used.now) s false ≡ false)) }
-    ensures first { IfSome result (λ s. (t : ℕ) → start ≤ t → t < s → slice_index_or (marked used.now) t false ≡ true) }
-    ensures full { IfNone result ((t : ℕ) → start ≤ t → t < end → slice_index_or (marked used.now) t false ≡ true) }
+    ensures found { IfSome result (λ s. (start ≤ s) × (s < end) × (slice_index_or (used_flags used.now) s false ≡ false)) }
+    ensures first { IfSome result (λ s. (t : ℕ) → start ≤ t → t < s → slice_index_or (used_flags used.now) t false ≡ true) }
+    ensures full { IfNone result ((t : ℕ) → start ≤ t → t < end → slice_index_or (used_flags used.now) t false ≡ true) }
 {
     let sectors = used.get(start..end)?;
     let place = memchr(UNUSED, sectors)?;
@@ -91,11 +91,11 @@ fn first_unused(used: &[u8], start: usize, end: usize) -> Option<u32>
 
 /// The first sector of a run, and from this one on, that isn't used.
 fn unused_in_run(used: &[u8], counts: &[u32], from: usize, run: usize) -> Option<u32>
-    requires runs { AreRuns (marked used.now) counts.now }
+    requires runs { AreRuns (used_flags used.now) counts.now }
     requires run { run < length counts.now }
-    ensures found { IfSome result (λ s. (from ≤ s) × (1024 * run ≤ s) × (s < length used.now) × (slice_index_or (marked used.now) s false ≡ false)) }
-    ensures first { IfSome result (λ s. (t : ℕ) → from ≤ t → 1024 * run ≤ t → t < s → slice_index_or (marked used.now) t false ≡ true) }
-    ensures full { IfNone result ((t : ℕ) → from ≤ t → 1024 * run ≤ t → t < 1024 * run + 1024 → t < length used.now → slice_index_or (marked used.now) t false ≡ true) }
+    ensures found { IfSome result (λ s. (from ≤ s) × (1024 * run ≤ s) × (s < length used.now) × (slice_index_or (used_flags used.now) s false ≡ false)) }
+    ensures first { IfSome result (λ s. (t : ℕ) → from ≤ t → 1024 * run ≤ t → t < s → slice_index_or (used_flags used.now) t false ≡ true) }
+    ensures full { IfNone result ((t : ℕ) → from ≤ t → 1024 * run ≤ t → t < 1024 * run + 1024 → t < length used.now → slice_index_or (used_flags used.now) t false ≡ true) }
 {
     if counts[run] == 0 {
         return None;
@@ -134,7 +134,7 @@ fn count_bytes(used: &[u8]) -> usize
 
 /// How many sectors from one place on and before another aren't used.
 fn count_between(used: &[u8], start: usize, end: usize) -> usize
-    ensures { unused_below (marked used.now) start + result ≤ unused_count (marked used.now) }
+    ensures { unused_below (used_flags used.now) start + result ≤ unused_count (used_flags used.now) }
 {
     match used.get(start..end) {
         Some(sectors) => count_bytes(sectors),

@@ -5,7 +5,7 @@ ghost use Rattle.pages.specs.declared.change.Change.{Change};
 ghost use Rattle.pages.specs.Image.{Volume, NamesOnce, map_part};
 ghost use Rattle.pages.specs.Use.{free_count};
 ghost use Rattle.pages.specs.Changes.{changed_pages};
-ghost use Rattle.pages.specs.Needed.{filled, written_below};
+ghost use Rattle.pages.specs.Needed.{filled_count, written_below};
 ghost use Rattle.pages.specs.Errors.{IsPlanError};
 ghost use Rattle.pages.specs.Volumes.{unused_below, IsDraft, IsMappedDraft, IsCounted, SameSize, ReleasesPage};
 
@@ -34,7 +34,7 @@ pub(crate) fn stage_change<'a>(
     ensures changed_maps { OnOk result (length draft.new.changed_maps.items ≡ length draft.old.changed_maps.items) }
     ensures staged { (v : Volume) (changes : List Change) → 0 < change.now.page → IsDraft v volume.old draft.old changes → OnOk result (IsDraft v volume.new draft.new (changes ++ change.now ∷ [])) }
     ensures counted { (v : Volume) (changes : List Change) (maps : ℕ) → All (λ c. c.page ≢ change.now.page) changes → IsCounted v volume.old draft.old changes maps → OnOk result (IsCounted v volume.new draft.new (changes ++ change.now ∷ []) maps) }
-    ensures full { (v : Volume) (changes : List Change) (maps : ℕ) → IsCounted v volume.old draft.old changes maps → result ≡ Err PagesError.Full → (is_some change.now.bytes ≡ true) × (free_count v ≡ unused_below volume.old.used draft.old.start + (filled changes + maps)) }
+    ensures full { (v : Volume) (changes : List Change) (maps : ℕ) → IsCounted v volume.old draft.old changes maps → result ≡ Err PagesError.Full → (is_some change.now.bytes ≡ true) × (free_count v ≡ unused_below volume.old.used draft.old.start + (filled_count changes + maps)) }
 {
     let page = change.page as usize;
     match &change.bytes {
@@ -82,7 +82,7 @@ pub(crate) fn stage_changes<'a>(
     ensures changed_maps { OnOk result (length draft.new.changed_maps.items ≡ length draft.old.changed_maps.items) }
     ensures staged { (v : Volume) → IsDraft v volume.old draft.old [] → OnOk result (IsDraft v volume.new draft.new changes.now) }
     ensures counted { (v : Volume) → NamesOnce (changed_pages changes.now) → IsCounted v volume.old draft.old [] 0 → OnOk result (IsCounted v volume.new draft.new changes.now 0) }
-    ensures full { (v : Volume) → NamesOnce (changed_pages changes.now) → IsCounted v volume.old draft.old [] 0 → result ≡ Err PagesError.Full → free_count v < unused_below volume.old.used draft.old.start + filled changes.now }
+    ensures full { (v : Volume) → NamesOnce (changed_pages changes.now) → IsCounted v volume.old draft.old [] 0 → result ≡ Err PagesError.Full → free_count v < unused_below volume.old.used draft.old.start + filled_count changes.now }
 {
     for change in changes {
         stage_change(volume, draft, change)?;
@@ -115,7 +115,7 @@ pub(crate) fn stage_map(
     ensures changed_maps { OnOk result (draft.new.changed_maps ≡ draft.old.changed_maps) }
     ensures mapped { (v : Volume) (changes : List Change) → IsMappedDraft v volume.old draft.old changes map → OnOk result (IsMappedDraft v volume.new draft.new changes (map + 1)) }
     ensures counted { (v : Volume) (changes : List Change) → IsCounted v volume.old draft.old changes (written_below v changes map) → OnOk result (IsCounted v volume.new draft.new changes (written_below v changes (map + 1))) }
-    ensures full { (v : Volume) (changes : List Change) → IsCounted v volume.old draft.old changes (written_below v changes map) → result ≡ Err PagesError.Full → free_count v < unused_below volume.old.used draft.old.start + (filled changes + written_below v changes (map + 1)) }
+    ensures full { (v : Volume) (changes : List Change) → IsCounted v volume.old draft.old changes (written_below v changes map) → result ≡ Err PagesError.Full → free_count v < unused_below volume.old.used draft.old.start + (filled_count changes + written_below v changes (map + 1)) }
 {
     if !draft.changed_maps[map] {
         return Ok(());
@@ -143,7 +143,7 @@ pub(crate) fn stage_maps(
     ensures size { OnOk result (SameSize volume.old volume.new) }
     ensures mapped { (v : Volume) (changes : List Change) → IsMappedDraft v volume.old draft.old changes 0 → OnOk result (IsMappedDraft v volume.new draft.new changes (length volume.old.maps.items)) }
     ensures counted { (v : Volume) (changes : List Change) → IsCounted v volume.old draft.old changes 0 → OnOk result (IsCounted v volume.new draft.new changes (written_below v changes (length volume.old.maps.items))) }
-    ensures full { (v : Volume) (changes : List Change) → IsCounted v volume.old draft.old changes 0 → result ≡ Err PagesError.Full → free_count v < unused_below volume.old.used draft.old.start + (filled changes + written_below v changes (length volume.old.maps.items)) }
+    ensures full { (v : Volume) (changes : List Change) → IsCounted v volume.old draft.old changes 0 → result ≡ Err PagesError.Full → free_count v < unused_below volume.old.used draft.old.start + (filled_count changes + written_below v changes (length volume.old.maps.items)) }
 {
     for map in 0..volume.maps.len() {
         stage_map(alloc, volume, draft, map)?;

@@ -1,6 +1,6 @@
 //! The sector of each page, beside the bytes of the map sectors that tell it.
 ghost use Rattle.std.specs.Prelude.{◌≡◌, ◌<◌, ◌≤◌, ◌+◌, ◌*◌, length, IfOk};
-ghost use Rattle.pages.specs.Layout.{words, spelled};
+ghost use Rattle.pages.specs.Layout.{words, number_bytes};
 ghost use Rattle.pages.specs.Image.{map_part};
 ghost use Rattle.pages.specs.Table.{AreSpelled};
 
@@ -90,7 +90,7 @@ impl SectorTable {
     /// What a map sector spells.
     pub(crate) fn map_bytes(&self, map: usize) -> &[u8; 4096]
         requires { 1024 * map + 1024 ≤ length self.now }
-        ensures bytes { result.now ≡ spelled (map_part self.now map) }
+        ensures bytes { result.now ≡ number_bytes (map_part self.now map) }
         ensures reads { words result.now ≡ map_part self.now map }
     {
         &self.maps[map]

@@ -8,9 +8,9 @@ use Rattle.picture.specs.declared.run.Run.{Run}
 use Rattle.picture.specs.declared.symbol.Symbol.{Symbol}
 use Rattle.picture.specs.declared.symbol.Symbol.TheVariants as s
 use Rattle.std.specs.Char.{to_ascii_uppercase}
-use Rattle.picture.specs.Runs.{total}
-use Rattle.picture.specs.Text.{opening, closing, is_digit, number_from, AreDigits, Times, InParentheses, Repeats, Pair, Writes, Spells}
-use Rattle.picture.specs.Spelling.{decimal, behind, count_most, can_repeat, letters, spelling, spelling_of, fit_in}
+use Rattle.picture.specs.Runs.{symbol_count}
+use Rattle.picture.specs.Text.{left_parenthesis, right_parenthesis, is_digit, number_from, AreDigits, Times, InParentheses, Repeats, Pair, Writes, SpellsRuns}
+use Rattle.picture.specs.Spelling.{decimal, repeat_count_text, count_most, can_repeat, letters, run_text, spelling_of, fit_in}
 use Rattle.picture.proofs.Numbers.{below_power, one_more}
 
 split : (a b : Bool) → (a && b) ≡ true → (a ≡ true) × (b ≡ true)
@@ -93,7 +93,7 @@ number_below v (digit ∷ more) h =
 -- ---- counts
 
 Short : ℕ → List ℕ → Type 0
-Short count text = (1 ≤ count) × (count < 10 ^ 27) × (length (behind count) ≤ length text)
+Short count text = (1 ≤ count) × (count < 10 ^ 27) × (length (repeat_count_text count) ≤ length text)
 
 parentheses_short : (count : ℕ) (text : List ℕ) → InParentheses count text → length text ≤ 29 → Short count text
 unfolding Short
@@ -103,7 +103,7 @@ parentheses_short count text h most = go (count == 1)
     digits = h.0
 
     long : length text ≡ 2 + length digits
-    long = omega (arith, ap length h.1, length-append digits (closing ∷ []))
+    long = omega (arith, ap length h.1, length-append digits (right_parenthesis ∷ []))
 
     below : count < 10 ^ length digits
     below = let n = number_below 0 digits h.2 in let e = h.3 in omega arith
@@ -115,35 +115,35 @@ parentheses_short count text h most = go (count == 1)
         some_digit [] e = let one = h.4 in absurd (omega arith)
         some_digit (digit ∷ more) e = omega arith
 
-    go : (b : Bool) → (1 ≤ count) × (count < 10 ^ 27) × (length (if b then [] else opening ∷ (decimal 27 count ++ closing ∷ [])) ≤ length text)
+    go : (b : Bool) → (1 ≤ count) × (count < 10 ^ 27) × (length (if b then [] else left_parenthesis ∷ (decimal 27 count ++ right_parenthesis ∷ [])) ≤ length text)
     go b = (h.4, (let p = pow-le-pow_right {n = 10} (lit< tt) (let e : length digits ≤ 27 = omega (arith, long) in e) in omega (arith, below, p)), inner b)
       where
-        inner : (b : Bool) → length (if b then [] else opening ∷ (decimal 27 count ++ closing ∷ [])) ≤ length text
+        inner : (b : Bool) → length (if b then [] else left_parenthesis ∷ (decimal 27 count ++ right_parenthesis ∷ [])) ≤ length text
         inner true = omega arith
-        inner false = omega (arith, long, decimal_short 27 (length digits) count some below, length-append (decimal 27 count) (closing ∷ []))
+        inner false = omega (arith, long, decimal_short 27 (length digits) count some below, length-append (decimal 27 count) (right_parenthesis ∷ []))
 
 times_short : (count : ℕ) (text : List ℕ) → Times count text → length text ≤ 29 → Short count text
 unfolding Short
-times_short count text (inl (none, one)) most = subst (λ n. (1 ≤ n) × (n < 10 ^ 27) × (length (behind n) ≤ length text)) (sym one) (lit≤ tt, lit< tt, omega arith)
+times_short count text (inl (none, one)) most = subst (λ n. (1 ≤ n) × (n < 10 ^ 27) × (length (repeat_count_text n) ≤ length text)) (sym one) (lit≤ tt, lit< tt, omega arith)
 times_short count text (inr h) most = parentheses_short count text h most
 
-times_told : (count : ℕ) → 1 ≤ count → count < 10 ^ 27 → Times count (behind count)
+times_told : (count : ℕ) → 1 ≤ count → count < 10 ^ 27 → Times count (repeat_count_text count)
 times_told count h most = go (count == 1) refl
   where
-    go : (b : Bool) → (count == 1) ≡ b → Times count (if b then [] else opening ∷ (decimal 27 count ++ closing ∷ []))
+    go : (b : Bool) → (count == 1) ≡ b → Times count (if b then [] else left_parenthesis ∷ (decimal 27 count ++ right_parenthesis ∷ []))
     go true is = inl (refl, eqb-true count 1 is)
     go false is = let d = is_decimal 27 count (lit≤ tt) most in inr (decimal 27 count, refl, d.digits, d.value, h)
 
 -- ---- symbols
 
 abbrev Least : Symbol → ℕ → List ℕ → Type 0
-Least x count text = (can_repeat x count ≡ true) × (length (letters x ++ behind count) ≤ length text)
+Least x count text = (can_repeat x count ≡ true) × (length (letters x ++ repeat_count_text count) ≤ length text)
 
 within : (count limit : ℕ) → 1 ≤ count → count < limit → (nat_le 1 count && nat_lt count limit) ≡ true
 within count limit h e = grind (arith, nat_tests)
 
 single : (c count : ℕ) (text : List ℕ) → Repeats c count text → length text ≤ 30
-    → ((nat_le 1 count && nat_lt count count_most) ≡ true) × (suc (length (behind count)) ≤ length text)
+    → ((nat_le 1 count && nat_lt count count_most) ≡ true) × (suc (length (repeat_count_text count)) ≤ length text)
 unfolding Short
 single c count text h most =
     let all = ap length h.2 in
@@ -157,8 +157,8 @@ pair : (first second count : ℕ) (text : List ℕ) → Pair first second count 
 pair first second count text h =
     (omega (arith, once first 1 h.1 h.4, once second 1 h.2 h.5, ap length h.3, length-append h.1 h.2), h.0)
 
-pair_least : (count : ℕ) (text : List ℕ) → (2 ≤ length text) × (count ≡ 1) → ((nat_le 1 count && nat_lt count 2) ≡ true) × (suc (suc (length (behind count))) ≤ length text)
-pair_least count text h = subst (λ n. ((nat_le 1 n && nat_lt n 2) ≡ true) × (suc (suc (length (behind n))) ≤ length text)) (sym h.1) (refl, h.0)
+pair_least : (count : ℕ) (text : List ℕ) → (2 ≤ length text) × (count ≡ 1) → ((nat_le 1 count && nat_lt count 2) ≡ true) × (suc (suc (length (repeat_count_text count))) ≤ length text)
+pair_least count text h = subst (λ n. ((nat_le 1 n && nat_lt n 2) ≡ true) × (suc (suc (length (repeat_count_text n))) ≤ length text)) (sym h.1) (refl, h.0)
 
 least : (x : Symbol) (count : ℕ) (text : List ℕ) → Writes x count text → length text ≤ 30 → Least x count text
 least s.A count text h most = single 65 count text h most
@@ -185,18 +185,18 @@ limits count limit e =
     let more = h.1 in
     (leb-true 1 count h.0, (let less : count < limit = grind (arith, nat_tests) in less))
 
-single_told : (c count : ℕ) → to_ascii_uppercase c ≡ c → (nat_le 1 count && nat_lt count count_most) ≡ true → Repeats c count (c ∷ behind count)
-single_told c count upper e = let h = limits count count_most e in (c, behind count, refl, upper, times_told count h.0 h.1)
+single_told : (c count : ℕ) → to_ascii_uppercase c ≡ c → (nat_le 1 count && nat_lt count count_most) ≡ true → Repeats c count (c ∷ repeat_count_text count)
+single_told c count upper e = let h = limits count count_most e in (c, repeat_count_text count, refl, upper, times_told count h.0 h.1)
 
 pair_told : (first second count : ℕ) → to_ascii_uppercase first ≡ first → to_ascii_uppercase second ≡ second → (nat_le 1 count && nat_lt count 2) ≡ true
-    → Pair first second count (first ∷ second ∷ behind count)
+    → Pair first second count (first ∷ second ∷ repeat_count_text count)
 pair_told first second count one two e =
     let h = limits count 2 e in
     let is : 1 ≡ count = omega arith in
-    subst (λ n. Pair first second n (first ∷ second ∷ behind n)) is
+    subst (λ n. Pair first second n (first ∷ second ∷ repeat_count_text n)) is
     (refl, first ∷ [], second ∷ [], refl, (first, [], refl, one, inl (refl, refl)), (second, [], refl, two, inl (refl, refl)))
 
-told : (x : Symbol) (count : ℕ) → can_repeat x count ≡ true → Writes x count (letters x ++ behind count)
+told : (x : Symbol) (count : ℕ) → can_repeat x count ≡ true → Writes x count (letters x ++ repeat_count_text count)
 told s.A count e = single_told 65 count refl e
 told s.X count e = single_told 88 count refl e
 told s.Nine count e = single_told 57 count refl e
@@ -218,25 +218,25 @@ told s.Db count e = pair_told 68 66 count refl refl e
 -- ---- runs
 
 -- Runs that fit are spelled by their text, and it fits.
-pub spelled : (room : ℕ) (runs : List Run) → fit_in room runs ≡ true → Spells runs (spelling_of runs) × (length (spelling_of runs) ≤ room)
+pub spelled : (room : ℕ) (runs : List Run) → fit_in room runs ≡ true → SpellsRuns runs (spelling_of runs) × (length (spelling_of runs) ≤ room)
 unfolding fit_in
 spelled room [] e = (refl, omega arith)
 spelled room (run ∷ more) e =
-    let both = split (can_repeat run.symbol run.count && nat_le (length (spelling run)) room) _ e in
-    let each = split (can_repeat run.symbol run.count) (nat_le (length (spelling run)) room) both.0 in
-    let rest = spelled (room - length (spelling run)) more both.1 in
-    let fits = leb-true (length (spelling run)) room each.1 in
-    ((spelling run, spelling_of more, refl, told run.symbol run.count each.0, rest.0), omega (arith, rest.1, length-append (spelling run) (spelling_of more)))
+    let both = split (can_repeat run.symbol run.count && nat_le (length (run_text run)) room) _ e in
+    let each = split (can_repeat run.symbol run.count) (nat_le (length (run_text run)) room) both.0 in
+    let rest = spelled (room - length (run_text run)) more both.1 in
+    let fits = leb-true (length (run_text run)) room each.1 in
+    ((run_text run, spelling_of more, refl, told run.symbol run.count each.0, rest.0), omega (arith, rest.1, length-append (run_text run) (spelling_of more)))
 
 -- Runs that a text spells fit where it does.
-pub spells_fit : (room : ℕ) (runs : List Run) (text : List ℕ) → room ≤ 30 → Spells runs text → length text ≤ room → fit_in room runs ≡ true
+pub spells_fit : (room : ℕ) (runs : List Run) (text : List ℕ) → room ≤ 30 → SpellsRuns runs text → length text ≤ room → fit_in room runs ≡ true
 unfolding fit_in
 spells_fit room [] text most h short = refl
 spells_fit room (run ∷ more) text most h short =
     let all = ap length h.2 ∙ length-append h.0 h.1 in
     let first = least run.symbol run.count h.0 h.3 (omega arith) in
     let fits = first.1 in
-    both_true (both_true first.0 (le-leb (length (spelling run)) room (omega arith))) (spells_fit (room - length (spelling run)) more h.1 (omega arith) h.4 (omega arith))
+    both_true (both_true first.0 (le-leb (length (run_text run)) room (omega arith))) (spells_fit (room - length (run_text run)) more h.1 (omega arith) h.4 (omega arith))
 
 at_least_one : (x : Symbol) (rest : List ℕ) → 1 ≤ length (letters x ++ rest)
 at_least_one s.Cr rest = omega arith
@@ -264,19 +264,19 @@ below_limit false count h = h
 pub count_below : (x : Symbol) (count : ℕ) → can_repeat x count ≡ true → count < 10 ^ 27
 count_below x count e = let h = limits count _ e in below_limit _ count h.1
 
-pub fit_total : (room : ℕ) (runs : List Run) → fit_in room runs ≡ true → total runs ≤ room * 10 ^ 27
-unfolding fit_in total
+pub fit_total : (room : ℕ) (runs : List Run) → fit_in room runs ≡ true → symbol_count runs ≤ room * 10 ^ 27
+unfolding fit_in symbol_count
 fit_total room [] e = omega arith
 fit_total room (run ∷ more) e =
-    let both = split (can_repeat run.symbol run.count && nat_le (length (spelling run)) room) _ e in
-    let each = split (can_repeat run.symbol run.count) (nat_le (length (spelling run)) room) both.0 in
-    let rest = fit_total (room - length (spelling run)) more both.1 in
-    let fits = leb-true (length (spelling run)) room each.1 in
-    let one = at_least_one run.symbol (behind run.count) in
+    let both = split (can_repeat run.symbol run.count && nat_le (length (run_text run)) room) _ e in
+    let each = split (can_repeat run.symbol run.count) (nat_le (length (run_text run)) room) both.0 in
+    let rest = fit_total (room - length (run_text run)) more both.1 in
+    let fits = leb-true (length (run_text run)) room each.1 in
+    let one = at_least_one run.symbol (repeat_count_text run.count) in
     let count = count_below run.symbol run.count each.0 in
     omega arith
 
-pub bounded : (b : Bool) (runs : List Run) → b ≡ fit_in 30 runs → IsTrue b → 2 * total runs < 2 ^ 128
+pub bounded : (b : Bool) (runs : List Run) → b ≡ fit_in 30 runs → IsTrue b → 2 * symbol_count runs < 2 ^ 128
 bounded true runs e h = let most = fit_total 30 runs (sym e) in omega arith
 bounded false runs e h = cc
 

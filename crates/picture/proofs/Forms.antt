@@ -10,9 +10,9 @@ use Rattle.picture.specs.declared.class.Class.{Class}
 use Rattle.picture.specs.declared.class.Class.TheVariants as c
 use Rattle.picture.specs.declared.symbol.Suppression.{Suppression}
 use Rattle.picture.specs.declared.symbol.Suppression.TheVariants as z
-use Rattle.picture.specs.Symbols.{is_floating_sign, least}
-use Rattle.picture.specs.Runs.{past, past_one, from_first, occurrences}
-use Rattle.picture.specs.Forms.{Part, ◌then◌, whole, stretch, numeric_arrangement, arrangement, decimals, HasDigits, IsEdited, digit_places, suppression_of}
+use Rattle.picture.specs.Symbols.{is_floating_sign, least_count}
+use Rattle.picture.specs.Runs.{runs_past, past_one, from_first, occurrences}
+use Rattle.picture.specs.Forms.{Part, ◌then◌, whole_picture, stretch, numeric_arrangement, arrangement, decimals, HasDigitPlaceCount, IsEdited, digit_places, suppression_of}
 use Rattle.picture.specs.Categories.{is_empty, kind_of, IsNumeric, IsArranged, HasForm}
 use Rattle.picture.specs.Deciding as d
 use Rattle.picture.proofs.Parts.{Steps, steps_then, steps_stretch, steps_optional}
@@ -27,13 +27,13 @@ empty_is : (runs : List Run) → is_empty runs ≡ true → runs ≡ []
 empty_is [] e = refl
 empty_is (run ∷ more) e = cc
 
-decides_whole : {p : Part} {f : List Run → List Run} → Steps p f → (runs : List Run) → Decides (is_empty (f runs)) (whole p runs)
+decides_whole : {p : Part} {f : List Run → List Run} → Steps p f → (runs : List Run) → Decides (is_empty (f runs)) (whole_picture p runs)
 decides_whole {p = p} {f = f} steps runs =
     ((λ e. subst (p runs) (empty_is (f runs) e) (steps.does runs)), (λ h. ap is_empty (steps.only runs [] h)))
 
 -- ---- digits
 
-decides_digits : (by : Suppression) (runs : List Run) → Decides (d.has_digits by runs) (HasDigits by runs)
+decides_digits : (by : Suppression) (runs : List Run) → Decides (d.has_digits by runs) (HasDigitPlaceCount by runs)
 unfolding d.has_digits
 decides_digits by runs = (
   (λ e. let h = split (nat_le 1 (digit_places by runs)) (nat_le (digit_places by runs) 18) e in (leb-true 1 (digit_places by runs) h.0, leb-true (digit_places by runs) 18 h.1)),
@@ -42,18 +42,18 @@ decides_digits by runs = (
 
 -- ---- the categories that are one stretch
 
-decides_only : (class : Class) (runs : List Run) → Decides (d.is_only class runs) (whole (stretch class) runs)
+decides_only : (class : Class) (runs : List Run) → Decides (d.is_only class runs) (whole_picture (stretch class) runs)
 unfolding d.is_only
 decides_only class runs = decides_whole (steps_stretch class) runs
 
 -- ---- numeric
 
 pub numeric_steps : Steps numeric_arrangement
-    (λ runs. past (c.Digits z.Nothing) (past_one c.AssumedPoint (past (c.Digits z.Nothing) (past_one c.OperationalSign runs))))
+    (λ runs. runs_past (c.Digits z.Nothing) (past_one c.AssumedPoint (runs_past (c.Digits z.Nothing) (past_one c.OperationalSign runs))))
 numeric_steps = steps_then (steps_optional c.OperationalSign) (steps_then (steps_stretch (c.Digits z.Nothing)) (steps_then (steps_optional c.AssumedPoint) (steps_stretch (c.Digits z.Nothing))))
 
-decides_numeric : (runs : List Run) → Decides (d.is_numeric runs) (IsNumeric runs)
-unfolding d.is_numeric d.is_only
+decides_numeric : (runs : List Run) → Decides (d.is_numeric_picture runs) (IsNumeric runs)
+unfolding d.is_numeric_picture d.is_only
 decides_numeric runs =
     let arranged = decides_whole numeric_steps runs in let digits = decides_digits z.Nothing runs in (
       (λ e. let h = split _ (d.has_digits z.Nothing runs) e in record { arranged = arranged.0 h.0; digits = digits.0 h.1 }),
@@ -63,14 +63,14 @@ decides_numeric runs =
 -- ---- numeric edited
 
 pub edited_steps : (by : Suppression) (runs : List Run) → Steps (arrangement by runs)
-    (λ from. past_one (c.TrailingSign by) (past (decimals by runs) (past_one c.Points (past c.NinesAndInsertions (past (c.SuppressedAndInsertions by)
+    (λ from. past_one (c.TrailingSign by) (runs_past (decimals by runs) (past_one c.Points (runs_past c.NinesAndInsertions (runs_past (c.SuppressedAndInsertions by)
     (past_one (c.FixedCurrency by) (past_one (c.LeadingSign by) from)))))))
 edited_steps by runs =
     steps_then (steps_optional (c.LeadingSign by)) (steps_then (steps_optional (c.FixedCurrency by))
     (steps_then (steps_stretch (c.SuppressedAndInsertions by)) (steps_then (steps_stretch c.NinesAndInsertions)
     (steps_then (steps_optional c.Points) (steps_then (steps_stretch (decimals by runs)) (steps_optional (c.TrailingSign by)))))))
 
-decides_arranged : (by : Suppression) (runs : List Run) → Decides (d.is_arranged by runs) (whole (arrangement by runs) runs)
+decides_arranged : (by : Suppression) (runs : List Run) → Decides (d.is_arranged by runs) (whole_picture (arrangement by runs) runs)
 unfolding d.is_arranged d.past_core
 decides_arranged by runs = decides_whole (edited_steps by runs) runs
 
@@ -90,7 +90,7 @@ decides_one_sign by runs = (
 )
 
 decides_before_point : (by : Suppression) (runs : List Run)
-    → Decides (d.begins_before_point by runs) (least by + occurrences (c.Suppressed by) (from_first c.Points runs) ≤ occurrences (c.Suppressed by) runs)
+    → Decides (d.begins_before_point by runs) (least_count by + occurrences (c.Suppressed by) (from_first c.Points runs) ≤ occurrences (c.Suppressed by) runs)
 unfolding d.begins_before_point
 decides_before_point by runs = ((λ e. leb-true _ _ e), (λ h. le-leb _ _ h))
 

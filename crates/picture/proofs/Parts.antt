@@ -2,9 +2,9 @@
 use Rattle.std.proofs.Common.{◌≡◌, Bool, true, false, if◌then◌else◌, List, [], ◌∷◌, ◌++◌, inl, inr, refl, ap, ◌∙◌}
 use Rattle.picture.specs.declared.run.Run.{Run}
 use Rattle.picture.specs.declared.class.Class.{Class}
-use Rattle.picture.specs.Symbols.{has}
-use Rattle.picture.specs.Runs.{past, past_one, is_one}
-use Rattle.picture.specs.Forms.{Part, ◌then◌, begins, is_in, Each, stretch, optional}
+use Rattle.picture.specs.Symbols.{class_has}
+use Rattle.picture.specs.Runs.{runs_past, past_one, is_one}
+use Rattle.picture.specs.Forms.{Part, ◌then◌, begins_with_run, is_in_class, Each, stretch, optional}
 
 pub record Steps (p : Part) (pass : List Run → List Run) : Type 0 where
   -- what is passed is the part
@@ -20,30 +20,30 @@ steps_then {f = f} {g = g} first second = record {
 
 -- ---- stretches
 
-past_stretch : (class : Class) (runs : List Run) → stretch class runs (past class runs)
-unfolding past
+past_stretch : (class : Class) (runs : List Run) → stretch class runs (runs_past class runs)
+unfolding runs_past
 past_stretch class [] = ([], refl, tt, refl)
-past_stretch class (run ∷ more) = go (has class run.symbol) refl (past_stretch class more)
+past_stretch class (run ∷ more) = go (class_has class run.symbol) refl (past_stretch class more)
   where
-    go : (b : Bool) → has class run.symbol ≡ b → stretch class more (past class more)
-        → stretch class (run ∷ more) (if b then past class more else run ∷ more)
+    go : (b : Bool) → class_has class run.symbol ≡ b → stretch class more (runs_past class more)
+        → stretch class (run ∷ more) (if b then runs_past class more else run ∷ more)
     go true e h = (run ∷ h.0, ap (λ l. run ∷ l) h.1, (e, h.2), h.3)
     go false e h = ([], refl, tt, e)
 
-past_rest : (class : Class) (rest : List Run) → begins (is_in class) rest ≡ false → past class rest ≡ rest
-unfolding past
+past_rest : (class : Class) (rest : List Run) → begins_with_run (is_in_class class) rest ≡ false → runs_past class rest ≡ rest
+unfolding runs_past
 past_rest class [] h = refl
 past_rest class (run ∷ more) h = rw h refl
 
-past_front : (class : Class) (front rest : List Run) → Each class front → begins (is_in class) rest ≡ false → past class (front ++ rest) ≡ rest
-unfolding past
+past_front : (class : Class) (front rest : List Run) → Each class front → begins_with_run (is_in_class class) rest ≡ false → runs_past class (front ++ rest) ≡ rest
+unfolding runs_past
 past_front class [] rest each stops = past_rest class rest stops
 past_front class (run ∷ front) rest each stops = rw each.0 (past_front class front rest each.1 stops)
 
-pub steps_stretch : (class : Class) → Steps (stretch class) (past class)
+pub steps_stretch : (class : Class) → Steps (stretch class) (runs_past class)
 steps_stretch class = record {
   does = past_stretch class;
-  only = λ from rest h. ap (past class) h.1 ∙ past_front class h.0 rest h.2 h.3;
+  only = λ from rest h. ap (runs_past class) h.1 ∙ past_front class h.0 rest h.2 h.3;
 }
 
 -- ---- optional symbols
@@ -57,7 +57,7 @@ one_passed class (run ∷ more) = go (is_one class run) refl
     go true e = inl (run, refl, e)
     go false e = inr (refl, e)
 
-pub none_passed : (class : Class) (rest : List Run) → begins (is_one class) rest ≡ false → past_one class rest ≡ rest
+pub none_passed : (class : Class) (rest : List Run) → begins_with_run (is_one class) rest ≡ false → past_one class rest ≡ rest
 unfolding past_one
 none_passed class [] h = refl
 none_passed class (run ∷ more) h = rw h refl

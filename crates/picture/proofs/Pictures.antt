@@ -15,13 +15,13 @@ use Rattle.picture.specs.declared.symbol.Suppression.TheVariants as z
 use Rattle.picture.specs.declared.fault.PictureError.{PictureError}
 use Rattle.picture.specs.declared.fault.PictureError.TheVariants as errors
 use Rattle.picture.specs.Faults.{fault_of, or_no_form}
-use Rattle.picture.specs.Symbols.{has, width, is_nine, is_by, is_floating, least}
-use Rattle.picture.specs.Runs.{from_first, occurrences, size_of, total}
-use Rattle.picture.specs.Forms.{Each, whole, stretch, IsEdited, digit_places, suppression_of}
+use Rattle.picture.specs.Symbols.{class_has, width, is_nine, is_by, is_floating, least_count}
+use Rattle.picture.specs.Runs.{from_first, occurrences, size_of, symbol_count}
+use Rattle.picture.specs.Forms.{Each, whole_picture, stretch, IsEdited, digit_places, suppression_of}
 use Rattle.picture.specs.Categories.{HasForm}
 use Rattle.picture.specs.Deciding.{category_of}
-use Rattle.picture.specs.Text.{Spells, runs_of}
-use Rattle.picture.specs.Pictures.{IsPicture, IsAnswer, IsAnyPicture, IsOfRuns, IsWithin, IsBounded, described, of_digits, of_characters, of_category, of_runs, of_form, picture_from, picture_of, scale_of}
+use Rattle.picture.specs.Text.{SpellsRuns, runs_of}
+use Rattle.picture.specs.Pictures.{IsPicture, IsAnswer, IsAnyPicture, IsOfRuns, IsWithinBounds, IsBounded, description_of, of_digits, of_characters, of_category, of_runs, of_form, picture_from, picture_of, scale_of}
 use Rattle.std.proofs.lemmas.Bool.{eqb-true}
 use Rattle.std.proofs.lemmas.List.{append-nil}
 use Rattle.picture.proofs.Divisions.{every_symbol, symbol_holds}
@@ -34,7 +34,7 @@ use Rattle.picture.proofs.Texts.{runs_spelled, runs_answered}
 
 -- ---- exact both ways
 
-is_described : (text : List ℕ) (category : Category) (runs : List Run) → length text ≤ 30 → Spells runs text → HasForm category runs → IsPicture text (described category runs)
+is_described : (text : List ℕ) (category : Category) (runs : List Run) → length text ≤ 30 → SpellsRuns runs text → HasForm category runs → IsPicture text (description_of category runs)
 unfolding of_digits of_characters
 is_described text k.Alphabetic runs short spelled form = record { short = short; spelled = spelled; form = form; told = refl }
 is_described text k.Alphanumeric runs short spelled form = record { short = short; spelled = spelled; form = form; told = refl }
@@ -116,20 +116,20 @@ nines [] = 0
 nines (run ∷ more) = (if is_nine run.symbol then run.count else 0) + nines more
 
 split_digits : (by : Suppression) (runs : List Run) → occurrences (c.Digits by) runs ≡ nines runs + occurrences (c.Suppressed by) runs
-unfolding occurrences has nines
+unfolding occurrences class_has nines
 split_digits by [] = refl
 split_digits by (run ∷ more) = let one = split_digit by run.symbol run.count in let h = split_digits by more in omega arith
 
 nines_rest : (runs : List Run) → nines (from_first c.Points runs) ≤ nines runs
 unfolding from_first nines
 nines_rest [] = omega arith
-nines_rest (run ∷ more) = go (has c.Points run.symbol) (nines_rest more)
+nines_rest (run ∷ more) = go (class_has c.Points run.symbol) (nines_rest more)
   where
     go : (b : Bool) → nines (from_first c.Points more) ≤ nines more → nines (if b then run ∷ more else from_first c.Points more) ≤ nines (run ∷ more)
     go true h = omega arith
     go false h = omega arith
 
-floats_two : (by : Suppression) → (if is_floating by then 1 else 0) ≤ least by
+floats_two : (by : Suppression) → (if is_floating by then 1 else 0) ≤ least_count by
 floats_two z.Nothing = omega arith
 floats_two z.Spaces = omega arith
 floats_two z.Asterisks = omega arith
@@ -148,10 +148,10 @@ scale_numeric : (runs : List Run) → scale_of z.Nothing runs ≤ digit_places z
 scale_numeric runs = let h = scale_within z.Nothing runs in omega arith
 
 abbrev HasWidth : Class → Type 0
-HasWidth class = (x : Symbol) → has class x ≡ true → width x ≡ 1
+HasWidth class = (x : Symbol) → class_has class x ≡ true → width x ≡ 1
 
 width_test : Class → Symbol → Bool
-width_test class x = not (has class x) || (width x == 1)
+width_test class x = not (class_has class x) || (width x == 1)
 
 tested : (a : Bool) (n : ℕ) → (not a || (n == 1)) ≡ true → a ≡ true → n ≡ 1
 tested true n e h = eqb-true n 1 e
@@ -159,32 +159,32 @@ tested false n e h = cc
 
 all_width : (class : Class) → every_symbol (width_test class) ≡ true → HasWidth class
 unfolding width_test
-all_width class h = λ x e. tested (has class x) (width x) (symbol_holds (width_test class) h x) e
+all_width class h = λ x e. tested (class_has class x) (width x) (symbol_holds (width_test class) h x) e
 
 letters_width : HasWidth c.Letters
-unfolding every_symbol width_test has
+unfolding every_symbol width_test class_has
 letters_width = all_width c.Letters refl
 
 alphanumeric_width : HasWidth c.Alphanumeric
-unfolding every_symbol width_test has
+unfolding every_symbol width_test class_has
 alphanumeric_width = all_width c.Alphanumeric refl
 
 edited_width : HasWidth c.AlphanumericEdited
-unfolding every_symbol width_test has
+unfolding every_symbol width_test class_has
 edited_width = all_width c.AlphanumericEdited refl
 
-front_size : (class : Class) → HasWidth class → (front : List Run) → Each class front → size_of front ≡ total front
-unfolding size_of total
+front_size : (class : Class) → HasWidth class → (front : List Run) → Each class front → size_of front ≡ symbol_count front
+unfolding size_of symbol_count
 front_size class wide [] each = refl
 front_size class wide (run ∷ more) each =
     let one = ap (λ w. w * run.count) (wide run.symbol each.0) in let rest = front_size class wide more each.1 in omega arith
 
 -- a picture of characters has a place for each symbol
-characters_size : (class : Class) → HasWidth class → (runs : List Run) → whole (stretch class) runs → size_of runs ≡ total runs
+characters_size : (class : Class) → HasWidth class → (runs : List Run) → whole_picture (stretch class) runs → size_of runs ≡ symbol_count runs
 characters_size class wide runs (front, e, each, stops) =
-    let is = e ∙ append-nil front in ap size_of is ∙ front_size class wide front each ∙ sym (ap total is)
+    let is = e ∙ append-nil front in ap size_of is ∙ front_size class wide front each ∙ sym (ap symbol_count is)
 
-within : (category : Category) (runs : List Run) → HasForm category runs → IsBounded (described category runs)
+within : (category : Category) (runs : List Run) → HasForm category runs → IsBounded (description_of category runs)
 unfolding of_digits of_characters
 within k.Alphabetic runs h = (refl, refl, characters_size c.Letters letters_width runs h.arranged)
 within k.Alphanumeric runs h = (refl, refl, characters_size c.Alphanumeric alphanumeric_width runs h.arranged)
@@ -200,7 +200,7 @@ bounds text picture h = subst IsBounded (sym h.told) (within picture.category pi
 
 -- ---- from runs
 
-runs_of_described : (category : Category) (runs : List Run) → (described category runs).runs ≡ runs
+runs_of_described : (category : Category) (runs : List Run) → (description_of category runs).runs ≡ runs
 unfolding of_digits of_characters
 runs_of_described k.Alphabetic runs = refl
 runs_of_described k.Alphanumeric runs = refl
@@ -252,7 +252,7 @@ from_only runs (Err (errors.Refused fault)) g picture h = let e = ap or_no_form 
 pub any_bounded : (picture : Description) → IsAnyPicture picture → IsBounded picture
 any_bounded picture h = bounds h.0 picture h.1
 
-bounded_digits : (category : Category) (picture : Description) → IsWithin category picture → (picture.digits ≤ 18) × (picture.scale ≤ picture.digits)
+bounded_digits : (category : Category) (picture : Description) → IsWithinBounds category picture → (picture.digits ≤ 18) × (picture.scale ≤ picture.digits)
 bounded_digits k.Alphabetic picture h = (omega arith, omega arith)
 bounded_digits k.Alphanumeric picture h = (omega arith, omega arith)
 bounded_digits k.AlphanumericEdited picture h = (omega arith, omega arith)

@@ -10,11 +10,11 @@ use Rattle.picture.specs.declared.symbol.Symbol.TheVariants as s
 use Rattle.picture.specs.declared.symbol.Suppression.{Suppression}
 use Rattle.picture.specs.Symbols.{width, is_floating}
 use Rattle.picture.specs.Runs.{size_of}
-use Rattle.picture.specs.Places.{shown, repeated, each_place, region_of, marked, places_of}
+use Rattle.picture.specs.Places.{symbol_places, repeated_places, each_place, region_of, places_with_floating, places_of}
 
 -- ---- as many places as the size tells
 
-length-shown : (by : Suppression) (x : Symbol) → length (shown by x) ≡ width x
+length-shown : (by : Suppression) (x : Symbol) → length (symbol_places by x) ≡ width x
 length-shown by s.A = refl
 length-shown by s.X = refl
 length-shown by s.Nine = refl
@@ -33,21 +33,21 @@ length-shown by s.Currency = refl
 length-shown by s.Cr = refl
 length-shown by s.Db = refl
 
-length-repeated : (n : ℕ) (places : List Place) → length (repeated n places) ≡ length places * n
-unfolding repeated
+length-repeated : (n : ℕ) (places : List Place) → length (repeated_places n places) ≡ length places * n
+unfolding repeated_places
 length-repeated zero places = omega arith
 length-repeated (suc n) places =
-    let h = length-repeated n places in let l = length-append places (repeated n places) in grind (arith)
+    let h = length-repeated n places in let l = length-append places (repeated_places n places) in grind (arith)
 
 pub length-each : (by : Suppression) (runs : List Run) → length (each_place by runs) ≡ size_of runs
 unfolding each_place size_of
 length-each by [] = refl
 length-each by (run ∷ more) =
-    let l = length-append (repeated run.count (shown by run.symbol)) (each_place by more) in
-    let r = length-repeated run.count (shown by run.symbol) ∙ ap (λ n. n * run.count) (length-shown by run.symbol) in
+    let l = length-append (repeated_places run.count (symbol_places by run.symbol)) (each_place by more) in
+    let r = length-repeated run.count (symbol_places by run.symbol) ∙ ap (λ n. n * run.count) (length-shown by run.symbol) in
     let h = length-each by more in omega arith
 
-length-marked : (region : Option Region) (places : List Place) → length (marked region places) ≡ length places
+length-marked : (region : Option Region) (places : List Place) → length (places_with_floating region places) ≡ length places
 length-marked None places = refl
 length-marked (Some region) places = go (is_floating region.by)
   where
@@ -60,20 +60,20 @@ length-places by runs = length-marked (region_of by runs) (each_place by runs) �
 
 -- ---- loops
 
-pub repeated_next : (n : ℕ) (places : List Place) → repeated (n + 1) places ≡ repeated n places ++ places
-unfolding repeated
+pub repeated_next : (n : ℕ) (places : List Place) → repeated_places (n + 1) places ≡ repeated_places n places ++ places
+unfolding repeated_places
 repeated_next n places = rw add-one (go n)
   where
-    go : (n : ℕ) → repeated (suc n) places ≡ repeated n places ++ places
+    go : (n : ℕ) → repeated_places (suc n) places ≡ repeated_places n places ++ places
     go zero = append-nil places
-    go (suc n) = ap (λ l. places ++ l) (go n) ∙ sym (append_assoc places (repeated n places) places)
+    go (suc n) = ap (λ l. places ++ l) (go n) ∙ sym (append_assoc places (repeated_places n places) places)
 
-pub repeated_none : (places : List Place) → repeated 0 places ≡ []
-unfolding repeated
+pub repeated_none : (places : List Place) → repeated_places 0 places ≡ []
+unfolding repeated_places
 repeated_none places = refl
 
 pub rest_places : (by : Suppression) (runs : List Run) (i : ℕ) (d : Run) → i < length runs
-    → each_place by (drop i runs) ≡ repeated (slice_index_or runs i d).count (shown by (slice_index_or runs i d).symbol) ++ each_place by (drop (i + 1) runs)
+    → each_place by (drop i runs) ≡ repeated_places (slice_index_or runs i d).count (symbol_places by (slice_index_or runs i d).symbol) ++ each_place by (drop (i + 1) runs)
 unfolding each_place
 rest_places by runs i d h = rw (add-one, drop-cons runs i d) refl
 

@@ -17,14 +17,14 @@ use Rattle.picture.specs.declared.place.Place.{Place}
 use Rattle.picture.specs.declared.place.Place.TheVariants as p
 use Rattle.picture.specs.declared.place.Region.{Region}
 use Rattle.picture.specs.declared.description.Description.{Description}
-use Rattle.picture.specs.Symbols.{has, is_floating, least}
+use Rattle.picture.specs.Symbols.{class_has, is_floating, least_count}
 use Rattle.picture.specs.Runs.{from_first, occurrences, size_of}
-use Rattle.picture.specs.Forms.{whole, Each, one, stretch, optional, numeric_arrangement, arrangement, decimals, digit_places, suppression_of, IsEdited}
+use Rattle.picture.specs.Forms.{whole_picture, Each, one, stretch, optional, numeric_arrangement, arrangement, decimals, digit_places, suppression_of, IsEdited}
 use Rattle.picture.specs.Categories.{HasForm}
-use Rattle.picture.specs.Places.{shown, repeated, each_place, region_from}
-use Rattle.picture.specs.Spelling.{fit_in, can_repeat, spelling}
-use Rattle.picture.specs.Regions.{is_first_floating, is_point_place, digits_in, begins_at, IsStretch, IsEditing}
-use Rattle.picture.specs.Pictures.{IsAnyPicture, described, of_digits, of_characters}
+use Rattle.picture.specs.Places.{symbol_places, repeated_places, each_place, region_from}
+use Rattle.picture.specs.Spelling.{fit_in, can_repeat, run_text}
+use Rattle.picture.specs.Regions.{is_first_floating, is_point_place, digits_in, begins_at, IsStretch, IsEditingPicture}
+use Rattle.picture.specs.Pictures.{IsAnyPicture, description_of, of_digits, of_characters}
 use Rattle.picture.proofs.Counts.{from_rest}
 use Rattle.picture.proofs.Places.{length-each}
 use Rattle.picture.proofs.Divisions.{every_symbol, every_suppression, symbol_holds, suppression_holds}
@@ -50,29 +50,29 @@ every test h by x = symbol_holds (test by) (suppression_holds (λ by. every_symb
 -- the symbols of an arrangement
 may_stand : Suppression → Symbol → Bool
 may_stand by x =
-    has (c.LeadingSign by) x || has (c.FixedCurrency by) x || has (c.SuppressedAndInsertions by) x || has c.NinesAndInsertions x
-    || has c.Points x || has (c.TrailingSign by) x || has c.OperationalSign x
+    class_has (c.LeadingSign by) x || class_has (c.FixedCurrency by) x || class_has (c.SuppressedAndInsertions by) x || class_has c.NinesAndInsertions x
+    || class_has c.Points x || class_has (c.TrailingSign by) x || class_has c.OperationalSign x
 
 shown_digits : Suppression → Symbol → Bool
-shown_digits by x = not (may_stand by x) || (digits_in (shown by x) == (if has (c.Digits by) x then 1 else 0))
+shown_digits by x = not (may_stand by x) || (digits_in (symbol_places by x) == (if class_has (c.Digits by) x then 1 else 0))
 
 every_digits : (by : Suppression) (x : Symbol) → shown_digits by x ≡ true
-unfolding every_suppression every_symbol shown_digits may_stand has digits_in
+unfolding every_suppression every_symbol shown_digits may_stand class_has digits_in
 every_digits = every shown_digits refl
 
 abbrev no_place : (Place → Bool) → List Place → Bool
 no_place test [] = true
 no_place test (place ∷ more) = not (test place) && no_place test more
 
-every_first : (by : Suppression) (x : Symbol) → no_place is_first_floating (shown by x) ≡ true
+every_first : (by : Suppression) (x : Symbol) → no_place is_first_floating (symbol_places by x) ≡ true
 unfolding every_suppression every_symbol
-every_first = every (λ by x. no_place is_first_floating (shown by x)) refl
+every_first = every (λ by x. no_place is_first_floating (symbol_places by x)) refl
 
 no_point : Suppression → Symbol → Bool
-no_point by x = has c.NinesAndPoints x || no_place is_point_place (shown by x)
+no_point by x = class_has c.NinesAndPoints x || no_place is_point_place (symbol_places by x)
 
 every_no_point : (by : Suppression) (x : Symbol) → no_point by x ≡ true
-unfolding every_suppression every_symbol no_point has
+unfolding every_suppression every_symbol no_point class_has
 every_no_point = every no_point refl
 
 is_one_floating : List Place → Bool
@@ -95,10 +95,10 @@ one_floating (p.Currency ∷ more) e = cc
 one_floating (p.Negative n ∷ more) e = cc
 
 floats : Suppression → Symbol → Bool
-floats by x = not (is_floating by && has (c.Suppressed by) x) || is_one_floating (shown by x)
+floats by x = not (is_floating by && class_has (c.Suppressed by) x) || is_one_floating (symbol_places by x)
 
 every_floats : (by : Suppression) (x : Symbol) → floats by x ≡ true
-unfolding every_suppression every_symbol floats is_one_floating has
+unfolding every_suppression every_symbol floats is_one_floating class_has
 every_floats = every floats refl
 
 -- ---- each run
@@ -111,17 +111,17 @@ fit_counted : (room : ℕ) (runs : List Run) → fit_in room runs ≡ true → C
 unfolding fit_in
 fit_counted room [] e = tt
 fit_counted room (run ∷ more) e =
-    let both = split (can_repeat run.symbol run.count && nat_le (length (spelling run)) room) _ e in
-    let each = split (can_repeat run.symbol run.count) (nat_le (length (spelling run)) room) both.0 in
+    let both = split (can_repeat run.symbol run.count && nat_le (length (run_text run)) room) _ e in
+    let each = split (can_repeat run.symbol run.count) (nat_le (length (run_text run)) room) both.0 in
     let one = split (nat_le 1 run.count) _ each.0 in
-    (leb-true 1 run.count one.0, fit_counted (room - length (spelling run)) more both.1)
+    (leb-true 1 run.count one.0, fit_counted (room - length (run_text run)) more both.1)
 
 abbrev Allowed : (Symbol → Bool) → List Run → Type 0
 Allowed test [] = Unit {0}
 Allowed test (run ∷ more) = (test run.symbol ≡ true) × Allowed test more
 
 abbrev Within : Class → (Symbol → Bool) → Type 0
-Within class test = (x : Symbol) → has class x ≡ true → test x ≡ true
+Within class test = (x : Symbol) → class_has class x ≡ true → test x ≡ true
 
 over_front : (test : Symbol → Bool) (class : Class) (front rest : List Run) → Within class test → Each class front → Allowed test rest → Allowed test (front ++ rest)
 over_front test class [] rest h each more = more
@@ -135,12 +135,12 @@ one_in true b e = refl
 one_in false b e = e
 
 over_optional : (test : Symbol → Bool) (class : Class) → Within class test → (from rest : List Run) → optional class from rest → Allowed test rest → Allowed test from
-over_optional test class h from rest (inl (run, e, is)) more = subst (Allowed test) (sym e) (h run.symbol (one_in (has class run.symbol) _ is), more)
+over_optional test class h from rest (inl (run, e, is)) more = subst (Allowed test) (sym e) (h run.symbol (one_in (class_has class run.symbol) _ is), more)
 over_optional test class h from rest (inr (e, none)) more = subst (Allowed test) (sym e) more
 
 every_within : (class : Suppression → Class) (test : Suppression → Symbol → Bool)
-    → every_suppression (λ by. every_symbol (λ x. not (has (class by) x) || test by x)) ≡ true → (by : Suppression) → Within (class by) (test by)
-every_within class test h by x e = implied (has (class by) x) (test by x) (every (λ by x. not (has (class by) x) || test by x) h by x) e
+    → every_suppression (λ by. every_symbol (λ x. not (class_has (class by) x) || test by x)) ≡ true → (by : Suppression) → Within (class by) (test by)
+every_within class test h by x e = implied (class_has (class by) x) (test by x) (every (λ by x. not (class_has (class by) x) || test by x) h by x) e
 
 none_stands : (test : Symbol → Bool) → Allowed test []
 none_stands test = tt
@@ -153,42 +153,42 @@ decimals_within test by runs nines zeros = go (nat_lt 0 (occurrences (c.Digits z
     go false = zeros
 
 nines_stand : (by : Suppression) → Within c.NinesAndInsertions (may_stand by)
-unfolding every_suppression every_symbol may_stand has
+unfolding every_suppression every_symbol may_stand class_has
 nines_stand = every_within (λ _. c.NinesAndInsertions) may_stand refl
 
 zeros_stand : (by : Suppression) → Within (c.SuppressedAndInsertions by) (may_stand by)
-unfolding every_suppression every_symbol may_stand has
+unfolding every_suppression every_symbol may_stand class_has
 zeros_stand = every_within c.SuppressedAndInsertions may_stand refl
 
 lead_stands : (by : Suppression) → Within (c.LeadingSign by) (may_stand by)
-unfolding every_suppression every_symbol may_stand has
+unfolding every_suppression every_symbol may_stand class_has
 lead_stands = every_within c.LeadingSign may_stand refl
 
 currency_stands : (by : Suppression) → Within (c.FixedCurrency by) (may_stand by)
-unfolding every_suppression every_symbol may_stand has
+unfolding every_suppression every_symbol may_stand class_has
 currency_stands = every_within c.FixedCurrency may_stand refl
 
 point_stands : (by : Suppression) → Within c.Points (may_stand by)
-unfolding every_suppression every_symbol may_stand has
+unfolding every_suppression every_symbol may_stand class_has
 point_stands = every_within (λ _. c.Points) may_stand refl
 
 end_stands : (by : Suppression) → Within (c.TrailingSign by) (may_stand by)
-unfolding every_suppression every_symbol may_stand has
+unfolding every_suppression every_symbol may_stand class_has
 end_stands = every_within c.TrailingSign may_stand refl
 
 sign_stands : (by : Suppression) → Within c.OperationalSign (may_stand by)
-unfolding every_suppression every_symbol may_stand has
+unfolding every_suppression every_symbol may_stand class_has
 sign_stands = every_within (λ _. c.OperationalSign) may_stand refl
 
 digits_stand : (by : Suppression) → Within (c.Digits z.Nothing) (may_stand by)
-unfolding every_suppression every_symbol may_stand has
+unfolding every_suppression every_symbol may_stand class_has
 digits_stand = every_within (λ _. c.Digits z.Nothing) may_stand refl
 
 assumed_stands : (by : Suppression) → Within c.AssumedPoint (may_stand by)
-unfolding every_suppression every_symbol may_stand has
+unfolding every_suppression every_symbol may_stand class_has
 assumed_stands = every_within (λ _. c.AssumedPoint) may_stand refl
 
-edited_stands : (by : Suppression) (runs : List Run) → whole (arrangement by runs) runs → Allowed (may_stand by) runs
+edited_stands : (by : Suppression) (runs : List Run) → whole_picture (arrangement by runs) runs → Allowed (may_stand by) runs
 edited_stands by runs (m1, o1, (m2, o2, (m3, s3, (m4, s4, (m5, o5, (m6, s6, o7)))))) =
     let t = may_stand by in
     over_optional t (c.LeadingSign by) (lead_stands by) runs m1 o1
@@ -199,7 +199,7 @@ edited_stands by runs (m1, o1, (m2, o2, (m3, s3, (m4, s4, (m5, o5, (m6, s6, o7))
     (over_stretch t (decimals by runs) (decimals_within t by runs (nines_stand by) (zeros_stand by)) m5 m6 s6
     (over_optional t (c.TrailingSign by) (end_stands by) m6 [] o7 (none_stands t)))))))
 
-numeric_stands : (by : Suppression) (runs : List Run) → whole numeric_arrangement runs → Allowed (may_stand by) runs
+numeric_stands : (by : Suppression) (runs : List Run) → whole_picture numeric_arrangement runs → Allowed (may_stand by) runs
 numeric_stands by runs (m1, o1, (m2, s2, (m3, o3, s4))) =
     let t = may_stand by in
     over_optional t c.OperationalSign (sign_stands by) runs m1 o1
@@ -214,18 +214,18 @@ unfolding digits_in
 digits_append [] back = omega arith
 digits_append (place ∷ front) back = let h = digits_append front back in omega arith
 
-digits_repeated : (b : Bool) (n : ℕ) (places : List Place) → digits_in places ≡ (if b then 1 else 0) → digits_in (repeated n places) ≡ (if b then n else 0)
-unfolding repeated digits_in
+digits_repeated : (b : Bool) (n : ℕ) (places : List Place) → digits_in places ≡ (if b then 1 else 0) → digits_in (repeated_places n places) ≡ (if b then n else 0)
+unfolding repeated_places digits_in
 digits_repeated true zero places e = refl
 digits_repeated false zero places e = refl
-digits_repeated true (suc n) places e = let h = digits_repeated true n places e in let a = digits_append places (repeated n places) in omega arith
-digits_repeated false (suc n) places e = let h = digits_repeated false n places e in let a = digits_append places (repeated n places) in omega arith
+digits_repeated true (suc n) places e = let h = digits_repeated true n places e in let a = digits_append places (repeated_places n places) in omega arith
+digits_repeated false (suc n) places e = let h = digits_repeated false n places e in let a = digits_append places (repeated_places n places) in omega arith
 
-digits_shown : (by : Suppression) (x : Symbol) → may_stand by x ≡ true → digits_in (shown by x) ≡ (if has (c.Digits by) x then 1 else 0)
+digits_shown : (by : Suppression) (x : Symbol) → may_stand by x ≡ true → digits_in (symbol_places by x) ≡ (if class_has (c.Digits by) x then 1 else 0)
 unfolding shown_digits
 digits_shown by x e =
-    eq_true (digits_in (shown by x)) (if has (c.Digits by) x then 1 else 0)
-    (implied (may_stand by x) (digits_in (shown by x) == (if has (c.Digits by) x then 1 else 0)) (every_digits by x) e)
+    eq_true (digits_in (symbol_places by x)) (if class_has (c.Digits by) x then 1 else 0)
+    (implied (may_stand by x) (digits_in (symbol_places by x) == (if class_has (c.Digits by) x then 1 else 0)) (every_digits by x) e)
   where
     eq_true : (a b : ℕ) → (a == b) ≡ true → a ≡ b
     eq_true a b e = grind (arith, nat_tests)
@@ -234,9 +234,9 @@ digits_each : (by : Suppression) (runs : List Run) → Allowed (may_stand by) ru
 unfolding each_place occurrences digits_in
 digits_each by [] h = refl
 digits_each by (run ∷ more) h =
-    digits_append (repeated run.count (shown by run.symbol)) (each_place by more)
-    ∙ ap (λ n. n + digits_in (each_place by more)) (digits_repeated (has (c.Digits by) run.symbol) run.count (shown by run.symbol) (digits_shown by run.symbol h.0))
-    ∙ ap (λ n. (if has (c.Digits by) run.symbol then run.count else 0) + n) (digits_each by more h.1)
+    digits_append (repeated_places run.count (symbol_places by run.symbol)) (each_place by more)
+    ∙ ap (λ n. n + digits_in (each_place by more)) (digits_repeated (class_has (c.Digits by) run.symbol) run.count (symbol_places by run.symbol) (digits_shown by run.symbol h.0))
+    ∙ ap (λ n. (if class_has (c.Digits by) run.symbol then run.count else 0) + n) (digits_each by more h.1)
 
 -- ---- places that no run shows
 
@@ -244,27 +244,27 @@ none_append : (test : Place → Bool) (front back : List Place) → no_place tes
 none_append test [] back f b = b
 none_append test (place ∷ front) back f b = let h = split (not (test place)) (no_place test front) f in both_true h.0 (none_append test front back h.1 b)
 
-none_repeated : (test : Place → Bool) (n : ℕ) (places : List Place) → no_place test places ≡ true → no_place test (repeated n places) ≡ true
-unfolding repeated
+none_repeated : (test : Place → Bool) (n : ℕ) (places : List Place) → no_place test places ≡ true → no_place test (repeated_places n places) ≡ true
+unfolding repeated_places
 none_repeated test zero places h = refl
-none_repeated test (suc n) places h = none_append test places (repeated n places) h (none_repeated test n places h)
+none_repeated test (suc n) places h = none_append test places (repeated_places n places) h (none_repeated test n places h)
 
 none_first : (by : Suppression) (runs : List Run) → no_place is_first_floating (each_place by runs) ≡ true
 unfolding each_place
 none_first by [] = refl
 none_first by (run ∷ more) =
-    none_append is_first_floating (repeated run.count (shown by run.symbol)) (each_place by more)
-    (none_repeated is_first_floating run.count (shown by run.symbol) (every_first by run.symbol)) (none_first by more)
+    none_append is_first_floating (repeated_places run.count (symbol_places by run.symbol)) (each_place by more)
+    (none_repeated is_first_floating run.count (symbol_places by run.symbol) (every_first by run.symbol)) (none_first by more)
 
 abbrev NoneOf : Class → List Run → Type 0
-NoneOf class runs = Allowed (λ x. not (has class x)) runs
+NoneOf class runs = Allowed (λ x. not (class_has class x)) runs
 
 none_point : (by : Suppression) (runs : List Run) → NoneOf c.NinesAndPoints runs → no_place is_point_place (each_place by runs) ≡ true
 unfolding each_place no_point
 none_point by [] h = refl
 none_point by (run ∷ more) h =
-    none_append is_point_place (repeated run.count (shown by run.symbol)) (each_place by more)
-    (none_repeated is_point_place run.count (shown by run.symbol) (either (has c.NinesAndPoints run.symbol) (no_place is_point_place (shown by run.symbol)) (every_no_point by run.symbol) (is_not (has c.NinesAndPoints run.symbol) h.0)))
+    none_append is_point_place (repeated_places run.count (symbol_places by run.symbol)) (each_place by more)
+    (none_repeated is_point_place run.count (symbol_places by run.symbol) (either (class_has c.NinesAndPoints run.symbol) (no_place is_point_place (symbol_places by run.symbol)) (every_no_point by run.symbol) (is_not (class_has c.NinesAndPoints run.symbol) h.0)))
     (none_point by more h.1)
   where
     either : (a b : Bool) → (a || b) ≡ true → a ≡ false → b ≡ true
@@ -286,9 +286,9 @@ record Front (class : Class) (runs : List Run) : Type 0 where
 front_of : (class : Class) (runs : List Run) → Front class runs
 unfolding from_first
 front_of class [] = record { front = []; is = refl; none = tt }
-front_of class (run ∷ more) = go (front_of class more) (has class run.symbol) refl
+front_of class (run ∷ more) = go (front_of class more) (class_has class run.symbol) refl
   where
-    go : Front class more → (b : Bool) → has class run.symbol ≡ b → Front class (run ∷ more)
+    go : Front class more → (b : Bool) → class_has class run.symbol ≡ b → Front class (run ∷ more)
     go h true e = record { front = []; is = rw e refl; none = tt }
     go h false e = record { front = run ∷ h.front; is = rw e (ap (λ l. run ∷ l) h.is); none = (rw e refl, h.none) }
 
@@ -301,8 +301,8 @@ each_append : (by : Suppression) (front back : List Run) → each_place by (fron
 unfolding each_place
 each_append by [] back = refl
 each_append by (run ∷ front) back =
-    ap (λ l. repeated run.count (shown by run.symbol) ++ l) (each_append by front back)
-    ∙ sym (append_assoc (repeated run.count (shown by run.symbol)) (each_place by front) (each_place by back))
+    ap (λ l. repeated_places run.count (symbol_places by run.symbol) ++ l) (each_append by front back)
+    ∙ sym (append_assoc (repeated_places run.count (symbol_places by run.symbol)) (each_place by front) (each_place by back))
 
 -- where the first of the class begins
 begin_is : (by : Suppression) (class : Class) (runs : List Run) → size_of runs - size_of (from_first class runs) ≡ length (each_place by (front_of class runs).front)
@@ -315,14 +315,14 @@ record Starts (class : Class) (runs : List Run) : Type 0 where
   run : Run
   more : List Run
   is : from_first class runs ≡ run ∷ more
-  first : has class run.symbol ≡ true
+  first : class_has class run.symbol ≡ true
 
 starts : (class : Class) (runs : List Run) → 1 ≤ occurrences class runs → Starts class runs
 unfolding from_first occurrences
 starts class [] h = absurd (omega arith)
-starts class (run ∷ more) h = go (λ h. starts class more h) (has class run.symbol) refl h
+starts class (run ∷ more) h = go (λ h. starts class more h) (class_has class run.symbol) refl h
   where
-    go : (1 ≤ occurrences class more → Starts class more) → (b : Bool) → has class run.symbol ≡ b → 1 ≤ (if b then run.count else 0) + occurrences class more → Starts class (run ∷ more)
+    go : (1 ≤ occurrences class more → Starts class more) → (b : Bool) → class_has class run.symbol ≡ b → 1 ≤ (if b then run.count else 0) + occurrences class more → Starts class (run ∷ more)
     go less true e h = record { run = run; more = more; is = rw e refl; first = e }
     go less false e h = let s = less (omega arith) in record { run = s.run; more = s.more; is = rw e s.is; first = s.first }
 
@@ -346,27 +346,27 @@ late one run more rest false small less h = less (omega arith)
 comes_first : (one other : Class) (runs : List Run) → occurrences one (from_first other runs) < occurrences one runs → size_of (from_first other runs) ≤ size_of (from_first one runs)
 unfolding from_first occurrences
 comes_first one other [] h = absurd (omega arith)
-comes_first one other (run ∷ more) h = go (has other run.symbol) (λ h. comes_first one other more h) (size_drops other more) h
+comes_first one other (run ∷ more) h = go (class_has other run.symbol) (λ h. comes_first one other more h) (size_drops other more) h
   where
     go : (b : Bool) → (occurrences one (from_first other more) < occurrences one more → size_of (from_first other more) ≤ size_of (from_first one more))
         → size_of (from_first other more) ≤ size_of more
-        → occurrences one (if b then run ∷ more else from_first other more) < (if has one run.symbol then run.count else 0) + occurrences one more
-        → size_of (if b then run ∷ more else from_first other more) ≤ size_of (if has one run.symbol then run ∷ more else from_first one more)
+        → occurrences one (if b then run ∷ more else from_first other more) < (if class_has one run.symbol then run.count else 0) + occurrences one more
+        → size_of (if b then run ∷ more else from_first other more) ≤ size_of (if class_has one run.symbol then run ∷ more else from_first one more)
     go true less small h = absurd (omega arith)
-    go false less small h = late one run more (from_first other more) (has one run.symbol) small less h
+    go false less small h = late one run more (from_first other more) (class_has one run.symbol) small less h
 
 none_occur : (class : Class) (runs : List Run) → NoneOf class runs → occurrences class runs ≡ 0
 unfolding occurrences
 none_occur class [] h = refl
-none_occur class (run ∷ more) h = rw (is_not (has class run.symbol) h.0) (let e = none_occur class more h.1 in omega arith)
+none_occur class (run ∷ more) h = rw (is_not (class_has class run.symbol) h.0) (let e = none_occur class more h.1 in omega arith)
 
 skip_front : (class : Class) (front rest : List Run) → NoneOf class front → from_first class (front ++ rest) ≡ from_first class rest
 unfolding from_first
 skip_front class [] rest h = refl
-skip_front class (run ∷ front) rest h = rw (is_not (has class run.symbol) h.0) (skip_front class front rest h.1)
+skip_front class (run ∷ front) rest h = rw (is_not (class_has class run.symbol) h.0) (skip_front class front rest h.1)
 
 abbrev Apart : Class → Class → Type 0
-Apart one other = (x : Symbol) → has one x ≡ true → not (has other x) ≡ true
+Apart one other = (x : Symbol) → class_has one x ≡ true → not (class_has other x) ≡ true
 
 each_apart : (one other : Class) → Apart one other → (front : List Run) → Each one front → NoneOf other front
 each_apart one other h [] each = tt
@@ -376,37 +376,37 @@ skip_stretch : (one other : Class) → Apart one other → (from rest : List Run
 skip_stretch one other h from rest (front, e, each, stops) = ap (from_first other) e ∙ skip_front other front rest (each_apart one other h front each)
 
 skip_optional : (one other : Class) → Apart one other → (from rest : List Run) → optional one from rest → from_first other from ≡ from_first other rest
-skip_optional one other h from rest (inl (run, e, is)) = ap (from_first other) e ∙ skip_front other (run ∷ []) rest (h run.symbol (one_in (has one run.symbol) _ is), tt)
+skip_optional one other h from rest (inl (run, e, is)) = ap (from_first other) e ∙ skip_front other (run ∷ []) rest (h run.symbol (one_in (class_has one run.symbol) _ is), tt)
 skip_optional one other h from rest (inr (e, none)) = ap (from_first other) e
 
-every_apart : (one other : Suppression → Class) → every_suppression (λ by. every_symbol (λ x. not (has (one by) x) || not (has (other by) x))) ≡ true → (by : Suppression) → Apart (one by) (other by)
-every_apart one other h by x e = implied (has (one by) x) _ (every (λ by x. not (has (one by) x) || not (has (other by) x)) h by x) e
+every_apart : (one other : Suppression → Class) → every_suppression (λ by. every_symbol (λ x. not (class_has (one by) x) || not (class_has (other by) x))) ≡ true → (by : Suppression) → Apart (one by) (other by)
+every_apart one other h by x e = implied (class_has (one by) x) _ (every (λ by x. not (class_has (one by) x) || not (class_has (other by) x)) h by x) e
 
 lead_point : (by : Suppression) → Apart (c.LeadingSign by) c.NinesAndPoints
-unfolding every_suppression every_symbol has
+unfolding every_suppression every_symbol class_has
 lead_point = every_apart c.LeadingSign (λ _. c.NinesAndPoints) refl
 
 currency_point : (by : Suppression) → Apart (c.FixedCurrency by) c.NinesAndPoints
-unfolding every_suppression every_symbol has
+unfolding every_suppression every_symbol class_has
 currency_point = every_apart c.FixedCurrency (λ _. c.NinesAndPoints) refl
 
 zeros_point : (by : Suppression) → Apart (c.SuppressedAndInsertions by) c.NinesAndPoints
-unfolding every_suppression every_symbol has
+unfolding every_suppression every_symbol class_has
 zeros_point = every_apart c.SuppressedAndInsertions (λ _. c.NinesAndPoints) refl
 
 nines_zero : (by : Suppression) → Apart c.NinesAndInsertions (c.Suppressed by)
-unfolding every_suppression every_symbol has
+unfolding every_suppression every_symbol class_has
 nines_zero = every_apart (λ _. c.NinesAndInsertions) c.Suppressed refl
 
 points_zero : (by : Suppression) → Apart c.Points (c.Suppressed by)
-unfolding every_suppression every_symbol has
+unfolding every_suppression every_symbol class_has
 points_zero = every_apart (λ _. c.Points) c.Suppressed refl
 
 end_zero : (by : Suppression) → Apart (c.TrailingSign by) (c.Suppressed by)
-unfolding every_suppression every_symbol has
+unfolding every_suppression every_symbol class_has
 end_zero = every_apart c.TrailingSign c.Suppressed refl
 
-within_of : (one other : Class) → Apart one other → Within one (λ x. not (has other x))
+within_of : (one other : Class) → Apart one other → Within one (λ x. not (class_has other x))
 within_of one other h = h
 
 nine_within : (test : Symbol → Bool) (by : Suppression) → Within c.NinesAndInsertions test → (b : Bool) → b ≡ true → Within (if b then c.NinesAndInsertions else c.SuppressedAndInsertions by) test
@@ -417,10 +417,10 @@ nine_within test by h false e = absurd (no e)
     no e = cc
 
 -- after a 9 nothing is suppressed
-none_after : (by : Suppression) (runs : List Run) → nat_lt 0 (occurrences (c.Digits z.Nothing) runs) ≡ true → whole (arrangement by runs) runs
+none_after : (by : Suppression) (runs : List Run) → nat_lt 0 (occurrences (c.Digits z.Nothing) runs) ≡ true → whole_picture (arrangement by runs) runs
     → occurrences (c.Suppressed by) (from_first c.NinesAndPoints runs) ≡ 0
 none_after by runs nine (m1, o1, (m2, o2, (m3, s3, (m4, s4, (m5, o5, (m6, s6, o7)))))) =
-    let t : Symbol → Bool = λ x. not (has (c.Suppressed by) x) in
+    let t : Symbol → Bool = λ x. not (class_has (c.Suppressed by) x) in
     let decimal : Within (decimals by runs) t =
     nine_within t by (within_of c.NinesAndInsertions (c.Suppressed by) (nines_zero by)) (nat_lt 0 (occurrences (c.Digits z.Nothing) runs)) nine in
     let none =
@@ -437,10 +437,10 @@ none_after by runs nine (m1, o1, (m2, o2, (m3, s3, (m4, s4, (m5, o5, (m6, s6, o7
     let same = ap (occurrences (c.Suppressed by)) skipped in omega arith
 
 same_point : Suppression → Symbol → Bool
-same_point by x = has (c.Digits z.Nothing) x || (if has c.Points x then has c.NinesAndPoints x else not (has c.NinesAndPoints x))
+same_point by x = class_has (c.Digits z.Nothing) x || (if class_has c.Points x then class_has c.NinesAndPoints x else not (class_has c.NinesAndPoints x))
 
 every_same_point : (by : Suppression) (x : Symbol) → same_point by x ≡ true
-unfolding every_suppression every_symbol same_point has
+unfolding every_suppression every_symbol same_point class_has
 every_same_point = every same_point refl
 
 pick : (a b d : Bool) → (a || (if b then d else not d)) ≡ true → a ≡ false → d ≡ b
@@ -448,24 +448,24 @@ pick true b d e f = cc
 pick false true d e f = e
 pick false false d e f = is_not d e
 
-is_same_point : (x : Symbol) → has (c.Digits z.Nothing) x ≡ false → has c.NinesAndPoints x ≡ has c.Points x
+is_same_point : (x : Symbol) → class_has (c.Digits z.Nothing) x ≡ false → class_has c.NinesAndPoints x ≡ class_has c.Points x
 unfolding same_point
-is_same_point x e = pick (has (c.Digits z.Nothing) x) (has c.Points x) (has c.NinesAndPoints x) (every_same_point z.Nothing x) e
+is_same_point x e = pick (class_has (c.Digits z.Nothing) x) (class_has c.Points x) (class_has c.NinesAndPoints x) (every_same_point z.Nothing x) e
 
 -- without a 9 the first of them is the point
 points_first : (runs : List Run) → Counted runs → occurrences (c.Digits z.Nothing) runs ≡ 0 → from_first c.NinesAndPoints runs ≡ from_first c.Points runs
 unfolding from_first occurrences
 points_first [] h e = refl
 points_first (run ∷ more) h e =
-    let no_nine : has (c.Digits z.Nothing) run.symbol ≡ false = none (has (c.Digits z.Nothing) run.symbol) e h.0 in
+    let no_nine : class_has (c.Digits z.Nothing) run.symbol ≡ false = none (class_has (c.Digits z.Nothing) run.symbol) e h.0 in
     let same = is_same_point run.symbol no_nine in
-    rw same (ap (λ l. if has c.Points run.symbol then run ∷ more else l) (points_first more h.1 (omega arith)))
+    rw same (ap (λ l. if class_has c.Points run.symbol then run ∷ more else l) (points_first more h.1 (omega arith)))
   where
     none : (b : Bool) → (if b then run.count else 0) + occurrences (c.Digits z.Nothing) more ≡ 0 → 1 ≤ run.count → b ≡ false
     none true e h = absurd (omega arith)
     none false e h = refl
 
-begins_first : (by : Suppression) (runs : List Run) → Counted runs → 1 ≤ least by → IsEdited by runs → size_of (from_first c.NinesAndPoints runs) ≤ size_of (from_first (c.Suppressed by) runs)
+begins_first : (by : Suppression) (runs : List Run) → Counted runs → 1 ≤ least_count by → IsEdited by runs → size_of (from_first c.NinesAndPoints runs) ≤ size_of (from_first (c.Suppressed by) runs)
 begins_first by runs counted some h = comes_first (c.Suppressed by) c.NinesAndPoints runs (go (nat_lt 0 (occurrences (c.Digits z.Nothing) runs)) refl)
   where
     go : (b : Bool) → nat_lt 0 (occurrences (c.Digits z.Nothing) runs) ≡ b → occurrences (c.Suppressed by) (from_first c.NinesAndPoints runs) < occurrences (c.Suppressed by) runs
@@ -477,7 +477,7 @@ begins_first by runs counted some h = comes_first (c.Suppressed by) c.NinesAndPo
 
 -- ---- the laws
 
-stretched : (by : Suppression) (runs : List Run) → Counted runs → 1 ≤ least by → IsEdited by runs
+stretched : (by : Suppression) (runs : List Run) → Counted runs → 1 ≤ least_count by → IsEdited by runs
     → IsStretch (Some (region_from by runs)) (each_place by runs)
 unfolding region_from
 stretched by runs counted some h =
@@ -500,14 +500,14 @@ record Marked (by : Suppression) (runs : List Run) : Type 0 where
   places : each_place by runs ≡ front ++ p.Floating ∷ back
   begin : (region_from by runs).begin ≡ length front
 
-repeats : (n : ℕ) (places : List Place) → 1 ≤ n → repeated n places ≡ places ++ repeated (n - 1) places
-unfolding repeated
+repeats : (n : ℕ) (places : List Place) → 1 ≤ n → repeated_places n places ≡ places ++ repeated_places (n - 1) places
+unfolding repeated_places
 repeats zero places h = absurd (omega arith)
-repeats (suc n) places h = ap (λ m. places ++ repeated m places) (let e : n ≡ suc n - 1 = omega arith in e)
+repeats (suc n) places h = ap (λ m. places ++ repeated_places m places) (let e : n ≡ suc n - 1 = omega arith in e)
 
-floating_run : (by : Suppression) (x : Symbol) → is_floating by ≡ true → has (c.Suppressed by) x ≡ true → shown by x ≡ p.Floating ∷ []
+floating_run : (by : Suppression) (x : Symbol) → is_floating by ≡ true → class_has (c.Suppressed by) x ≡ true → symbol_places by x ≡ p.Floating ∷ []
 unfolding floats
-floating_run by x f h = one_floating (shown by x) (implied (is_floating by && has (c.Suppressed by) x) (is_one_floating (shown by x)) (every_floats by x) (both_true f h))
+floating_run by x f h = one_floating (symbol_places by x) (implied (is_floating by && class_has (c.Suppressed by) x) (is_one_floating (symbol_places by x)) (every_floats by x) (both_true f h))
 
 marked_at : (by : Suppression) (runs : List Run) → Counted runs → is_floating by ≡ true → 1 ≤ occurrences (c.Suppressed by) runs → Marked by runs
 unfolding region_from each_place
@@ -518,11 +518,11 @@ marked_at by runs counted f some =
     let is : runs ≡ front.front ++ s.run ∷ s.more = front.is ∙ ap (λ l. front.front ++ l) s.is in
     let one = (counted_append front.front (s.run ∷ s.more) (subst Counted is counted)).0 in
     let shows = floating_run by s.run.symbol f s.first in
-    let first : each_place by (s.run ∷ s.more) ≡ p.Floating ∷ (repeated (s.run.count - 1) (shown by s.run.symbol) ++ each_place by s.more) =
-    ap (λ l. l ++ each_place by s.more) (repeats s.run.count (shown by s.run.symbol) one ∙ ap (λ l. l ++ repeated (s.run.count - 1) (shown by s.run.symbol)) shows) in
+    let first : each_place by (s.run ∷ s.more) ≡ p.Floating ∷ (repeated_places (s.run.count - 1) (symbol_places by s.run.symbol) ++ each_place by s.more) =
+    ap (λ l. l ++ each_place by s.more) (repeats s.run.count (symbol_places by s.run.symbol) one ∙ ap (λ l. l ++ repeated_places (s.run.count - 1) (symbol_places by s.run.symbol)) shows) in
     record {
       front = each_place by front.front;
-      back = repeated (s.run.count - 1) (shown by s.run.symbol) ++ each_place by s.more;
+      back = repeated_places (s.run.count - 1) (symbol_places by s.run.symbol) ++ each_place by s.more;
       places = ap (each_place by) is ∙ each_append by front.front (s.run ∷ s.more) ∙ ap (λ l. each_place by front.front ++ l) first;
       begin = begins;
     }
@@ -570,7 +570,7 @@ record Laws (places : List Place) (region : Option Region) (digits : ℕ) : Type
   stretch : IsStretch region places
   first : (at : ℕ) → at < length places → is_first_floating (slice_index_or places at p.Digit) ≡ begins_at region at
 
-suppressed_laws : (by : Suppression) (runs : List Run) → Counted runs → 1 ≤ least by → is_floating by ≡ false → IsEdited by runs
+suppressed_laws : (by : Suppression) (runs : List Run) → Counted runs → 1 ≤ least_count by → is_floating by ≡ false → IsEdited by runs
     → Laws (each_place by runs) (Some (region_from by runs)) (digit_places by runs)
 unfolding region_from
 suppressed_laws by runs counted some f h = record {
@@ -582,7 +582,7 @@ suppressed_laws by runs counted some f h = record {
       ∙ sym (ap (λ b. b && (at == (size_of runs - size_of (from_first (c.Suppressed by) runs)))) f);
 }
 
-floating_laws : (by : Suppression) (runs : List Run) → Counted runs → 1 ≤ least by → is_floating by ≡ true → IsEdited by runs
+floating_laws : (by : Suppression) (runs : List Run) → Counted runs → 1 ≤ least_count by → is_floating by ≡ true → IsEdited by runs
     → Laws (set (each_place by runs) (region_from by runs).begin p.FirstFloating) (Some (region_from by runs)) (digit_places by runs)
 unfolding region_from digits_in
 floating_laws by runs counted some f h =
@@ -606,7 +606,7 @@ floating_laws by runs counted some f h =
           ∙ ap (λ n. at == n) (sym m.begin) ∙ sym (ap (λ b. b && (at == begin)) f);
     }
 
-plain_laws : (category : Category) (runs : List Run) → Allowed (may_stand z.Nothing) runs → IsEditing (of_digits category z.Nothing runs)
+plain_laws : (category : Category) (runs : List Run) → Allowed (may_stand z.Nothing) runs → IsEditingPicture (of_digits category z.Nothing runs)
 unfolding of_digits
 plain_laws category runs h = record {
   numbered = digits_each z.Nothing runs h ∙ (let e : occurrences (c.Digits z.Nothing) runs ≡ occurrences (c.Digits z.Nothing) runs - 0 = omega arith in e);
@@ -614,7 +614,7 @@ plain_laws category runs h = record {
   first = λ at _. none_at is_first_floating (each_place z.Nothing runs) at p.Digit (none_first z.Nothing runs) refl;
 }
 
-edited_laws : (by : Suppression) (runs : List Run) → Counted runs → IsEdited by runs → IsEditing (of_digits k.NumericEdited by runs)
+edited_laws : (by : Suppression) (runs : List Run) → Counted runs → IsEdited by runs → IsEditingPicture (of_digits k.NumericEdited by runs)
 unfolding of_digits region_from
 edited_laws z.Nothing runs counted h = plain_laws k.NumericEdited runs (edited_stands z.Nothing runs h.arranged)
 edited_laws z.Spaces runs counted h =
@@ -628,18 +628,18 @@ edited_laws z.FloatingPlus runs counted h =
 edited_laws z.FloatingMinus runs counted h =
     let l = floating_laws z.FloatingMinus runs counted (omega arith) refl h in record { numbered = l.numbered; region = l.stretch; first = l.first }
 
-character_laws : (category : Category) (runs : List Run) → IsEditing (of_characters category runs)
+character_laws : (category : Category) (runs : List Run) → IsEditingPicture (of_characters category runs)
 unfolding of_characters digits_in
 character_laws category runs = record { numbered = refl; region = tt; first = λ at h. absurd (omega arith) }
 
-form_laws : (category : Category) (runs : List Run) → Counted runs → HasForm category runs → IsEditing (described category runs)
+form_laws : (category : Category) (runs : List Run) → Counted runs → HasForm category runs → IsEditingPicture (description_of category runs)
 form_laws k.Alphabetic runs counted h = character_laws k.Alphabetic runs
 form_laws k.Alphanumeric runs counted h = character_laws k.Alphanumeric runs
 form_laws k.AlphanumericEdited runs counted h = character_laws k.AlphanumericEdited runs
 form_laws k.Numeric runs counted h = plain_laws k.Numeric runs (numeric_stands z.Nothing runs h.arranged.arranged)
 form_laws k.NumericEdited runs counted h = edited_laws (suppression_of runs) runs counted h.arranged
 
-pub any_editing : (picture : Description) → IsAnyPicture picture → IsEditing picture
+pub any_editing : (picture : Description) → IsAnyPicture picture → IsEditingPicture picture
 any_editing picture (text, h) =
     let counted = fit_counted 30 picture.runs (spells_fit 30 picture.runs text (lit≤ tt) h.spelled h.short) in
-    subst IsEditing (sym h.told) (form_laws picture.category picture.runs counted h.form)
+    subst IsEditingPicture (sym h.told) (form_laws picture.category picture.runs counted h.form)

@@ -6,7 +6,7 @@ use Rattle.picture.specs.declared.run.Run.{Run}
 use Rattle.picture.specs.declared.symbol.Symbol.{Symbol}
 use Rattle.picture.specs.declared.symbol.Symbol.TheVariants as s
 use Rattle.std.specs.Char.{to_ascii_uppercase}
-use Rattle.picture.specs.Text.{opening, closing, is_digit, letter, number_from, AreDigits, Times, Repeats, Pair, Writes, Spells, symbol_of, number_at, closed, count_at, with_character, character_at, with_symbol, with_second, pair_at, run_from, after_character, run_at, then_runs, runs_from, runs_of}
+use Rattle.picture.specs.Text.{left_parenthesis, right_parenthesis, is_digit, letter, number_from, AreDigits, Times, Repeats, Pair, Writes, SpellsRuns, symbol_of, number_at, count_before_parenthesis, count_at, with_character, character_at, with_symbol, with_second, pair_at, run_from, after_character, run_at, then_runs, runs_from, runs_of}
 
 some_is : {A : Type 0} {a b : A} → Some a ≡ Some b → a ≡ b
 some_is e = cc
@@ -32,17 +32,17 @@ digits_found v (byte ∷ more) = go (is_digit byte) refl (digits_found (v * 10 +
     go true e h = (byte ∷ h.0, ap (λ l. byte ∷ l) h.1, (e, h.2), h.3)
     go false e h = ([], refl, tt, refl)
 
-closed_found : (number : ℕ) (text rest : List ℕ) (count : ℕ) → closed number text ≡ got count rest → (text ≡ closing ∷ rest) × (number ≡ count) × (1 ≤ count)
-unfolding closed
+closed_found : (number : ℕ) (text rest : List ℕ) (count : ℕ) → count_before_parenthesis number text ≡ got count rest → (text ≡ right_parenthesis ∷ rest) × (number ≡ count) × (1 ≤ count)
+unfolding count_before_parenthesis
 closed_found number [] rest count e = cc
-closed_found number (byte ∷ more) rest count e = go ((byte == closing) && nat_le 1 number) refl e
+closed_found number (byte ∷ more) rest count e = go ((byte == right_parenthesis) && nat_le 1 number) refl e
   where
-    go : (b : Bool) → ((byte == closing) && nat_le 1 number) ≡ b → (if b then got number more else None) ≡ got count rest
-        → (byte ∷ more ≡ closing ∷ rest) × (number ≡ count) × (1 ≤ count)
+    go : (b : Bool) → ((byte == right_parenthesis) && nat_le 1 number) ≡ b → (if b then got number more else None) ≡ got count rest
+        → (byte ∷ more ≡ right_parenthesis ∷ rest) × (number ≡ count) × (1 ≤ count)
     go true is e =
-        let both = split (byte == closing) (nat_le 1 number) is in
+        let both = split (byte == right_parenthesis) (nat_le 1 number) is in
         let pair = some_is e in
-        let byte_is = eqb-true byte closing both.0 in
+        let byte_is = eqb-true byte right_parenthesis both.0 in
         let number_is : number ≡ count = ap (λ p. p.0) pair in
         let more_is : more ≡ rest = ap (λ p. p.1) pair in
         (cc, number_is, subst (λ n. 1 ≤ n) number_is (leb-true 1 number both.1))
@@ -51,17 +51,17 @@ closed_found number (byte ∷ more) rest count e = go ((byte == closing) && nat_
 count_found : (text rest : List ℕ) (count : ℕ) → count_at text ≡ got count rest → (front : List ℕ) × (text ≡ front ++ rest) × Times count front
 unfolding count_at
 count_found [] rest count e = ([], ap (λ p. p.1) (some_is e), inl (refl, sym (ap (λ p. p.0) (some_is e))))
-count_found (byte ∷ more) rest count e = go (byte == opening) refl e
+count_found (byte ∷ more) rest count e = go (byte == left_parenthesis) refl e
   where
-    go : (b : Bool) → (byte == opening) ≡ b → (if b then closed (number_at 0 more).0 (number_at 0 more).1 else got 1 (byte ∷ more)) ≡ got count rest
+    go : (b : Bool) → (byte == left_parenthesis) ≡ b → (if b then count_before_parenthesis (number_at 0 more).0 (number_at 0 more).1 else got 1 (byte ∷ more)) ≡ got count rest
         → (front : List ℕ) × (byte ∷ more ≡ front ++ rest) × Times count front
     go true is e =
         let found = digits_found 0 more in
         let end = closed_found (number_at 0 more).0 (number_at 0 more).1 rest count e in
-        let byte_is = eqb-true byte opening is in
-        let whole : more ≡ found.0 ++ closing ∷ rest = found.1 ∙ ap (λ l. found.0 ++ l) end.0 in (
-          opening ∷ (found.0 ++ closing ∷ []),
-          ap (λ x. x ∷ more) byte_is ∙ ap (λ l. opening ∷ l) (whole ∙ sym (append_assoc found.0 (closing ∷ []) rest)),
+        let byte_is = eqb-true byte left_parenthesis is in
+        let whole : more ≡ found.0 ++ right_parenthesis ∷ rest = found.1 ∙ ap (λ l. found.0 ++ l) end.0 in (
+          left_parenthesis ∷ (found.0 ++ right_parenthesis ∷ []),
+          ap (λ x. x ∷ more) byte_is ∙ ap (λ l. left_parenthesis ∷ l) (whole ∙ sym (append_assoc found.0 (right_parenthesis ∷ []) rest)),
           inr (found.0, refl, found.2, found.3 ∙ end.1, end.2),
         )
     go false is e = ([], ap (λ p. p.1) (some_is e), inl (refl, sym (ap (λ p. p.0) (some_is e))))
@@ -189,7 +189,7 @@ run_found text x e = go (character_at text) refl e
     go (Some y) is e = cr y (y.0 == 67) refl (character_found text y is) e
 
 abbrev Rest : List Run → List Run → List ℕ → Type 0
-Rest found all text = (more : List Run) × (all ≡ found ++ more) × Spells more text
+Rest found all text = (more : List Run) × (all ≡ found ++ more) × SpellsRuns more text
 
 runs_found : (turns : ℕ) (found all : List Run) (text : List ℕ) → runs_from turns found text ≡ Some all → Rest found all text
 unfolding runs_from
@@ -206,27 +206,27 @@ runs_found (suc turns) found all (byte ∷ text) e = go (λ more rest. runs_foun
         (x.0 ∷ others.0, others.1 ∙ append_assoc found (x.0 ∷ []) others.0, (first.0, x.1, first.1, first.2, others.2))
 
 -- The runs that are answered are spelled by the text, which is short enough.
-pub runs_spelled : (text : List ℕ) (runs : List Run) → runs_of text ≡ Some runs → Spells runs text × (length text ≤ 30)
+pub runs_spelled : (text : List ℕ) (runs : List Run) → runs_of text ≡ Some runs → SpellsRuns runs text × (length text ≤ 30)
 unfolding runs_of
 runs_spelled text runs e = go (nat_le (length text) 30) refl e
   where
-    go : (b : Bool) → nat_le (length text) 30 ≡ b → (if b then runs_from 30 [] text else None) ≡ Some runs → Spells runs text × (length text ≤ 30)
-    go true is e = let found = runs_found 30 [] runs text e in (subst (λ l. Spells l text) (sym found.1) found.2, leb-true (length text) 30 is)
+    go : (b : Bool) → nat_le (length text) 30 ≡ b → (if b then runs_from 30 [] text else None) ≡ Some runs → SpellsRuns runs text × (length text ≤ 30)
+    go true is e = let found = runs_found 30 [] runs text e in (subst (λ l. SpellsRuns l text) (sym found.1) found.2, leb-true (length text) 30 is)
     go false is e = cc
 
 -- ---- what is spelled is read
 
-digits_read : (v : ℕ) (digits rest : List ℕ) → AreDigits digits → number_at v (digits ++ closing ∷ rest) ≡ (number_from v digits, closing ∷ rest)
+digits_read : (v : ℕ) (digits rest : List ℕ) → AreDigits digits → number_at v (digits ++ right_parenthesis ∷ rest) ≡ (number_from v digits, right_parenthesis ∷ rest)
 unfolding number_at
 digits_read v [] rest all = refl
 digits_read v (digit ∷ more) rest all = rw all.0 (digits_read (v * 10 + (digit - 48)) more rest all.1)
 
 NotOpening : List ℕ → Type 0
 NotOpening [] = Unit {0}
-NotOpening (byte ∷ more) = (byte == opening) ≡ false
+NotOpening (byte ∷ more) = (byte == left_parenthesis) ≡ false
 
-closed_read : (number : ℕ) (rest : List ℕ) → 1 ≤ number → closed number (closing ∷ rest) ≡ got number rest
-unfolding closed
+closed_read : (number : ℕ) (rest : List ℕ) → 1 ≤ number → count_before_parenthesis number (right_parenthesis ∷ rest) ≡ got number rest
+unfolding count_before_parenthesis
 closed_read number rest h = rw (le-leb 1 number h) refl
 
 count_once : (rest : List ℕ) → NotOpening rest → count_at rest ≡ got 1 rest
@@ -234,15 +234,15 @@ unfolding count_at NotOpening
 count_once [] h = refl
 count_once (byte ∷ more) h = rw h refl
 
-count_in : (text : List ℕ) (number : ℕ) (rest : List ℕ) → number_at 0 text ≡ (number, closing ∷ rest) → 1 ≤ number → count_at (opening ∷ text) ≡ got number rest
+count_in : (text : List ℕ) (number : ℕ) (rest : List ℕ) → number_at 0 text ≡ (number, right_parenthesis ∷ rest) → 1 ≤ number → count_at (left_parenthesis ∷ text) ≡ got number rest
 unfolding count_at
-count_in text number rest e h = ap (λ x. closed x.0 x.1) e ∙ closed_read number rest h
+count_in text number rest e h = ap (λ x. count_before_parenthesis x.0 x.1) e ∙ closed_read number rest h
 
 count_read : (count : ℕ) (front rest : List ℕ) → Times count front → NotOpening rest → count_at (front ++ rest) ≡ got count rest
 count_read count front rest (inl h) n = ap (λ l. count_at (l ++ rest)) h.0 ∙ count_once rest n ∙ ap (λ k. got k rest) (sym h.1)
 count_read count front rest (inr h) n =
-    ap (λ l. count_at (l ++ rest)) h.1 ∙ ap (λ l. count_at (opening ∷ l)) (append_assoc h.0 (closing ∷ []) rest)
-    ∙ count_in (h.0 ++ closing ∷ rest) (number_from 0 h.0) rest (digits_read 0 h.0 rest h.2) (subst (λ k. 1 ≤ k) (sym h.3) h.4)
+    ap (λ l. count_at (l ++ rest)) h.1 ∙ ap (λ l. count_at (left_parenthesis ∷ l)) (append_assoc h.0 (right_parenthesis ∷ []) rest)
+    ∙ count_in (h.0 ++ right_parenthesis ∷ rest) (number_from 0 h.0) rest (digits_read 0 h.0 rest h.2) (subst (λ k. 1 ≤ k) (sym h.3) h.4)
     ∙ ap (λ k. got k rest) h.3
 
 abbrev character : ℕ → ℕ → List ℕ → Option (ℕ × ℕ × List ℕ)
@@ -257,21 +257,21 @@ character_read c count front rest h n =
     ap (λ l. character_at (l ++ rest)) h.2 ∙ character_of h.0 (h.1 ++ rest) count rest (count_read count h.1 rest h.4 n) ∙ ap (λ x. character x count rest) h.3
 
 -- a character that isn't `(` in upper case isn't it before
-not_opening : (byte : ℕ) (more : List ℕ) (c : ℕ) → to_ascii_uppercase byte ≡ c → (c == opening) ≡ false → NotOpening (byte ∷ more)
+not_opening : (byte : ℕ) (more : List ℕ) (c : ℕ) → to_ascii_uppercase byte ≡ c → (c == left_parenthesis) ≡ false → NotOpening (byte ∷ more)
 unfolding NotOpening
-not_opening byte more c e h = go (byte == opening) refl
+not_opening byte more c e h = go (byte == left_parenthesis) refl
   where
-    go : (b : Bool) → (byte == opening) ≡ b → b ≡ false
+    go : (b : Bool) → (byte == left_parenthesis) ≡ b → b ≡ false
     go true is =
-        let byte_is = eqb-true byte opening is in
+        let byte_is = eqb-true byte left_parenthesis is in
         let c_is : 40 ≡ c = sym (ap to_ascii_uppercase byte_is) ∙ e in
         ap (λ k. k == 40) c_is ∙ h
     go false is = refl
 
-repeats_not_opening : (c count : ℕ) (front rest : List ℕ) → (c == opening) ≡ false → Repeats c count front → NotOpening (front ++ rest)
+repeats_not_opening : (c count : ℕ) (front rest : List ℕ) → (c == left_parenthesis) ≡ false → Repeats c count front → NotOpening (front ++ rest)
 repeats_not_opening c count front rest is h = subst (λ l. NotOpening (l ++ rest)) (sym h.2) (not_opening h.0 (h.1 ++ rest) c h.3 is)
 
-pair_not_opening : (first second count : ℕ) (front rest : List ℕ) → (first == opening) ≡ false → Pair first second count front → NotOpening (front ++ rest)
+pair_not_opening : (first second count : ℕ) (front rest : List ℕ) → (first == left_parenthesis) ≡ false → Pair first second count front → NotOpening (front ++ rest)
 pair_not_opening first second count front rest is h =
     subst NotOpening (sym (append_assoc h.1 h.2 rest) ∙ ap (λ l. l ++ rest) (sym h.3)) (repeats_not_opening first 1 h.1 (h.2 ++ rest) is h.4)
 
@@ -294,7 +294,7 @@ writes_not_opening s.Currency count front rest h = repeats_not_opening 36 count 
 writes_not_opening s.Cr count front rest h = pair_not_opening 67 82 count front rest refl h
 writes_not_opening s.Db count front rest h = pair_not_opening 68 66 count front rest refl h
 
-spells_not_opening : (runs : List Run) (text : List ℕ) → Spells runs text → NotOpening text
+spells_not_opening : (runs : List Run) (text : List ℕ) → SpellsRuns runs text → NotOpening text
 unfolding NotOpening
 spells_not_opening [] text h = subst NotOpening (sym h) tt
 spells_not_opening (run ∷ more) text h = subst NotOpening (sym h.2) (writes_not_opening run.symbol run.count h.0 h.1 h.3)
@@ -308,7 +308,7 @@ second_read : (second : ℕ) (symbol : Symbol) (other rest : List ℕ) → (seco
 unfolding pair_at
 second_read second symbol other rest same h n = ap (with_second second symbol) (character_read second 1 other rest h n) ∙ rw same refl
 
-pair_read : (first second count : ℕ) (symbol : Symbol) (front rest : List ℕ) → (second == second) ≡ true → (second == opening) ≡ false
+pair_read : (first second count : ℕ) (symbol : Symbol) (front rest : List ℕ) → (second == second) ≡ true → (second == left_parenthesis) ≡ false
     → ((rest : List ℕ) → run_from first 1 rest ≡ pair_at second symbol 1 rest)
     → Pair first second count front → NotOpening rest → run_at (front ++ rest) ≡ got (record { symbol = symbol; count = count }) rest
 pair_read first second count symbol front rest same other_is by h n =
@@ -375,7 +375,7 @@ unfolding runs_from
 one_run turns found [] run rest h e = absurd (omega arith)
 one_run turns found (byte ∷ more) run rest h e = ap (λ o. then_runs o (λ run rest. runs_from turns (found ++ run ∷ []) rest)) e
 
-runs_read : (turns : ℕ) (found runs : List Run) (text : List ℕ) → Spells runs text → length text ≤ turns → runs_from turns found text ≡ Some (found ++ runs)
+runs_read : (turns : ℕ) (found runs : List Run) (text : List ℕ) → SpellsRuns runs text → length text ≤ turns → runs_from turns found text ≡ Some (found ++ runs)
 runs_read turns found [] text h enough = ap (runs_from turns found) h ∙ no_text turns found ∙ ap Some (sym (append-nil found))
 runs_read zero found (run ∷ more) text h enough =
     let long = writes_long run.symbol run.count h.0 h.3 in let all = ap length h.2 ∙ length-append h.0 h.1 in absurd (omega arith)
@@ -387,6 +387,6 @@ runs_read (suc turns) found (run ∷ more) text h enough =
     ∙ ap Some (append_assoc found (run ∷ []) more)
 
 -- The runs that a text of at most 30 characters spells are answered.
-pub runs_answered : (text : List ℕ) (runs : List Run) → Spells runs text → length text ≤ 30 → runs_of text ≡ Some runs
+pub runs_answered : (text : List ℕ) (runs : List Run) → SpellsRuns runs text → length text ≤ 30 → runs_of text ≡ Some runs
 unfolding runs_of
 runs_answered text runs h short = rw (le-leb (length text) 30 short) (runs_read 30 [] runs text h short)

@@ -2,11 +2,11 @@
 use Rattle.std.proofs.Common.{◌≡◌, ◌≤◌, ◌<◌, ◌+◌, ◌-◌, ◌==◌, ℕ, zero, suc, false, List, [], ◌∷◌, ◌++◌, length, Some, None, refl, ap, ◌∙◌, arith}
 use Rattle.std.proofs.lemmas.Bool.{le-leb}
 use Rattle.picture.specs.declared.run.Run.{Run}
-use Rattle.picture.specs.Runs.{total}
+use Rattle.picture.specs.Runs.{symbol_count}
 use Rattle.picture.specs.Text.{runs_of, runs_from, run_at, then_runs}
 
-pub total-append : (runs : List Run) (run : Run) → total (runs ++ run ∷ []) ≡ total runs + run.count
-unfolding total
+pub total-append : (runs : List Run) (run : Run) → symbol_count (runs ++ run ∷ []) ≡ symbol_count runs + run.count
+unfolding symbol_count
 total-append [] run = omega arith
 total-append (first ∷ more) run = let h = total-append more run in omega arith
 

@@ -6,11 +6,11 @@ use Rattle.picture.specs.declared.category.Category.TheVariants as k
 use Rattle.picture.specs.declared.class.Class.{Class}
 use Rattle.picture.specs.declared.class.Class.TheVariants as c
 use Rattle.picture.specs.declared.symbol.Suppression.TheVariants as z
-use Rattle.picture.specs.Runs.{past, occurrences}
-use Rattle.picture.specs.Forms.{whole, stretch, numeric_arrangement, HasDigits, IsEdited, suppression_of}
+use Rattle.picture.specs.Runs.{runs_past, occurrences}
+use Rattle.picture.specs.Forms.{whole_picture, stretch, numeric_arrangement, HasDigitPlaceCount, IsEdited, suppression_of}
 
-abbrev pub stands : Class → List Run → Bool
-stands class runs = nat_lt 0 (occurrences class runs)
+abbrev pub contains_class : Class → List Run → Bool
+contains_class class runs = nat_lt 0 (occurrences class runs)
 
 abbrev pub is_empty : List Run → Bool
 is_empty [] = true
@@ -20,19 +20,19 @@ is_empty (run ∷ more) = false
 -- 9, else alphabetic. Without one: numeric where only S, 9 and V stand there, else numeric edited.
 unfoldable pub kind_of : List Run → Category
 kind_of runs =
-    if stands c.LettersAndCharacters runs then
-    (if stands c.SimpleInsertions runs then k.AlphanumericEdited else if stands c.CharactersAndNines runs then k.Alphanumeric else k.Alphabetic)
-    else if is_empty (past c.Numeric runs) then k.Numeric else k.NumericEdited
+    if contains_class c.LettersAndCharacters runs then
+    (if contains_class c.SimpleInsertions runs then k.AlphanumericEdited else if contains_class c.CharactersAndNines runs then k.Alphanumeric else k.Alphabetic)
+    else if is_empty (runs_past c.Numeric runs) then k.Numeric else k.NumericEdited
 
 pub record IsNumeric (runs : List Run) : Type 0 where
-  pub arranged : whole numeric_arrangement runs
-  pub digits : HasDigits z.Nothing runs
+  pub arranged : whole_picture numeric_arrangement runs
+  pub digits : HasDigitPlaceCount z.Nothing runs
 
 -- A line for each category.
 abbrev pub IsArranged : Category → List Run → Type 0
-IsArranged k.Alphabetic runs = whole (stretch c.Letters) runs
-IsArranged k.Alphanumeric runs = whole (stretch c.Alphanumeric) runs
-IsArranged k.AlphanumericEdited runs = whole (stretch c.AlphanumericEdited) runs
+IsArranged k.Alphabetic runs = whole_picture (stretch c.Letters) runs
+IsArranged k.Alphanumeric runs = whole_picture (stretch c.Alphanumeric) runs
+IsArranged k.AlphanumericEdited runs = whole_picture (stretch c.AlphanumericEdited) runs
 IsArranged k.Numeric runs = IsNumeric runs
 IsArranged k.NumericEdited runs = IsEdited (suppression_of runs) runs
 

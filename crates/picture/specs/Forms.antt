@@ -9,7 +9,7 @@ use Rattle.picture.specs.declared.class.Class.{Class}
 use Rattle.picture.specs.declared.class.Class.TheVariants as c
 use Rattle.picture.specs.declared.symbol.Suppression.{Suppression}
 use Rattle.picture.specs.declared.symbol.Suppression.TheVariants as z
-use Rattle.picture.specs.Symbols.{has, is_floating, is_floating_sign, least}
+use Rattle.picture.specs.Symbols.{class_has, is_floating, is_floating_sign, least_count}
 use Rattle.picture.specs.Runs.{is_one, from_first, occurrences, ends_in, size_of}
 
 -- A part of a picture, by the runs from where it begins and the runs after it.
@@ -21,30 +21,30 @@ abbrev pub ◌then◌ : Part → Part → Part
 p then q = λ from rest. (middle : List Run) × p from middle × q middle rest
 
 -- The part is the whole picture.
-abbrev pub whole : Part → List Run → Type 0
-whole p runs = p runs []
+abbrev pub whole_picture : Part → List Run → Type 0
+whole_picture p runs = p runs []
 
-abbrev pub begins : (Run → Bool) → List Run → Bool
-begins test [] = false
-begins test (run ∷ more) = test run
+abbrev pub begins_with_run : (Run → Bool) → List Run → Bool
+begins_with_run test [] = false
+begins_with_run test (run ∷ more) = test run
 
-abbrev pub is_in : Class → Run → Bool
-is_in class run = has class run.symbol
+abbrev pub is_in_class : Class → Run → Bool
+is_in_class class run = class_has class run.symbol
 
 abbrev pub Each : Class → List Run → Type 0
 Each class [] = Unit {0}
-Each class (run ∷ more) = (is_in class run ≡ true) × Each class more
+Each class (run ∷ more) = (is_in_class class run ≡ true) × Each class more
 
 -- Symbols of the class, as far as they go.
 abbrev pub stretch : Class → Part
-stretch class = λ from rest. (front : List Run) × (from ≡ front ++ rest) × Each class front × (begins (is_in class) rest ≡ false)
+stretch class = λ from rest. (front : List Run) × (from ≡ front ++ rest) × Each class front × (begins_with_run (is_in_class class) rest ≡ false)
 
 abbrev pub one : Class → Part
 one class = λ from rest. (run : Run) × (from ≡ run ∷ rest) × (is_one class run ≡ true)
 
 -- One symbol of the class, left out only where none stands.
 abbrev pub optional : Class → Part
-optional class = λ from rest. one class from rest ⊎ ((from ≡ rest) × (begins (is_one class) rest ≡ false))
+optional class = λ from rest. one class from rest ⊎ ((from ≡ rest) × (begins_with_run (is_one class) rest ≡ false))
 
 -- The same without the principle: as many symbols of the class as you like, and an optional one left out at will.
 abbrev pub some_of : Class → Part
@@ -77,8 +77,8 @@ most_places = 160
 abbrev pub digit_places : Suppression → List Run → ℕ
 digit_places by runs = occurrences (c.Digits by) runs - (if is_floating by then 1 else 0)
 
-abbrev pub HasDigits : Suppression → List Run → Type 0
-HasDigits by runs = (1 ≤ digit_places by runs) × (digit_places by runs ≤ most_digits)
+abbrev pub HasDigitPlaceCount : Suppression → List Run → Type 0
+HasDigitPlaceCount by runs = (1 ≤ digit_places by runs) × (digit_places by runs ≤ most_digits)
 
 -- ---- numeric editing
 
@@ -114,11 +114,11 @@ any_arrangement by runs =
     then perhaps (c.TrailingSign by)
 
 pub record IsEdited (by : Suppression) (runs : List Run) : Type 0 where
-  pub arranged : whole (arrangement by runs) runs
+  pub arranged : whole_picture (arrangement by runs) runs
   -- at most one sign over front, float and end: beside a floating one the arrangement has no other
   pub one_sign : is_floating_sign by ≡ false → occurrences c.Signs runs ≤ 1
   -- zero suppression begins before the point, and so do two places of a floating symbol
-  pub before_point : least by + occurrences (c.Suppressed by) (from_first c.Points runs) ≤ occurrences (c.Suppressed by) runs
-  pub digits : HasDigits by runs
+  pub before_point : least_count by + occurrences (c.Suppressed by) (from_first c.Points runs) ≤ occurrences (c.Suppressed by) runs
+  pub digits : HasDigitPlaceCount by runs
   pub fits : size_of runs ≤ most_places
   pub last : ends_in c.NeverLast runs ≡ false

@@ -9,12 +9,12 @@ use Rattle.picture.specs.declared.symbol.Suppression.TheVariants as z
 use Rattle.picture.specs.declared.description.Description.{Description}
 use Rattle.picture.specs.declared.fault.PictureError.{PictureError}
 use Rattle.picture.specs.declared.fault.PictureError.TheVariants as errors
-use Rattle.picture.specs.Runs.{from_first, occurrences, size_of, total}
+use Rattle.picture.specs.Runs.{from_first, occurrences, size_of, symbol_count}
 use Rattle.picture.specs.Forms.{digit_places, most_digits, most_places, suppression_of}
-use Rattle.picture.specs.Categories.{stands, HasForm}
+use Rattle.picture.specs.Categories.{contains_class, HasForm}
 use Rattle.picture.specs.Deciding.{category_of}
 use Rattle.picture.specs.Places.{places_of, region_of}
-use Rattle.picture.specs.Text.{Spells, most_characters, runs_of}
+use Rattle.picture.specs.Text.{SpellsRuns, most_characters, runs_of}
 use Rattle.picture.specs.Spelling.{are_spelled}
 
 -- the digit places after the point
@@ -29,7 +29,7 @@ of_digits category by runs = record {
   size = size_of runs;
   digits = digit_places by runs;
   scale = scale_of by runs;
-  signed = stands c.Signs runs;
+  signed = contains_class c.Signs runs;
   places = places_of by runs;
   region = region_of by runs;
 }
@@ -48,17 +48,17 @@ of_characters category runs = record {
 }
 
 -- What a form of that category says.
-abbrev pub described : Category → List Run → Description
-described k.Numeric runs = of_digits k.Numeric z.Nothing runs
-described k.NumericEdited runs = of_digits k.NumericEdited (suppression_of runs) runs
-described category runs = of_characters category runs
+abbrev pub description_of : Category → List Run → Description
+description_of k.Numeric runs = of_digits k.Numeric z.Nothing runs
+description_of k.NumericEdited runs = of_digits k.NumericEdited (suppression_of runs) runs
+description_of category runs = of_characters category runs
 
 -- The picture that a text is: it spells the runs, these have a form, and the rest is what the form says.
 pub record IsPicture (text : List ℕ) (picture : Description) : Type 0 where
   pub short : length text ≤ most_characters
-  pub spelled : Spells picture.runs text
+  pub spelled : SpellsRuns picture.runs text
   pub form : HasForm picture.category picture.runs
-  pub told : picture ≡ described picture.category picture.runs
+  pub told : picture ≡ description_of picture.category picture.runs
 
 -- It is the picture of some text.
 abbrev pub IsAnyPicture : Description → Type 0
@@ -74,19 +74,19 @@ abbrev pub HasDigitPlaces : Description → Type 0
 HasDigitPlaces picture = (1 ≤ picture.digits) × (picture.digits ≤ most_digits) × (picture.scale ≤ picture.digits) × (length picture.places ≡ picture.size)
 
 -- What each category bounds: a numeric edited picture has at most 160 places. A picture of characters has a place for each symbol.
-abbrev pub IsWithin : Category → Description → Type 0
-IsWithin k.Numeric picture = HasDigitPlaces picture
-IsWithin k.NumericEdited picture = HasDigitPlaces picture × (picture.size ≤ most_places)
-IsWithin category picture = (picture.digits ≡ 0) × (picture.scale ≡ 0) × (picture.size ≡ total picture.runs)
+abbrev pub IsWithinBounds : Category → Description → Type 0
+IsWithinBounds k.Numeric picture = HasDigitPlaces picture
+IsWithinBounds k.NumericEdited picture = HasDigitPlaces picture × (picture.size ≤ most_places)
+IsWithinBounds category picture = (picture.digits ≡ 0) × (picture.scale ≡ 0) × (picture.size ≡ symbol_count picture.runs)
 
 abbrev pub IsBounded : Description → Type 0
-IsBounded picture = IsWithin picture.category picture
+IsBounded picture = IsWithinBounds picture.category picture
 
 -- ---- reading, as a function
 
 abbrev pub of_category : List Run → Option Category → Option Description
 of_category runs None = None
-of_category runs (Some category) = Some (described category runs)
+of_category runs (Some category) = Some (description_of category runs)
 
 -- the picture of runs with a form
 unfoldable pub of_form : List Run → Option Description

@@ -31,20 +31,20 @@ abbrev pub place_of : Suppression → Symbol → Place
 place_of by symbol = if is_floating by && is_by by symbol then p.Floating else fixed_place symbol
 
 -- the places of a symbol: of CR and DB two, of S and V none
-abbrev pub shown : Suppression → Symbol → List Place
-shown by s.S = []
-shown by s.V = []
-shown by s.Cr = p.Negative 67 ∷ p.Negative 82 ∷ []
-shown by s.Db = p.Negative 68 ∷ p.Negative 66 ∷ []
-shown by symbol = place_of by symbol ∷ []
+abbrev pub symbol_places : Suppression → Symbol → List Place
+symbol_places by s.S = []
+symbol_places by s.V = []
+symbol_places by s.Cr = p.Negative 67 ∷ p.Negative 82 ∷ []
+symbol_places by s.Db = p.Negative 68 ∷ p.Negative 66 ∷ []
+symbol_places by symbol = place_of by symbol ∷ []
 
-unfoldable pub repeated : ℕ → List Place → List Place
-repeated zero places = []
-repeated (suc n) places = places ++ repeated n places
+unfoldable pub repeated_places : ℕ → List Place → List Place
+repeated_places zero places = []
+repeated_places (suc n) places = places ++ repeated_places n places
 
 unfoldable pub each_place : Suppression → List Run → List Place
 each_place by [] = []
-each_place by (run ∷ more) = repeated run.count (shown by run.symbol) ++ each_place by more
+each_place by (run ∷ more) = repeated_places run.count (symbol_places by run.symbol) ++ each_place by more
 
 -- From the first suppressed or floating place up to before the first 9 or point; without suppression there is none.
 unfoldable pub region_from : Suppression → List Run → Region
@@ -59,9 +59,9 @@ region_of z.Nothing runs = None
 region_of by runs = Some (region_from by runs)
 
 -- A floating region begins at the first floating place, which is no digit place.
-abbrev pub marked : Option Region → List Place → List Place
-marked None places = places
-marked (Some region) places = if is_floating region.by then slice_set places region.begin p.FirstFloating else places
+abbrev pub places_with_floating : Option Region → List Place → List Place
+places_with_floating None places = places
+places_with_floating (Some region) places = if is_floating region.by then slice_set places region.begin p.FirstFloating else places
 
 abbrev pub places_of : Suppression → List Run → List Place
-places_of by runs = marked (region_of by runs) (each_place by runs)
+places_of by runs = places_with_floating (region_of by runs) (each_place by runs)

@@ -38,7 +38,7 @@ IsStretch (Some region) places =
     (region.begin ≤ region.end) × (region.end ≤ length places)
     × ((at : ℕ) → region.begin ≤ at → at < region.end → is_point_place (slice_index_or places at p.Digit) ≡ false)
 
-pub record IsEditing (picture : Description) : Type 0 where
+pub record IsEditingPicture (picture : Description) : Type 0 where
   pub numbered : digits_in picture.places ≡ picture.digits
   pub region : IsStretch picture.region picture.places
   -- the symbol that floats stands first at the begin of its region, and nowhere else

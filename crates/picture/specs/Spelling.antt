@@ -4,7 +4,7 @@ use Rattle.std.specs.Prelude.{ℕ, zero, suc, ◌+◌, ◌-◌, ◌/◌, ◌%◌
 use Rattle.picture.specs.declared.run.Run.{Run}
 use Rattle.picture.specs.declared.symbol.Symbol.{Symbol}
 use Rattle.picture.specs.declared.symbol.Symbol.TheVariants as s
-use Rattle.picture.specs.Text.{letter, opening, closing, most_characters}
+use Rattle.picture.specs.Text.{letter, left_parenthesis, right_parenthesis, most_characters}
 
 -- The digits of a count that stands in such a text, beside a symbol and two parentheses.
 abbrev pub most_count_digits : ℕ
@@ -19,8 +19,8 @@ decimal zero number = []
 decimal (suc most) number = if nat_lt number 10 then (48 + number) ∷ [] else decimal most (number / 10) ++ (48 + number % 10) ∷ []
 
 -- What stands behind a symbol that comes so often.
-abbrev pub behind : ℕ → List ℕ
-behind count = if count == 1 then [] else opening ∷ (decimal most_count_digits count ++ closing ∷ [])
+abbrev pub repeat_count_text : ℕ → List ℕ
+repeat_count_text count = if count == 1 then [] else left_parenthesis ∷ (decimal most_count_digits count ++ right_parenthesis ∷ [])
 
 abbrev pub is_pair : Symbol → Bool
 is_pair s.Cr = true
@@ -32,8 +32,8 @@ letters s.Cr = 67 ∷ 82 ∷ []
 letters s.Db = 68 ∷ 66 ∷ []
 letters symbol = letter symbol ∷ []
 
-abbrev pub spelling : Run → List ℕ
-spelling run = letters run.symbol ++ behind run.count
+abbrev pub run_text : Run → List ℕ
+run_text run = letters run.symbol ++ repeat_count_text run.count
 
 -- The count of a symbol: 1 of CR and DB.
 abbrev pub can_repeat : Symbol → ℕ → Bool
@@ -43,7 +43,7 @@ can_repeat symbol count = nat_le 1 count && nat_lt count (if is_pair symbol then
 unfoldable pub fit_in : ℕ → List Run → Bool
 fit_in room [] = true
 fit_in room (run ∷ more) =
-    can_repeat run.symbol run.count && nat_le (length (spelling run)) room && fit_in (room - length (spelling run)) more
+    can_repeat run.symbol run.count && nat_le (length (run_text run)) room && fit_in (room - length (run_text run)) more
 
 abbrev pub are_spelled : List Run → Bool
 are_spelled runs = fit_in most_characters runs
@@ -51,4 +51,4 @@ are_spelled runs = fit_in most_characters runs
 -- The text of the runs: of each the symbol, and its count in parentheses where that isn't 1.
 abbrev pub spelling_of : List Run → List ℕ
 spelling_of [] = []
-spelling_of (run ∷ more) = spelling run ++ spelling_of more
+spelling_of (run ∷ more) = run_text run ++ spelling_of more

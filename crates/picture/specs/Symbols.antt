@@ -69,11 +69,11 @@ is_floating z.FloatingMinus = true
 is_floating _ = false
 
 -- how often the symbol stands before the point, at the least
-abbrev pub least : Suppression → ℕ
-least z.Nothing = 0
-least z.Spaces = 1
-least z.Asterisks = 1
-least _ = 2
+abbrev pub least_count : Suppression → ℕ
+least_count z.Nothing = 0
+least_count z.Spaces = 1
+least_count z.Asterisks = 1
+least_count _ = 2
 
 abbrev pub is_letter : Symbol → Bool
 is_letter s.A = true
@@ -106,24 +106,24 @@ is_never_last s.Comma = true
 is_never_last _ = false
 
 -- The symbols of a class.
-unfoldable pub has : Class → Symbol → Bool
-has c.Letters x = is_letter x
-has c.LettersAndCharacters x = is_alphanumeric x && not (is_nine x)
-has c.CharactersAndNines x = is_alphanumeric x && not (is_letter x)
-has c.Alphanumeric x = is_alphanumeric x
-has c.SimpleInsertions x = is_simple_insertion x
-has c.AlphanumericEdited x = is_alphanumeric x || is_simple_insertion x
-has c.OperationalSign x = is_operational_sign x
-has c.AssumedPoint x = is_assumed_point x
-has c.Numeric x = is_operational_sign x || is_assumed_point x || is_nine x
-has c.NinesAndInsertions x = is_nine x || is_insertion x
-has (c.Suppressed by) x = is_by by x
-has (c.SuppressedAndInsertions by) x = is_by by x || is_insertion x
-has (c.Digits by) x = is_nine x || is_by by x
-has (c.LeadingSign by) x = is_plus_or_minus x && not (is_floating_sign by)
-has (c.FixedCurrency by) x = is_currency x && not (is_by by x)
-has (c.TrailingSign by) x = is_end_sign x && not (is_floating_sign by)
-has c.Points x = is_point x
-has c.NinesAndPoints x = is_nine x || is_point x
-has c.NeverLast x = is_never_last x
-has c.Signs x = is_operational_sign x || is_end_sign x
+unfoldable pub class_has : Class → Symbol → Bool
+class_has c.Letters x = is_letter x
+class_has c.LettersAndCharacters x = is_alphanumeric x && not (is_nine x)
+class_has c.CharactersAndNines x = is_alphanumeric x && not (is_letter x)
+class_has c.Alphanumeric x = is_alphanumeric x
+class_has c.SimpleInsertions x = is_simple_insertion x
+class_has c.AlphanumericEdited x = is_alphanumeric x || is_simple_insertion x
+class_has c.OperationalSign x = is_operational_sign x
+class_has c.AssumedPoint x = is_assumed_point x
+class_has c.Numeric x = is_operational_sign x || is_assumed_point x || is_nine x
+class_has c.NinesAndInsertions x = is_nine x || is_insertion x
+class_has (c.Suppressed by) x = is_by by x
+class_has (c.SuppressedAndInsertions by) x = is_by by x || is_insertion x
+class_has (c.Digits by) x = is_nine x || is_by by x
+class_has (c.LeadingSign by) x = is_plus_or_minus x && not (is_floating_sign by)
+class_has (c.FixedCurrency by) x = is_currency x && not (is_by by x)
+class_has (c.TrailingSign by) x = is_end_sign x && not (is_floating_sign by)
+class_has c.Points x = is_point x
+class_has c.NinesAndPoints x = is_nine x || is_point x
+class_has c.NeverLast x = is_never_last x
+class_has c.Signs x = is_operational_sign x || is_end_sign x

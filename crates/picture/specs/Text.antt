@@ -13,11 +13,11 @@ most_characters = 30
 abbrev pub count_limit : ℕ
 count_limit = 10 ^ most_characters
 
-abbrev pub opening : ℕ
-opening = 40
+abbrev pub left_parenthesis : ℕ
+left_parenthesis = 40
 
-abbrev pub closing : ℕ
-closing = 41
+abbrev pub right_parenthesis : ℕ
+right_parenthesis = 41
 
 abbrev pub is_digit : ℕ → Bool
 is_digit byte = nat_le 48 byte && nat_le byte 57
@@ -55,7 +55,7 @@ AreDigits (digit ∷ more) = (is_digit digit ≡ true) × AreDigits more
 
 -- `(k)`, k above 0, leading zeros or not
 abbrev pub InParentheses : ℕ → List ℕ → Type 0
-InParentheses count text = (digits : List ℕ) × (text ≡ opening ∷ (digits ++ closing ∷ [])) × AreDigits digits × (number_from 0 digits ≡ count) × (1 ≤ count)
+InParentheses count text = (digits : List ℕ) × (text ≡ left_parenthesis ∷ (digits ++ right_parenthesis ∷ [])) × AreDigits digits × (number_from 0 digits ≡ count) × (1 ≤ count)
 
 -- What stands after a character that is repeated so often: nothing for once, or `(k)`.
 abbrev pub Times : ℕ → List ℕ → Type 0
@@ -74,9 +74,9 @@ Writes s.Cr count text = Pair 67 82 count text
 Writes s.Db count text = Pair 68 66 count text
 Writes symbol count text = Repeats (letter symbol) count text
 
-abbrev pub Spells : List Run → List ℕ → Type 0
-Spells [] text = text ≡ []
-Spells (run ∷ more) text = (front : List ℕ) × (rest : List ℕ) × (text ≡ front ++ rest) × Writes run.symbol run.count front × Spells more rest
+abbrev pub SpellsRuns : List Run → List ℕ → Type 0
+SpellsRuns [] text = text ≡ []
+SpellsRuns (run ∷ more) text = (front : List ℕ) × (rest : List ℕ) × (text ≡ front ++ rest) × Writes run.symbol run.count front × SpellsRuns more rest
 
 -- ---- reading, as a function
 
@@ -92,14 +92,14 @@ unfoldable pub number_at : ℕ → List ℕ → ℕ × List ℕ
 number_at before [] = (before, [])
 number_at before (byte ∷ more) = if is_digit byte then number_at (before * 10 + (byte - 48)) more else (before, byte ∷ more)
 
-unfoldable pub closed : ℕ → List ℕ → Option (ℕ × List ℕ)
-closed number [] = None
-closed number (byte ∷ more) = if (byte == closing) && nat_le 1 number then Some (number, more) else None
+unfoldable pub count_before_parenthesis : ℕ → List ℕ → Option (ℕ × List ℕ)
+count_before_parenthesis number [] = None
+count_before_parenthesis number (byte ∷ more) = if (byte == right_parenthesis) && nat_le 1 number then Some (number, more) else None
 
 -- how often the character before stands there, and what comes after that
 unfoldable pub count_at : List ℕ → Option (ℕ × List ℕ)
 count_at [] = Some (1, [])
-count_at (byte ∷ more) = if byte == opening then closed (number_at 0 more).0 (number_at 0 more).1 else Some (1, byte ∷ more)
+count_at (byte ∷ more) = if byte == left_parenthesis then count_before_parenthesis (number_at 0 more).0 (number_at 0 more).1 else Some (1, byte ∷ more)
 
 abbrev pub with_character : ℕ → Option (ℕ × List ℕ) → Option (ℕ × ℕ × List ℕ)
 with_character byte None = None

@@ -1,7 +1,7 @@
 //! The category of a picture, by its form.
 
 ghost use Rattle.std.specs.Prelude.{◌≡◌, ◌*◌, ◌<◌, ◌^◌};
-ghost use Rattle.picture.specs.Runs.{total};
+ghost use Rattle.picture.specs.Runs.{symbol_count};
 ghost use Rattle.picture.specs.Categories as spec;
 ghost use Rattle.picture.specs.Deciding as deciding;
 
@@ -21,8 +21,8 @@ pub enum Category {
 }
 
 pub fn stands(runs: &[Run], class: Class) -> bool
-    requires { 2 * total runs.now < 2 ^ 128 }
-    ensures { result ≡ spec.stands class runs.now }
+    requires { 2 * symbol_count runs.now < 2 ^ 128 }
+    ensures { result ≡ spec.contains_class class runs.now }
 {
     occurrences(runs, class) > 0
 }
@@ -37,7 +37,7 @@ fn is_only(runs: &[Run], class: Class) -> bool
 /// The category that the symbols of a picture allow.
 #[tactic(auto, unfolding(crate::specs::Categories::kind_of, crate::specs::Deciding::is_only))]
 fn kind_of(runs: &[Run]) -> Category
-    requires { 2 * total runs.now < 2 ^ 128 }
+    requires { 2 * symbol_count runs.now < 2 ^ 128 }
     ensures { result ≡ spec.kind_of runs.now }
 {
     if stands(runs, Class::LettersAndCharacters) {
@@ -55,10 +55,10 @@ fn kind_of(runs: &[Run]) -> Category
     }
 }
 
-#[tactic(auto, unfolding(crate::specs::Deciding::is_numeric))]
+#[tactic(auto, unfolding(crate::specs::Deciding::is_numeric_picture))]
 fn is_numeric(runs: &[Run]) -> bool
-    requires { 2 * total runs.now < 2 ^ 128 }
-    ensures { result ≡ deciding.is_numeric runs.now }
+    requires { 2 * symbol_count runs.now < 2 ^ 128 }
+    ensures { result ≡ deciding.is_numeric_picture runs.now }
 {
     let nines = Class::Digits(Suppression::Nothing);
     let whole = past(past_one(runs, Class::OperationalSign), nines);
@@ -67,7 +67,7 @@ fn is_numeric(runs: &[Run]) -> bool
 
 #[tactic(auto, unfolding(crate::specs::Deciding::is_of))]
 fn is_of(category: Category, runs: &[Run]) -> bool
-    requires { 2 * total runs.now < 2 ^ 128 }
+    requires { 2 * symbol_count runs.now < 2 ^ 128 }
     ensures { result ≡ deciding.is_of category runs.now }
 {
     match category {
@@ -82,7 +82,7 @@ fn is_of(category: Category, runs: &[Run]) -> bool
 /// The category of the picture, if it has a form.
 #[tactic(auto, unfolding(crate::specs::Deciding::category_of))]
 pub fn category_of(runs: &[Run]) -> Option<Category>
-    requires { 2 * total runs.now < 2 ^ 128 }
+    requires { 2 * symbol_count runs.now < 2 ^ 128 }
     ensures { result ≡ deciding.category_of runs.now }
 {
     let category = kind_of(runs);

@@ -51,9 +51,9 @@ pub enum Class {
 }
 
 impl Class {
-    #[tactic(auto, unfolding(crate::specs::Symbols::has))]
+    #[tactic(auto, unfolding(crate::specs::Symbols::class_has))]
     pub fn has(self, symbol: Symbol) -> bool
-        ensures { result ≡ spec.has self symbol }
+        ensures { result ≡ spec.class_has self symbol }
     {
         match self {
             Class::Letters => matches!(symbol, Symbol::A),

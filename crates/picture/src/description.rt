@@ -4,7 +4,7 @@ ghost use Rattle.std.specs.Prelude.{◌≡◌, ◌≢◌, ℕ, List, ◌*◌, �
 ghost use Rattle.picture.specs.Forms.{digit_places, most_digits, most_places, suppression_of};
 ghost use Rattle.picture.specs.Categories.{HasForm};
 ghost use Rattle.picture.specs.Runs as counts;
-ghost use Rattle.picture.specs.Runs.{total};
+ghost use Rattle.picture.specs.Runs.{symbol_count};
 ghost use Rattle.picture.specs.Pictures as spec;
 
 use crate::category::{Category, stands};
@@ -40,7 +40,7 @@ pub struct Description {
 /// The digit places after the point.
 #[tactic(auto, unfolding(crate::specs::Pictures::scale_of))]
 fn scale_of(runs: &[Run], by: Suppression) -> u128
-    requires { 2 * total runs.now < 2 ^ 128 }
+    requires { 2 * symbol_count runs.now < 2 ^ 128 }
     ensures { result ≡ spec.scale_of by runs.now }
 {
     occurrences(from_first(runs, Class::Points), Class::Digits(by))
@@ -54,7 +54,7 @@ fn of_digits(
     by: Suppression,
     runs: Items<Run>,
 ) -> Result<Description, AllocError>
-    requires bounded { 2 * total runs < 2 ^ 128 }
+    requires bounded { 2 * symbol_count runs < 2 ^ 128 }
     requires digits { digit_places by runs ≤ most_digits }
     requires fits { by ≢ Suppression.Nothing → counts.size_of runs ≤ most_places }
     ensures { IfOk result (λ description. description ≡ spec.of_digits category by runs) }
@@ -80,7 +80,7 @@ fn of_digits(
 /// A picture of characters.
 #[tactic(auto, unfolding(crate::specs::Pictures::of_characters))]
 fn of_characters(alloc: Global, category: Category, runs: Items<Run>) -> Description
-    requires { 2 * total runs < 2 ^ 128 }
+    requires { 2 * symbol_count runs < 2 ^ 128 }
     ensures { result ≡ spec.of_characters category runs }
 {
     let size = size_of(runs.as_slice());
@@ -102,9 +102,9 @@ pub fn described(
     category: Category,
     runs: Items<Run>,
 ) -> Result<Description, AllocError>
-    requires bounded { 2 * total runs < 2 ^ 128 }
+    requires bounded { 2 * symbol_count runs < 2 ^ 128 }
     requires form { HasForm category runs }
-    ensures { IfOk result (λ description. description ≡ spec.described category runs) }
+    ensures { IfOk result (λ description. description ≡ spec.description_of category runs) }
 {
     match category {
         Category::Numeric => of_digits(alloc, category, Suppression::Nothing, runs),

@@ -1,7 +1,7 @@
 //! The form of numeric edited pictures.
 
 ghost use Rattle.std.specs.Prelude.{◌≡◌, ◌+◌, ◌*◌, ◌<◌, ◌≤◌, ◌^◌};
-ghost use Rattle.picture.specs.Runs.{total};
+ghost use Rattle.picture.specs.Runs.{symbol_count};
 ghost use Rattle.picture.specs.Forms as spec;
 ghost use Rattle.picture.specs.Deciding as deciding;
 
@@ -18,7 +18,7 @@ const MOST_PLACES: u128 = 160;
 /// The symbol that suppresses zeros: a floating one stands at least twice.
 #[tactic(auto, unfolding(crate::specs::Forms::suppression_of))]
 pub fn suppression_of(runs: &[Run]) -> Suppression
-    requires { 2 * total runs.now < 2 ^ 128 }
+    requires { 2 * symbol_count runs.now < 2 ^ 128 }
     ensures { result ≡ spec.suppression_of runs.now }
 {
     if occurrences(runs, Class::Suppressed(Suppression::FloatingCurrency)) >= 2 {
@@ -38,7 +38,7 @@ pub fn suppression_of(runs: &[Run]) -> Suppression
 
 /// The digit places: each 9, and each symbol that suppresses zeros, but for the first of a floating one.
 pub fn digit_places(runs: &[Run], by: Suppression) -> u128
-    requires { 2 * total runs.now < 2 ^ 128 }
+    requires { 2 * symbol_count runs.now < 2 ^ 128 }
     ensures { result ≡ spec.digit_places by runs.now }
 {
     let digits = occurrences(runs, Class::Digits(by));
@@ -51,7 +51,7 @@ pub fn digit_places(runs: &[Run], by: Suppression) -> u128
 
 #[tactic(auto, unfolding(crate::specs::Deciding::has_digits))]
 pub fn has_digits(runs: &[Run], by: Suppression) -> bool
-    requires { 2 * total runs.now < 2 ^ 128 }
+    requires { 2 * symbol_count runs.now < 2 ^ 128 }
     ensures { result ≡ deciding.has_digits by runs.now }
 {
     let digits = digit_places(runs, by);
@@ -60,7 +60,7 @@ pub fn has_digits(runs: &[Run], by: Suppression) -> bool
 
 /// The symbols after the point.
 fn decimals(runs: &[Run], by: Suppression) -> Class
-    requires { 2 * total runs.now < 2 ^ 128 }
+    requires { 2 * symbol_count runs.now < 2 ^ 128 }
     ensures { result ≡ spec.decimals by runs.now }
 {
     if occurrences(runs, Class::Digits(Suppression::Nothing)) > 0 {
@@ -73,7 +73,7 @@ fn decimals(runs: &[Run], by: Suppression) -> Class
 /// What is left after the decimals.
 #[tactic(auto, unfolding(crate::specs::Deciding::past_core))]
 fn past_core(runs: &[Run], by: Suppression) -> &[Run]
-    requires { 2 * total runs.now < 2 ^ 128 }
+    requires { 2 * symbol_count runs.now < 2 ^ 128 }
     ensures { result.now ≡ deciding.past_core by runs.now }
 {
     let currency = past_one(runs, Class::LeadingSign(by));
@@ -85,7 +85,7 @@ fn past_core(runs: &[Run], by: Suppression) -> &[Run]
 
 #[tactic(auto, unfolding(crate::specs::Deciding::is_arranged))]
 fn is_arranged(runs: &[Run], by: Suppression) -> bool
-    requires { 2 * total runs.now < 2 ^ 128 }
+    requires { 2 * symbol_count runs.now < 2 ^ 128 }
     ensures { result ≡ deciding.is_arranged by runs.now }
 {
     past_one(past_core(runs, by), Class::TrailingSign(by)).is_empty()
@@ -93,7 +93,7 @@ fn is_arranged(runs: &[Run], by: Suppression) -> bool
 
 #[tactic(auto, unfolding(crate::specs::Deciding::has_one_sign))]
 fn has_one_sign(runs: &[Run], by: Suppression) -> bool
-    requires { 2 * total runs.now < 2 ^ 128 }
+    requires { 2 * symbol_count runs.now < 2 ^ 128 }
     ensures { result ≡ deciding.has_one_sign by runs.now }
 {
     by.is_floating_sign() || occurrences(runs, Class::Signs) <= 1
@@ -102,7 +102,7 @@ fn has_one_sign(runs: &[Run], by: Suppression) -> bool
 /// Zero suppression begins before the point, and so do two places of a floating symbol.
 #[tactic(auto, unfolding(crate::specs::Deciding::begins_before_point))]
 fn begins_before_point(runs: &[Run], by: Suppression) -> bool
-    requires { 2 * total runs.now < 2 ^ 128 }
+    requires { 2 * symbol_count runs.now < 2 ^ 128 }
     ensures { result ≡ deciding.begins_before_point by runs.now }
 {
     let suppressed = Class::Suppressed(by);
@@ -113,7 +113,7 @@ fn begins_before_point(runs: &[Run], by: Suppression) -> bool
 
 #[tactic(auto, unfolding(crate::specs::Deciding::is_edited))]
 pub fn is_edited(runs: &[Run], by: Suppression) -> bool
-    requires { 2 * total runs.now < 2 ^ 128 }
+    requires { 2 * symbol_count runs.now < 2 ^ 128 }
     ensures { result ≡ deciding.is_edited by runs.now }
 {
     is_arranged(runs, by)

@@ -1,7 +1,7 @@
 //! What holds of every form.
 
 ghost use Rattle.std.specs.Prelude.{◌≡◌, ℕ, List};
-ghost use Rattle.picture.specs.Forms.{whole, some_of, stretch, numeric_arrangement, any_numeric_arrangement, arrangement, any_arrangement};
+ghost use Rattle.picture.specs.Forms.{whole_picture, some_of, stretch, numeric_arrangement, any_numeric_arrangement, arrangement, any_arrangement};
 ghost use Rattle.picture.specs.Pictures.{IsPicture, IsAnyPicture, IsBounded};
 ghost use Rattle.picture.specs.Spelling.{spelling_of};
 
@@ -30,7 +30,7 @@ pub fn bounds()
 /// However a picture can be divided into its parts, it can be where each part takes all that it can.
 pub fn any_division()
     // Pictures of characters, which are one stretch.
-    ensures characters { (class : Class) (runs : List Run) → whole (some_of class) runs → whole (stretch class) runs }
-    ensures numeric { (runs : List Run) → whole any_numeric_arrangement runs → whole numeric_arrangement runs }
-    ensures edited { (by : Suppression) (runs : List Run) → whole (any_arrangement by runs) runs → whole (arrangement by runs) runs }
+    ensures characters { (class : Class) (runs : List Run) → whole_picture (some_of class) runs → whole_picture (stretch class) runs }
+    ensures numeric { (runs : List Run) → whole_picture any_numeric_arrangement runs → whole_picture numeric_arrangement runs }
+    ensures edited { (by : Suppression) (runs : List Run) → whole_picture (any_arrangement by runs) runs → whole_picture (arrangement by runs) runs }
 {}

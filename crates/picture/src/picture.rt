@@ -4,10 +4,10 @@ ghost use Rattle.std.specs.Prelude.{◌≡◌, ◌≤◌, ◌*◌, ◌<◌, ◌^
 ghost use Rattle.answers.specs.Answer.{Gives};
 ghost use Rattle.picture.specs.Faults.{fault_of, or_no_form};
 ghost use Rattle.picture.specs.Forms.{most_digits};
-ghost use Rattle.picture.specs.Runs.{total};
+ghost use Rattle.picture.specs.Runs.{symbol_count};
 ghost use Rattle.picture.specs.Pictures as spec;
 ghost use Rattle.picture.specs.Pictures.{IsPicture, IsAnswer, IsAnyPicture, IsOfRuns, IsBounded};
-ghost use Rattle.picture.specs.Regions.{IsEditing};
+ghost use Rattle.picture.specs.Regions.{IsEditingPicture};
 ghost use Rattle.picture.specs.Spelling.{spelling_of};
 
 use crate::category::{Category, category_of};
@@ -44,7 +44,7 @@ impl Model for Picture {
 /// The picture of these runs.
 #[tactic(auto, unfolding(crate::specs::Pictures::of_form))]
 fn of_form(alloc: Global, runs: Items<Run>) -> Result<Description, PictureError>
-    requires { 2 * total runs < 2 ^ 128 }
+    requires { 2 * symbol_count runs < 2 ^ 128 }
     ensures { Gives (λ description. description) fault_of result (or_no_form (spec.of_form runs)) }
 {
     match category_of(runs.as_slice()) {
@@ -122,7 +122,7 @@ impl Picture {
     pub fn laws(&self)
         ensures form { IsAnyPicture self.now }
         ensures bounded { IsBounded self.now }
-        ensures editing { IsEditing self.now }
+        ensures editing { IsEditingPicture self.now }
     {
         let _ = &self.description;
     }

@@ -3,7 +3,7 @@
 ghost use Rattle.std.specs.Prelude.{◌≡◌, ◌≢◌, ◌*◌, ◌<◌, ◌≤◌, ◌^◌, ◌++◌, IfOk, OnOk};
 ghost use Rattle.picture.specs.Forms.{most_places};
 ghost use Rattle.picture.specs.Runs as counts;
-ghost use Rattle.picture.specs.Runs.{total};
+ghost use Rattle.picture.specs.Runs.{symbol_count};
 ghost use Rattle.picture.specs.Places as spec;
 
 use crate::class::Class;
@@ -67,7 +67,7 @@ fn place_of(symbol: Symbol, by: Suppression) -> Place
 }
 
 fn push_symbol(places: &mut Items<Place>, symbol: Symbol, by: Suppression) -> Result<(), AllocError>
-    ensures { OnOk result (places.new ≡ places.old ++ spec.shown by symbol) }
+    ensures { OnOk result (places.new ≡ places.old ++ spec.symbol_places by symbol) }
 {
     match symbol {
         Symbol::S | Symbol::V => Ok(()),
@@ -84,7 +84,7 @@ fn push_symbol(places: &mut Items<Place>, symbol: Symbol, by: Suppression) -> Re
 }
 
 fn push_run(places: &mut Items<Place>, run: Run, by: Suppression) -> Result<(), AllocError>
-    ensures { OnOk result (places.new ≡ places.old ++ spec.repeated run.count (spec.shown by run.symbol)) }
+    ensures { OnOk result (places.new ≡ places.old ++ spec.repeated_places run.count (spec.symbol_places by run.symbol)) }
 {
     for _time in 0..run.count {
         push_symbol(places, run.symbol, by)?;
@@ -105,7 +105,7 @@ fn each_place(alloc: Global, runs: &[Run], by: Suppression) -> Result<Items<Plac
 /// The region from the first suppressed place on.
 #[tactic(auto, unfolding(crate::specs::Places::region_from))]
 fn region_from(runs: &[Run], by: Suppression) -> Region
-    requires bounded { 2 * total runs.now < 2 ^ 128 }
+    requires bounded { 2 * symbol_count runs.now < 2 ^ 128 }
     requires fits { counts.size_of runs.now ≤ most_places }
     ensures { result ≡ spec.region_from by runs.now }
 {
@@ -121,7 +121,7 @@ fn region_from(runs: &[Run], by: Suppression) -> Region
 
 /// The region of suppressed places, if there is one.
 pub fn region_of(runs: &[Run], by: Suppression) -> Option<Region>
-    requires bounded { 2 * total runs.now < 2 ^ 128 }
+    requires bounded { 2 * symbol_count runs.now < 2 ^ 128 }
     requires fits { by ≢ Suppression.Nothing → counts.size_of runs.now ≤ most_places }
     ensures { result ≡ spec.region_of by runs.now }
 {
@@ -138,7 +138,7 @@ pub fn places_of(
     region: Option<Region>,
     by: Suppression,
 ) -> Result<Items<Place>, AllocError>
-    ensures { IfOk result (λ places. places ≡ spec.marked region (spec.each_place by runs.now)) }
+    ensures { IfOk result (λ places. places ≡ spec.places_with_floating region (spec.each_place by runs.now)) }
 {
     let mut places = each_place(alloc, runs, by)?;
     if let Some(region) = region {

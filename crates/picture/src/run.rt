@@ -2,7 +2,7 @@
 
 ghost use Rattle.std.specs.Prelude.{◌≡◌, ◌*◌, ◌<◌, ◌≤◌, ◌^◌};
 ghost use Rattle.picture.specs.Runs as spec;
-ghost use Rattle.picture.specs.Runs.{total};
+ghost use Rattle.picture.specs.Runs.{symbol_count};
 
 use crate::class::Class;
 use crate::symbol::Symbol;
@@ -15,9 +15,9 @@ pub struct Run {
 }
 
 /// The runs after the symbols of the class, as far as these go.
-#[tactic(auto, unfolding(crate::specs::Runs::past))]
+#[tactic(auto, unfolding(crate::specs::Runs::runs_past))]
 pub fn past(runs: &[Run], class: Class) -> &[Run]
-    ensures { result.now ≡ spec.past class runs.now }
+    ensures { result.now ≡ spec.runs_past class runs.now }
 {
     match runs {
         [run, more @ ..] if class.has(run.symbol) => past(more, class),
@@ -37,10 +37,10 @@ pub fn past_one(runs: &[Run], class: Class) -> &[Run]
 }
 
 /// The runs from the first of the class on.
-#[tactic(auto, unfolding(crate::specs::Runs::from_first, crate::specs::Runs::total))]
+#[tactic(auto, unfolding(crate::specs::Runs::from_first, crate::specs::Runs::symbol_count))]
 pub fn from_first(runs: &[Run], class: Class) -> &[Run]
     ensures value { result.now ≡ spec.from_first class runs.now }
-    ensures fewer { total result.now ≤ total runs.now }
+    ensures fewer { symbol_count result.now ≤ symbol_count runs.now }
 {
     match runs {
         [run, more @ ..] if !class.has(run.symbol) => from_first(more, class),
@@ -51,7 +51,7 @@ pub fn from_first(runs: &[Run], class: Class) -> &[Run]
 /// How many symbols of the class there are.
 #[tactic(auto, unfolding(crate::specs::Runs::occurrences))]
 pub fn occurrences(runs: &[Run], class: Class) -> u128
-    requires { 2 * total runs.now < 2 ^ 128 }
+    requires { 2 * symbol_count runs.now < 2 ^ 128 }
     ensures { result ≡ spec.occurrences class runs.now }
 {
     let mut found = 0;
@@ -78,7 +78,7 @@ pub fn ends_in(runs: &[Run], class: Class) -> bool
 /// The character places.
 #[tactic(auto, unfolding(crate::specs::Runs::size_of))]
 pub fn size_of(runs: &[Run]) -> u128
-    requires { 2 * total runs.now < 2 ^ 128 }
+    requires { 2 * symbol_count runs.now < 2 ^ 128 }
     ensures { result ≡ spec.size_of runs.now }
 {
     let mut places = 0;

@@ -1,7 +1,7 @@
 //! Which runs a text can spell.
 
 ghost use Rattle.std.specs.Prelude.{◌≡◌, ◌<◌, ◌≤◌, ◌*◌, ◌^◌, length, IsTrue};
-ghost use Rattle.picture.specs.Runs.{total};
+ghost use Rattle.picture.specs.Runs.{symbol_count};
 ghost use Rattle.picture.specs.Spelling as spec;
 ghost use Rattle.picture.specs.Spelling.{count_most, most_count_digits};
 
@@ -13,6 +13,14 @@ const MOST_CHARACTERS: usize = 30;
 
 /// The least count that no text of a picture writes.
 const COUNT_MOST: u128 = 1_000_000_000_000_000_000_000_000_000;
+
+/// A text of a picture can spell the runs.
+pub fn are_spelled(runs: &[Run]) -> bool
+    ensures value { result ≡ spec.are_spelled runs.now }
+    ensures bound { IsTrue result → 2 * symbol_count runs.now < 2 ^ 128 }
+{
+    fit_in(runs, MOST_CHARACTERS)
+}
 
 fn is_pair(symbol: Symbol) -> bool
     ensures { result ≡ spec.is_pair symbol }
@@ -45,7 +53,7 @@ fn can_repeat(run: Run) -> bool
 /// The characters that spell the run.
 fn length_of(run: Run) -> usize
     requires { run.count < count_most }
-    ensures { result ≡ length (spec.spelling run) }
+    ensures { result ≡ length (spec.run_text run) }
 {
     let letters = if is_pair(run.symbol) { 2 } else { 1 };
     if run.count == 1 {
@@ -69,12 +77,4 @@ fn fit_in(runs: &[Run], room: usize) -> bool
             length <= room && fit_in(more, room - length)
         }
     }
-}
-
-/// A text of a picture can spell the runs.
-pub fn are_spelled(runs: &[Run]) -> bool
-    ensures value { result ≡ spec.are_spelled runs.now }
-    ensures bound { IsTrue result → 2 * total runs.now < 2 ^ 128 }
-{
-    fit_in(runs, MOST_CHARACTERS)
 }

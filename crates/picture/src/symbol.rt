@@ -134,7 +134,7 @@ impl Suppression {
 
     /// How often the symbol stands before the point, at the least.
     pub fn least(self) -> u128
-        ensures { result ≡ spec.least self }
+        ensures { result ≡ spec.least_count self }
     {
         match self {
             Suppression::Nothing => 0,

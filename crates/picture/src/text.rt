@@ -4,7 +4,7 @@ ghost use Rattle.std.specs.Prelude.{◌≡◌, ◌*◌, ◌<◌, ◌≤◌, ◌^
 ghost use Rattle.std.specs.Option.{option_map};
 ghost use Rattle.answers.specs.Answer.{Gives};
 ghost use Rattle.picture.specs.Faults.{fault_of, or_no_form};
-ghost use Rattle.picture.specs.Runs.{total};
+ghost use Rattle.picture.specs.Runs.{symbol_count};
 ghost use Rattle.picture.specs.Text as spec;
 
 use crate::fault::{PictureError, PictureFault};
@@ -15,6 +15,34 @@ use std::alloc::Global;
 
 /// The characters that a picture has at the most.
 const MOST_CHARACTERS: usize = 30;
+
+/// The runs that the text writes.
+#[tactic(auto, unfolding(crate::specs::Text::runs_of, crate::specs::Text::runs_from))]
+pub fn runs_of(alloc: Global, text: &[u8]) -> Result<Items<Run>, PictureError>
+    ensures value { Gives (λ runs. runs) fault_of result (or_no_form (spec.runs_of text.now)) }
+    ensures bound { IfOk result (λ runs. 2 * symbol_count runs < 2 ^ 128) }
+{
+    if text.len() > MOST_CHARACTERS {
+        return Err(PictureError::Refused(PictureFault::NoForm));
+    }
+    let mut runs = Items::new(alloc);
+    let mut rest = text;
+    for _turn in 0..MOST_CHARACTERS {
+        if rest.is_empty() {
+            return Ok(runs);
+        }
+        let Some((run, more)) = run_at(rest) else {
+            return Err(PictureError::Refused(PictureFault::NoForm));
+        };
+        runs.push(run)?;
+        rest = more;
+    }
+    if rest.is_empty() {
+        Ok(runs)
+    } else {
+        Err(PictureError::Refused(PictureFault::NoForm))
+    }
+}
 
 /// The number that the digits in front write, and what comes after them.
 #[tactic(auto, unfolding(crate::specs::Text::number_at))]
@@ -34,7 +62,7 @@ fn number_at(text: &[u8]) -> (u128, &[u8])
 }
 
 /// How often the character before stands there, and what comes after that.
-#[tactic(auto, unfolding(crate::specs::Text::count_at, crate::specs::Text::closed))]
+#[tactic(auto, unfolding(crate::specs::Text::count_at, crate::specs::Text::count_before_parenthesis))]
 fn count_at(text: &[u8]) -> Option<(u128, &[u8])>
     requires { length text.now ≤ spec.most_characters }
     ensures value { option_map (λ x. (x.0, x.1.now)) result ≡ spec.count_at text.now }
@@ -125,33 +153,5 @@ fn run_at(text: &[u8]) -> Option<(Run, &[u8])>
             let symbol = symbol_of(character)?;
             Some((Run { symbol, count }, rest))
         }
-    }
-}
-
-/// The runs that the text writes.
-#[tactic(auto, unfolding(crate::specs::Text::runs_of, crate::specs::Text::runs_from))]
-pub fn runs_of(alloc: Global, text: &[u8]) -> Result<Items<Run>, PictureError>
-    ensures value { Gives (λ runs. runs) fault_of result (or_no_form (spec.runs_of text.now)) }
-    ensures bound { IfOk result (λ runs. 2 * total runs < 2 ^ 128) }
-{
-    if text.len() > MOST_CHARACTERS {
-        return Err(PictureError::Refused(PictureFault::NoForm));
-    }
-    let mut runs = Items::new(alloc);
-    let mut rest = text;
-    for _turn in 0..MOST_CHARACTERS {
-        if rest.is_empty() {
-            return Ok(runs);
-        }
-        let Some((run, more)) = run_at(rest) else {
-            return Err(PictureError::Refused(PictureFault::NoForm));
-        };
-        runs.push(run)?;
-        rest = more;
-    }
-    if rest.is_empty() {
-        Ok(runs)
-    } else {
-        Err(PictureError::Refused(PictureFault::NoForm))
     }
 }

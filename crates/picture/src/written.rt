@@ -15,6 +15,17 @@ const MOST_COUNT_DIGITS: usize = 27;
 /// The radix of decimal digits.
 const RADIX: u128 = 10;
 
+/// The text of the runs.
+pub fn written(alloc: Global, runs: &[Run]) -> Result<Items<u8>, AllocError>
+    ensures { IfOk result (λ text. text ≡ spec.spelling_of runs.now) }
+{
+    let mut text = Items::new(alloc);
+    for run in runs {
+        push_run(*run, &mut text)?;
+    }
+    Ok(text)
+}
+
 /// The character of a symbol, or the first of two.
 fn letter(symbol: Symbol) -> u8
     ensures { result ≡ text_of.letter symbol }
@@ -70,7 +81,7 @@ fn push_decimal(most: usize, number: u128, text: &mut Items<u8>) -> Result<(), A
 /// Writes a run.
 #[tactic(auto, using(crate::proofs::WrittenTexts::once_written, crate::proofs::WrittenTexts::often_written))]
 fn push_run(run: Run, text: &mut Items<u8>) -> Result<(), AllocError>
-    ensures { OnOk result (text.new ≡ text.old ++ spec.spelling run) }
+    ensures { OnOk result (text.new ≡ text.old ++ spec.run_text run) }
 {
     push_letters(run.symbol, text)?;
     if run.count == 1 {
@@ -79,15 +90,4 @@ fn push_run(run: Run, text: &mut Items<u8>) -> Result<(), AllocError>
     text.push(b'(')?;
     push_decimal(MOST_COUNT_DIGITS, run.count, text)?;
     text.push(b')')
-}
-
-/// The text of the runs.
-pub fn written(alloc: Global, runs: &[Run]) -> Result<Items<u8>, AllocError>
-    ensures { IfOk result (λ text. text ≡ spec.spelling_of runs.now) }
-{
-    let mut text = Items::new(alloc);
-    for run in runs {
-        push_run(*run, &mut text)?;
-    }
-    Ok(text)
 }

@@ -18,6 +18,7 @@ const HELLO: &[u8] = b"       IDENTIFICATION DIVISION.
        MAIN.
            DISPLAY \"HELLO\".
            STOP RUN.
+
 ";
 
 const LOOP: &[u8] = b"       IDENTIFICATION DIVISION.
@@ -29,7 +30,57 @@ const LOOP: &[u8] = b"       IDENTIFICATION DIVISION.
 
 
            STOP RUN.
+
 ";
+
+/// The number of `unheard`, which ends a run as fault 92.
+const UNHEARD: u8 = 47;
+
+/// Counts behind the mark, the bytes that follow them, and the number of the refusal.
+const TABLES: [(&[u8], &[u8], u8); 9] = [
+    // an area that is missing, and one that is too short
+    (&[1], b"", 71),
+    (&[1, 2], b"A", 71),
+    // an item of an unknown kind, and one without its length
+    (&[0, 1], b"\x0a", 72),
+    (&[0, 1], b"\x01\0\0\0", 71),
+    // a number: a flag, a negative zero, 39 digits, a scale above 18
+    (&[0, 0, 1], b"\x02", 72),
+    (&[0, 0, 1], b"\x01\0\0\0\0\0\0\0\0\0\0\0\0\0\0\0\0\0", 72),
+    (
+        &[0, 0, 1],
+        b"\0\xff\xff\xff\xff\xff\xff\xff\xff\xff\xff\xff\xff\xff\xff\xff\xff\0",
+        72,
+    ),
+    (&[0, 0, 1], b"\0\0\0\0\0\0\0\0\0\0\0\0\0\0\0\0\x01\x13", 72),
+    // a sender of an unknown kind
+    (&[0, 0, 0, 1], b"\x08", 72),
+];
+
+/// Refused with 70 to 74, or a run that stops within its budget; with `otherwise` one that ends in any way but by a refusal. An image
+/// that came to have files finds no volume.
+pub(crate) fn is_harmless(alloc: Global, image: &[u8], otherwise: bool) -> Result<bool, Fail> {
+    let mut station = MemoryStation::new(alloc, Vec::new(alloc), Vec::new(alloc))?;
+    Ok(match run_image(alloc, image, &mut station, DAY, ENOUGH) {
+        Ended::Stopped => true,
+        Ended::Budget | Ended::Faulted { .. } => otherwise,
+        Ended::Refused(Refusal::Image(_) | Refusal::Damaged) => true,
+        Ended::Refused(_) => false,
+    })
+}
+
+pub(crate) fn with_byte(
+    alloc: Global,
+    image: &[u8],
+    at: usize,
+    byte: u8,
+) -> Result<Vec<u8>, AllocError> {
+    let mut changed = image.to_vec(alloc)?;
+    if let Some(place) = changed.get_mut(at) {
+        *place = byte;
+    }
+    Ok(changed)
+}
 
 /// Counts of an image: each has eight bytes, the highest first.
 fn put_counts(image: &mut Vec<u8>, counts: &[u8]) -> Result<(), AllocError> {
@@ -113,34 +164,6 @@ fn an_image_cut_short(rt: HostRuntime) -> Result<(), Fail> {
     Ok(())
 }
 
-/// Refused with 70 to 74, or a run that stops within its budget; with `otherwise` one that ends in any way but by a refusal. An image
-/// that came to have files finds no volume.
-pub(crate) fn is_harmless(alloc: Global, image: &[u8], otherwise: bool) -> Result<bool, Fail> {
-    let mut station = MemoryStation::new(alloc, Vec::new(alloc), Vec::new(alloc))?;
-    Ok(match run_image(alloc, image, &mut station, DAY, ENOUGH) {
-        Ended::Stopped => true,
-        Ended::Budget | Ended::Faulted { .. } => otherwise,
-        Ended::Refused(Refusal::Image(_) | Refusal::Damaged) => true,
-        Ended::Refused(_) => false,
-    })
-}
-
-pub(crate) fn with_byte(
-    alloc: Global,
-    image: &[u8],
-    at: usize,
-    byte: u8,
-) -> Result<Vec<u8>, AllocError> {
-    let mut changed = image.to_vec(alloc)?;
-    if let Some(place) = changed.get_mut(at) {
-        *place = byte;
-    }
-    Ok(changed)
-}
-
-/// The number of `unheard`, which ends a run as fault 92.
-const UNHEARD: u8 = 47;
-
 #[test]
 fn an_image_with_one_byte_changed(rt: HostRuntime) -> Result<(), Fail> {
     let alloc = rt.alloc();
@@ -177,27 +200,6 @@ fn bytes_that_are_no_image(rt: HostRuntime) -> Result<(), Fail> {
     }
     Ok(())
 }
-
-/// Counts behind the mark, the bytes that follow them, and the number of the refusal.
-const TABLES: [(&[u8], &[u8], u8); 9] = [
-    // an area that is missing, and one that is too short
-    (&[1], b"", 71),
-    (&[1, 2], b"A", 71),
-    // an item of an unknown kind, and one without its length
-    (&[0, 1], b"\x0a", 72),
-    (&[0, 1], b"\x01\0\0\0", 71),
-    // a number: a flag, a negative zero, 39 digits, a scale above 18
-    (&[0, 0, 1], b"\x02", 72),
-    (&[0, 0, 1], b"\x01\0\0\0\0\0\0\0\0\0\0\0\0\0\0\0\0\0", 72),
-    (
-        &[0, 0, 1],
-        b"\0\xff\xff\xff\xff\xff\xff\xff\xff\xff\xff\xff\xff\xff\xff\xff\xff\0",
-        72,
-    ),
-    (&[0, 0, 1], b"\0\0\0\0\0\0\0\0\0\0\0\0\0\0\0\0\x01\x13", 72),
-    // a sender of an unknown kind
-    (&[0, 0, 0, 1], b"\x08", 72),
-];
 
 #[test]
 fn bytes_that_are_no_tables(rt: HostRuntime) -> Result<(), Fail> {

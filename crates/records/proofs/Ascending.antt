@@ -14,7 +14,7 @@ use Rattle.records.specs.declared.file_spec.Organization.{Organization}
 use Rattle.records.specs.declared.key.KeyOfReference.TheVariants.{Prime}
 use Rattle.records.specs.Spec.{Spec}
 use Rattle.records.specs.Rows.{Row, Pair, pair_cmp, prime_pair}
-use Rattle.records.specs.Order.{Bound, is_behind, lesser, least, sought}
+use Rattle.records.specs.Order.{RowBound, is_behind, lesser, least_row, sought_row}
 use Rattle.records.specs.Changes.{is_at, row_at, with_row}
 use Rattle.records.specs.Laws.{first_of, RowsAscend}
 
@@ -110,13 +110,13 @@ module _ (o : Organization) where
 abbrev less_than : Spec → Row → Option Row → Option Row
 less_than spec row o = lesser spec Prime row o
 
-first_least : (spec : Spec) (rows : List Row) → RowsAscend spec.organization rows → least spec Prime rows ≡ first_of rows
+first_least : (spec : Spec) (rows : List Row) → RowsAscend spec.organization rows → least_row spec Prime rows ≡ first_of rows
 first_least spec [] ascend = refl
 first_least spec (row ∷ []) ascend = refl
 first_least spec (row ∷ other ∷ rows) ascend =
     ap (less_than spec row) (first_least spec (other ∷ rows) (tail spec.organization row (other ∷ rows) ascend))
     ∙ ap (λ (r : Ordering). Some (cond (is_gt r) other row)) (head spec.organization row (other ∷ rows) ascend).0
 
-pub first_fits : (spec : Spec) (bound : Bound) (rows : List Row) → RowsAscend spec.organization rows
-    → sought spec Prime bound rows ≡ first_of (filter (λ row. is_behind bound.side bound.pair (prime_pair spec.organization row)) rows)
+pub first_fits : (spec : Spec) (bound : RowBound) (rows : List Row) → RowsAscend spec.organization rows
+    → sought_row spec Prime bound rows ≡ first_of (filter (λ row. is_behind bound.side bound.pair (prime_pair spec.organization row)) rows)
 first_fits spec bound rows ascend = first_least spec (filter (λ row. is_behind bound.side bound.pair (prime_pair spec.organization row)) rows) (ascend_filter spec.organization (λ row. is_behind bound.side bound.pair (prime_pair spec.organization row)) rows ascend)

@@ -15,9 +15,9 @@ use Rattle.records.specs.declared.file_spec.Organization.TheVariants.{Sequential
 use Rattle.records.specs.declared.answer.Outcome.TheVariants.{Taken}
 use Rattle.records.specs.Spec.{Spec, is_spec, is_name}
 use Rattle.records.specs.Rows.{Row, Pair, bytes_cmp, same_bytes, pair_cmp, prime_pair, named_pair}
-use Rattle.records.specs.Files.{File, Files, Named, IsByte, IsArrival, IsRowNumber, IsRow, IsFile, IsNamed, AreFiles, names, empty_file, file_at, with_file}
-use Rattle.records.specs.Changes.{Changed, is_at, row_at, with_row, in_place, without, inserted, has_prime, new_row, new_number, is_taken, is_duplicate, unchanged, done, replaced, replaced_row, removed, removed_row, changes, changed_row, arrivals_after}
-use Rattle.records.specs.Stores.{IsNumber, is_change, files_after}
+use Rattle.records.specs.Files.{File, Files, NamedFile, IsByte, IsArrival, IsRowNumber, IsRow, IsFile, IsNamed, AreFiles, names, empty_file, file_at, with_file}
+use Rattle.records.specs.Changes.{FileChange, is_at, row_at, with_row, in_place, without_pair, insertion, has_prime, new_row, new_number, is_taken, is_duplicate, without_change, done_outcome, replacement, replaced_row, removal, removed_row, changes, changed_row, arrivals_after}
+use Rattle.records.specs.Stores.{IsNewNumber, is_change, files_after}
 use Rattle.records.proofs.Ascending.{all_filter, or_false, all_with_row, ascend_with_row, ascend_filter}
 use Rattle.records.proofs.Maps.{bytes_same}
 
@@ -52,12 +52,12 @@ how_many : (n : ℕ) (keys : List AlternateKey) → length (map (λ key. n) keys
 how_many n [] = refl
 how_many n (key ∷ keys) = ap (λ (k : ℕ). suc k) (how_many n keys)
 
-new_numbered : (o : Organization) (number next : ℕ) → 1 ≤ next → IsNumber o number → IsRowNumber o (next + 1) (new_number o number next)
+new_numbered : (o : Organization) (number next : ℕ) → 1 ≤ next → IsNewNumber o number → IsRowNumber o (next + 1) (new_number o number next)
 new_numbered Sequential number next le is = (le, omega arith)
 new_numbered Relative number next le is = is
 new_numbered (Indexed place) number next le is = refl
 
-new_is_row : (file : File) (number : ℕ) (bytes : List ℕ) → 1 ≤ file.next_arrival → IsNumber file.spec.organization number → length bytes ≡ file.spec.record_length → AllByRecursion IsByte bytes
+new_is_row : (file : File) (number : ℕ) (bytes : List ℕ) → 1 ≤ file.next_arrival → IsNewNumber file.spec.organization number → length bytes ≡ file.spec.record_length → AllByRecursion IsByte bytes
     → IsRow file.spec (file.next_arrival + 1) (new_row file number bytes)
 new_is_row file number bytes le is long small = record {
   long = long;
@@ -67,12 +67,12 @@ new_is_row file number bytes le is long small = record {
   given = first_arrivals file.next_arrival file.spec.alternates le;
 }
 
-pub inserted_is_file : (file : File) (number : ℕ) (bytes : List ℕ) → IsFile file → IsNumber file.spec.organization number → length bytes ≡ file.spec.record_length → AllByRecursion IsByte bytes → IsFile (inserted number bytes file).file
-inserted_is_file file number bytes is numbered long small = cond_both (has_prime file (new_row file number bytes) || is_taken file.spec.alternates file.rows bytes) (unchanged Taken file)
+pub inserted_is_file : (file : File) (number : ℕ) (bytes : List ℕ) → IsFile file → IsNewNumber file.spec.organization number → length bytes ≡ file.spec.record_length → AllByRecursion IsByte bytes → IsFile (insertion number bytes file).file
+inserted_is_file file number bytes is numbered long small = cond_both (has_prime file (new_row file number bytes) || is_taken file.spec.alternates file.rows bytes) (without_change Taken file)
     (record {
-      outcome = done (is_duplicate file.spec.alternates file.rows bytes);
+      outcome = done_outcome (is_duplicate file.spec.alternates file.rows bytes);
       file = record file { rows = with_row file.spec.organization (new_row file number bytes) file.rows; next_arrival = file.next_arrival + 1 };
-    }) (λ (c : Changed). IsFile c.file) (λ _. is)
+    }) (λ (c : FileChange). IsFile c.file) (λ _. is)
     (λ free. record {
       spec = is.spec;
       next = omega (arith, is.next);
@@ -176,16 +176,16 @@ module _ (file : File) (number : ℕ) (bytes : List ℕ) (is : IsFile file) (lon
   keys row = filter (changes row.bytes bytes) file.spec.alternates
 
   abbrev others : List Row
-  others = without file.spec.organization pair file.rows
+  others = without_pair file.spec.organization pair file.rows
 
   after_row : (found : Option Row) → row_at file.spec.organization pair file.rows ≡ found → IsFile (replaced_row pair bytes file found).file
   unfolding next_after
   after_row None at = is
-  after_row (Some row) at = cond_both (is_taken (keys row) others bytes) (unchanged Taken file)
+  after_row (Some row) at = cond_both (is_taken (keys row) others bytes) (without_change Taken file)
       (record {
-        outcome = done (is_duplicate (keys row) others bytes);
+        outcome = done_outcome (is_duplicate (keys row) others bytes);
         file = record file { rows = in_place file.spec.organization pair (changed_row file bytes row) file.rows; next_arrival = next row };
-      }) (λ (c : Changed). IsFile c.file) (λ _. is)
+      }) (λ (c : FileChange). IsFile c.file) (λ _. is)
       (λ _.
       let here = at_pair file.spec.organization (IsRow file.spec file.next_arrival) pair file.rows row is.rows at in
       let le = not_before (list_any (λ key. changes row.bytes bytes key) file.spec.alternates) file.next_arrival in
@@ -199,10 +199,10 @@ module _ (file : File) (number : ℕ) (bytes : List ℕ) (is : IsFile file) (lon
             (later_rows file.spec file.next_arrival (next row) file.rows le is.rows);
       })
 
-  pub replaced_is_file : IsFile (replaced number bytes file).file
+  pub replaced_is_file : IsFile (replacement number bytes file).file
   replaced_is_file = after_row (row_at file.spec.organization pair file.rows) refl
 
-pub removed_is_file : (file : File) (pair : Pair) → IsFile file → IsFile (removed pair file).file
+pub removed_is_file : (file : File) (pair : Pair) → IsFile file → IsFile (removal pair file).file
 removed_is_file file pair is = by (row_at file.spec.organization pair file.rows)
   where
     by : (found : Option Row) → IsFile (removed_row pair file found).file
@@ -215,13 +215,13 @@ removed_is_file file pair is = by (row_at file.spec.organization pair file.rows)
     }
 
 -- files by name
-abbrev named : List ℕ → File → Named
+abbrev named : List ℕ → File → NamedFile
 named name file = record { name = name; file = file }
 
-abbrev put : Bool → Bool → List ℕ → File → Named → Files → Files
+abbrev put : Bool → Bool → List ℕ → File → NamedFile → Files → Files
 put same less name file one more = cond same (named name file ∷ more) (cond less (one ∷ with_file name file more) (named name file ∷ one ∷ more))
 
-all_put : (P : Named → Type 0) (name : List ℕ) (file : File) (files : Files) → P (named name file) → AllByRecursion P files → AllByRecursion P (with_file name file files)
+all_put : (P : NamedFile → Type 0) (name : List ℕ) (file : File) (files : Files) → P (named name file) → AllByRecursion P files → AllByRecursion P (with_file name file files)
 all_put P name file [] here all = (here, tt)
 all_put P name file (one ∷ more) here all = cond_both (same_bytes one.name name) (named name file ∷ more) (cond (is_lt (bytes_cmp one.name name)) (one ∷ with_file name file more) (named name file ∷ one ∷ more)) (AllByRecursion P)
     (λ _. (here, all.1)) (λ _. cond_both (is_lt (bytes_cmp one.name name)) (one ∷ with_file name file more) (named name file ∷ one ∷ more) (AllByRecursion P) (λ _. (all.0, all_put P name file more here all.1)) (λ _. (here, all)))
@@ -229,7 +229,7 @@ all_put P name file (one ∷ more) here all = cond_both (same_bytes one.name nam
 abbrev NamesAscend : Files → Type 0
 NamesAscend files = IsStrictlySortedBy bytes_cmp (names files)
 
-abbrev Before : List ℕ → Named → Type 0
+abbrev Before : List ℕ → NamedFile → Type 0
 Before name other = bytes_cmp name other.name ≡ Less
 
 names_from : (name : List ℕ) (files : Files) → AllByRecursion (Before name) files → AllByRecursion (λ other. bytes_cmp name other ≡ Less) (names files)
@@ -240,13 +240,13 @@ names_to : (name : List ℕ) (files : Files) → AllByRecursion (λ other. bytes
 names_to name [] all = tt
 names_to name (one ∷ more) all = (all.0, names_to name more all.1)
 
-first_name : (one : Named) (more : Files) → NamesAscend (one ∷ more) → AllByRecursion (Before one.name) more
+first_name : (one : NamedFile) (more : Files) → NamesAscend (one ∷ more) → AllByRecursion (Before one.name) more
 first_name one more ascend = names_to one.name more (sorted_head bytes_cmp one.name (names more) ascend)
 
-more_names : (one : Named) (more : Files) → NamesAscend (one ∷ more) → NamesAscend more
+more_names : (one : NamedFile) (more : Files) → NamesAscend (one ∷ more) → NamesAscend more
 more_names one more ascend = sorted_tail bytes_cmp one.name (names more) ascend
 
-both_names : (one : Named) (more : Files) → AllByRecursion (Before one.name) more → NamesAscend more → NamesAscend (one ∷ more)
+both_names : (one : NamedFile) (more : Files) → AllByRecursion (Before one.name) more → NamesAscend more → NamesAscend (one ∷ more)
 unfolding IsStrictlySortedBy
 both_names one more first rest = (names_from one.name more first, rest)
 
@@ -254,14 +254,14 @@ no_names : NamesAscend []
 unfolding IsStrictlySortedBy
 no_names = tt
 
-lower_name : (name : List ℕ) (one : Named) (files : Files) → bytes_cmp name one.name ≡ Less → AllByRecursion (Before one.name) files → AllByRecursion (Before name) files
+lower_name : (name : List ℕ) (one : NamedFile) (files : Files) → bytes_cmp name one.name ≡ Less → AllByRecursion (Before one.name) files → AllByRecursion (Before name) files
 lower_name name one [] less all = tt
 lower_name name one (other ∷ more) less all = (nat_list_cmp_total.trans name one.name other.name less all.0, lower_name name one more less all.1)
 
-abbrev put_by : Ordering → List ℕ → File → Named → Files → Files
+abbrev put_by : Ordering → List ℕ → File → NamedFile → Files → Files
 put_by r name file one more = put (is_eq r) (is_lt r) name file one more
 
-put_names : (r : Ordering) (name : List ℕ) (file : File) (one : Named) (more : Files) → bytes_cmp one.name name ≡ r → NamesAscend (one ∷ more) → NamesAscend (with_file name file more) → NamesAscend (put_by r name file one more)
+put_names : (r : Ordering) (name : List ℕ) (file : File) (one : NamedFile) (more : Files) → bytes_cmp one.name name ≡ r → NamesAscend (one ∷ more) → NamesAscend (with_file name file more) → NamesAscend (put_by r name file one more)
 put_names Less name file one more is ascend rest = both_names one (with_file name file more) (all_put (Before one.name) name file more is (first_name one more ascend)) rest
 put_names Equal name file one more is ascend rest =
     both_names (named name file) more (subst (λ (n : List ℕ). AllByRecursion (Before n) more) (bytes_same one.name name (ap is_eq is)) (first_name one more ascend)) (more_names one more ascend)
@@ -287,7 +287,7 @@ none_above name old (one ∷ more) all is =
     let greater : bytes_cmp one.name name ≡ Greater = nat_list_cmp_total.antisymm one.name name ∙ ap ordering_reverse all.0 in
     none_above name old more all.1 (sym (ap (λ (r : Ordering). cond (is_eq r) (Some one.file) (file_at name more)) greater) ∙ is)
 
-by_count : (r : Ordering) (name : List ℕ) (file old : File) (one : Named) (more : Files) → bytes_cmp one.name name ≡ r → NamesAscend (one ∷ more) → cond (is_eq r) (Some one.file) (file_at name more) ≡ Some old
+by_count : (r : Ordering) (name : List ℕ) (file old : File) (one : NamedFile) (more : Files) → bytes_cmp one.name name ≡ r → NamesAscend (one ∷ more) → cond (is_eq r) (Some one.file) (file_at name more) ≡ Some old
     → (file_at name more ≡ Some old → length (with_file name file more) ≤ length more) → length (put_by r name file one more) ≤ suc (length more)
 by_count Less name file old one more r ascend there rest = let fewer = rest there in omega (arith, fewer)
 by_count Equal name file old one more r ascend there rest = omega arith
@@ -318,21 +318,21 @@ after_are_files name file old files true are there is =
     with_file_are_files name file files are named.0 is (let few = are.count in omega (arith, fewer, few))
 after_are_files name file old files false are there is = are
 
-pub inserted_are_files : (name : List ℕ) (file : File) (files : Files) (number : ℕ) (bytes : List ℕ) → AreFiles files → file_at name files ≡ Some file → IsNumber file.spec.organization number → length bytes ≡ file.spec.record_length → AllByRecursion IsByte bytes
-    → AreFiles (files_after name files (inserted number bytes file))
+pub inserted_are_files : (name : List ℕ) (file : File) (files : Files) (number : ℕ) (bytes : List ℕ) → AreFiles files → file_at name files ≡ Some file → IsNewNumber file.spec.organization number → length bytes ≡ file.spec.record_length → AllByRecursion IsByte bytes
+    → AreFiles (files_after name files (insertion number bytes file))
 inserted_are_files name file files number bytes are there numbered long small =
-    after_are_files name (inserted number bytes file).file file files (is_change (inserted number bytes file).outcome) are there
+    after_are_files name (insertion number bytes file).file file files (is_change (insertion number bytes file).outcome) are there
     (inserted_is_file file number bytes (there_is_named name file files are.each there).1 numbered long small)
 
 pub replaced_are_files : (name : List ℕ) (file : File) (files : Files) (number : ℕ) (bytes : List ℕ) → AreFiles files → file_at name files ≡ Some file → length bytes ≡ file.spec.record_length → AllByRecursion IsByte bytes
-    → AreFiles (files_after name files (replaced number bytes file))
+    → AreFiles (files_after name files (replacement number bytes file))
 replaced_are_files name file files number bytes are there long small =
-    after_are_files name (replaced number bytes file).file file files (is_change (replaced number bytes file).outcome) are there
+    after_are_files name (replacement number bytes file).file file files (is_change (replacement number bytes file).outcome) are there
     (replaced_is_file file number bytes (there_is_named name file files are.each there).1 long small)
 
-pub removed_are_files : (name : List ℕ) (file : File) (files : Files) (pair : Pair) → AreFiles files → file_at name files ≡ Some file → AreFiles (files_after name files (removed pair file))
+pub removed_are_files : (name : List ℕ) (file : File) (files : Files) (pair : Pair) → AreFiles files → file_at name files ≡ Some file → AreFiles (files_after name files (removal pair file))
 removed_are_files name file files pair are there =
-    after_are_files name (removed pair file).file file files (is_change (removed pair file).outcome) are there (removed_is_file file pair (there_is_named name file files are.each there).1)
+    after_are_files name (removal pair file).file file files (is_change (removal pair file).outcome) are there (removed_is_file file pair (there_is_named name file files are.each there).1)
 
 pub there_is_file : (name : List ℕ) (file : File) (files : Files) → AreFiles files → file_at name files ≡ Some file → IsFile file
 there_is_file name file files are there = (there_is_named name file files are.each there).1

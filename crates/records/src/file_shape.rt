@@ -13,6 +13,22 @@ const LONGEST_RECORD: u16 = 1000;
 
 const MOST_ALTERNATES: usize = 7;
 
+/// Whether these are from 1 to 30 bytes, none of them 0.
+pub(crate) fn is_name(name: &[u8]) -> bool
+    ensures { result ≡ spec.is_name name.now }
+{
+    1 <= name.len() && name.len() <= LONGEST_NAME && are_letters(name)
+}
+
+/// Whether records are from 1 to 1,000 bytes long, and only an indexed file has keys, in order of place and within the record.
+pub(crate) fn is_spec(organization: Organization, record_length: u16, keys: &[AlternateKey]) -> bool
+    ensures { result ≡ spec.is_spec (record { organization = organization; record_length = record_length; alternates = keys.now }) }
+{
+    1 <= record_length
+        && record_length <= LONGEST_RECORD
+        && are_keys(record_length, organization, keys)
+}
+
 fn is_letter(byte: u8) -> bool
     ensures { result ≡ spec.is_letter byte }
 {
@@ -26,13 +42,6 @@ fn are_letters(bytes: &[u8]) -> bool
         return true;
     };
     is_letter(*first) && are_letters(&bytes[1..])
-}
-
-/// Whether these are from 1 to 30 bytes, none of them 0.
-pub(crate) fn is_name(name: &[u8]) -> bool
-    ensures { result ≡ spec.is_name name.now }
-{
-    1 <= name.len() && name.len() <= LONGEST_NAME && are_letters(name)
 }
 
 fn is_place(record_length: u16, place: KeyPlace) -> bool
@@ -84,13 +93,4 @@ fn are_keys(record_length: u16, organization: Organization, keys: &[AlternateKey
                 && are_places(record_length, keys)
         }
     }
-}
-
-/// Whether records are from 1 to 1,000 bytes long, and only an indexed file has keys, in order of place and within the record.
-pub(crate) fn is_spec(organization: Organization, record_length: u16, keys: &[AlternateKey]) -> bool
-    ensures { result ≡ spec.is_spec (record { organization = organization; record_length = record_length; alternates = keys.now }) }
-{
-    1 <= record_length
-        && record_length <= LONGEST_RECORD
-        && are_keys(record_length, organization, keys)
 }

@@ -2,7 +2,7 @@
 ghost use Rattle.std.specs.Prelude.{◌≡◌, ◌≢◌, ◌≤◌, ◌<◌, ◌⊎◌, true, false, ℕ, List, length, Err, IsOk, IfOk, OnErr};
 ghost use Rattle.station.specs.Disk.{Disk, Sector, IsCrashImage};
 ghost use Rattle.records.specs.Files.{Files};
-ghost use Rattle.records.specs.Calls.{StandsFor, Changes, Turns, Rests};
+ghost use Rattle.records.specs.Calls.{Represents, Changes, ChangesFiles, Rests};
 ghost use Rattle.records.specs.Connector.{Entry, Connector};
 ghost use Rattle.records.specs.FileStep.{file_step, entry_at, area, Suits, needs_no_store, makes_file, has_changed, can_change_files, IsStep, SameConnectors};
 
@@ -42,14 +42,14 @@ pub trait FileVerbs: Keeps {
 
         // A CLOSE, and what a test of the connectors bars, isn't refused, and its step asks nothing of the files.
         ensures sure { needs_no_store (entries self.old) (connectors self.old) file verb ≡ true → IsOk result }
-        ensures step { (files : Files) → (StandsFor Self.Keeps D.Device self.old device.old files) ⊎ (needs_no_store (entries self.old) (connectors self.old) file verb ≡ true) →
+        ensures step { (files : Files) → (Represents Self.Keeps D.Device self.old device.old files) ⊎ (needs_no_store (entries self.old) (connectors self.old) file verb ≡ true) →
             IfOk result (λ status. IsStep (connectors self.old) file (file_step (entries self.old) files (connectors self.old) file verb (area bytes.old number.old)) status (connectors self.new) (area bytes.new number.new)) }
-        ensures turns { (files : Files) → StandsFor Self.Keeps D.Device self.old device.old files →
-            Turns Self.Keeps D.Device result (makes_file verb) (entry_at (entries self.old) file).name files
+        ensures turns { (files : Files) → Represents Self.Keeps D.Device self.old device.old files →
+            ChangesFiles Self.Keeps D.Device result (makes_file verb) (entry_at (entries self.old) file).name files
             (file_step (entries self.old) files (connectors self.old) file verb (area bytes.old number.old)).files self.old device.old self.new device.new }
 
         // `Full` is answered only by a statement that would change a file, and by no verb that cannot change one, whatever the disk holds.
-        ensures full { (files : Files) → StandsFor Self.Keeps D.Device self.old device.old files → result ≡ Err StoreFault.Full →
+        ensures full { (files : Files) → Represents Self.Keeps D.Device self.old device.old files → result ≡ Err StoreFault.Full →
             has_changed verb (file_step (entries self.old) files (connectors self.old) file verb (area bytes.old number.old)).status ≡ true }
         ensures never_full { can_change_files verb ≡ false → result ≢ Err StoreFault.Full }
         ensures idle { D.is_honest device.old → IfOk result (λ status. has_changed verb status ≡ false → D.state device.new ≡ D.state device.old) }

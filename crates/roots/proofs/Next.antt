@@ -9,7 +9,7 @@ use Rattle.roots.specs.declared.root.RootSector.TheVariants.{Blank, Broken, Vali
 use Rattle.roots.specs.declared.pair.Roots.{Roots}
 use Rattle.roots.specs.declared.pair.RootsFault.{RootsFault}
 use Rattle.roots.specs.declared.pair.RootsFault.TheVariants.{Damaged, ForeignMark}
-use Rattle.roots.specs.Root.{mark_index, root_with, is_valid, marked, is_blank, root_in}
+use Rattle.roots.specs.Root.{mark_index, root_with, is_valid, root_with_mark, is_blank, root_in}
 use Rattle.roots.specs.Pair.{may_follow, pair_of, of_own, newest_root}
 use Rattle.roots.specs.Reading.{roots_in}
 use Rattle.roots.specs.Laws.{Follows}
@@ -30,7 +30,7 @@ IsThat (Ok a) r = a ≡ r
 pub that : (x : Result Roots RootsFault) (r : Roots) → x ≡ Ok r → IsThat x r
 that x r is = subst (λ (y : Result Roots RootsFault). IsThat y r) (sym is) refl
 
-marked_valid : (count number : ℕ) (bytes : Sector) (mark : Option ℕ) (r : Root) → IsValid (marked count number bytes mark) r → is_valid count number r ≡ true
+marked_valid : (count number : ℕ) (bytes : Sector) (mark : Option ℕ) (r : Root) → IsValid (root_with_mark count number bytes mark) r → is_valid count number r ≡ true
 marked_valid count number bytes None r never = absurd never
 marked_valid count number bytes (Some mark) r is =
     cond_both (is_valid count number (root_with bytes mark)) (Valid (root_with bytes mark)) Broken (λ x. IsValid x r → is_valid count number r ≡ true)
@@ -38,7 +38,7 @@ marked_valid count number bytes (Some mark) r is =
 
 -- a valid root is within the bounds
 pub is_within : (known : List (List ℕ)) (count number : ℕ) (bytes : Sector) (r : Root) → root_in known count number bytes ≡ Valid r → Validity count number r
-is_within known count number bytes r is = validity count number r (cond_both (is_blank bytes) Blank (marked count number bytes (mark_index known bytes)) (λ x. IsValid x r → is_valid count number r ≡ true)
+is_within known count number bytes r is = validity count number r (cond_both (is_blank bytes) Blank (root_with_mark count number bytes (mark_index known bytes)) (λ x. IsValid x r → is_valid count number r ≡ true)
     (λ _ never. absurd never) (λ _ here. marked_valid count number bytes (mark_index known bytes) r here) (valid (root_in known count number bytes) r is))
 
 -- the newest of two sectors is one of them, and the reader's own

@@ -7,7 +7,7 @@ use Rattle.byteorder.specs.Endian.{big_number, big_bytes}
 use Rattle.byteorder.specs.Numbers.{length-bytes_high_first, big_number-reads_back}
 use Rattle.roots.specs.declared.root.Root.{Root}
 use Rattle.roots.specs.declared.root.RootSector.TheVariants.{Blank, Broken, Valid}
-use Rattle.roots.specs.Root.{mark_index, root_with, is_valid, valid_at, marked, is_blank, root_in, root_bytes, put_at}
+use Rattle.roots.specs.Root.{mark_index, root_with, is_valid, valid_at, root_with_mark, is_blank, root_in, root_bytes, put_at}
 
 -- bytes put behind a front
 front : (n : ℕ) (p part rest : List ℕ) → length p ≡ n → put_at n part (p ++ rest) ≡ p ++ part ++ drop (length part) rest
@@ -97,7 +97,7 @@ pub reads_back : (known : List (List ℕ)) (count number : ℕ) (mark : List ℕ
     → root_in known count number (root_bytes mark root) ≡ Valid root
 reads_back known count number mark root eight some at valid =
     let facts = validity count number root valid in
-    cond-false (is_blank (root_bytes mark root)) Blank (marked count number (root_bytes mark root) (mark_index known (root_bytes mark root))) some
-    ∙ ap (marked count number (root_bytes mark root)) at
+    cond-false (is_blank (root_bytes mark root)) Blank (root_with_mark count number (root_bytes mark root) (mark_index known (root_bytes mark root))) some
+    ∙ ap (root_with_mark count number (root_bytes mark root)) at
     ∙ ap (valid_at count number) (reads_root mark root eight (omega (arith, facts.generation)) (omega (arith, facts.most)))
     ∙ cond-true (is_valid count number root) (Valid root) Broken valid

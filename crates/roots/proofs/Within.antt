@@ -8,10 +8,10 @@ use Rattle.roots.specs.declared.root.RootSector.{RootSector}
 use Rattle.roots.specs.declared.root.RootSector.TheVariants.{Blank, Broken, Valid}
 use Rattle.roots.specs.declared.pair.Roots.{Roots}
 use Rattle.roots.specs.declared.pair.RootsFault.TheVariants.{ForeignMark}
-use Rattle.roots.specs.Root.{root_in, IsWithin, IfValid}
+use Rattle.roots.specs.Root.{root_in, IsWithinVolume, IfValid}
 use Rattle.roots.specs.Pair.{may_follow, pair_of, roots_of, of_own, newest_root, EachRoot}
 use Rattle.roots.specs.Reading.{roots_in}
-use Rattle.roots.specs.Laws.{StandsIn, Stand}
+use Rattle.roots.specs.Laws.{IsRootIn, AreRootsOf}
 use Rattle.roots.proofs.Next.{is_within, newest_within, IsThat, that}
 
 -- what two sectors' roots are, the roots are that they make
@@ -44,34 +44,34 @@ module _ (so : Root → Type 0) where
   both_each own first second r a b is = own_each own (roots_of own first second) r (sectors_each own first second a b) (that (newest_root own first second) r is)
 
 module _ (known : List (List ℕ)) (count number : ℕ) (bytes : Sector) where
-  within_as : (x : RootSector) → root_in known count number bytes ≡ x → IfValid x (IsWithin count)
+  within_as : (x : RootSector) → root_in known count number bytes ≡ x → IfValid x (IsWithinVolume count)
   within_as Blank is = tt
   within_as Broken is = tt
   within_as (Valid root) is =
       let facts = is_within known count number bytes root is in
       record { generation = facts.generation; least = facts.least; most = facts.most; there = facts.there }
 
-  pub sector_within : IfValid (root_in known count number bytes) (IsWithin count)
+  pub sector_within : IfValid (root_in known count number bytes) (IsWithinVolume count)
   sector_within = within_as (root_in known count number bytes) refl
 
 module _ (known : List (List ℕ)) (image : List Sector) (number : ℕ) where
-  stands_as : (x : RootSector) → root_in known (length image) number (sector_at image number) ≡ x → IfValid x (StandsIn known image)
+  stands_as : (x : RootSector) → root_in known (length image) number (sector_at image number) ≡ x → IfValid x (IsRootIn known image)
   stands_as Blank is = tt
   stands_as Broken is = tt
   stands_as (Valid root) is =
       let facts = is_within known (length image) number (sector_at image number) root is in
       subst (λ (n : ℕ). root_in known (length image) n (sector_at image n) ≡ Valid root) (sym facts.parity) is
 
-  pub sector_stands : IfValid (root_in known (length image) number (sector_at image number)) (StandsIn known image)
+  pub sector_stands : IfValid (root_in known (length image) number (sector_at image number)) (IsRootIn known image)
   sector_stands = stands_as (root_in known (length image) number (sector_at image number)) refl
 
 -- the roots of an image stand in it
-pub roots_stand : (known : List (List ℕ)) (own : ℕ) (image : List Sector) (roots : Roots) → roots_in known own image ≡ Ok roots → Stand known own image roots
+pub roots_stand : (known : List (List ℕ)) (own : ℕ) (image : List Sector) (roots : Roots) → roots_in known own image ≡ Ok roots → AreRootsOf known own image roots
 roots_stand known own image roots reads =
     let first = root_in known (length image) 0 (sector_at image 0) in
     let second = root_in known (length image) 1 (sector_at image 1) in
     record {
-      there = both_each (StandsIn known image) own first second roots (sector_stands known image 0) (sector_stands known image 1) reads;
-      within = both_each (IsWithin (length image)) own first second roots (sector_within known (length image) 0 (sector_at image 0)) (sector_within known (length image) 1 (sector_at image 1)) reads;
+      there = both_each (IsRootIn known image) own first second roots (sector_stands known image 0) (sector_stands known image 1) reads;
+      within = both_each (IsWithinVolume (length image)) own first second roots (sector_within known (length image) 0 (sector_at image 0)) (sector_within known (length image) 1 (sector_at image 1)) reads;
       own_mark = (newest_within known own image roots reads).2;
     }

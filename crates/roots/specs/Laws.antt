@@ -4,7 +4,7 @@ use Rattle.station.specs.Disk.{Sector, sector_at}
 use Rattle.roots.specs.declared.root.Root.{Root}
 use Rattle.roots.specs.declared.root.RootSector.TheVariants.{Valid}
 use Rattle.roots.specs.declared.pair.Roots.{Roots}
-use Rattle.roots.specs.Root.{mark_index, is_valid, is_blank, root_in, root_bytes, IsWithin}
+use Rattle.roots.specs.Root.{mark_index, is_valid, is_blank, root_in, root_bytes, IsWithinVolume}
 use Rattle.roots.specs.Pair.{EachRoot}
 use Rattle.roots.specs.Reading.{roots_in}
 
@@ -28,14 +28,14 @@ ReadsBack = (known : List (List ℕ)) (count number : ℕ) (mark : List ℕ) (ro
     → root_in known count number (root_bytes mark root) ≡ Valid root
 
 -- a root is that of the sector of its parity
-abbrev pub StandsIn : List (List ℕ) → List Sector → Root → Type 0
-StandsIn known image root = root_in known (length image) (root.generation % 2) (sector_at image (root.generation % 2)) ≡ Valid root
+abbrev pub IsRootIn : List (List ℕ) → List Sector → Root → Type 0
+IsRootIn known image root = root_in known (length image) (root.generation % 2) (sector_at image (root.generation % 2)) ≡ Valid root
 
 -- the roots of an image stand in it and are within the bounds, and the newest has a mark of the reader's own
-pub record Stand (known : List (List ℕ)) (own : ℕ) (image : List Sector) (roots : Roots) : Type 0 where
-  pub there : EachRoot (StandsIn known image) roots
-  pub within : EachRoot (IsWithin (length image)) roots
+pub record AreRootsOf (known : List (List ℕ)) (own : ℕ) (image : List Sector) (roots : Roots) : Type 0 where
+  pub there : EachRoot (IsRootIn known image) roots
+  pub within : EachRoot (IsWithinVolume (length image)) roots
   pub own_mark : roots.newest.mark < own
 
 abbrev pub RootsStand : Type 0
-RootsStand = (known : List (List ℕ)) (own : ℕ) (image : List Sector) (roots : Roots) → roots_in known own image ≡ Ok roots → Stand known own image roots
+RootsStand = (known : List (List ℕ)) (own : ℕ) (image : List Sector) (roots : Roots) → roots_in known own image ≡ Ok roots → AreRootsOf known own image roots

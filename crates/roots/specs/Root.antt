@@ -20,7 +20,7 @@ is_valid count number root =
     nat_lt root.generation (2 ^ 63) && (root.generation % 2 == number) && nat_le 1024 root.sectors && nat_le root.sectors 921600 && nat_le root.sectors count
 
 -- within the bounds of a volume, on a device of so many sectors
-pub record IsWithin (count : ℕ) (root : Root) : Type 0 where
+pub record IsWithinVolume (count : ℕ) (root : Root) : Type 0 where
   pub generation : root.generation < 2 ^ 63
   pub least : 1024 ≤ root.sectors
   pub most : root.sectors ≤ 921600
@@ -35,16 +35,16 @@ IfValid (Valid root) so = so root
 abbrev pub valid_at : ℕ → ℕ → Root → RootSector
 valid_at count number root = if is_valid count number root then Valid root else Broken
 
-abbrev pub marked : ℕ → ℕ → Sector → Option ℕ → RootSector
-marked count number bytes None = Broken
-marked count number bytes (Some mark) = valid_at count number (root_with bytes mark)
+abbrev pub root_with_mark : ℕ → ℕ → Sector → Option ℕ → RootSector
+root_with_mark count number bytes None = Broken
+root_with_mark count number bytes (Some mark) = valid_at count number (root_with bytes mark)
 
 abbrev pub is_blank : Sector → Bool
 is_blank bytes = list_all (λ byte. byte == 0) bytes
 
 -- what the root sector of this number is
 abbrev pub root_in : List (List ℕ) → ℕ → ℕ → Sector → RootSector
-root_in known count number bytes = if is_blank bytes then Blank else marked count number bytes (mark_index known bytes)
+root_in known count number bytes = if is_blank bytes then Blank else root_with_mark count number bytes (mark_index known bytes)
 
 -- a sector after these bytes were put there
 abbrev pub put_at : ℕ → List ℕ → Sector → Sector

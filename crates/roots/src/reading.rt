@@ -3,7 +3,7 @@ ghost use Rattle.std.specs.Prelude.{◌≡◌, ◌<◌, Err, IfOk, IfErr};
 ghost use Rattle.station.specs.Disk.{sector_at};
 ghost use Rattle.station.specs.Calls.{OnlyReads};
 ghost use Rattle.answers.specs.Answer.{Gives};
-ghost use Rattle.roots.specs.Root.{root_in, IsWithin, IfValid};
+ghost use Rattle.roots.specs.Root.{root_in, IsWithinVolume, IfValid};
 ghost use Rattle.roots.specs.Pair.{EachRoot};
 ghost use Rattle.roots.specs.Reading.{roots_in, fault_of};
 
@@ -11,23 +11,6 @@ use crate::error::RootsError;
 use crate::pair::{Roots, RootsFault, newest_of};
 use crate::root::{RootSector, read_root};
 use station::Device;
-
-/// What a root sector of a device is.
-fn root_of<D: Device>(
-    device: &mut D,
-    known: &[[u8; 8]],
-    number: u32,
-) -> Result<RootSector, RootsError>
-    requires { number < D.sectors device.old }
-    ensures only { OnlyReads D.Device (result ≡ Err RootsError.Device) device.old device.new }
-    ensures root { D.is_honest device.old → IfOk result (λ root. root ≡ root_in known.now (D.sectors device.old) number (sector_at (D.state device.old).disk.present number)) }
-    ensures within { IfOk result (λ root. IfValid root (IsWithin (D.sectors device.old))) }
-    ensures cause { IfErr result (λ error. error ≡ RootsError.Device) }
-{
-    let mut bytes = [0; 4096];
-    device.read(number, &mut bytes)?;
-    Ok(read_root(known, device.count(), number, &bytes))
-}
 
 /// The roots of a device, to a reader that knows these marks. Of them the first `own` are those of its own format, in the order
 /// in which they came up. Nothing is written.
@@ -42,7 +25,7 @@ pub fn read_roots<D: Device>(
     ensures roots { D.is_honest device.old → Gives (λ roots. roots) fault_of result (roots_in known.now own (D.state device.old).disk.present) }
 
     // On any device they are within the bounds of a volume.
-    ensures within { IfOk result (λ roots. EachRoot (IsWithin (D.sectors device.old)) roots) }
+    ensures within { IfOk result (λ roots. EachRoot (IsWithinVolume (D.sectors device.old)) roots) }
 {
     if device.count() < 2 {
         return Err(RootsError::Roots(RootsFault::Damaged));
@@ -53,4 +36,21 @@ pub fn read_roots<D: Device>(
         Ok(roots) => Ok(roots),
         Err(fault) => Err(RootsError::Roots(fault)),
     }
+}
+
+/// What a root sector of a device is.
+fn root_of<D: Device>(
+    device: &mut D,
+    known: &[[u8; 8]],
+    number: u32,
+) -> Result<RootSector, RootsError>
+    requires { number < D.sectors device.old }
+    ensures only { OnlyReads D.Device (result ≡ Err RootsError.Device) device.old device.new }
+    ensures root { D.is_honest device.old → IfOk result (λ root. root ≡ root_in known.now (D.sectors device.old) number (sector_at (D.state device.old).disk.present number)) }
+    ensures within { IfOk result (λ root. IfValid root (IsWithinVolume (D.sectors device.old))) }
+    ensures cause { IfErr result (λ error. error ≡ RootsError.Device) }
+{
+    let mut bytes = [0; 4096];
+    device.read(number, &mut bytes)?;
+    Ok(read_root(known, device.count(), number, &bytes))
 }

@@ -2,24 +2,6 @@
 use crate::fault::Fault;
 use std::alloc::{AllocError, Global};
 
-fn digit(byte: Option<&u8>) -> Option<u8> {
-    match byte {
-        Some(byte @ b'0'..=b'9') => Some(byte.wrapping_sub(b'0')),
-        Some(byte @ b'a'..=b'f') => Some(byte.wrapping_sub(b'a').wrapping_add(10)),
-        _ => None,
-    }
-}
-
-/// The byte of `\xNN` at a place.
-fn escaped(text: &[u8], at: usize) -> Option<u8> {
-    if text.get(at) != Some(&b'\\') || text.get(at.wrapping_add(1)) != Some(&b'x') {
-        return None;
-    }
-    let high = digit(text.get(at.wrapping_add(2)))?;
-    let low = digit(text.get(at.wrapping_add(3)))?;
-    Some(high.wrapping_mul(16).wrapping_add(low))
-}
-
 /// The bytes that a text stands for: `\xNN` is a byte by its two hexadecimal digits, and each other byte is itself.
 pub fn unescape(alloc: Global, text: &[u8]) -> Result<Vec<u8>, AllocError> {
     let mut bytes = Vec::new(alloc);
@@ -35,18 +17,6 @@ pub fn unescape(alloc: Global, text: &[u8]) -> Result<Vec<u8>, AllocError> {
         }
     }
     Ok(bytes)
-}
-
-fn digit_of(value: u8) -> u8 {
-    if value < 10 {
-        b'0'.wrapping_add(value)
-    } else {
-        b'a'.wrapping_add(value.wrapping_sub(10))
-    }
-}
-
-fn is_plain(byte: u8) -> bool {
-    0x20 <= byte && byte <= 0x7E && byte != b'\\' && byte != b'"'
 }
 
 /// Writes bytes as such a text.
@@ -69,4 +39,34 @@ pub fn quoted(alloc: Global, word: &[u8]) -> Result<Vec<u8>, Fault> {
         [b'"', text @ .., b'"'] => Ok(unescape(alloc, text)?),
         _ => Err(Fault::Spelling("a text between quotation marks belongs here")),
     }
+}
+
+fn digit(byte: Option<&u8>) -> Option<u8> {
+    match byte {
+        Some(byte @ b'0'..=b'9') => Some(byte.wrapping_sub(b'0')),
+        Some(byte @ b'a'..=b'f') => Some(byte.wrapping_sub(b'a').wrapping_add(10)),
+        _ => None,
+    }
+}
+
+/// The byte of `\xNN` at a place.
+fn escaped(text: &[u8], at: usize) -> Option<u8> {
+    if text.get(at) != Some(&b'\\') || text.get(at.wrapping_add(1)) != Some(&b'x') {
+        return None;
+    }
+    let high = digit(text.get(at.wrapping_add(2)))?;
+    let low = digit(text.get(at.wrapping_add(3)))?;
+    Some(high.wrapping_mul(16).wrapping_add(low))
+}
+
+fn digit_of(value: u8) -> u8 {
+    if value < 10 {
+        b'0'.wrapping_add(value)
+    } else {
+        b'a'.wrapping_add(value.wrapping_sub(10))
+    }
+}
+
+fn is_plain(byte: u8) -> bool {
+    0x20 <= byte && byte <= 0x7E && byte != b'\\' && byte != b'"'
 }

@@ -4,19 +4,19 @@ use Rattle.std.specs.Prelude.{IfOk, OnOk}
 use Rattle.std.specs.declared.alloc.AllocError.{AllocError}
 use Rattle.std.specs.declared.alloc.Global.{Global}
 use Rattle.source_tree.specs.declared.program.Program.{Program}
-use Rattle.source_tree.specs.Given.{Given}
+use Rattle.source_tree.specs.Given.{RunInput}
 use Rattle.source_tree.specs.Meaning.{meaning}
-use Rattle.code_image.specs.Demands.{IsVerified, Refuses}
-use Rattle.image_tables.specs.declared.fault.ImageFault.{ImageFault}
-use Rattle.image_tables.specs.declared.fault.ImageFault.TheVariants as in_image
+use Rattle.code_image.specs.Demands.{IsVerified, RefusesCode}
+use Rattle.data_image.specs.declared.fault.ImageFault.{ImageFault}
+use Rattle.data_image.specs.declared.fault.ImageFault.TheVariants as in_image
 use Rattle.run_unit.specs.Ends.{ForImage, IsCauseOf, IsEndOfImage}
 use Rattle.run_unit.specs.declared.ended.Refusal.{Refusal}
 use Rattle.run_unit.specs.declared.ended.Refusal.TheVariants.{Image, Device, Full, Damaged, Memory}
 use Rattle.run_unit.specs.declared.ended.Ended.{Ended}
 use Rattle.run_unit.specs.declared.ended.Ended.TheVariants.{Stopped, Budget, Faulted, Refused}
-use Rattle.file_tables.specs.Files.{entries_of}
+use Rattle.file_image.specs.Files.{entries_of}
 use Rattle.code_image.specs.declared.code.Code.{Code}
-use Rattle.code_image.specs.Spelling.{spelling, HasSpelling}
+use Rattle.code_image.specs.Spelling.{code_bytes, HasSpelling}
 use Rattle.code_image.specs.Reading.{code_at}
 use Rattle.code_image.specs.Table.{Runs}
 use Rattle.run_unit.specs.Images.{IsImageOf, IsImage, RefusesImage, MeansAs, entries_of_tree}
@@ -24,7 +24,7 @@ use Rattle.run_unit.proofs.Results.{value}
 
 -- what `spelling_law` says
 abbrev pub OneSpelling : Type 0
-OneSpelling = (code : Code) → HasSpelling code → code_at (spelling code) ≡ Ok code
+OneSpelling = (code : Code) → HasSpelling code → code_at (code_bytes code) ≡ Ok code
 
 pub read_again : OneSpelling → (image : List ℕ) (code : Code) → IsImageOf image code → code_at image ≡ Ok code
 read_again spelt image code is = ap code_at is.bytes ∙ spelt code is.spelt
@@ -34,7 +34,7 @@ pub one_code : OneSpelling → (image : List ℕ) (code other : Code) → IsImag
 one_code spelt image code other a b = value (read_again spelt image code a) (read_again spelt image other b)
 
 -- verified code breaks no demand
-keeps_demands : (code : Code) (fault : ImageFault) → IsVerified code → Refuses code fault → ⊥
+keeps_demands : (code : Code) (fault : ImageFault) → IsVerified code → RefusesCode code fault → ⊥
 keeps_demands code in_image.Mark verified refuses = refuses
 keeps_demands code in_image.Length verified refuses = refuses
 keeps_demands code in_image.Value verified refuses = refuses verified.tables
@@ -62,9 +62,9 @@ end_of_image spelt image (Refused Damaged) is for = tt
 end_of_image spelt image (Refused Memory) is for = tt
 
 -- what is written of a tree's code is an image that means the same
-pub made : (tree : Program) (code : Code) (written : Result (Vec ℕ Global) AllocError) → ((given : Given) → Runs code given (meaning tree given))
+pub made : (tree : Program) (code : Code) (written : Result (Vec ℕ Global) AllocError) → ((given : RunInput) → Runs code given (meaning tree given))
     → length code.files ≡ length tree.selects → entries_of code.tables code.files ≡ entries_of_tree tree → IsVerified code
-    → IfOk written (λ bytes. bytes.items ≡ spelling code) → OnOk written (HasSpelling code) → IfOk written (λ image. MeansAs tree image.items)
+    → IfOk written (λ bytes. bytes.items ≡ code_bytes code) → OnOk written (HasSpelling code) → IfOk written (λ image. MeansAs tree image.items)
 made tree code (Ok image) ends files entries verified bytes spelt =
     record { code = code; is = record { bytes = bytes; spelt = spelt; verified = verified }; files = files; entries = entries; runs = ends }
 made tree code (Err e) ends files entries verified bytes spelt = tt

@@ -10,7 +10,7 @@ use Rattle.records.specs.Connector.{Entry}
 use Rattle.records.specs.FileStep.{entry_at, makes_file}
 use Rattle.source_tree.specs.State as end
 use Rattle.source_tree.specs.State.{End}
-use Rattle.source_tree.specs.Given.{Given, given_on, given_over}
+use Rattle.source_tree.specs.Given.{RunInput, given_on, given_over}
 use Rattle.source_tree.specs.Told.{note_count}
 use Rattle.source_tree.specs.Meaning.{Run}
 use Rattle.source_tree.proofs.Telling.{notes_append}
@@ -23,7 +23,7 @@ use Rattle.machine.specs.declared.ended.Ended.{Ended as MachineEnded}
 use Rattle.machine.specs.declared.ended.Ended.TheVariants as machine
 use Rattle.machine.specs.declared.ended.Refusal.TheVariants as refused
 use Rattle.machine.specs.Prefix.{files_at, last_files, NoteComes, HoldsSoFar, TakesLines, Moment}
-use Rattle.machine.specs.Ends.{code_of, day_of, Finished, LacksRoom, EndsAs, IsOwnEnd}
+use Rattle.machine.specs.Ends.{code_of, day_of, IsFinished, LacksRoomForChange, EndsAs, IsOwnEnd}
 use Rattle.machine.proofs.Moments.{nothing_taken}
 use Rattle.machine.proofs.Beginnings.{tells_more, files_here}
 use Rattle.run_unit.specs.Alone.{Alone, FinishedAlone, EndsAlone, RunsAlone}
@@ -36,7 +36,7 @@ use Rattle.run_unit.specs.declared.ended.Ended.TheVariants.{Refused}
 -- ---- where a run begins
 
 -- The files are those that it was given.
-files_first : (code : Code) (given : Given) (run : Run) → Runs code given run → files_at run 0 ≡ given.files
+files_first : (code : Code) (given : RunInput) (run : Run) → Runs code given run → files_at run 0 ≡ given.files
 files_first code given run runs = files_here (first_point code given) run (tells_more code runs.0 (first_point code given) run runs.1) refl
 
 -- Nothing was told yet.
@@ -60,7 +60,7 @@ runs_as machine code day files s budget run same_code same_day runs =
 -- where an image lacks room by one sense, it does by another
 pub room_under : (lacks lacks' : List Sector → Bool → List ℕ → Files → Files → Type 0)
     → ((image : List Sector) (is_new : Bool) (name : List ℕ) (before after : Files) → lacks image is_new name before after → lacks' image is_new name before after)
-    → (entries : List Entry) (run : Run) (old now : State) → LacksRoom lacks entries run old now → LacksRoom lacks' entries run old now
+    → (entries : List Entry) (run : Run) (old now : State) → LacksRoomForChange lacks entries run old now → LacksRoomForChange lacks' entries run old now
 room_under lacks lacks' under entries run old now is = record {
   given_up = is.given_up;
   verb = is.verb;
@@ -92,7 +92,7 @@ module _ (here below : List Sector → Files → Type 0) (under : (image : List 
     disk = moment.disk;
   }
 
-  pub finished_below : (how : End) (now : State) → Finished here run how old now → Finished below run how old now
+  pub finished_below : (how : End) (now : State) → IsFinished here run how old now → IsFinished below run how old now
   finished_below how now is = record {
     end = is.end;
     told = is.told;
@@ -105,20 +105,20 @@ module _ (here below : List Sector → Files → Type 0) (under : (image : List 
   module _ (lacks lacks' : List Sector → Bool → List ℕ → Files → Files → Type 0)
       (under_room : (image : List Sector) (is_new : Bool) (name : List ℕ) (before after : Files) → lacks image is_new name before after → lacks' image is_new name before after)
       (entries entries' : List Entry) (same : entries ≡ entries') where
-    ends_below : (ended : MachineEnded) (now : State) → EndsAs here lacks entries run old ended now → EndsOver below (LacksRoom lacks' entries') run old (ended_of ended) now
+    ends_below : (ended : MachineEnded) (now : State) → EndsAs here lacks entries run old ended now → EndsOver below (LacksRoomForChange lacks' entries') run old (ended_of ended) now
     ends_below machine.Stopped now ends = finished_below end.Stopped now ends
     ends_below machine.Budget now ends = finished_below end.Budget now ends
     ends_below (machine.Faulted fault line) now ends = finished_below (end.Faulted (fault_of fault) line) now ends
     ends_below (machine.Refused refused.Device) now ends = ends
     ends_below (machine.Refused refused.Full) now ends =
-        subst (λ (es : List Entry). LacksRoom lacks' es run old now) same (room_under lacks lacks' under_room entries run old now ends)
+        subst (λ (es : List Entry). LacksRoomForChange lacks' es run old now) same (room_under lacks lacks' under_room entries run old now ends)
     ends_below (machine.Refused refused.Damaged) now ends = ends
     ends_below (machine.Refused refused.Memory) now ends = inl ends
 
     -- a machine ran
     pub ran_over : (past later : List State) (new : State) (ended : MachineEnded) → Moment below run old old
         → Through past later new (Moment here run old) → EndsAs here lacks entries run old ended new
-        → RunsOver below (LacksRoom lacks' entries') run past old (ended_of ended) later new
+        → RunsOver below (LacksRoomForChange lacks' entries') run past old (ended_of ended) later new
     ran_over past later new ended first moments ends = record {
       first = first;
       moments = weakens past later new (Moment here run old) (Moment below run old) moment_below moments;
@@ -159,7 +159,7 @@ module _ (holds : List Sector → Files → Type 0) (lacks : List Sector → Boo
     disk = moment.disk none;
   }
 
-  finished_alone : (how : End) (now : State) → Finished holds run how old now → FinishedAlone run how old now
+  finished_alone : (how : End) (now : State) → IsFinished holds run how old now → FinishedAlone run how old now
   finished_alone how now is = record { end = is.end; told = is.told; lines = is.lines; disk = is.disk none }
 
   ends_alone : (ended : MachineEnded) (now : State) → IsOwnEnd ended → EndsAs holds lacks entries run old ended now → EndsAlone run old (ended_of ended) now

@@ -1,9 +1,9 @@
 -- A volume that is opened, and a run over its files.
 use Rattle.std.proofs.Common.{◌≡◌, ◌∙◌, ◌⊎◌, Bool, ℕ, List, sym, subst, ap, inl, inr}
 use Rattle.station.specs.Disk.{Sector}
-use Rattle.station.specs.State.{State, synced}
+use Rattle.station.specs.State.{State, state_after_sync}
 use Rattle.station.specs.History.{Through}
-use Rattle.station.specs.Opening.{Opening}
+use Rattle.station.specs.Opening.{IsOpening}
 use Rattle.station.proofs.Spans.{goes, weakens, then, weaker}
 use Rattle.records.specs.Files.{Files}
 use Rattle.records.specs.Connector.{Entry}
@@ -16,7 +16,7 @@ use Rattle.run_unit.specs.Ends.{of_opening}
 use Rattle.source_tree.specs.State as end
 use Rattle.data_instructions.specs.Faults.{fault_of}
 use Rattle.machine.specs.Prefix.{Moment}
-use Rattle.machine.specs.Ends.{LacksRoom}
+use Rattle.machine.specs.Ends.{LacksRoomForChange}
 use Rattle.half_store.specs.Half.{Holds as HoldsHalf}
 use Rattle.alternate_keys.specs.Stands.{LacksRoom as LacksTrees}
 use Rattle.run_unit.specs.Volume.{EndsOver, IsUnopened, IsUnwritten, LeavesClosed, RunsOver, lacks_half}
@@ -50,7 +50,7 @@ unopened store.Spent = tt
 unopened store.Layout = tt
 
 pub left_closed : (fault : StoreFault) (refusal : Refusal) (past later : List State) (old new : State) → refusal ≡ of_opening fault
-    → Through past later new (Opening old) → IsUnwritten old new → LeavesClosed past old (Refused refusal) later new
+    → Through past later new (IsOpening old) → IsUnwritten old new → LeavesClosed past old (Refused refusal) later new
 left_closed fault refusal past later old new is moments unwritten = record {
   why = subst (λ (r : Refusal). IsUnopened (Refused r)) (sym is) (unopened fault);
   moments = moments;
@@ -58,22 +58,22 @@ left_closed fault refusal past later old new is moments unwritten = record {
 }
 
 -- a sync takes no line, so that a run is given the same after it
-pub given_after : (files : Files) (old mid : State) (day : List ℕ) (budget : ℕ) → mid ≡ synced old → given_over files old day budget ≡ given_over files mid day budget
+pub given_after : (files : Files) (old mid : State) (day : List ℕ) (budget : ℕ) → mid ≡ state_after_sync old → given_over files old day budget ≡ given_over files mid day budget
 unfolding given_over
 given_after files old mid day budget is = sym (ap (λ (s : State). given_over files s day budget) is)
 
 -- the run over what was opened
 pub ran_on : (holds : List Sector → Files → Type 0) (no_room : Run → State → State → Type 0) (run : Run) (past opened later : List State) (old mid new : State) (ended : Ended)
-    → Through past opened mid (Opening old) → mid ≡ synced old → RunsOver holds no_room run opened mid ended later new
+    → Through past opened mid (IsOpening old) → mid ≡ state_after_sync old → RunsOver holds no_room run opened mid ended later new
     → RunsOnVolume holds no_room run past old ended later new
 ran_on holds no_room run past opened later old mid new ended opening is runs =
     Opened opened opening.spans (subst (λ (s : State). RunsOver holds no_room run opened s ended later new) is runs)
 
 -- ---- a volume that another store has looked at
 
-synced_after : (old mid : State) → IsUnwritten old mid → synced mid ≡ synced old
-synced_after old mid (inl is) = ap synced is
-synced_after old mid (inr is) = ap synced is
+synced_after : (old mid : State) → IsUnwritten old mid → state_after_sync mid ≡ state_after_sync old
+synced_after old mid (inl is) = ap state_after_sync is
+synced_after old mid (inr is) = ap state_after_sync is
 
 -- and a call that wrote nothing after it
 pub unwritten_then : (old mid new : State) → IsUnwritten old mid → IsUnwritten mid new → IsUnwritten old new
@@ -89,36 +89,36 @@ pub given_later : (files : Files) (old mid : State) (day : List ℕ) (budget : �
 given_later files old mid day budget (inl is) = sym (ap (λ (s : State). given_over files s day budget) is)
 given_later files old mid day budget (inr is) = given_after files old mid day budget is
 
-opening_then : (old mid : State) → Opening old mid → (s : State) → Opening mid s → Opening old s
+opening_then : (old mid : State) → IsOpening old mid → (s : State) → IsOpening mid s → IsOpening old s
 opening_then old mid first s second = record { events = second.events ∙ first.events; images = λ image crash. first.images image (second.images image crash) }
 
 -- a call that doesn't open it either
 closed_then : (past looked later : List State) (old mid new : State) (ended : Ended)
-    → Through past looked mid (Opening old) → IsUnwritten old mid → LeavesClosed looked mid ended later new → LeavesClosed past old ended later new
+    → Through past looked mid (IsOpening old) → IsUnwritten old mid → LeavesClosed looked mid ended later new → LeavesClosed past old ended later new
 closed_then past looked later old mid new ended first is closed = record {
   why = closed.why;
-  moments = goes past looked later mid new (Opening old) first
-      (weakens looked later new (Opening mid) (Opening old) (opening_then old mid first.now) closed.moments);
+  moments = goes past looked later mid new (IsOpening old) first
+      (weakens looked later new (IsOpening mid) (IsOpening old) (opening_then old mid first.now) closed.moments);
   unwritten = unwritten_then old mid new is closed.unwritten;
 }
 
 pub on_volume_then : (holds : List Sector → Files → Type 0) (no_room : Run → State → State → Type 0) (run : Run) (past looked later : List State) (old mid new : State) (ended : Ended)
-    → Through past looked mid (Opening old) → IsUnwritten old mid → RunsOnVolume holds no_room run looked mid ended later new
+    → Through past looked mid (IsOpening old) → IsUnwritten old mid → RunsOnVolume holds no_room run looked mid ended later new
     → RunsOnVolume holds no_room run past old ended later new
 on_volume_then holds no_room run past looked later old mid new ended first is (Unopened closed) =
     Unopened (closed_then past looked later old mid new ended first is closed)
 on_volume_then holds no_room run past looked later old mid new ended first is (Opened opened spans runs) =
-    Opened opened (then past looked opened (Opening old) first.spans (weaker looked opened (Opening mid) (Opening old) (opening_then old mid first.now) spans))
+    Opened opened (then past looked opened (IsOpening old) first.spans (weaker looked opened (IsOpening mid) (IsOpening old) (opening_then old mid first.now) spans))
     (subst (λ (s : State). RunsOver holds no_room run opened s ended later new) (synced_after old mid is) runs)
 
 pub on_halves_then : (entries : List Entry) (run : Files → Run) (past looked later : List State) (old mid new : State) (ended : Ended)
-    → Through past looked mid (Opening old) → IsUnwritten old mid → RunsOnHalves entries run looked mid ended later new
+    → Through past looked mid (IsOpening old) → IsUnwritten old mid → RunsOnHalves entries run looked mid ended later new
     → RunsOnHalves entries run past old ended later new
 on_halves_then entries run past looked later old mid new ended first is (NotOpened closed) =
     NotOpened (closed_then past looked later old mid new ended first is closed)
 on_halves_then entries run past looked later old mid new ended first is (HeldFiles files held runs) =
     HeldFiles files (subst (λ (image : List Sector). HoldsHalf image files) (present_after old mid is) held)
-    (on_volume_then HoldsHalf (LacksRoom lacks_half entries) (run files) past looked later old mid new ended first is runs)
+    (on_volume_then HoldsHalf (LacksRoomForChange lacks_half entries) (run files) past looked later old mid new ended first is runs)
 
 -- ---- where what an image holds by one store, it holds by either
 
@@ -147,7 +147,7 @@ module _ (here either : List Sector → Files → Type 0) (also : (image : List 
 
   pub on_either : (past : List State) (old : State) (ended : Ended) (later : List State) (new : State) → RunsOnVolume here no_room run past old ended later new → RunsOnVolume either none_either run past old ended later new
   on_either past old ended later new (Unopened closed) = Unopened closed
-  on_either past old ended later new (Opened opened spans runs) = Opened opened spans (over_either opened (synced old) ended later new runs)
+  on_either past old ended later new (Opened opened spans runs) = Opened opened spans (over_either opened (state_after_sync old) ended later new runs)
 
 -- where only the device and memory refuse, the other store's layout isn't told
 pub no_layout : IsReadCause store.Layout → ⊥

@@ -4,12 +4,12 @@ use Rattle.records.specs.Files.{Files}
 use Rattle.records.specs.Connector.{Entry}
 use Rattle.file_recovery.specs.Recovered.{HoldsFiles}
 use Rattle.source_tree.specs.declared.program.Program.{Program}
-use Rattle.source_tree.specs.Given.{Given}
+use Rattle.source_tree.specs.Given.{RunInput}
 use Rattle.source_tree.specs.Meaning.{Run, meaning}
 use Rattle.code_image.specs.declared.code.Code.{Code}
-use Rattle.file_tables.specs.Files.{entries_of}
+use Rattle.file_image.specs.Files.{entries_of}
 use Rattle.code_image.specs.Table.{Runs}
-use Rattle.machine.specs.Ends.{LacksRoom}
+use Rattle.machine.specs.Ends.{LacksRoomForChange}
 use Rattle.run_unit.specs.Trees.{IsTreeOf}
 use Rattle.run_unit.specs.Images.{MeansAs, IsCompiled}
 use Rattle.run_unit.specs.Alone.{RunsAlone}
@@ -33,9 +33,9 @@ none_of (x ∷ xs) none = absurd (omega (arith, none))
 no_files : (code : Code) → length code.files ≡ 0 → code.files ≡ []
 no_files code none = none_of code.files none
 
-module _ (code loaded : Code) (same : loaded ≡ code) (means : Given → Run)
-    (runs : (given : Given) → Runs code given (means given)) (call : Call) where
-  runs_loaded : (given : Given) → Runs loaded given (means given)
+module _ (code loaded : Code) (same : loaded ≡ code) (means : RunInput → Run)
+    (runs : (given : RunInput) → Runs code given (means given)) (call : Call) where
+  runs_loaded : (given : RunInput) → Runs loaded given (means given)
   runs_loaded given = subst (λ (c : Code). Runs c given (means given)) (sym same) (runs given)
 
   -- what was done without files
@@ -47,7 +47,7 @@ module _ (code loaded : Code) (same : loaded ≡ code) (means : Given → Run)
   abbrev pub DidOnVolume : Type 0
   DidOnVolume = (files : Files) → HoldsFiles call.old.disk.present files
       → (run : Run) → Runs loaded (given_files call files) run
-      → RunsOnVolume HoldsFiles (LacksRoom lacks_either (entries_of loaded.tables loaded.files)) run call.past call.old call.ended call.later call.new
+      → RunsOnVolume HoldsFiles (LacksRoomForChange lacks_either (entries_of loaded.tables loaded.files)) run call.past call.old call.ended call.later call.new
 
   -- and over one of halves
   abbrev pub DidOnHalves : Type 0
@@ -74,7 +74,7 @@ module _ (code loaded : Code) (same : loaded ≡ code) (means : Given → Run)
   runs_files some volume halves sound = record {
     alone = λ zero. absurd (some (subst (λ (c : Code). c.files ≡ []) (sym same) (no_files code zero)));
     volume = λ with files held.
-        subst (λ (c : Code). RunsOnVolume HoldsFiles (LacksRoom lacks_either (entries_of c.tables c.files)) (means (given_files call files)) call.past call.old call.ended call.later call.new) same
+        subst (λ (c : Code). RunsOnVolume HoldsFiles (LacksRoomForChange lacks_either (entries_of c.tables c.files)) (means (given_files call files)) call.past call.old call.ended call.later call.new) same
         (volume files held (means (given_files call files)) (runs_loaded (given_files call files)));
     halves = λ with of_halves.
         subst (λ (c : Code). RunsOnHalves (entries_of c.tables c.files) (λ files. means (given_files call files)) call.past call.old call.ended call.later call.new) same

@@ -10,7 +10,7 @@ use Rattle.tokens.specs.Scanning.{tokens}
 use Rattle.source_tree.specs.declared.program.Program.{Program}
 use Rattle.statements.specs.Spelling.{max_nesting}
 use Rattle.data_division.specs.Forms.{HasForms, program_entries}
-use Rattle.divisions.specs.Spelling.{Spells}
+use Rattle.divisions.specs.Spelling.{SpellsProgram}
 use Rattle.divisions.specs.Faults.{IsAnswer, parse_of}
 use Rattle.answers.specs.Answer.{Fails}
 use Rattle.tokens.specs.Faults.{fault_of}
@@ -18,13 +18,13 @@ use Rattle.tokens.specs.declared.fault.TokenError.{TokenError}
 use Rattle.tokens.specs.declared.fault.TokenError.TheVariants as in_tokens
 use Rattle.divisions.specs.declared.fault.ParseError.{ParseError}
 use Rattle.divisions.specs.declared.fault.ParseError.TheVariants as in_tree
-use Rattle.perform_order.specs.declared.performed.PerformedRange.{PerformedRange}
-use Rattle.perform_order.specs.Order.{AllFall, PerformOneAnother, heights}
-use Rattle.source_tree.specs.Broken.{Broken}
+use Rattle.perform_graph.specs.declared.performed.PerformedRange.{PerformedRange}
+use Rattle.perform_graph.specs.Order.{AllDecrease, PerformOneAnother, rank_in}
+use Rattle.source_tree.specs.Broken.{RuleBreach}
 use Rattle.source_tree.specs.LookUp.{first}
-use Rattle.source_tree.specs.Recursion.{HasOrder, performed}
+use Rattle.source_tree.specs.Recursion.{HasOrder, performed_by_program}
 use Rattle.source_tree.specs.Rules.{program_rules}
-use Rattle.check_rules.specs.Told.{IsBroken, IsTold}
+use Rattle.check_rules.specs.Told.{IsBroken, IsFirstFault}
 use Rattle.entry_rules.specs.Checks as rules
 use Rattle.entry_rules.specs.declared.rule.CheckError.{CheckError}
 use Rattle.entry_rules.specs.declared.rule.CheckError.TheVariants as in_rules
@@ -46,12 +46,12 @@ OneScan = (characters : List Character) (found : List Token) → TokensOf charac
 
 -- the tokens of a source text with this tree spell it
 pub spelled_by : OneFormat → OneScan → (source : List ℕ) (tree : Program) → IsReadFrom source tree
-    → (characters : List Character) (found : List Token) → characters_of source ≡ Ok characters → tokens characters ≡ Ok found → Spells max_nesting tree found
+    → (characters : List Character) (found : List Token) → characters_of source ≡ Ok characters → tokens characters ≡ Ok found → SpellsProgram max_nesting tree found
 spelled_by format scan source tree is characters found read scanned =
     let same_characters : is.characters ≡ characters = value (format source is.characters is.format) read in
     let same_tokens : is.tokens ≡ found =
     value (scan is.characters is.tokens is.scanned) (subst (λ c. tokens c ≡ Ok found) (sym same_characters) scanned) in
-    subst (λ t. Spells max_nesting tree t) same_tokens is.spelled
+    subst (λ t. SpellsProgram max_nesting tree t) same_tokens is.spelled
 
 clash : {A F : Type 0} {r : Result A F} {a : A} {f : F} → r ≡ Ok a → r ≡ Err f → ⊥
 clash is fails = cc
@@ -75,35 +75,35 @@ tree_refusal tree formed (in_tree.Refused fault) (inr formless) = absurd (no_pla
 
 -- what `one_answer` says
 abbrev pub NoRing : Type 0
-NoRing = (performed : List PerformedRange) (height : ℕ → ℕ) (among : ℕ → Bool) → AllFall height performed → PerformOneAnother among performed → ⊥
+NoRing = (performed : List PerformedRange) (height : ℕ → ℕ) (among : ℕ → Bool) → AllDecrease height performed → PerformOneAnother among performed → ⊥
 
 -- what is first of none
-not_first : (rules : List Broken) (one : Broken) → rules ≡ [] → first rules ≡ Some one → ⊥
+not_first : (rules : List RuleBreach) (one : RuleBreach) → rules ≡ [] → first rules ≡ Some one → ⊥
 not_first [] one kept is = cc
 not_first (other ∷ more) one kept is = cc
 
 -- where the tree keeps the rules and has an order, nothing is told of it
-not_told : NoRing → (tree : Program) (one : Broken) → broken_rules tree ≡ [] → HasOrder tree → IsBroken tree one → ⊥
+not_told : NoRing → (tree : Program) (one : RuleBreach) → broken_rules tree ≡ [] → HasOrder tree → IsBroken tree one → ⊥
 unfolding broken_rules
 not_told none tree one kept order (inl is) = not_first (program_rules tree) one kept is
-not_told none tree one kept order (inr back) = none (performed tree) (heights order.0) back.back.among order.1.fall back.back.ring
+not_told none tree one kept order (inr back) = none (performed_by_program tree) (rank_in order.0) back.back.among order.1.fall back.back.ring
 
 -- only memory refuses it
-pub rules_refusal : NoRing → (tree : Program) → broken_rules tree ≡ [] → HasOrder tree → (e : CheckError) → IsTold tree (rules.fault_of e) → IsImageAnswer tree (Err (from_rules e))
+pub rules_refusal : NoRing → (tree : Program) → broken_rules tree ≡ [] → HasOrder tree → (e : CheckError) → IsFirstFault tree (rules.fault_of e) → IsImageAnswer tree (Err (from_rules e))
 rules_refusal none tree kept order in_rules.Memory told = tt
 rules_refusal none tree kept order (in_rules.Refused broken) told = absurd (not_told none tree (rules.broken_of broken) kept order told)
 
-by_first : (tree : Program) (rules : List Broken) (one : Broken) → first rules ≡ Some one → tree_by tree rules ≡ Err (OfRules one)
+by_first : (tree : Program) (rules : List RuleBreach) (one : RuleBreach) → first rules ≡ Some one → tree_by tree rules ≡ Err (OfRules one)
 by_first tree [] one e = cc
 by_first tree (other ∷ more) one e = cc
 
-told_fault : (tree : Program) (one : Broken) → IsBroken tree one → IsToldOf tree (Some (OfRules one))
+told_fault : (tree : Program) (one : RuleBreach) → IsBroken tree one → IsToldOf tree (Some (OfRules one))
 unfolding broken_rules
 told_fault tree one (inl is) = inl (by_first tree (program_rules tree) one is)
 told_fault tree one (inr back) = inr (record { broken = one; is = refl; back = back })
 
 -- the first rule that is broken is what is told of the tree, or a PERFORM that leads back
-pub rules_fault : (tree : Program) (e : CheckError) → IsTold tree (rules.fault_of e) → IsToldOf tree (compiling.fault_of (from_rules e))
+pub rules_fault : (tree : Program) (e : CheckError) → IsFirstFault tree (rules.fault_of e) → IsToldOf tree (compiling.fault_of (from_rules e))
 rules_fault tree in_rules.Memory told = tt
 rules_fault tree (in_rules.Refused broken) told = told_fault tree (rules.broken_of broken) told
 

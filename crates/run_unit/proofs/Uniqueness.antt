@@ -2,10 +2,10 @@
 use Rattle.std.proofs.Common.{◌≡◌, ℕ, List, subst}
 use Rattle.tokens.specs.declared.token.Token.{Token}
 use Rattle.source_tree.specs.declared.program.Program.{Program}
-use Rattle.source_tree.specs.Given.{Given}
+use Rattle.source_tree.specs.Given.{RunInput}
 use Rattle.source_tree.specs.Meaning.{Run}
 use Rattle.statements.specs.Spelling.{max_nesting}
-use Rattle.divisions.specs.Spelling.{Spells}
+use Rattle.divisions.specs.Spelling.{SpellsProgram}
 use Rattle.code_image.specs.declared.code.Code.{Code}
 use Rattle.code_image.specs.Table.{Runs}
 use Rattle.run_unit.specs.Trees.{IsTreeOf}
@@ -15,7 +15,7 @@ use Rattle.run_unit.proofs.Images.{OneSpelling, one_code}
 
 -- what `one_tree` says
 abbrev pub OneTree : Type 0
-OneTree = (depth depth' : ℕ) (tree tree' : Program) (found : List Token) → Spells depth tree found → Spells depth' tree' found → tree ≡ tree'
+OneTree = (depth depth' : ℕ) (tree tree' : Program) (found : List Token) → SpellsProgram depth tree found → SpellsProgram depth' tree' found → tree ≡ tree'
 
 pub one_tree : OneFormat → OneScan → OneTree → (source : List ℕ) (tree other : Program) → IsTreeOf source tree → IsTreeOf source other → tree ≡ other
 one_tree format scan spelling source tree other a b =
@@ -25,7 +25,7 @@ one_tree format scan spelling source tree other a b =
     other_read.spelled
 
 -- an image has one run with what it is given
-pub one_run : OneSpelling → ((code : Code) (given : Given) (run other : Run) → Runs code given run → Runs code given other → run ≡ other)
-    → (image : List ℕ) (given : Given) (run other : Run) → HasRun image given run → HasRun image given other → run ≡ other
+pub one_run : OneSpelling → ((code : Code) (given : RunInput) (run other : Run) → Runs code given run → Runs code given other → run ≡ other)
+    → (image : List ℕ) (given : RunInput) (run other : Run) → HasRun image given run → HasRun image given other → run ≡ other
 one_run spelt law image given run other a b =
     law b.code given run other (subst (λ c. Runs c given run) (one_code spelt image a.code b.code a.is b.is) a.runs) b.runs

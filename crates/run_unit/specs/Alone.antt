@@ -3,14 +3,14 @@ use Rattle.std.specs.Prelude.{◌≡◌, List, ◌++◌}
 use Rattle.station.specs.State.{State}
 use Rattle.source_tree.specs.State.{End}
 use Rattle.source_tree.specs.Meaning.{Run}
-use Rattle.machine.specs.Prefix.{Told, TakesLines}
+use Rattle.machine.specs.Prefix.{ShownPrefix, TakesLines}
 use Rattle.run_unit.specs.declared.ended.Ended.{Ended}
 use Rattle.run_unit.specs.Course.{EndsBy, TakesCourse}
 
 -- A moment of a run that began in a state: of its events a beginning was told, of the console's lines the first were taken, and no sector
 -- was written.
 pub record Alone (run : Run) (old now : State) : Type 0 where
-  pub told : Told run old.events now.events
+  pub told : ShownPrefix run old.events now.events
   pub console : TakesLines old now
   pub disk : now.disk ≡ old.disk
 

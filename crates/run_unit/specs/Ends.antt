@@ -1,9 +1,9 @@
 -- What is so after a run.
 use Rattle.std.specs.Prelude.{◌≡◌, ℕ, List, Result, Ok, Err}
 use Rattle.station.specs.Failures.{Blames}
-use Rattle.image_tables.specs.Faults as image
-use Rattle.image_tables.specs.declared.fault.ImageError.{ImageError}
-use Rattle.image_tables.specs.declared.fault.ImageError.TheVariants as in_image
+use Rattle.data_image.specs.Faults as image
+use Rattle.data_image.specs.declared.fault.ImageError.{ImageError}
+use Rattle.data_image.specs.declared.fault.ImageError.TheVariants as in_image
 use Rattle.machine.specs.declared.ended.Ended.{Ended as MachineEnded}
 use Rattle.machine.specs.declared.ended.Ended.TheVariants as machine
 use Rattle.machine.specs.declared.ended.Refusal.{Refusal as MachineRefusal}

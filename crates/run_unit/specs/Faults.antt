@@ -13,7 +13,7 @@ use Rattle.lexical.specs.declared.place.Place.{Place}
 use Rattle.source_lines.specs.declared.fault.SourceFault.{SourceFault}
 use Rattle.tokens.specs.declared.fault.TokenFault.{TokenFault}
 use Rattle.divisions.specs.declared.fault.ParseFault.{ParseFault}
-use Rattle.source_tree.specs.Broken.{Broken}
+use Rattle.source_tree.specs.Broken.{RuleBreach}
 use Rattle.entry_rules.specs.Checks as rules
 use Rattle.entry_rules.specs.declared.rule.CheckError.{CheckError}
 use Rattle.entry_rules.specs.declared.rule.CheckError.TheVariants as in_rules
@@ -39,7 +39,7 @@ pub data StageFault : Type 0 where
   OfLines : SourceFault → StageFault
   OfTokens : TokenFault → StageFault
   OfTree : ParseFault → StageFault
-  OfRules : Broken → StageFault
+  OfRules : RuleBreach → StageFault
 
 abbrev pub stage_fault : CompileFault → StageFault
 stage_fault (Lines fault) = OfLines fault

@@ -2,17 +2,17 @@
 use Rattle.std.specs.Prelude.{◌≡◌, ◌⊎◌, ℕ, List, length, Vec, Result, Ok, Err}
 use Rattle.std.specs.declared.alloc.Global.{Global}
 use Rattle.source_tree.specs.declared.program.Program.{Program}
-use Rattle.source_tree.specs.Given.{Given}
+use Rattle.source_tree.specs.Given.{RunInput}
 use Rattle.source_tree.specs.Setting.{scope}
 use Rattle.source_tree.specs.ProgramFiles as described
 use Rattle.source_tree.specs.Meaning.{Run, meaning}
 use Rattle.records.specs.Connector.{Entry}
-use Rattle.file_tables.specs.Files.{entries_of}
+use Rattle.file_image.specs.Files.{entries_of}
 use Rattle.code_image.specs.declared.code.Code.{Code}
-use Rattle.image_tables.specs.declared.fault.ImageFault.{ImageFault}
-use Rattle.code_image.specs.Spelling.{spelling, HasSpelling}
+use Rattle.data_image.specs.declared.fault.ImageFault.{ImageFault}
+use Rattle.code_image.specs.Spelling.{code_bytes, HasSpelling}
 use Rattle.code_image.specs.Reading.{code_at}
-use Rattle.code_image.specs.Demands.{IsVerified, Refuses}
+use Rattle.code_image.specs.Demands.{IsVerified, RefusesCode}
 use Rattle.code_image.specs.Table.{Runs}
 use Rattle.run_unit.specs.Trees.{IsTreeOf}
 use Rattle.run_unit.specs.declared.fault.CompileError.{CompileError}
@@ -20,12 +20,12 @@ use Rattle.run_unit.specs.declared.fault.CompileError.TheVariants.{Memory, Refus
 
 -- The bytes spell code that a machine can run.
 pub record IsImageOf (image : List ℕ) (code : Code) : Type 0 where
-  pub bytes : image ≡ spelling code
+  pub bytes : image ≡ code_bytes code
   pub spelt : HasSpelling code
   pub verified : IsVerified code
 
 -- The bytes are an image, and this is its run with what it is given.
-pub record HasRun (image : List ℕ) (given : Given) (run : Run) : Type 0 where
+pub record HasRun (image : List ℕ) (given : RunInput) (run : Run) : Type 0 where
   pub code : Code
   pub is : IsImageOf image code
   pub runs : Runs code given run
@@ -40,7 +40,7 @@ pub record MeansAs (tree : Program) (image : List ℕ) : Type 0 where
   pub is : IsImageOf image code
   pub files : length code.files ≡ length tree.selects
   pub entries : entries_of code.tables code.files ≡ entries_of_tree tree
-  pub runs : (given : Given) → Runs code given (meaning tree given)
+  pub runs : (given : RunInput) → Runs code given (meaning tree given)
 
 -- The bytes are an image of the source text's tree: whatever it is given, its run is what the tree means.
 abbrev pub IsCompiled : List ℕ → List ℕ → Type 0
@@ -58,4 +58,4 @@ IsImage image = (code : Code) × IsImageOf image code
 
 -- Why bytes are refused as an image: they spell no code, or code that breaks a demand of the machine.
 abbrev pub RefusesImage : List ℕ → ImageFault → Type 0
-RefusesImage image fault = (code_at image ≡ Err fault) ⊎ ((code : Code) × (code_at image ≡ Ok code) × Refuses code fault)
+RefusesImage image fault = (code_at image ≡ Err fault) ⊎ ((code : Code) × (code_at image ≡ Ok code) × RefusesCode code fault)

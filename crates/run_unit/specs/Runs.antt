@@ -6,12 +6,12 @@ use Rattle.records.specs.Files.{Files}
 use Rattle.records.specs.Connector.{Entry}
 use Rattle.file_recovery.specs.Recovered.{HoldsFiles}
 use Rattle.source_tree.specs.declared.program.Program.{Program}
-use Rattle.source_tree.specs.Given.{Given, given_on, given_over}
+use Rattle.source_tree.specs.Given.{RunInput, given_on, given_over}
 use Rattle.source_tree.specs.Meaning.{Run, meaning}
 use Rattle.code_image.specs.declared.code.Code.{Code}
-use Rattle.file_tables.specs.Files.{entries_of}
+use Rattle.file_image.specs.Files.{entries_of}
 use Rattle.code_image.specs.Table.{Runs}
-use Rattle.machine.specs.Ends.{LacksRoom}
+use Rattle.machine.specs.Ends.{LacksRoomForChange}
 use Rattle.run_unit.specs.Trees.{IsTreeOf}
 use Rattle.run_unit.specs.Images.{IsImageOf, entries_of_tree}
 use Rattle.run_unit.specs.Alone.{RunsAlone}
@@ -45,15 +45,15 @@ module _ {S : Type 0} (device : Devices S) where
   }
 
 -- what the program is given without files
-abbrev pub given_alone : Call → Given
+abbrev pub given_alone : Call → RunInput
 given_alone call = given_on call.old call.day call.budget
 
 -- and over a volume that holds these files
-abbrev pub given_files : Call → Files → Given
+abbrev pub given_files : Call → Files → RunInput
 given_files call files = given_over files call.old call.day call.budget
 
 -- The call runs a program of so many files, these entries, of which this is the run for whatever it is given.
-pub record RunsAsMeant (entries : List Entry) (means : Given → Run) (count : ℕ) (call : Call) : Type 0 where
+pub record RunsAsMeant (entries : List Entry) (means : RunInput → Run) (count : ℕ) (call : Call) : Type 0 where
   -- Without files: at each moment the events so far are a beginning of the run's, the console's first lines were taken,
   -- and no sector was written. After the program's own end they are all of the run's events, and the end is the run's.
   pub alone : count ≡ 0 → RunsAlone (means (given_alone call)) call.past call.old call.ended call.later call.new
@@ -64,7 +64,7 @@ pub record RunsAsMeant (entries : List Entry) (means : Given → Run) (count : �
   -- statement that would change files, and the volume as it is lacks room for that: too few of its sectors are free, the
   -- files would be more than 255, or no generation is left.
   pub volume : count ≢ 0 → (files : Files) → HoldsFiles call.old.disk.present files
-      → RunsOnVolume HoldsFiles (LacksRoom lacks_either entries) (means (given_files call files)) call.past call.old call.ended call.later call.new
+      → RunsOnVolume HoldsFiles (LacksRoomForChange lacks_either entries) (means (given_files call files)) call.past call.old call.ended call.later call.new
   -- With files, over a volume of halves, of which nothing else is presumed. It is read whole when it is opened: either it
   -- isn't opened, and no sector is written, or it held files, and the run is the one with these.
   pub halves : count ≢ 0 → IsOfHalves call.old.disk.present
@@ -75,7 +75,7 @@ pub record RunsAsMeant (entries : List Entry) (means : Given → Run) (count : �
 -- The call runs an image: each code that the bytes spell, by the machine's table.
 abbrev pub ImageRuns : List ℕ → Call → Type 0
 ImageRuns image call = (code : Code) → IsImageOf image code
-    → (means : Given → Run) → ((given : Given) → Runs code given (means given))
+    → (means : RunInput → Run) → ((given : RunInput) → Runs code given (means given))
     → RunsAsMeant (entries_of code.tables code.files) means (length code.files) call
 
 -- The call runs a source text: what its tree means, on the files that the tree describes.

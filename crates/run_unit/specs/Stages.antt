@@ -5,7 +5,7 @@ use Rattle.source_lines.specs.Reading.{characters_of}
 use Rattle.tokens.specs.declared.token.Token.{Token}
 use Rattle.tokens.specs.Scanning.{tokens}
 use Rattle.source_tree.specs.declared.program.Program.{Program}
-use Rattle.source_tree.specs.Broken.{Broken}
+use Rattle.source_tree.specs.Broken.{RuleBreach}
 use Rattle.check_rules.specs.Told.{Recurses}
 use Rattle.divisions.specs.Faults.{parse_of}
 use Rattle.run_unit.specs.Faults.{StageFault, OfLines, OfTokens, OfTree, OfRules}
@@ -18,7 +18,7 @@ then_read (Ok a) fault next = next a
 then_read (Err e) fault next = Err (fault e)
 
 -- the tree, unless it breaks a rule; then the first one
-abbrev pub tree_by : Program → List Broken → Result Program StageFault
+abbrev pub tree_by : Program → List RuleBreach → Result Program StageFault
 tree_by tree [] = Ok tree
 tree_by tree (one ∷ more) = Err (OfRules one)
 
@@ -43,7 +43,7 @@ IsTreeAnswer tree (Err (Refused fault)) = ⊥
 
 -- 54, told of a tree that keeps the other rules
 pub record IsRecursion (tree : Program) (fault : StageFault) : Type 0 where
-  pub broken : Broken
+  pub broken : RuleBreach
   pub is : fault ≡ OfRules broken
   pub back : Recurses tree broken
 

@@ -1,20 +1,20 @@
 -- Runs of programs with files, over a volume.
 use Rattle.std.specs.Prelude.{◌≡◌, ◌⊎◌, Bool, ℕ, List, Ok}
 use Rattle.station.specs.Disk.{Sector}
-use Rattle.station.specs.State.{State, synced}
+use Rattle.station.specs.State.{State, state_after_sync}
 use Rattle.station.specs.History.{Spans, Through}
-use Rattle.station.specs.Opening.{Opening}
+use Rattle.station.specs.Opening.{IsOpening}
 use Rattle.roots.specs.declared.pair.Roots.{Roots}
 use Rattle.roots.specs.Reading.{roots_in}
 use Rattle.records.specs.Files.{Files}
 use Rattle.records.specs.Connector.{Entry}
-use Rattle.half_store.specs.Half.{marks as half_marks, Holds as HoldsHalf}
+use Rattle.half_store.specs.Half.{known_marks as half_marks, Holds as HoldsHalf}
 use Rattle.half_store.specs.Stands.{LacksRoom as LacksHalf}
 use Rattle.alternate_keys.specs.Opened.{HasMap}
 use Rattle.alternate_keys.specs.Stands.{LacksRoom as LacksTrees}
 use Rattle.source_tree.specs.Meaning.{Run}
 use Rattle.machine.specs.Prefix.{Moment}
-use Rattle.machine.specs.Ends.{Finished, BeforeNote, LacksRoom}
+use Rattle.machine.specs.Ends.{IsFinished, BeforeNote, LacksRoomForChange}
 use Rattle.run_unit.specs.declared.ended.Refusal.TheVariants.{Device, Damaged, Memory}
 use Rattle.run_unit.specs.declared.ended.Ended.{Ended}
 use Rattle.run_unit.specs.declared.ended.Ended.TheVariants.{Refused}
@@ -29,7 +29,7 @@ IsUnopened other = ⊥
 
 -- Nothing was done on the station, but that what waited for a sync may have become durable: no sector was written.
 abbrev pub IsUnwritten : State → State → Type 0
-IsUnwritten old new = (new ≡ old) ⊎ (new ≡ synced old)
+IsUnwritten old new = (new ≡ old) ⊎ (new ≡ state_after_sync old)
 
 -- 82 is reported where the volume can't be opened, and then nothing was shown and no sector was written; or where its roots and map sectors
 -- are sound, and a file statement met the damage.
@@ -47,7 +47,7 @@ lacks_either image is_new name before after = LacksTrees image is_new name after
 -- statement or before it begins.
 abbrev pub EndsOver : (List Sector → Files → Type 0) → (Run → State → State → Type 0) → Run → State → Ended → State → Type 0
 EndsOver holds no_room run old ended now =
-    EndsBy (λ how. Finished holds run how old now) (no_room run old now) (BeforeNote run old now ⊎ (now ≡ old)) old ended now
+    EndsBy (λ how. IsFinished holds run how old now) (no_room run old now) (BeforeNote run old now ⊎ (now ≡ old)) old ended now
 
 -- a run over these files, from a state to another, by this end
 abbrev pub RunsOver : (List Sector → Files → Type 0) → (Run → State → State → Type 0) → Run
@@ -58,7 +58,7 @@ RunsOver holds no_room run past old = TakesCourse (Moment holds run old) (EndsOv
 -- call, and no sector was written.
 pub record LeavesClosed (past : List State) (old : State) (ended : Ended) (later : List State) (new : State) : Type 0 where
   pub why : IsUnopened ended
-  pub moments : Through past later new (Opening old)
+  pub moments : Through past later new (IsOpening old)
   pub unwritten : IsUnwritten old new
 
 -- A call that opens a volume which holds files, and does a run over them. Until the volume is opened there are no events,
@@ -66,8 +66,8 @@ pub record LeavesClosed (past : List State) (old : State) (ended : Ended) (later
 pub data RunsOnVolume (holds : List Sector → Files → Type 0) (no_room : Run → State → State → Type 0) (run : Run) (past : List State)
     (old : State) (ended : Ended) (later : List State) (new : State) : Type 0 where
   Unopened : LeavesClosed past old ended later new → RunsOnVolume holds no_room run past old ended later new
-  Opened : (opened : List State) → Spans past opened (Opening old)
-      → RunsOver holds no_room run opened (synced old) ended later new → RunsOnVolume holds no_room run past old ended later new
+  Opened : (opened : List State) → Spans past opened (IsOpening old)
+      → RunsOver holds no_room run opened (state_after_sync old) ended later new → RunsOnVolume holds no_room run past old ended later new
 
 -- the newest root of an image is one of a volume of halves
 abbrev pub IsOfHalves : List Sector → Type 0
@@ -79,5 +79,5 @@ pub data RunsOnHalves (entries : List Entry) (run : Files → Run) (past : List 
     (ended : Ended) (later : List State) (new : State) : Type 0 where
   NotOpened : LeavesClosed past old ended later new → RunsOnHalves entries run past old ended later new
   HeldFiles : (files : Files) → HoldsHalf old.disk.present files
-      → RunsOnVolume HoldsHalf (LacksRoom lacks_half entries) (run files) past old ended later new
+      → RunsOnVolume HoldsHalf (LacksRoomForChange lacks_half entries) (run files) past old ended later new
       → RunsOnHalves entries run past old ended later new

@@ -6,7 +6,7 @@ ghost use Rattle.source_tree.specs.declared.program.Program.{Program};
 ghost use Rattle.source_tree.specs.Recursion.{HasOrder};
 ghost use Rattle.source_tree.specs.Meaning.{meaning};
 ghost use Rattle.entry_rules.specs.Checks as rules;
-ghost use Rattle.check_rules.specs.Told.{IsTold};
+ghost use Rattle.check_rules.specs.Told.{IsFirstFault};
 ghost use Rattle.run_unit.specs.Faults.{fault_of};
 ghost use Rattle.run_unit.specs.Trees.{IsReadFrom, IsTreeOf, broken_rules};
 ghost use Rattle.run_unit.specs.Stages.{IsTreeAnswer, IsToldOf, IsFaultOf, tree_with_rules, tree_of};
@@ -17,11 +17,29 @@ use check_rules::{CheckError, Checked, check};
 use code_image::to_bytes;
 use codegen::generate;
 use divisions::parse;
-use perform_order::one_answer;
+use perform_graph::one_answer;
 use source_lines::{logical, reference_format};
 use source_tree::Program;
 use std::alloc::{AllocError, Global};
 use tokens::{laws, scan};
+
+/// The image of a source text.
+///
+/// `Refused` with the first fault that a stage meets: 10 to 14 for its lines, 15 to 18 for its tokens, 30, 31 and 20 for its tree, and
+/// 17, 18 and 40 to 69 for its rules, in the order of `check_rules::check`.
+pub fn compile(alloc: Global, source: &[u8]) -> Result<Vec<u8>, CompileError>
+    // What is answered is an image of the source text's tree: whatever it is given, its run is what the tree means.
+    ensures image { IfOk result (λ image. IsCompiled source.now image.items) }
+    // So a source text is compiled only if it has a tree.
+    ensures accepted { OnOk result ((tree : Program) × IsTreeOf source.now tree) }
+    // A source text with a tree is answered with such an image, unless memory runs out.
+    ensures only { (tree : Program) → IsTreeOf source.now tree → IsImageAnswer tree result }
+    // Else the answer is the first fault of its stages, or a PERFORM that leads back where there is none.
+    ensures fault { IfErr result (λ e. IsFaultOf source.now (fault_of e)) }
+{
+    let tree = read_tree(alloc, source)?;
+    image_of_tree(alloc, &tree)
+}
 
 /// The tree that a source text spells, by the stages in order. Its rules come later.
 fn read_tree(alloc: Global, source: &[u8]) -> Result<Program, CompileError>
@@ -44,7 +62,7 @@ fn check_tree(alloc: Global, tree: &Program) -> Result<Checked<'_>, CheckError>
     ensures tree { IfOk result (λ checked. checked ≡ tree.now) }
     ensures kept { OnOk result (broken_rules tree.now ≡ []) }
     ensures order { OnOk result (HasOrder tree.now) }
-    ensures exact { IfErr result (λ e. IsTold tree.now (rules.fault_of e)) }
+    ensures exact { IfErr result (λ e. IsFirstFault tree.now (rules.fault_of e)) }
 {
     check(alloc, tree)
 }
@@ -68,22 +86,4 @@ fn image_of_tree(alloc: Global, tree: &Program) -> Result<Vec<u8>, CompileError>
     one_answer();
     let checked = check_tree(alloc, tree)?;
     Ok(make_image(alloc, &checked)?)
-}
-
-/// The image of a source text.
-///
-/// `Refused` with the first fault that a stage meets: 10 to 14 for its lines, 15 to 18 for its tokens, 30, 31 and 20 for its tree, and
-/// 17, 18 and 40 to 69 for its rules, in the order of `check_rules::check`.
-pub fn compile(alloc: Global, source: &[u8]) -> Result<Vec<u8>, CompileError>
-    // What is answered is an image of the source text's tree: whatever it is given, its run is what the tree means.
-    ensures image { IfOk result (λ image. IsCompiled source.now image.items) }
-    // So a source text is compiled only if it has a tree.
-    ensures accepted { OnOk result ((tree : Program) × IsTreeOf source.now tree) }
-    // A source text with a tree is answered with such an image, unless memory runs out.
-    ensures only { (tree : Program) → IsTreeOf source.now tree → IsImageAnswer tree result }
-    // Else the answer is the first fault of its stages, or a PERFORM that leads back where there is none.
-    ensures fault { IfErr result (λ e. IsFaultOf source.now (fault_of e)) }
-{
-    let tree = read_tree(alloc, source)?;
-    image_of_tree(alloc, &tree)
 }

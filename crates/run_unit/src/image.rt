@@ -14,16 +14,6 @@ use code_image::{Verified, from_bytes, verify};
 use station::Station;
 use std::alloc::Global;
 
-/// The code of an image.
-fn load(alloc: Global, image: &[u8]) -> Result<Verified, Refusal>
-    ensures loaded { IfOk result (λ code. IsImageOf image.now code) }
-    ensures only { (code : Code) → IsImageOf image.now code → IsLoaded code result }
-    ensures cause { IfErr result (λ refusal. IsCauseOf refusal image.now) }
-{
-    let code = from_bytes(alloc, image)?;
-    Ok(verify(alloc, code)?)
-}
-
 /// Runs an image, with a budget of one for each statement. The day is six ASCII digits, YYMMDD.
 ///
 /// An image with files runs over the volume that the station's sectors are, which is opened first; one without files leaves
@@ -64,4 +54,14 @@ pub fn run_image<S: Station>(
         }
         Err(refusal) => Ended::Refused(refusal),
     }
+}
+
+/// The code of an image.
+fn load(alloc: Global, image: &[u8]) -> Result<Verified, Refusal>
+    ensures loaded { IfOk result (λ code. IsImageOf image.now code) }
+    ensures only { (code : Code) → IsImageOf image.now code → IsLoaded code result }
+    ensures cause { IfErr result (λ refusal. IsCauseOf refusal image.now) }
+{
+    let code = from_bytes(alloc, image)?;
+    Ok(verify(alloc, code)?)
 }

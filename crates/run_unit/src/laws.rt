@@ -2,7 +2,7 @@
 
 ghost use Rattle.std.specs.Prelude.{◌≡◌, ℕ, List};
 ghost use Rattle.source_tree.specs.declared.program.Program.{Program};
-ghost use Rattle.source_tree.specs.Given.{Given};
+ghost use Rattle.source_tree.specs.Given.{RunInput};
 ghost use Rattle.source_tree.specs.Meaning.{Run};
 ghost use Rattle.run_unit.specs.Trees.{IsTreeOf};
 ghost use Rattle.run_unit.specs.Images.{HasRun, MeansAs, IsCompiled};
@@ -19,7 +19,7 @@ use tokens::laws;
 pub fn one_meaning()
     ensures tree { (source : List ℕ) (tree other : Program) →
         IsTreeOf source tree → IsTreeOf source other → tree ≡ other }
-    ensures run { (image : List ℕ) (given : Given) (run other : Run) →
+    ensures run { (image : List ℕ) (given : RunInput) (run other : Run) →
         HasRun image given run → HasRun image given other → run ≡ other }
 {
     reference_format();

@@ -3,21 +3,21 @@
 ghost use Rattle.std.specs.Prelude.{◌≡◌, ◌≢◌, ◌≤◌, ◌↔◌, Bool, false, ℕ, List, All, IfOk, IfErr};
 ghost use Rattle.station.specs.Disk.{Disk, Sector};
 ghost use Rattle.records.specs.Files.{Files};
-ghost use Rattle.records.specs.Calls.{StandsFor};
-ghost use Rattle.file_tables.specs.Files.{entries_of};
+ghost use Rattle.records.specs.Calls.{Represents};
+ghost use Rattle.file_image.specs.Files.{entries_of};
 ghost use Rattle.source_tree.specs.Given.{given_over};
 ghost use Rattle.source_tree.specs.Meaning.{Run};
 ghost use Rattle.code_image.specs.Demands.{IsVerified};
 ghost use Rattle.code_image.specs.Points.{all_closed};
 ghost use Rattle.code_image.specs.Table.{Runs};
-ghost use Rattle.machine.specs.Ends.{IsDigit, LacksRoom};
+ghost use Rattle.machine.specs.Ends.{IsDigit, LacksRoomForChange};
 ghost use Rattle.run_unit.specs.Ends.{HasCause, IsRun};
 ghost use Rattle.run_unit.specs.Volume.{RunsOver};
 ghost use Rattle.run_unit.specs.declared.ended.Refusal.TheVariants.{Memory};
 
 use crate::ended::{Ended, Refusal};
 use code_image::{Code, Verified, run_law};
-use file_tables::select_of;
+use file_image::select_of;
 use file_verbs::Connectors;
 use machine::Machine;
 use records::{FileVerbs, Keeps, Store};
@@ -78,12 +78,12 @@ pub fn run_over<S: Station, T: Store + Drop>(
     // At each moment the files are those after the statuses that were received, or after one more, which is in progress. After the
     // program's own end they are the last, and the events are all of the run's. 81 comes only in a statement that would change files, on
     // a disk that lacks room for that.
-    ensures runs { (files : Files) → StandsFor T.Keeps S.Device store station.old files →
+    ensures runs { (files : Files) → Represents T.Keeps S.Device store station.old files →
         (run : Run) → Runs code (given_over files (S.state station.old) day budget) run →
-        RunsOver T.holds (LacksRoom T.lacks_room (entries_of code.tables code.files)) run (S.history station.old) (S.state station.old)
+        RunsOver T.holds (LacksRoomForChange T.lacks_room (entries_of code.tables code.files)) run (S.history station.old) (S.state station.old)
         result (S.history station.new) (S.state station.new) }
     // 82 isn't reported of files that the store stands for.
-    ensures sound { (files : Files) → StandsFor T.Keeps S.Device store station.old files →
+    ensures sound { (files : Files) → Represents T.Keeps S.Device store station.old files →
         result ≢ Ended.Refused Refusal.Damaged }
 {
     run_law();

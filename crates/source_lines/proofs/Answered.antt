@@ -17,8 +17,8 @@ use Rattle.source_lines.specs.Indicator.{indicator_of}
 use Rattle.source_lines.specs.Line.{byte, characters, first_nonblank, first_outside, is_in_character_set}
 use Rattle.source_lines.specs.Literal.{is_mark, open_at_end}
 use Rattle.source_lines.specs.Paragraph.{begins_dropped}
-use Rattle.source_lines.specs.Reading.{Step, after_indicator, after_line, after_lines, after_plain, after_continuation, and_then, at_end, begun, continuation_after, line_continued, line_continued_at, literal_continued, literal_continued_at, plain_after, plain_at, refused, taken, through, unless_outside}
-use Rattle.source_lines.specs.Format.{IsOf, BeginsAt, IsSkipped, IsInBody, Each, EndsParagraph, Gives, Continues, Logical, Text, past_end, space_at}
+use Rattle.source_lines.specs.Reading.{Step, after_indicator, after_line, after_lines, after_plain, after_continuation, and_then, at_end, plain_line_step, continuation_after, line_continued, line_continued_at, literal_continued, literal_continued_at, plain_after, plain_at, refusal_step, line_step, characters_through, unless_outside}
+use Rattle.source_lines.specs.Format.{HasIndicator, BeginsAt, IsSkipped, IsInBody, Each, EndsParagraph, Gives, Continues, Logical, Text, past_end, space_at}
 use Rattle.source_lines.proofs.Written.{reading, ending, below_area_b, before_area_b, no_lines, through_is}
 
 -- A line from a column on, with the lines that continue it, and the text after them.
@@ -179,7 +179,7 @@ record Began (line : Line) (more : List Line) (so_far result : List Character) :
 module _ (more : List Line) (known : (so_far : List Character) (before : Before) (result : List Character) → all_of more (reading so_far before) ≡ Ok result → Found more so_far before result) where
   took : (line : Line) (from : ℕ) (before after : Option OpenLiteral) (so_far : List Character) (old : Before) (result : List Character)
       → first_outside line ≡ None → open_at_end before line from ≡ after
-      → from_step more (Ok (through line from after (reading so_far old))) ≡ Ok result → Took before line from more so_far result
+      → from_step more (Ok (characters_through line from after (reading so_far old))) ≡ Ok result → Took before line from more so_far result
   took line from before after so_far old result clean literal e =
       let piece : List Character = characters line from (past_end line after) in
       let f = known (so_far ++ piece) (ending line after) result (ap (all_of more) (sym (through_is line from after (reading so_far old))) ∙ e) in
@@ -187,32 +187,32 @@ module _ (more : List Line) (known : (so_far : List Character) (before : Before)
       record { given = piece ++ f.given; is = f.is ∙ append_assoc so_far piece f.given; then_text = join_text after g f.remains }
 
   took_unless : (line : Line) (from : ℕ) (before : Option OpenLiteral) (so_far : List Character) (old : Before) (result : List Character) (outside : Option ℕ)
-      → first_outside line ≡ outside → from_step more (unless_outside line outside (through line from (open_at_end before line from) (reading so_far old))) ≡ Ok result
+      → first_outside line ≡ outside → from_step more (unless_outside line outside (characters_through line from (open_at_end before line from) (reading so_far old))) ≡ Ok result
       → Took before line from more so_far result
   took_unless line from before so_far old result None clean e = took line from before (open_at_end before line from) so_far old result clean refl e
   took_unless line from before so_far old result (Some column) found e = absurd (refused_not e)
 
   taken_found : (line : Line) (from : ℕ) (before : Option OpenLiteral) (so_far : List Character) (old : Before) (result : List Character)
-      → from_step more (taken line from before (reading so_far old)) ≡ Ok result → Took before line from more so_far result
-  unfolding taken
+      → from_step more (line_step line from before (reading so_far old)) ≡ Ok result → Took before line from more so_far result
+  unfolding line_step
   taken_found line from before so_far old result e = took_unless line from before so_far old result (first_outside line) refl e
 
   -- ---- plain lines
 
-  heading_text : (line : Line) (first : ℕ) {given : List Character} → IsOf Plain line → BeginsAt line first → begins_dropped line first ≡ true
+  heading_text : (line : Line) (first : ℕ) {given : List Character} → HasIndicator Plain line → BeginsAt line first → begins_dropped line first ≡ true
       → Remains more Dropped given → Text (line ∷ more) given
   heading_text line first {given} is begins heading (Remains.paragraph p) =
       subst (λ lines. Text (line ∷ lines) given) (sym p.split) (Text.paragraph is begins heading p.each p.ends p.text)
 
-  plain_text : (line : Line) (first : ℕ) {given : List Character} → IsOf Plain line → BeginsAt line first → begins_dropped line first ≡ false
+  plain_text : (line : Line) (first : ℕ) {given : List Character} → HasIndicator Plain line → BeginsAt line first → begins_dropped line first ≡ false
       → ThenText None line 8 more given → Text (line ∷ more) given
   plain_text line first {given} is begins heading t =
       let whole : Text (line ∷ (t.rest ++ t.more)) (t.own ++ space_at t.end ∷ t.others) = Text.logical is begins heading t.logical t.text in
       subst (λ lines. Text (line ∷ lines) given) (sym t.split) (subst (λ xs. Text (line ∷ (t.rest ++ t.more)) xs) (sym t.gives) whole)
 
-  begun_if : (line : Line) (first : ℕ) (so_far : List Character) (old : Before) (result : List Character) (heading : Bool) → IsOf Plain line → BeginsAt line first
+  begun_if : (line : Line) (first : ℕ) (so_far : List Character) (old : Before) (result : List Character) (heading : Bool) → HasIndicator Plain line → BeginsAt line first
       → begins_dropped line first ≡ heading
-      → from_step more (cond heading (Ok (reading so_far Dropped)) (taken line 8 None (reading so_far old))) ≡ Ok result → Began line more so_far result
+      → from_step more (cond heading (Ok (reading so_far Dropped)) (line_step line 8 None (reading so_far old))) ≡ Ok result → Began line more so_far result
   begun_if line first so_far old result true is begins heading e =
       let f = known so_far Dropped result e in
       record { given = f.given; is = f.is; text = heading_text line first is begins heading f.remains }
@@ -220,14 +220,14 @@ module _ (more : List Line) (known : (so_far : List Character) (before : Before)
       let t = taken_found line 8 None so_far old result e in
       record { given = t.given; is = t.is; text = plain_text line first is begins heading t.then_text }
 
-  begun_found : (line : Line) (first : ℕ) (so_far : List Character) (old : Before) (result : List Character) → IsOf Plain line → BeginsAt line first
-      → from_step more (begun line first (reading so_far old)) ≡ Ok result → Began line more so_far result
-  unfolding begun
+  begun_found : (line : Line) (first : ℕ) (so_far : List Character) (old : Before) (result : List Character) → HasIndicator Plain line → BeginsAt line first
+      → from_step more (plain_line_step line first (reading so_far old)) ≡ Ok result → Began line more so_far result
+  unfolding plain_line_step
   begun_found line first so_far old result is begins e = begun_if line first so_far old result (begins_dropped line first) is begins refl e
 
-  dropped_if : (line : Line) (first : ℕ) (so_far : List Character) (result : List Character) (low : Bool) → IsOf Plain line → BeginsAt line first
+  dropped_if : (line : Line) (first : ℕ) (so_far : List Character) (result : List Character) (low : Bool) → HasIndicator Plain line → BeginsAt line first
       → nat_lt first 12 ≡ low
-      → from_step more (cond low (begun line first (reading so_far Dropped)) (Ok (reading so_far Dropped))) ≡ Ok result → Found (line ∷ more) so_far Dropped result
+      → from_step more (cond low (plain_line_step line first (reading so_far Dropped)) (Ok (reading so_far Dropped))) ≡ Ok result → Found (line ∷ more) so_far Dropped result
   dropped_if line first so_far result true is begins low e =
       let b = begun_found line first so_far Dropped result is begins e in
       record {
@@ -246,7 +246,7 @@ module _ (more : List Line) (known : (so_far : List Character) (before : Before)
       let f = known so_far Dropped result e in
       record { given = f.given; is = f.is; remains = body_more (IsInBody.in_area_b is begins (above_area_a first low)) f.remains }
 
-  plain_found : (line : Line) (first : ℕ) (so_far : List Character) (before : Before) (result : List Character) → IsOf Plain line → BeginsAt line first
+  plain_found : (line : Line) (first : ℕ) (so_far : List Character) (before : Before) (result : List Character) → HasIndicator Plain line → BeginsAt line first
       → from_step more (plain_after before line first (reading so_far before)) ≡ Ok result → Found (line ∷ more) so_far before result
   plain_found line first so_far Nothing result is begins e =
       let b = begun_found line first so_far Nothing result is begins e in
@@ -257,7 +257,7 @@ module _ (more : List Line) (known : (so_far : List Character) (before : Before)
   plain_found line first so_far (Open literal) result is begins e = absurd (refused_not e)
   plain_found line first so_far Dropped result is begins e = dropped_if line first so_far result (nat_lt first 12) is begins refl e
 
-  plain_at_found : (line : Line) (so_far : List Character) (before : Before) (result : List Character) (first : Option ℕ) → IsOf Plain line → first_nonblank line ≡ first
+  plain_at_found : (line : Line) (so_far : List Character) (before : Before) (result : List Character) (first : Option ℕ) → HasIndicator Plain line → first_nonblank line ≡ first
       → from_step more (plain_at first line (reading so_far before)) ≡ Ok result → Found (line ∷ more) so_far before result
   plain_at_found line so_far before result None is none e = skip_found (IsSkipped.blank is none) (known so_far before result e)
   plain_at_found line so_far before result (Some first) is begins e = plain_found line first so_far before result is begins e
@@ -267,24 +267,24 @@ module _ (more : List Line) (known : (so_far : List Character) (before : Before)
   goes_on : {before : Option OpenLiteral} {line : Line} {begin : ℕ} {given : List Character} → Continues before line begin → ThenText before line begin more given → GoesOn before (line ∷ more) given
   goes_on {line = line} {begin = begin} goes t = record { skipped = []; next = line; begin = begin; tail = more; split = refl; each = Each.none; continues = goes; then_text = t }
 
-  word_if : (line : Line) (first : ℕ) (end : Place) (so_far result : List Character) (wrong : Bool) → IsOf Continuation line → BeginsAt line first
+  word_if : (line : Line) (first : ℕ) (end : Place) (so_far result : List Character) (wrong : Bool) → HasIndicator Continuation line → BeginsAt line first
       → (nat_lt first 12 && is_mark (byte line first)) ≡ wrong
-      → from_step more (cond wrong (refused line WrongContinuation first) (taken line first None (reading so_far (LineEnd end)))) ≡ Ok result
+      → from_step more (cond wrong (refusal_step line WrongContinuation first) (line_step line first None (reading so_far (LineEnd end)))) ≡ Ok result
       → Found (line ∷ more) so_far (LineEnd end) result
   word_if line first end so_far result true is begins wrong e = absurd (refused_not e)
   word_if line first end so_far result false is begins right e =
       let t = taken_found line first None so_far (LineEnd end) result e in
       record { given = t.given; is = t.is; remains = Remains.line_goes_on (goes_on (Continues.word is begins (no_mark_in_area_a line first right)) t.then_text) }
 
-  word_found : (line : Line) (end : Place) (so_far result : List Character) (first : Option ℕ) → IsOf Continuation line → first_nonblank line ≡ first
+  word_found : (line : Line) (end : Place) (so_far result : List Character) (first : Option ℕ) → HasIndicator Continuation line → first_nonblank line ≡ first
       → from_step more (line_continued_at first line (reading so_far (LineEnd end))) ≡ Ok result → Found (line ∷ more) so_far (LineEnd end) result
   word_found line end so_far result None is none e = absurd (refused_not e)
   word_found line end so_far result (Some first) is begins e = word_if line first end so_far result (nat_lt first 12 && is_mark (byte line first)) is begins refl e
 
-  mark_if : (line : Line) (first : ℕ) (literal : OpenLiteral) (so_far result : List Character) (allowed wrong : Bool) → IsOf Continuation line → BeginsAt line first
+  mark_if : (line : Line) (first : ℕ) (literal : OpenLiteral) (so_far result : List Character) (allowed wrong : Bool) → HasIndicator Continuation line → BeginsAt line first
       → is_in_character_set (byte line first) ≡ allowed → (nat_lt first 12 || not (byte line first == literal.mark)) ≡ wrong
-      → from_step more (cond (not allowed) (refused line ByteOutsideCharacterSet first)
-      (cond wrong (refused line WrongContinuation first) (taken line (first + 1) (Some literal) (reading so_far (Open literal))))) ≡ Ok result
+      → from_step more (cond (not allowed) (refusal_step line ByteOutsideCharacterSet first)
+      (cond wrong (refusal_step line WrongContinuation first) (line_step line (first + 1) (Some literal) (reading so_far (Open literal))))) ≡ Ok result
       → Found (line ∷ more) so_far (Open literal) result
   mark_if line first literal so_far result false wrong is begins outside w e = absurd (refused_not e)
   mark_if line first literal so_far result true true is begins allowed w e = absurd (refused_not e)
@@ -295,13 +295,13 @@ module _ (more : List Line) (known : (so_far : List Character) (before : Before)
       Continues.mark is begins allowed (above_area_a first low.0) (same_byte (byte line first) literal.mark low.1) in
       record { given = t.given; is = t.is; remains = Remains.literal_goes_on (goes_on goes t.then_text) }
 
-  mark_found : (line : Line) (literal : OpenLiteral) (so_far result : List Character) (first : Option ℕ) → IsOf Continuation line → first_nonblank line ≡ first
+  mark_found : (line : Line) (literal : OpenLiteral) (so_far result : List Character) (first : Option ℕ) → HasIndicator Continuation line → first_nonblank line ≡ first
       → from_step more (literal_continued_at first line literal (reading so_far (Open literal))) ≡ Ok result → Found (line ∷ more) so_far (Open literal) result
   mark_found line literal so_far result None is none e = absurd (refused_not e)
   mark_found line literal so_far result (Some first) is begins e =
       mark_if line first literal so_far result (is_in_character_set (byte line first)) (nat_lt first 12 || not (byte line first == literal.mark)) is begins refl refl e
 
-  continuation_found : (line : Line) (so_far : List Character) (before : Before) (result : List Character) → IsOf Continuation line
+  continuation_found : (line : Line) (so_far : List Character) (before : Before) (result : List Character) → HasIndicator Continuation line
       → from_step more (continuation_after before line (reading so_far before)) ≡ Ok result → Found (line ∷ more) so_far before result
   unfolding line_continued literal_continued
   continuation_found line so_far Nothing result is e = absurd (refused_not e)

@@ -11,7 +11,7 @@ use Rattle.source_lines.specs.Cut.{lines, parts}
 use Rattle.source_lines.specs.declared.fault.SourceFault.{SourceFault}
 use Rattle.source_lines.specs.declared.line.Line.{Line}
 use Rattle.source_lines.specs.declared.reader.Reader.{Reader}
-use Rattle.source_lines.specs.Reading.{after_line, after_lines, and_then, at_end, at_start, characters_of, lines_of, numbered, too_large}
+use Rattle.source_lines.specs.Reading.{after_line, after_lines, and_then, at_end, at_start, characters_of, lines_of, numbered_lines, too_large}
 use Rattle.source_lines.specs.Line.{line}
 
 parts_are : (source : List ℕ) → parts source ≡ slice_split (λ byte. byte == 10) source
@@ -59,21 +59,21 @@ line_left rest none some =
     ap lines_of_parts (parts_are rest ∙ slice_split_none (λ b. b == 10) rest each) ∙ only_part rest some
 
 module _ (number : ℕ) (rest first more : List ℕ) (cut : lines rest ≡ first ∷ lines more) (line_is : Line) (is : line_is ≡ line number first) (reader : Reader) where
-  one_line : after_lines (numbered number (lines rest)) reader ≡ and_then (after_line line_is reader) (after_lines (numbered (number + 1) (lines more)))
+  one_line : after_lines (numbered_lines number (lines rest)) reader ≡ and_then (after_line line_is reader) (after_lines (numbered_lines (number + 1) (lines more)))
   unfolding after_lines
-  one_line = ap (λ parts. after_lines (numbered number parts) reader) cut ∙ ap (λ l. and_then (after_line l reader) (after_lines (numbered (number + 1) (lines more)))) (sym is)
+  one_line = ap (λ parts. after_lines (numbered_lines number parts) reader) cut ∙ ap (λ l. and_then (after_line l reader) (after_lines (numbered_lines (number + 1) (lines more)))) (sym is)
 
   pub line_read : (next : Reader) → after_line line_is reader ≡ Ok next
-      → after_lines (numbered number (lines rest)) reader ≡ after_lines (numbered (number + 1) (lines more)) next
-  line_read next e = one_line ∙ ap (λ step. and_then step (after_lines (numbered (number + 1) (lines more)))) e
+      → after_lines (numbered_lines number (lines rest)) reader ≡ after_lines (numbered_lines (number + 1) (lines more)) next
+  line_read next e = one_line ∙ ap (λ step. and_then step (after_lines (numbered_lines (number + 1) (lines more)))) e
 
-  pub line_refused : (fault : Option SourceFault) → Fails fault (after_line line_is reader) → Fails fault (after_lines (numbered number (lines rest)) reader)
+  pub line_refused : (fault : Option SourceFault) → Fails fault (after_line line_is reader) → Fails fault (after_lines (numbered_lines number (lines rest)) reader)
   line_refused None e = tt
-  line_refused (Some fault) e = one_line ∙ ap (λ step. and_then step (after_lines (numbered (number + 1) (lines more)))) e
+  line_refused (Some fault) e = one_line ∙ ap (λ step. and_then step (after_lines (numbered_lines (number + 1) (lines more)))) e
 
-pub no_line : (number : ℕ) (rest : List ℕ) (reader : Reader) → lines rest ≡ [] → after_lines (numbered number (lines rest)) reader ≡ Ok reader
+pub no_line : (number : ℕ) (rest : List ℕ) (reader : Reader) → lines rest ≡ [] → after_lines (numbered_lines number (lines rest)) reader ≡ Ok reader
 unfolding after_lines
-no_line number rest reader e = ap (λ parts. after_lines (numbered number parts) reader) e
+no_line number rest reader e = ap (λ parts. after_lines (numbered_lines number parts) reader) e
 
 pub fails_too : {A B : Type 0} (fault : Option SourceFault) (step : Result A SourceFault) (next : A → Result B SourceFault) → Fails fault step → Fails fault (and_then step next)
 fails_too None step next e = tt

@@ -9,8 +9,8 @@ use Rattle.source_lines.specs.declared.literal.OpenLiteral.{OpenLiteral}
 use Rattle.lexical.specs.declared.place.Place.{Place}
 use Rattle.source_lines.specs.Format.{Each, Continues, IsSkipped}
 use Rattle.source_lines.specs.Line.{characters, columns_of}
-use Rattle.source_lines.specs.Reading.{after_continuation, after_line, after_lines, after_plain, begun, characters_of, line_continued, literal_continued, taken}
-use Rattle.source_lines.specs.Unclosed.{HasUnclosed, LeavesOpen, Leaves, Uncontinued}
+use Rattle.source_lines.specs.Reading.{after_continuation, after_line, after_lines, after_plain, plain_line_step, characters_of, line_continued, literal_continued, line_step}
+use Rattle.source_lines.specs.Unclosed.{HasUnclosed, LeavesOpen, Leaves, IsUncontinued}
 use Rattle.source_lines.proofs.Unclosed.{unclosed}
 use Rattle.source_lines.proofs.UnclosedFound.{continuation_not, same_kind}
 
@@ -44,13 +44,13 @@ hello = text (codes "       IDENTIFICATION DIVISION." ∷ codes "       PROGRAM-
 
 six_lines : bytes_of (characters_of hello)
     ≡ codes "IDENTIFICATION DIVISION. PROGRAM-ID. HELLO. PROCEDURE DIVISION. MAIN.     DISPLAY \"HELLO\".     STOP RUN. "
-unfolding text bytes_of hello characters characters_of after_lines after_line after_plain begun taken
+unfolding text bytes_of hello characters characters_of after_lines after_line after_plain plain_line_step line_step
 six_lines = refl
 
 -- the first character, the end of the first line, and the opening mark
 three_places : take 1 (places_of (characters_of hello)) ++ take 1 (drop 24 (places_of (characters_of hello))) ++ take 1 (drop 82 (places_of (characters_of hello)))
     ≡ at 1 8 ∷ at 1 32 ∷ at 5 20 ∷ []
-unfolding text places_of at hello characters characters_of after_lines after_line after_plain begun taken
+unfolding text places_of at hello characters characters_of after_lines after_line after_plain plain_line_step line_step
 three_places = refl
 
 -- ---- columns
@@ -61,19 +61,19 @@ unfolding spaces
 tabs = refl
 
 carriage_return_before_a_line_feed : bytes_of (characters_of (codes "       A" ++ 13 ∷ 10 ∷ [])) ≡ codes "A "
-unfolding bytes_of characters characters_of after_lines after_line after_plain begun taken
+unfolding bytes_of characters characters_of after_lines after_line after_plain plain_line_step line_step
 carriage_return_before_a_line_feed = refl
 
 carriage_return_in_a_line : characters_of (codes "       A" ++ 13 ∷ codes "B" ++ 10 ∷ []) ≡ fault ByteOutsideCharacterSet 1 9
-unfolding at fault characters characters_of after_lines after_line after_plain begun taken
+unfolding at fault characters characters_of after_lines after_line after_plain plain_line_step line_step
 carriage_return_in_a_line = refl
 
 byte_e9_in_column_20 : characters_of (text (codes "       A." ∷ (codes "           DISPLAY " ++ 0xe9 ∷ []) ∷ [])) ≡ fault ByteOutsideCharacterSet 2 20
-unfolding text at fault characters characters_of after_lines after_line after_plain begun taken
+unfolding text at fault characters characters_of after_lines after_line after_plain plain_line_step line_step
 byte_e9_in_column_20 = refl
 
 byte_e9_in_column_73 : bytes_of (characters_of (codes "       A" ++ spaces 64 ++ 0xe9 ∷ [])) ≡ codes "A "
-unfolding spaces bytes_of characters characters_of after_lines after_line after_plain begun taken
+unfolding spaces bytes_of characters characters_of after_lines after_line after_plain plain_line_step line_step
 byte_e9_in_column_73 = refl
 
 byte_e9_in_column_7 : characters_of (codes "      " ++ 0xe9 ∷ codes " A") ≡ fault ByteOutsideCharacterSet 1 7
@@ -81,7 +81,7 @@ unfolding at fault characters characters_of after_lines after_line
 byte_e9_in_column_7 = refl
 
 comment_line : bytes_of (characters_of (text (codes "       A" ∷ (codes "      * " ++ 0xe9 ∷ []) ∷ codes "      DB" ∷ codes "       C" ∷ []))) ≡ codes "A C "
-unfolding text bytes_of characters characters_of after_lines after_line after_plain begun taken
+unfolding text bytes_of characters characters_of after_lines after_line after_plain plain_line_step line_step
 comment_line = refl
 
 unknown_indicator : characters_of (codes "      X A") ≡ fault UnknownIndicator 1 7
@@ -92,7 +92,7 @@ unknown_indicator = refl
 
 dropped_paragraph : bytes_of (characters_of (text (codes "       A." ∷ codes "       Author. 'x" ∷ codes "           B" ∷ codes "      -    C" ∷ codes "       D." ∷ [])))
     ≡ codes "A. D. "
-unfolding text bytes_of characters characters_of after_lines after_line after_plain after_continuation begun taken
+unfolding text bytes_of characters characters_of after_lines after_line after_plain after_continuation plain_line_step line_step
 dropped_paragraph = refl
 
 -- ---- continuations
@@ -102,27 +102,27 @@ open_line = codes "           DISPLAY \"AB"
 
 continued_literal : bytes_of (characters_of (text (open_line ∷ codes "      * A COMMENT" ∷ codes "      -    \"CD\"." ∷ [])))
     ≡ codes "    DISPLAY \"AB" ++ spaces 50 ++ codes "CD\". "
-unfolding spaces text open_line bytes_of characters characters_of after_lines after_line after_plain after_continuation literal_continued begun taken
+unfolding spaces text open_line bytes_of characters characters_of after_lines after_line after_plain after_continuation literal_continued plain_line_step line_step
 continued_literal = refl
 
 continued_word : bytes_of (characters_of (text (codes "           DIS" ∷ [] ∷ codes "      -    PLAY" ∷ []))) ≡ codes "    DISPLAY "
-unfolding text bytes_of characters characters_of after_lines after_line after_plain after_continuation line_continued begun taken
+unfolding text bytes_of characters characters_of after_lines after_line after_plain after_continuation line_continued plain_line_step line_step
 continued_word = refl
 
 not_continued : characters_of (text (open_line ∷ codes "           STOP RUN." ∷ [])) ≡ fault UnclosedLiteral 1 20
-unfolding at fault text open_line characters characters_of after_lines after_line after_plain begun taken
+unfolding at fault text open_line characters characters_of after_lines after_line after_plain plain_line_step line_step
 not_continued = refl
 
 open_at_the_end : characters_of open_line ≡ fault UnclosedLiteral 1 20
-unfolding at fault open_line characters characters_of after_lines after_line after_plain begun taken
+unfolding at fault open_line characters characters_of after_lines after_line after_plain plain_line_step line_step
 open_at_the_end = refl
 
 continued_without_its_mark : characters_of (text (open_line ∷ codes "      -    'CD\"." ∷ [])) ≡ fault WrongContinuation 2 12
-unfolding at fault text open_line characters characters_of after_lines after_line after_plain after_continuation literal_continued begun taken
+unfolding at fault text open_line characters characters_of after_lines after_line after_plain after_continuation literal_continued plain_line_step line_step
 continued_without_its_mark = refl
 
 mark_in_area_a : characters_of (text (open_line ∷ codes "      - \"CD\"." ∷ [])) ≡ fault WrongContinuation 2 9
-unfolding at fault text open_line characters characters_of after_lines after_line after_plain after_continuation literal_continued begun taken
+unfolding at fault text open_line characters characters_of after_lines after_line after_plain after_continuation literal_continued plain_line_step line_step
 mark_in_area_a = refl
 
 nothing_before : characters_of (codes "      -    A") ≡ fault WrongContinuation 1 7
@@ -140,7 +140,7 @@ unfolding at text open_line quoted_at characters
 stays_open = record {
   size = omega arith;
   text = LeavesOpen.this_one refl refl refl
-      (Leaves.here (record { in_character_set = refl; literal = refl; counts = refl }) Each.none (Uncontinued.plain refl refl));
+      (Leaves.here (record { in_character_set = refl; literal = refl; counts = refl }) Each.none (IsUncontinued.plain refl refl));
 }
 
 -- A comment line is skipped. The continuation closes the literal and opens another, which is open where the text ends.
@@ -150,7 +150,7 @@ stays_open_in_a_continuation = record {
   size = omega arith;
   text = LeavesOpen.this_one refl refl refl
       (Leaves.further (record { in_character_set = refl; literal = refl; counts = refl }) (Each.one (IsSkipped.comment refl) Each.none)
-      (Continues.mark refl refl refl (omega arith) refl) (Leaves.here (record { in_character_set = refl; literal = refl; counts = refl }) Each.none Uncontinued.at_end));
+      (Continues.mark refl refl refl (omega arith) refl) (Leaves.here (record { in_character_set = refl; literal = refl; counts = refl }) Each.none IsUncontinued.at_end));
 }
 
 -- a continuation without the mark is a fault of its own, so no literal stays open

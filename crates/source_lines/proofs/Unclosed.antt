@@ -13,7 +13,7 @@ use Rattle.source_lines.proofs.UnclosedFound.{open_text_found, same_kind}
 use Rattle.source_lines.proofs.UnclosedRead.{open_text_read}
 use Rattle.source_lines.proofs.Written.{Fresh}
 
-pub unclosed : (source : List ℕ) (literal : OpenLiteral) → HasUnclosed source literal → characters_of source ≡ Err (reading.unclosed literal)
+pub unclosed : (source : List ℕ) (literal : OpenLiteral) → HasUnclosed source literal → characters_of source ≡ Err (reading.unclosed_fault literal)
 unclosed source literal h = within_limit source h.size ∙ open_text_read h.text [] Nothing Fresh.nothing
 
 large_not : SourceTooLarge ≡ UnclosedLiteral → ⊥
@@ -21,13 +21,13 @@ large_not e = cc
 
 by_size : (source : List ℕ) (fault : SourceFault) (small : Bool) → nat_le (length source) 8000000 ≡ small → fault.kind ≡ UnclosedLiteral
     → cond small (and_then (after_lines (lines_of source) at_start) at_end) (Err too_large) ≡ Err fault
-    → (literal : OpenLiteral) × HasUnclosed source literal × (fault ≡ reading.unclosed literal)
+    → (literal : OpenLiteral) × HasUnclosed source literal × (fault ≡ reading.unclosed_fault literal)
 by_size source fault true small told e =
     let found = open_text_found (lines_of source) fault told e in
     (found.0, record { size = within (length source) small; text = found.1 }, found.2)
 by_size source fault false large told e = absurd (large_not (same_kind e told))
 
 pub unclosed_only : (source : List ℕ) (fault : SourceFault) → characters_of source ≡ Err fault → fault.kind ≡ UnclosedLiteral
-    → (literal : OpenLiteral) × HasUnclosed source literal × (fault ≡ reading.unclosed literal)
+    → (literal : OpenLiteral) × HasUnclosed source literal × (fault ≡ reading.unclosed_fault literal)
 unfolding characters_of
 unclosed_only source fault e told = by_size source fault (nat_le (length source) 8000000) refl told e

@@ -15,9 +15,9 @@ use Rattle.source_lines.specs.Indicator.{indicator_of}
 use Rattle.source_lines.specs.Line.{byte, characters, first_nonblank, first_outside, is_in_character_set}
 use Rattle.source_lines.specs.Literal.{is_mark, open_at_end}
 use Rattle.source_lines.specs.Paragraph.{begins_dropped}
-use Rattle.source_lines.specs.Reading.{after_indicator, after_lines, after_plain, after_continuation, and_then, at_end, begun, continuation_after, line_continued, line_continued_at, literal_continued, literal_continued_at, plain_after, plain_at, refused, taken, through, unclosed, unless_outside}
-use Rattle.source_lines.specs.Format.{IsOf, BeginsAt, IsSkipped, IsInBody, Each, EndsParagraph, Gives, Continues, Logical, past_end, space_at}
-use Rattle.source_lines.specs.Unclosed.{Uncontinued, Leaves, LeavesOpen}
+use Rattle.source_lines.specs.Reading.{after_indicator, after_lines, after_plain, after_continuation, and_then, at_end, plain_line_step, continuation_after, line_continued, line_continued_at, literal_continued, literal_continued_at, plain_after, plain_at, refusal_step, line_step, characters_through, unclosed_fault, unless_outside}
+use Rattle.source_lines.specs.Format.{HasIndicator, BeginsAt, IsSkipped, IsInBody, Each, EndsParagraph, Gives, Continues, Logical, past_end, space_at}
+use Rattle.source_lines.specs.Unclosed.{IsUncontinued, Leaves, LeavesOpen}
 use Rattle.source_lines.proofs.Answered.{all_of, from_step, above_area_a, either_false, first_step, in_body, no_mark_in_area_a, same_byte}
 use Rattle.source_lines.proofs.Written.{reading, ending, below_area_b, no_lines, through_is}
 
@@ -34,7 +34,7 @@ data GoesOn (before : Option OpenLiteral) : List Line → OpenLiteral → Type 0
 
 -- None comes, after comment lines and blank lines.
 data StaysOpen : List Line → Type 0 where
-  uncontinued : {skipped rest : List Line} → Each IsSkipped skipped → Uncontinued rest → StaysOpen (skipped ++ rest)
+  uncontinued : {skipped rest : List Line} → Each IsSkipped skipped → IsUncontinued rest → StaysOpen (skipped ++ rest)
 
 data RestOfParagraph : List Line → OpenLiteral → Type 0 where
   paragraph : {body more : List Line} {literal : OpenLiteral} → Each IsInBody body → EndsParagraph more → LeavesOpen more literal → RestOfParagraph (body ++ more) literal
@@ -50,7 +50,7 @@ data Remains (lines : List Line) : Before → OpenLiteral → Type 0 where
 
 record Found (lines : List Line) (before : Before) (fault : SourceFault) : Type 0 where
   literal : OpenLiteral
-  is : fault ≡ unclosed literal
+  is : fault ≡ unclosed_fault literal
   remains : Remains lines before literal
 
 -- ---- other faults
@@ -133,11 +133,11 @@ join (Some now) g (Remains.stays s) = here g s
 
 -- ---- plain lines that begin a logical line or a dropped paragraph
 
-heading_text : {line : Line} {first : ℕ} {more : List Line} {literal : OpenLiteral} → IsOf Plain line → BeginsAt line first → begins_dropped line first ≡ true
+heading_text : {line : Line} {first : ℕ} {more : List Line} {literal : OpenLiteral} → HasIndicator Plain line → BeginsAt line first → begins_dropped line first ≡ true
     → Remains more Dropped literal → LeavesOpen (line ∷ more) literal
 heading_text is begins heading (Remains.paragraph (RestOfParagraph.paragraph each ends tail)) = LeavesOpen.paragraph is begins heading each ends tail
 
-plain_text : {line : Line} {first : ℕ} {more : List Line} {literal : OpenLiteral} → IsOf Plain line → BeginsAt line first → begins_dropped line first ≡ false
+plain_text : {line : Line} {first : ℕ} {more : List Line} {literal : OpenLiteral} → HasIndicator Plain line → BeginsAt line first → begins_dropped line first ≡ false
     → ThenOpen None line 8 more literal → LeavesOpen (line ∷ more) literal
 plain_text is begins heading (ThenOpen.this_one leaves) = LeavesOpen.this_one is begins heading leaves
 plain_text is begins heading (ThenOpen.later whole tail) = LeavesOpen.logical is begins heading whole tail
@@ -145,25 +145,25 @@ plain_text is begins heading (ThenOpen.later whole tail) = LeavesOpen.logical is
 -- what is left to find once a line from a column on was taken
 record Took (before : Option OpenLiteral) (line : Line) (from : ℕ) (more : List Line) (fault : SourceFault) : Type 0 where
   literal : OpenLiteral
-  is : fault ≡ unclosed literal
+  is : fault ≡ unclosed_fault literal
   then_open : ThenOpen before line from more literal
 
 record Began (line : Line) (more : List Line) (fault : SourceFault) : Type 0 where
   literal : OpenLiteral
-  is : fault ≡ unclosed literal
+  is : fault ≡ unclosed_fault literal
   text : LeavesOpen (line ∷ more) literal
 
 module _ (fault : SourceFault) (told : fault.kind ≡ UnclosedLiteral) (more : List Line)
     (known : (so_far : List Character) (before : Before) → all_of more (reading so_far before) ≡ Err fault → Found more before fault) where
-  wrong_continuation : {A : Type 0} (line : Line) (column : ℕ) → from_step more (refused line WrongContinuation column) ≡ Err fault → A
+  wrong_continuation : {A : Type 0} (line : Line) (column : ℕ) → from_step more (refusal_step line WrongContinuation column) ≡ Err fault → A
   wrong_continuation line column e = absurd (continuation_not (same_kind e told))
 
-  wrong_byte : {A : Type 0} (line : Line) (column : ℕ) → from_step more (refused line ByteOutsideCharacterSet column) ≡ Err fault → A
+  wrong_byte : {A : Type 0} (line : Line) (column : ℕ) → from_step more (refusal_step line ByteOutsideCharacterSet column) ≡ Err fault → A
   wrong_byte line column e = absurd (byte_not (same_kind e told))
 
   took : (line : Line) (from : ℕ) (before after : Option OpenLiteral) (so_far : List Character) (old : Before)
       → first_outside line ≡ None → open_at_end before line from ≡ after
-      → from_step more (Ok (through line from after (reading so_far old))) ≡ Err fault → Took before line from more fault
+      → from_step more (Ok (characters_through line from after (reading so_far old))) ≡ Err fault → Took before line from more fault
   took line from before after so_far old clean literal e =
       let piece : List Character = characters line from (past_end line after) in
       let f = known (so_far ++ piece) (ending line after) (ap (all_of more) (sym (through_is line from after (reading so_far old))) ∙ e) in
@@ -171,21 +171,21 @@ module _ (fault : SourceFault) (told : fault.kind ≡ UnclosedLiteral) (more : L
       record { literal = f.literal; is = f.is; then_open = join after g f.remains }
 
   took_unless : (line : Line) (from : ℕ) (before : Option OpenLiteral) (so_far : List Character) (old : Before) (outside : Option ℕ)
-      → first_outside line ≡ outside → from_step more (unless_outside line outside (through line from (open_at_end before line from) (reading so_far old))) ≡ Err fault
+      → first_outside line ≡ outside → from_step more (unless_outside line outside (characters_through line from (open_at_end before line from) (reading so_far old))) ≡ Err fault
       → Took before line from more fault
   took_unless line from before so_far old None clean e = took line from before (open_at_end before line from) so_far old clean refl e
   took_unless line from before so_far old (Some column) found e = wrong_byte line column e
 
   taken_found : (line : Line) (from : ℕ) (before : Option OpenLiteral) (so_far : List Character) (old : Before)
-      → from_step more (taken line from before (reading so_far old)) ≡ Err fault → Took before line from more fault
-  unfolding taken
+      → from_step more (line_step line from before (reading so_far old)) ≡ Err fault → Took before line from more fault
+  unfolding line_step
   taken_found line from before so_far old e = took_unless line from before so_far old (first_outside line) refl e
 
   -- ---- plain lines
 
-  begun_if : (line : Line) (first : ℕ) (so_far : List Character) (old : Before) (heading : Bool) → IsOf Plain line → BeginsAt line first
+  begun_if : (line : Line) (first : ℕ) (so_far : List Character) (old : Before) (heading : Bool) → HasIndicator Plain line → BeginsAt line first
       → begins_dropped line first ≡ heading
-      → from_step more (cond heading (Ok (reading so_far Dropped)) (taken line 8 None (reading so_far old))) ≡ Err fault → Began line more fault
+      → from_step more (cond heading (Ok (reading so_far Dropped)) (line_step line 8 None (reading so_far old))) ≡ Err fault → Began line more fault
   begun_if line first so_far old true is begins heading e =
       let f = known so_far Dropped e in
       record { literal = f.literal; is = f.is; text = heading_text is begins heading f.remains }
@@ -193,13 +193,13 @@ module _ (fault : SourceFault) (told : fault.kind ≡ UnclosedLiteral) (more : L
       let t = taken_found line 8 None so_far old e in
       record { literal = t.literal; is = t.is; text = plain_text is begins heading t.then_open }
 
-  begun_found : (line : Line) (first : ℕ) (so_far : List Character) (old : Before) → IsOf Plain line → BeginsAt line first
-      → from_step more (begun line first (reading so_far old)) ≡ Err fault → Began line more fault
-  unfolding begun
+  begun_found : (line : Line) (first : ℕ) (so_far : List Character) (old : Before) → HasIndicator Plain line → BeginsAt line first
+      → from_step more (plain_line_step line first (reading so_far old)) ≡ Err fault → Began line more fault
+  unfolding plain_line_step
   begun_found line first so_far old is begins e = begun_if line first so_far old (begins_dropped line first) is begins refl e
 
-  dropped_if : (line : Line) (first : ℕ) (so_far : List Character) (low : Bool) → IsOf Plain line → BeginsAt line first → nat_lt first 12 ≡ low
-      → from_step more (cond low (begun line first (reading so_far Dropped)) (Ok (reading so_far Dropped))) ≡ Err fault → Found (line ∷ more) Dropped fault
+  dropped_if : (line : Line) (first : ℕ) (so_far : List Character) (low : Bool) → HasIndicator Plain line → BeginsAt line first → nat_lt first 12 ≡ low
+      → from_step more (cond low (plain_line_step line first (reading so_far Dropped)) (Ok (reading so_far Dropped))) ≡ Err fault → Found (line ∷ more) Dropped fault
   dropped_if line first so_far true is begins low e =
       let b = begun_found line first so_far Dropped is begins e in
       record {
@@ -209,7 +209,7 @@ module _ (fault : SourceFault) (told : fault.kind ≡ UnclosedLiteral) (more : L
       }
   dropped_if line first so_far false is begins low e = body_found (IsInBody.in_area_b is begins (above_area_a first low)) (known so_far Dropped e)
 
-  plain_found : (line : Line) (first : ℕ) (so_far : List Character) (before : Before) → IsOf Plain line → BeginsAt line first
+  plain_found : (line : Line) (first : ℕ) (so_far : List Character) (before : Before) → HasIndicator Plain line → BeginsAt line first
       → from_step more (plain_after before line first (reading so_far before)) ≡ Err fault → Found (line ∷ more) before fault
   plain_found line first so_far Nothing is begins e =
       let b = begun_found line first so_far Nothing is begins e in
@@ -218,10 +218,10 @@ module _ (fault : SourceFault) (told : fault.kind ≡ UnclosedLiteral) (more : L
       let b = begun_found line first (so_far ++ space_at end ∷ []) (LineEnd end) is begins e in
       record { literal = b.literal; is = b.is; remains = Remains.ended b.text }
   plain_found line first so_far (Open literal) is begins e =
-      record { literal = literal; is = sym (same_fault e); remains = Remains.stays (StaysOpen.uncontinued Each.none (Uncontinued.plain is begins)) }
+      record { literal = literal; is = sym (same_fault e); remains = Remains.stays (StaysOpen.uncontinued Each.none (IsUncontinued.plain is begins)) }
   plain_found line first so_far Dropped is begins e = dropped_if line first so_far (nat_lt first 12) is begins refl e
 
-  plain_at_found : (line : Line) (so_far : List Character) (before : Before) (first : Option ℕ) → IsOf Plain line → first_nonblank line ≡ first
+  plain_at_found : (line : Line) (so_far : List Character) (before : Before) (first : Option ℕ) → HasIndicator Plain line → first_nonblank line ≡ first
       → from_step more (plain_at first line (reading so_far before)) ≡ Err fault → Found (line ∷ more) before fault
   plain_at_found line so_far before None is none e = skip_found (IsSkipped.blank is none) (known so_far before e)
   plain_at_found line so_far before (Some first) is begins e = plain_found line first so_far before is begins e
@@ -232,24 +232,24 @@ module _ (fault : SourceFault) (told : fault.kind ≡ UnclosedLiteral) (more : L
       → Continues before line begin → ThenOpen before line begin more literal → GoesOn before (line ∷ more) literal
   goes_on goes then = GoesOn.continues Each.none goes then
 
-  word_if : (line : Line) (first : ℕ) (end : Place) (so_far : List Character) (wrong : Bool) → IsOf Continuation line → BeginsAt line first
+  word_if : (line : Line) (first : ℕ) (end : Place) (so_far : List Character) (wrong : Bool) → HasIndicator Continuation line → BeginsAt line first
       → (nat_lt first 12 && is_mark (byte line first)) ≡ wrong
-      → from_step more (cond wrong (refused line WrongContinuation first) (taken line first None (reading so_far (LineEnd end)))) ≡ Err fault
+      → from_step more (cond wrong (refusal_step line WrongContinuation first) (line_step line first None (reading so_far (LineEnd end)))) ≡ Err fault
       → Found (line ∷ more) (LineEnd end) fault
   word_if line first end so_far true is begins wrong e = wrong_continuation line first e
   word_if line first end so_far false is begins right e =
       let t = taken_found line first None so_far (LineEnd end) e in
       record { literal = t.literal; is = t.is; remains = Remains.line_goes_on (goes_on (Continues.word is begins (no_mark_in_area_a line first right)) t.then_open) }
 
-  word_found : (line : Line) (end : Place) (so_far : List Character) (first : Option ℕ) → IsOf Continuation line → first_nonblank line ≡ first
+  word_found : (line : Line) (end : Place) (so_far : List Character) (first : Option ℕ) → HasIndicator Continuation line → first_nonblank line ≡ first
       → from_step more (line_continued_at first line (reading so_far (LineEnd end))) ≡ Err fault → Found (line ∷ more) (LineEnd end) fault
   word_found line end so_far None is none e = wrong_continuation line 7 e
   word_found line end so_far (Some first) is begins e = word_if line first end so_far (nat_lt first 12 && is_mark (byte line first)) is begins refl e
 
-  mark_if : (line : Line) (first : ℕ) (now : OpenLiteral) (so_far : List Character) (allowed wrong : Bool) → IsOf Continuation line → BeginsAt line first
+  mark_if : (line : Line) (first : ℕ) (now : OpenLiteral) (so_far : List Character) (allowed wrong : Bool) → HasIndicator Continuation line → BeginsAt line first
       → is_in_character_set (byte line first) ≡ allowed → (nat_lt first 12 || not (byte line first == now.mark)) ≡ wrong
-      → from_step more (cond (not allowed) (refused line ByteOutsideCharacterSet first)
-      (cond wrong (refused line WrongContinuation first) (taken line (first + 1) (Some now) (reading so_far (Open now))))) ≡ Err fault
+      → from_step more (cond (not allowed) (refusal_step line ByteOutsideCharacterSet first)
+      (cond wrong (refusal_step line WrongContinuation first) (line_step line (first + 1) (Some now) (reading so_far (Open now))))) ≡ Err fault
       → Found (line ∷ more) (Open now) fault
   mark_if line first now so_far false wrong is begins outside w e = wrong_byte line first e
   mark_if line first now so_far true true is begins allowed w e = wrong_continuation line first e
@@ -260,13 +260,13 @@ module _ (fault : SourceFault) (told : fault.kind ≡ UnclosedLiteral) (more : L
       Continues.mark is begins allowed (above_area_a first low.0) (same_byte (byte line first) now.mark low.1) in
       record { literal = t.literal; is = t.is; remains = Remains.literal_goes_on (goes_on goes t.then_open) }
 
-  mark_found : (line : Line) (now : OpenLiteral) (so_far : List Character) (first : Option ℕ) → IsOf Continuation line → first_nonblank line ≡ first
+  mark_found : (line : Line) (now : OpenLiteral) (so_far : List Character) (first : Option ℕ) → HasIndicator Continuation line → first_nonblank line ≡ first
       → from_step more (literal_continued_at first line now (reading so_far (Open now))) ≡ Err fault → Found (line ∷ more) (Open now) fault
   mark_found line now so_far None is none e = wrong_continuation line 7 e
   mark_found line now so_far (Some first) is begins e =
       mark_if line first now so_far (is_in_character_set (byte line first)) (nat_lt first 12 || not (byte line first == now.mark)) is begins refl refl e
 
-  continuation_found : (line : Line) (so_far : List Character) (before : Before) → IsOf Continuation line
+  continuation_found : (line : Line) (so_far : List Character) (before : Before) → HasIndicator Continuation line
       → from_step more (continuation_after before line (reading so_far before)) ≡ Err fault → Found (line ∷ more) before fault
   unfolding line_continued literal_continued
   continuation_found line so_far Nothing is e = wrong_continuation line 7 e
@@ -289,7 +289,7 @@ module _ (fault : SourceFault) (told : fault.kind ≡ UnclosedLiteral) (more : L
 ended_found : (so_far : List Character) (before : Before) (fault : SourceFault) → at_end (reading so_far before) ≡ Err fault → Found [] before fault
 ended_found so_far Nothing fault e = absurd (answer_not e)
 ended_found so_far (LineEnd end) fault e = absurd (answer_not e)
-ended_found so_far (Open literal) fault e = record { literal = literal; is = sym (same_fault e); remains = Remains.stays (StaysOpen.uncontinued Each.none Uncontinued.at_end) }
+ended_found so_far (Open literal) fault e = record { literal = literal; is = sym (same_fault e); remains = Remains.stays (StaysOpen.uncontinued Each.none IsUncontinued.at_end) }
 ended_found so_far Dropped fault e = absurd (answer_not e)
 
 all_found : (fault : SourceFault) → fault.kind ≡ UnclosedLiteral → (lines : List Line) (so_far : List Character) (before : Before)
@@ -302,5 +302,5 @@ whole_text : {lines : List Line} {literal : OpenLiteral} → Remains lines Nothi
 whole_text (Remains.text t) = t
 
 pub open_text_found : (lines : List Line) (fault : SourceFault) → fault.kind ≡ UnclosedLiteral → and_then (after_lines lines (reading [] Nothing)) at_end ≡ Err fault
-    → (literal : OpenLiteral) × LeavesOpen lines literal × (fault ≡ unclosed literal)
+    → (literal : OpenLiteral) × LeavesOpen lines literal × (fault ≡ unclosed_fault literal)
 open_text_found lines fault told e = let f = all_found fault told lines [] Nothing e in (f.literal, whole_text f.remains, f.is)

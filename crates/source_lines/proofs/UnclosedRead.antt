@@ -7,23 +7,23 @@ use Rattle.source_lines.specs.declared.literal.OpenLiteral.{OpenLiteral}
 use Rattle.source_lines.specs.declared.reader.Before.{Before}
 use Rattle.source_lines.specs.declared.reader.Before.TheVariants.{LineEnd, Open, Dropped}
 use Rattle.source_lines.specs.declared.reader.Reader.{Reader}
-use Rattle.source_lines.specs.Reading.{and_then, at_end, line_end, taken, unclosed}
-use Rattle.source_lines.specs.Unclosed.{Uncontinued, Leaves, LeavesOpen}
+use Rattle.source_lines.specs.Reading.{and_then, at_end, line_end, line_step, unclosed_fault}
+use Rattle.source_lines.specs.Unclosed.{IsUncontinued, Leaves, LeavesOpen}
 use Rattle.source_lines.proofs.Answered.{all_of, from_step}
 use Rattle.source_lines.proofs.Written.{Fresh, begun_heading, begun_plain, bodies_read, ending, first_taken, fresh_begins, fresh_more, logical_read, next_taken, no_lines, one_more, plain_begins, reading, skipped_lines_read, skipped_read, taken_read}
 
 abbrev refused_for : OpenLiteral → Result (List Character) SourceFault
-refused_for literal = Err (unclosed literal)
+refused_for literal = Err (unclosed_fault literal)
 
 -- ---- a line that leaves a literal open
 
-uncontinued_read : {rest : List Line} → Uncontinued rest → (given : List Character) (literal : OpenLiteral) → all_of rest (reading given (Open literal)) ≡ refused_for literal
-uncontinued_read Uncontinued.at_end given literal = no_lines (reading given (Open literal))
-uncontinued_read (Uncontinued.plain {line} {more} {first} is begins) given literal =
+uncontinued_read : {rest : List Line} → IsUncontinued rest → (given : List Character) (literal : OpenLiteral) → all_of rest (reading given (Open literal)) ≡ refused_for literal
+uncontinued_read IsUncontinued.at_end given literal = no_lines (reading given (Open literal))
+uncontinued_read (IsUncontinued.plain {line} {more} {first} is begins) given literal =
     ap (λ step. and_then step at_end) (first_taken line (reading given (Open literal)) more _ (plain_begins line (reading given (Open literal)) first is begins))
 
 leaves_read : {before : Option OpenLiteral} {line : Line} {from : ℕ} {lines : List Line} {literal : OpenLiteral} → Leaves before line from lines literal
-    → (reader : Reader) → from_step lines (taken line from before reader) ≡ refused_for literal
+    → (reader : Reader) → from_step lines (line_step line from before reader) ≡ refused_for literal
 leaves_read (Leaves.here {line = line} {literal = literal} {skipped = skipped} {rest = rest} {given = given} g each ends) reader =
     ap (from_step (skipped ++ rest)) (taken_read g reader)
     ∙ ap (λ step. and_then step at_end) (skipped_lines_read each rest (reading (reader.characters ++ given) (Open literal)))

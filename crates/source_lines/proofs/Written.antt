@@ -14,21 +14,21 @@ use Rattle.lexical.specs.declared.place.Place.{Place}
 use Rattle.source_lines.specs.declared.reader.Before.{Before}
 use Rattle.source_lines.specs.declared.reader.Before.TheVariants.{Nothing, LineEnd, Open, Dropped}
 use Rattle.source_lines.specs.declared.reader.Reader.{Reader}
-use Rattle.source_lines.specs.Line.{byte, place, characters, last_nonblank}
+use Rattle.source_lines.specs.Line.{byte, place_in_line, characters, last_nonblank}
 use Rattle.source_lines.specs.Literal.{is_mark, open_at_end}
 use Rattle.source_lines.specs.Paragraph.{begins_dropped}
-use Rattle.source_lines.specs.Reading.{Step, after_indicator, after_line, after_lines, after_plain, after_continuation, and_then, at_end, begun, line_continued, line_continued_at, literal_continued, literal_continued_at, line_end, plain_after, plain_at, refused, taken, through, unless_outside}
-use Rattle.source_lines.specs.Format.{IsOf, BeginsAt, IsSkipped, IsInBody, Each, EndsParagraph, Gives, Continues, Logical, Text, past_end, space_at}
+use Rattle.source_lines.specs.Reading.{Step, after_indicator, after_line, after_lines, after_plain, after_continuation, and_then, at_end, plain_line_step, line_continued, line_continued_at, literal_continued, literal_continued_at, line_end, plain_after, plain_at, refusal_step, line_step, characters_through, unless_outside}
+use Rattle.source_lines.specs.Format.{HasIndicator, BeginsAt, IsSkipped, IsInBody, Each, EndsParagraph, Gives, Continues, Logical, Text, past_end, space_at}
 
 abbrev pub reading : List Character → Before → Reader
 reading given before = record { characters = given; before = before }
 
 -- what stands before the line after this one
 abbrev pub ending : Line → Option OpenLiteral → Before
-ending line None = LineEnd (place line (last_nonblank line + 1))
+ending line None = LineEnd (place_in_line line (last_nonblank line + 1))
 ending line (Some literal) = Open literal
 
-pub indicated : (line : Line) (reader : Reader) {kind : Indicator} → IsOf kind line → after_line line reader ≡ after_indicator (Ok kind) line reader
+pub indicated : (line : Line) (reader : Reader) {kind : Indicator} → HasIndicator kind line → after_line line reader ≡ after_indicator (Ok kind) line reader
 unfolding after_line
 indicated line reader is = ap (λ kind. after_indicator kind line reader) is
 
@@ -36,7 +36,7 @@ pub one_more : (line : Line) (reader next : Reader) (more : List Line) → after
 unfolding after_lines
 one_more line reader next more e = ap (λ step. and_then step (after_lines more)) e
 
-pub plain_begins : (line : Line) (reader : Reader) (first : ℕ) → IsOf Plain line → BeginsAt line first → after_line line reader ≡ plain_after reader.before line first reader
+pub plain_begins : (line : Line) (reader : Reader) (first : ℕ) → HasIndicator Plain line → BeginsAt line first → after_line line reader ≡ plain_after reader.before line first reader
 unfolding after_plain
 plain_begins line reader first is begins = indicated line reader is ∙ ap (λ first. plain_at first line reader) begins
 
@@ -73,7 +73,7 @@ body_read {line} given (IsInBody.comment is) = indicated line (reading given Dro
 body_read {line} given (IsInBody.continuation is) = indicated line (reading given Dropped) is
 body_read {line} given (IsInBody.blank is none) = indicated line (reading given Dropped) is ∙ ap (λ first. plain_at first line (reading given Dropped)) none
 body_read {line} given (IsInBody.in_area_b {first} is begins high) =
-    plain_begins line (reading given Dropped) first is begins ∙ ap (λ b. cond b (begun line first (reading given Dropped)) (Ok (reading given Dropped))) (past first high)
+    plain_begins line (reading given Dropped) first is begins ∙ ap (λ b. cond b (plain_line_step line first (reading given Dropped)) (Ok (reading given Dropped))) (past first high)
 
 pub bodies_read : {body : List Line} → Each IsInBody body → (rest : List Line) (given : List Character) → after_lines (body ++ rest) (reading given Dropped) ≡ after_lines rest (reading given Dropped)
 bodies_read Each.none rest given = refl
@@ -82,16 +82,16 @@ bodies_read (Each.one {line} {more} is each) rest given = one_more line (reading
 -- ---- logical lines
 
 pub through_is : (line : Line) (from : ℕ) (after : Option OpenLiteral) (reader : Reader)
-    → through line from after reader ≡ reading (reader.characters ++ characters line from (past_end line after)) (ending line after)
+    → characters_through line from after reader ≡ reading (reader.characters ++ characters line from (past_end line after)) (ending line after)
 through_is line from None reader = refl
 through_is line from (Some literal) reader = refl
 
 pub taken_read : {line : Line} {from : ℕ} {before after : Option OpenLiteral} {given : List Character} → Gives line from before after given → (reader : Reader)
-    → taken line from before reader ≡ Ok (reading (reader.characters ++ given) (ending line after))
-unfolding taken
+    → line_step line from before reader ≡ Ok (reading (reader.characters ++ given) (ending line after))
+unfolding line_step
 taken_read {line} {from} {before} {after} {given} g reader =
-    ap (λ outside. unless_outside line outside (through line from (open_at_end before line from) reader)) g.in_character_set
-    ∙ ap (λ literal. let s : Step = Ok (through line from literal reader) in s) g.literal
+    ap (λ outside. unless_outside line outside (characters_through line from (open_at_end before line from) reader)) g.in_character_set
+    ∙ ap (λ literal. let s : Step = Ok (characters_through line from literal reader) in s) g.literal
     ∙ ap (λ r. let s : Step = Ok r in s) (through_is line from after reader)
     ∙ ap (λ xs. let s : Step = Ok (reading (reader.characters ++ xs) (ending line after)) in s) (sym g.counts)
 
@@ -109,29 +109,29 @@ in_area_a_mark : (line : Line) (first : ℕ) → (first < 12 → is_mark (byte l
 in_area_a_mark line first h = and_when (nat_lt first 12) (is_mark (byte line first)) (λ e. h (below_area_b first e))
 
 pub continues_read : {after : Option OpenLiteral} {next : Line} {begin : ℕ} → Continues after next begin → (line : Line) (given : List Character)
-    → after_line next (reading given (ending line after)) ≡ taken next begin after (reading given (ending line after))
+    → after_line next (reading given (ending line after)) ≡ line_step next begin after (reading given (ending line after))
 unfolding after_continuation line_continued literal_continued
 continues_read {next = next} (Continues.word {first = first} is begins free) line given =
     let reader : Reader = reading given (ending line None) in
     indicated next reader is ∙ ap (λ f. line_continued_at f next reader) begins
-    ∙ ap (λ b. cond b (refused next WrongContinuation first) (taken next first None reader)) (in_area_a_mark next first free)
+    ∙ ap (λ b. cond b (refusal_step next WrongContinuation first) (line_step next first None reader)) (in_area_a_mark next first free)
 continues_read {next = next} (Continues.mark {first = first} {literal = literal} is begins allowed high same) line given =
     let reader : Reader = reading given (Open literal) in
     let wrong : (nat_lt first 12 || not (byte next first == literal.mark)) ≡ false =
     neither (nat_lt first 12) (byte next first == literal.mark) (past first high) (eq-eqb (byte next first) literal.mark same) in
     indicated next reader is ∙ ap (λ f. literal_continued_at f next literal reader) begins
-    ∙ ap (λ b. cond (not b) (refused next ByteOutsideCharacterSet first)
-    (cond (nat_lt first 12 || not (byte next first == literal.mark)) (refused next WrongContinuation first) (taken next (first + 1) (Some literal) reader))) allowed
-    ∙ ap (λ b. cond b (refused next WrongContinuation first) (taken next (first + 1) (Some literal) reader)) wrong
+    ∙ ap (λ b. cond (not b) (refusal_step next ByteOutsideCharacterSet first)
+    (cond (nat_lt first 12 || not (byte next first == literal.mark)) (refusal_step next WrongContinuation first) (line_step next (first + 1) (Some literal) reader))) allowed
+    ∙ ap (λ b. cond b (refusal_step next WrongContinuation first) (line_step next (first + 1) (Some literal) reader)) wrong
 
 pub next_taken : {after : Option OpenLiteral} {next : Line} {begin : ℕ} → Continues after next begin → (line : Line) (given : List Character) (more : List Line)
-    → after_lines (next ∷ more) (reading given (ending line after)) ≡ and_then (taken next begin after (reading given (ending line after))) (after_lines more)
+    → after_lines (next ∷ more) (reading given (ending line after)) ≡ and_then (line_step next begin after (reading given (ending line after))) (after_lines more)
 unfolding after_lines
 next_taken goes line given more = ap (λ step. and_then step (after_lines more)) (continues_read goes line given)
 
 pub logical_read : {before : Option OpenLiteral} {line : Line} {from : ℕ} {rest : List Line} {given : List Character} {end : Place} → Logical before line from rest given end
     → (more : List Line) (reader : Reader)
-    → and_then (taken line from before reader) (after_lines (rest ++ more)) ≡ after_lines more (reading (reader.characters ++ given) (LineEnd end))
+    → and_then (line_step line from before reader) (after_lines (rest ++ more)) ≡ after_lines more (reading (reader.characters ++ given) (LineEnd end))
 logical_read (Logical.last g) more reader = ap (λ step. and_then step (after_lines more)) (taken_read g reader)
 logical_read {line = line} (Logical.continued {after = after} {next = next} {begin = begin} {skipped = skipped} {rest = rest} {given = given} {others = others} {end = end} g each goes tail) more reader =
     let so_far : Reader = reading (reader.characters ++ given) (ending line after) in
@@ -153,25 +153,25 @@ pub data Fresh (lines : List Line) : Before → Type 0 where
 same_first : {a b : ℕ} → Some a ≡ Some b → a ≡ b
 same_first e = cc
 
-pub fresh_begins : (line : Line) (first : ℕ) (given : List Character) (before : Before) (more : List Line) → Fresh (line ∷ more) before → IsOf Plain line → BeginsAt line first
-    → after_line line (reading given before) ≡ begun line first (reading (given ++ line_end before) before)
+pub fresh_begins : (line : Line) (first : ℕ) (given : List Character) (before : Before) (more : List Line) → Fresh (line ∷ more) before → HasIndicator Plain line → BeginsAt line first
+    → after_line line (reading given before) ≡ plain_line_step line first (reading (given ++ line_end before) before)
 fresh_begins line first given Nothing more fresh is begins =
-    plain_begins line (reading given Nothing) first is begins ∙ ap (λ xs. begun line first (reading xs Nothing)) (sym (append-nil given))
+    plain_begins line (reading given Nothing) first is begins ∙ ap (λ xs. plain_line_step line first (reading xs Nothing)) (sym (append-nil given))
 fresh_begins line first given (LineEnd end) more fresh is begins = plain_begins line (reading given (LineEnd end)) first is begins
 fresh_begins line first given (Open literal) more fresh is begins = elim fresh [ ]
 fresh_begins line first given Dropped more (Fresh.dropped (EndsParagraph.in_area_a {first = other} plain at low)) is begins =
     let same : other ≡ first = same_first (sym at ∙ begins) in
     plain_begins line (reading given Dropped) first is begins
-    ∙ ap (λ b. cond b (begun line first (reading given Dropped)) (Ok (reading given Dropped))) (before_area_b first (omega arith))
-    ∙ ap (λ xs. begun line first (reading xs Dropped)) (sym (append-nil given))
+    ∙ ap (λ b. cond b (plain_line_step line first (reading given Dropped)) (Ok (reading given Dropped))) (before_area_b first (omega arith))
+    ∙ ap (λ xs. plain_line_step line first (reading xs Dropped)) (sym (append-nil given))
 
-pub begun_heading : (line : Line) (first : ℕ) (reader : Reader) → begins_dropped line first ≡ true → begun line first reader ≡ Ok (reading reader.characters Dropped)
-unfolding begun
-begun_heading line first reader e = ap (λ b. cond b (Ok (reading reader.characters Dropped)) (taken line 8 None reader)) e
+pub begun_heading : (line : Line) (first : ℕ) (reader : Reader) → begins_dropped line first ≡ true → plain_line_step line first reader ≡ Ok (reading reader.characters Dropped)
+unfolding plain_line_step
+begun_heading line first reader e = ap (λ b. cond b (Ok (reading reader.characters Dropped)) (line_step line 8 None reader)) e
 
-pub begun_plain : (line : Line) (first : ℕ) (reader : Reader) → begins_dropped line first ≡ false → begun line first reader ≡ taken line 8 None reader
-unfolding begun
-begun_plain line first reader e = ap (λ b. cond b (Ok (reading reader.characters Dropped)) (taken line 8 None reader)) e
+pub begun_plain : (line : Line) (first : ℕ) (reader : Reader) → begins_dropped line first ≡ false → plain_line_step line first reader ≡ line_step line 8 None reader
+unfolding plain_line_step
+begun_plain line first reader e = ap (λ b. cond b (Ok (reading reader.characters Dropped)) (line_step line 8 None reader)) e
 
 pub fresh_more : {line : Line} {more : List Line} {before : Before} → IsSkipped line → Fresh (line ∷ more) before → Fresh more before
 fresh_more skip Fresh.nothing = Fresh.nothing

@@ -17,8 +17,8 @@ abbrev pub tab_width : ℕ → ℕ
 tab_width before = 8 - before % 8
 
 -- the columns of a byte that stands after `before` columns, and how many they are
-abbrev pub expanded : ℕ → ℕ → List ℕ
-expanded before byte = if byte == 9 then replicate (tab_width before) 32 else byte ∷ []
+abbrev pub expanded_columns : ℕ → ℕ → List ℕ
+expanded_columns before byte = if byte == 9 then replicate (tab_width before) 32 else byte ∷ []
 
 abbrev pub width : ℕ → ℕ → ℕ
 width before byte = if byte == 9 then tab_width before else 1
@@ -26,7 +26,7 @@ width before byte = if byte == 9 then tab_width before else 1
 -- the bytes of a line that stand after `before` columns, with spaces for each tab
 abbrev pub without_tabs : ℕ → List ℕ → List ℕ
 without_tabs before [] = []
-without_tabs before (byte ∷ more) = expanded before byte ++ without_tabs (before + width before byte) more
+without_tabs before (byte ∷ more) = expanded_columns before byte ++ without_tabs (before + width before byte) more
 
 -- The 72 columns of a line: a shorter line is filled with spaces, and what stands after column 72 is ignored (own choice).
 abbrev pub columns_of : List ℕ → List ℕ
@@ -40,23 +40,23 @@ line number bytes = record { number = number; columns = columns_of bytes }
 abbrev pub byte : Line → ℕ → ℕ
 byte line column = slice_index line.columns (column - 1)
 
-abbrev pub place : Line → ℕ → Place
-place line column = record { line = line.number; column = column }
+abbrev pub place_in_line : Line → ℕ → Place
+place_in_line line column = record { line = line.number; column = column }
 
 abbrev pub character : Line → ℕ → Character
-character line column = record { byte = byte line column; place = place line column }
+character line column = record { byte = byte line column; place = place_in_line line column }
 
 abbrev pub fault : Line → FaultKind → ℕ → SourceFault
-fault line kind column = record { kind = kind; place = place line column }
+fault line kind column = record { kind = kind; place = place_in_line line column }
 
 -- the bytes of the columns from `from` up to before `end`, each with its place
-abbrev pub placed : ℕ → ℕ → List ℕ → List Character
-placed number column [] = []
-placed number column (byte ∷ more) =
-    record { byte = byte; place = record { line = number; column = column } } ∷ placed number (column + 1) more
+abbrev pub placed_characters : ℕ → ℕ → List ℕ → List Character
+placed_characters number column [] = []
+placed_characters number column (byte ∷ more) =
+    record { byte = byte; place = record { line = number; column = column } } ∷ placed_characters number (column + 1) more
 
 unfoldable pub characters : Line → ℕ → ℕ → List Character
-characters line from end = placed line.number from (take (end - from) (drop (from - 1) line.columns))
+characters line from end = placed_characters line.number from (take (end - from) (drop (from - 1) line.columns))
 
 -- ---- areas A and B
 

@@ -16,6 +16,6 @@ pub fn reference_format()
     ensures answered { (source : List ℕ) (given : List Character) → characters_of source ≡ Ok given → HasCharacters source given }
     ensures only { (source : List ℕ) (given : List Character) → HasCharacters source given → characters_of source ≡ Ok given }
     ensures unique { (source : List ℕ) (one two : List Character) → HasCharacters source one → HasCharacters source two → one ≡ two }
-    ensures unclosed { (source : List ℕ) (literal : OpenLiteral) → HasUnclosed source literal → characters_of source ≡ Err (reading.unclosed literal) }
-    ensures unclosed_only { (source : List ℕ) (fault : SourceFault) → characters_of source ≡ Err fault → fault.kind ≡ UnclosedLiteral → (literal : OpenLiteral) × HasUnclosed source literal × (fault ≡ reading.unclosed literal) }
+    ensures unclosed { (source : List ℕ) (literal : OpenLiteral) → HasUnclosed source literal → characters_of source ≡ Err (reading.unclosed_fault literal) }
+    ensures unclosed_only { (source : List ℕ) (fault : SourceFault) → characters_of source ≡ Err fault → fault.kind ≡ UnclosedLiteral → (literal : OpenLiteral) × HasUnclosed source literal × (fault ≡ reading.unclosed_fault literal) }
 {}

@@ -81,7 +81,7 @@ impl Line {
     }
 
     pub fn place(&self, column: u8) -> Place
-        ensures { result ≡ spec.place self.now column }
+        ensures { result ≡ spec.place_in_line self.now column }
     {
         Place {
             line: self.number,

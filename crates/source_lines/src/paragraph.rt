@@ -5,6 +5,15 @@ ghost use Rattle.source_lines.specs.Paragraph as spec;
 
 use crate::line::{AREA_B, Line};
 
+/// Whether a plain line with this first nonblank begins a dropped paragraph.
+pub fn begins_dropped(line: &Line, first: u8) -> bool
+    requires low { 1 ≤ first }
+    requires high { first ≤ 72 }
+    ensures { result ≡ spec.begins_dropped line.now first }
+{
+    first < AREA_B && begins_with_heading(&line.columns[first as usize - 1..])
+}
+
 /// Whether the text begins with this heading, in either case.
 fn begins_with(text: &[u8], heading: &[u8]) -> bool
     ensures { result ≡ spec.begins_with text.now heading.now }
@@ -24,13 +33,4 @@ fn begins_with_heading(text: &[u8]) -> bool
         || begins_with(text, b"DATE-WRITTEN.")
         || begins_with(text, b"DATE-COMPILED.")
         || begins_with(text, b"SECURITY.")
-}
-
-/// Whether a plain line with this first nonblank begins a dropped paragraph.
-pub fn begins_dropped(line: &Line, first: u8) -> bool
-    requires low { 1 ≤ first }
-    requires high { first ≤ 72 }
-    ensures { result ≡ spec.begins_dropped line.now first }
-{
-    first < AREA_B && begins_with_heading(&line.columns[first as usize - 1..])
 }

@@ -92,11 +92,11 @@ impl Reader {
     }
 
     /// Reads a plain line that stands at no end of an open literal, in no dropped paragraph.
-    #[tactic(auto, unfolding(crate::specs::Reading::begun))]
+    #[tactic(auto, unfolding(crate::specs::Reading::plain_line_step))]
     fn begin(&mut self, line: &Line, first: u8) -> Result<(), SourceError>
         requires low { 8 ≤ first }
         requires high { first ≤ 72 }
-        ensures { Gives (λ _. self.new) fault_of result (spec.begun line.now first self.old) }
+        ensures { Gives (λ _. self.new) fault_of result (spec.plain_line_step line.now first self.old) }
     {
         if begins_dropped(line, first) {
             self.before = Before::Dropped;
@@ -138,7 +138,7 @@ impl Reader {
     }
 
     /// Takes the characters of a line from a column on, where this literal is open before it.
-    #[tactic(auto, unfolding(crate::specs::Reading::taken))]
+    #[tactic(auto, unfolding(crate::specs::Reading::line_step))]
     fn take(
         &mut self,
         line: &Line,
@@ -147,7 +147,7 @@ impl Reader {
     ) -> Result<(), SourceError>
         requires low { 8 ≤ from }
         requires high { from ≤ 73 }
-        ensures { Gives (λ _. self.new) fault_of result (spec.taken line.now from literal self.old) }
+        ensures { Gives (λ _. self.new) fault_of result (spec.line_step line.now from literal self.old) }
     {
         if let Some(column) = line.first_outside() {
             return Err(line.refuse(FaultKind::ByteOutsideCharacterSet, column));
@@ -201,7 +201,7 @@ impl Reader {
 
 /// The fault of a literal that isn't closed and isn't continued.
 fn unclosed(literal: OpenLiteral) -> SourceError
-    ensures { result ≡ SourceError.Refused (spec.unclosed literal) }
+    ensures { result ≡ SourceError.Refused (spec.unclosed_fault literal) }
 {
     SourceError::Refused(SourceFault {
         kind: FaultKind::UnclosedLiteral,

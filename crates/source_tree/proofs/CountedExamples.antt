@@ -3,19 +3,19 @@ use Prim.Native.String.{String}
 use Rattle.std.proofs.Common.{◌≡◌, ℕ, true, List, [], ◌∷◌, refl}
 use Rattle.std.specs.Prelude.{codes, map}
 use Rattle.station.specs.State.{Shown}
-use Rattle.source_tree.specs.declared.performing.Turns.TheVariants.{CountedBy}
+use Rattle.source_tree.specs.declared.perform_statement.Repetition.TheVariants.{CountedBy}
 use Rattle.source_tree.specs.declared.entry.SignPosition.TheVariants.{Leading}
-use Rattle.source_tree.specs.Places.{Placed, items_of}
+use Rattle.source_tree.specs.Places.{LocatedItem, items_of}
 use Rattle.source_tree.specs.Evaluated as fault
-use Rattle.source_tree.specs.Broken.{Broken}
-use Rattle.source_tree.specs.State.{State, Outcome, Done, Over, Budget, Faulted, showing}
+use Rattle.source_tree.specs.Broken.{RuleBreach}
+use Rattle.source_tree.specs.State.{State, Outcome, Done, Over, Budget, Faulted, state_after_output}
 use Rattle.source_tree.specs.Performing.{repeat}
 use Rattle.source_tree.specs.Rules.{turns_rules}
 use Rattle.source_tree.proofs.Samples.{here, item, signed, entries, plain}
 unfoldable use Rattle.source_tree.proofs.Computing.{computing}
 
 -- 77 N PIC S9 SIGN LEADING SEPARATE. 77 D PIC 9V9. 77 X PIC X.
-abbrev items : List Placed
+abbrev items : List LocatedItem
 items =
     items_of
     (entries (signed Leading true (item (codes "77") (codes "N") (codes "S9")) ∷ item (codes "77") (codes "D") (codes "9V9") ∷ item (codes "77") (codes "X") (codes "X") ∷ []))
@@ -27,7 +27,7 @@ after budget line bytes shown =
 
 -- shows a P, and has +9 in N
 abbrev show_and_change : State → Outcome
-show_and_change s = Done (showing (codes "P") (record s { storage = codes "+9" ∷ codes "00" ∷ codes " " ∷ [] }))
+show_and_change s = Done (state_after_output (codes "P") (record s { storage = codes "+9" ∷ codes "00" ∷ codes " " ∷ [] }))
 
 -- PERFORM .. N TIMES at line 9
 abbrev perform : State → Outcome
@@ -57,7 +57,7 @@ no_number : perform (after 5 8 "+x" "") ≡ Over (Faulted fault.Data 8) (after 5
 unfolding computing
 no_number = refl
 
-abbrev rules : String → List Broken
+abbrev rules : String → List RuleBreach
 rules called = turns_rules items (CountedBy (plain (codes called)))
 
 an_integer : rules "N" ≡ []

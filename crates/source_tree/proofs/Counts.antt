@@ -11,7 +11,7 @@ use Rattle.source_tree.specs.declared.statement.Statement.{Statement}
 use Rattle.source_tree.specs.Integers.{number_of}
 use Rattle.source_tree.specs.State.{State, Outcome, then_do, in_turn}
 use Rattle.source_tree.specs.Performing.{turns, most_turns, IsDigit, turns_of}
-use Rattle.source_tree.specs.Setting.{Setting}
+use Rattle.source_tree.specs.Setting.{ProgramContext}
 use Rattle.source_tree.specs.Meaning.{exec}
 use Rattle.source_tree.proofs.Runs.{IsRun, in_turn_runs}
 use Rattle.source_tree.proofs.StatementRuns.{exec_runs}
@@ -67,7 +67,7 @@ turns_same line go r (suc n) (suc m) s below under =
     then_same left (go t) (go t) (turns line n go) (turns line m go) (r.falls t) refl
     (record { by = λ u le. turns_same line go r n m u (omega arith) (omega arith) }))
 
-pub cut_is_same : (around : Setting) (count : Integer) (line depth : ℕ) (statements : List Statement) (s : State) → s.budget < most_turns
+pub cut_is_same : (around : ProgramContext) (count : Integer) (line depth : ℕ) (statements : List Statement) (s : State) → s.budget < most_turns
     → turns line (turns_of count) (in_turn (exec around depth) statements) s ≡ turns line (number_of count) (in_turn (exec around depth) statements) s
 cut_is_same around count line depth statements s below =
     let go = in_turn (exec around depth) statements in

@@ -4,10 +4,10 @@ use Rattle.std.specs.Prelude.{codes, map}
 use Rattle.station.specs.State.{Shown}
 use Rattle.source_tree.specs.declared.expression.Operand.{Operand}
 use Rattle.source_tree.specs.declared.expression.Operand.TheVariants as operand
-use Rattle.source_tree.specs.declared.moving.Moving.TheVariants.{Move}
+use Rattle.source_tree.specs.declared.data_statement.DataStatement.TheVariants.{Move}
 use Rattle.source_tree.specs.declared.reference.Reference.{Reference}
 use Rattle.source_tree.specs.declared.entry.Entry.{Entry}
-use Rattle.source_tree.specs.declared.text.Text.TheVariants.{Display}
+use Rattle.source_tree.specs.declared.text_statement.TextStatement.TheVariants.{Display}
 use Rattle.source_tree.specs.declared.statement.Verb.{Verb}
 use Rattle.source_tree.specs.declared.statement.Verb.TheVariants as verb
 use Rattle.source_tree.specs.declared.statement.Statement.{Statement, out-Statement, roll-Statement}
@@ -22,7 +22,7 @@ abbrev statement : ℕ → Verb Statement → Statement
 statement line one = roll-Statement (record { place = at line 12; verb = one })
 
 abbrev move : ℕ → Operand → List Reference → Statement
-move line sender receivers = statement line (verb.Moving (Move sender receivers))
+move line sender receivers = statement line (verb.DataStatement (Move sender receivers))
 
 abbrev display : ℕ → List Operand → Statement
 display line operands = statement line (verb.Text (Display operands true))

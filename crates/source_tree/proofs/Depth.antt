@@ -1,16 +1,16 @@
 -- Runs that are the same up to a budget, put together.
 use Rattle.std.proofs.Common.{◌≡◌, ℕ, zero, suc, ◌<◌, ◌≤◌, List, [], ◌∷◌, refl, ap, ◌∙◌, arith}
 use Rattle.std.specs.Prelude.{Bool, true, false, Option, Some, None, Ok, Err}
-use Rattle.source_tree.specs.declared.performing.Performed.{Performed}
-use Rattle.source_tree.specs.declared.performing.Performed.TheVariants.{Procedures, Statements}
+use Rattle.source_tree.specs.declared.perform_statement.Performed.{Performed}
+use Rattle.source_tree.specs.declared.perform_statement.Performed.TheVariants.{Procedures, Statements}
 use Rattle.source_tree.specs.declared.phrases.Phrases.{Phrases}
-use Rattle.source_tree.specs.declared.stringing.Stringing.{Stringing}
-use Rattle.source_tree.specs.Stringing.{Strings, string, stringing}
+use Rattle.source_tree.specs.declared.string_statement.StringStatement.{StringStatement}
+use Rattle.source_tree.specs.Stringing.{Strings, string_stores, string_outcome}
 use Rattle.source_tree.specs.declared.arithmetic.Arithmetic.{Arithmetic}
 use Rattle.source_tree.specs.State.{State, Outcome, Done, Over, then_do, in_turn, spend_from, spend, with_value}
-use Rattle.source_tree.specs.Places.{Placed}
-use Rattle.source_tree.specs.Evaluated.{Evaluated}
-use Rattle.source_tree.specs.Arithmetic.{Stored, operation, is_there, in_phrase, phrase_for, calculating}
+use Rattle.source_tree.specs.Places.{LocatedItem}
+use Rattle.source_tree.specs.Evaluated.{Evaluation}
+use Rattle.source_tree.specs.Arithmetic.{StoreResult, operation, is_there, in_phrase, phrase_for, arithmetic_outcome}
 use Rattle.source_tree.specs.Procedures.{Range, Procedure, range_of}
 use Rattle.source_tree.specs.Performing.{turns, performed_range, body}
 use Rattle.source_tree.proofs.Runs
@@ -68,20 +68,20 @@ module _ {S : Type 0} (n : ℕ) (run other : S → State → Outcome) (r : (one 
   phrase_agrees phrases true = in_phrase_agrees phrases.arose
   phrase_agrees phrases false = in_phrase_agrees phrases.did_not
 
-  value_same : (phrases : Phrases S) (e : Evaluated Stored) (s : State) → s.budget ≤ n
+  value_same : (phrases : Phrases S) (e : Evaluation StoreResult) (s : State) → s.budget ≤ n
       → with_value e s (λ after. phrase_for run phrases after.size_error (record s { storage = after.storage }))
       ≡ with_value e s (λ after. phrase_for other phrases after.size_error (record s { storage = after.storage }))
   value_same phrases (Ok after) s le = (phrase_agrees phrases after.size_error).by (record s { storage = after.storage }) le
   value_same phrases (Err fault) s le = refl
 
-  pub calculating_agrees : (items : List Placed) (one : Arithmetic S) → Agrees n (calculating items run one) (calculating items other one)
+  pub calculating_agrees : (items : List LocatedItem) (one : Arithmetic S) → Agrees n (arithmetic_outcome items run one) (arithmetic_outcome items other one)
   calculating_agrees items one = record { by = λ s le. value_same one.phrases (operation items (is_there one.phrases.arose) one.operation s.storage) s le }
 
-  strung_same : (phrases : Phrases S) (e : Evaluated Strings) (s : State) → s.budget ≤ n
+  strung_same : (phrases : Phrases S) (e : Evaluation Strings) (s : State) → s.budget ≤ n
       → with_value e s (λ after. phrase_for run phrases after.overflow (record s { storage = after.storage }))
       ≡ with_value e s (λ after. phrase_for other phrases after.overflow (record s { storage = after.storage }))
   strung_same phrases (Ok after) s le = (phrase_agrees phrases after.overflow).by (record s { storage = after.storage }) le
   strung_same phrases (Err fault) s le = refl
 
-  pub stringing_agrees : (items : List Placed) (one : Stringing S) → Agrees n (stringing items run one) (stringing items other one)
-  stringing_agrees items one = record { by = λ s le. strung_same one.phrases (string items one s.storage) s le }
+  pub stringing_agrees : (items : List LocatedItem) (one : StringStatement S) → Agrees n (string_outcome items run one) (string_outcome items other one)
+  stringing_agrees items one = record { by = λ s le. strung_same one.phrases (string_stores items one s.storage) s le }

@@ -7,13 +7,13 @@ use Rattle.source_tree.specs.declared.entry.ItemEntry.{ItemEntry}
 use Rattle.source_tree.specs.declared.entry.ValueRange.{ValueRange}
 use Rattle.source_tree.specs.declared.entry.Entry.{Entry}
 use Rattle.source_tree.specs.declared.entry.Entry.TheVariants as entry
-use Rattle.source_tree.specs.Broken.{Broken}
+use Rattle.source_tree.specs.Broken.{RuleBreach}
 use Rattle.source_tree.specs.EntryRules.{entry_rules, storage_rules}
-use Rattle.source_tree.specs.Levels.{nested}
+use Rattle.source_tree.specs.Levels.{forest_of}
 use Rattle.source_tree.proofs.Samples.{group, item, redefining, occurring, valued, binary, packed, displayed, signed, justified, blank, entries, one_value, range, condition, number, minus, decimal, text, constant, all}
 unfoldable use Rattle.source_tree.proofs.Computing.{computing}
 
-abbrev rules : List Broken → List ℕ
+abbrev rules : List RuleBreach → List ℕ
 rules = map (λ one. one.rule)
 
 -- rows: entries, and the rules that they break
@@ -193,15 +193,15 @@ sizes = (refl, (refl, (refl, (refl, tt))))
 abbrev sixteen : List ItemEntry
 sixteen = replicate 16 (item (codes "01") (codes "A") (codes "X(62500)"))
 
-full_storage : rules (storage_rules 0 (nested (entries sixteen))) ≡ []
+full_storage : rules (storage_rules 0 (forest_of (entries sixteen))) ≡ []
 unfolding computing
 full_storage = refl
 
-too_much_storage : rules (storage_rules 0 (nested (entries (sixteen ++ item (codes "77") (codes "B") (codes "X") ∷ [])))) ≡ 48 ∷ []
+too_much_storage : rules (storage_rules 0 (forest_of (entries (sixteen ++ item (codes "77") (codes "B") (codes "X") ∷ [])))) ≡ 48 ∷ []
 unfolding computing
 too_much_storage = refl
 
 -- what redefines takes none
-shared_storage : rules (storage_rules 0 (nested (entries (sixteen ++ redefining (codes "A") (item (codes "01") (codes "B") (codes "X")) ∷ [])))) ≡ []
+shared_storage : rules (storage_rules 0 (forest_of (entries (sixteen ++ redefining (codes "A") (item (codes "01") (codes "B") (codes "X")) ∷ [])))) ≡ []
 unfolding computing
 shared_storage = refl

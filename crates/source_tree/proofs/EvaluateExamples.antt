@@ -12,24 +12,24 @@ use Rattle.source_tree.specs.declared.condition.Side.{Side}
 use Rattle.source_tree.specs.declared.condition.Side.TheVariants as side
 use Rattle.source_tree.specs.declared.condition.Condition.{Condition}
 use Rattle.source_tree.specs.declared.condition.Condition.TheVariants as tested
-use Rattle.source_tree.specs.declared.evaluate.Subject.{Subject}
-use Rattle.source_tree.specs.declared.evaluate.Subject.TheVariants as subject
-use Rattle.source_tree.specs.declared.evaluate.Choice.{Choice}
-use Rattle.source_tree.specs.declared.evaluate.Choice.TheVariants as choice
-use Rattle.source_tree.specs.declared.evaluate.When.{When}
-use Rattle.source_tree.specs.declared.evaluate.Selected.{Selected}
-use Rattle.source_tree.specs.Places.{Placed, items_of}
+use Rattle.source_tree.specs.declared.evaluate_statement.Subject.{Subject}
+use Rattle.source_tree.specs.declared.evaluate_statement.Subject.TheVariants as subject
+use Rattle.source_tree.specs.declared.evaluate_statement.Choice.{Choice}
+use Rattle.source_tree.specs.declared.evaluate_statement.Choice.TheVariants as choice
+use Rattle.source_tree.specs.declared.evaluate_statement.When.{When}
+use Rattle.source_tree.specs.declared.evaluate_statement.Selected.{Selected}
+use Rattle.source_tree.specs.Places.{LocatedItem, items_of}
 use Rattle.source_tree.specs.Evaluated as fault
-use Rattle.source_tree.specs.Broken.{Broken}
-use Rattle.source_tree.specs.State.{State, Outcome, Done, Over, Faulted, showing}
-use Rattle.source_tree.specs.Evaluate.{evaluating}
+use Rattle.source_tree.specs.Broken.{RuleBreach}
+use Rattle.source_tree.specs.State.{State, Outcome, Done, Over, Faulted, state_after_output}
+use Rattle.source_tree.specs.Evaluate.{evaluate_outcome}
 use Rattle.source_tree.specs.EvaluateRules.{when_rules}
 use Rattle.source_tree.proofs.Samples.{at, here, item, entries, one_value, condition, number, the_item, the_literal}
 unfoldable use Rattle.source_tree.proofs.Computing.{computing}
 use Rattle.source_tree.proofs.Folded.{told_by_form, ruled_by_form}
 
 -- 77 A PIC 9. 88 SMALL VALUES 1 2. 77 B PIC 9. 77 N PIC 9V9. 77 X PIC X.
-abbrev items : List Placed
+abbrev items : List LocatedItem
 items = items_of declared
   where
     declared : List Entry
@@ -86,11 +86,11 @@ after a b shown =
     record { budget = 5; line = 9; day = []; lines = []; storage = codes a ∷ codes b ∷ codes "00" ∷ codes " " ∷ []; files = []; connectors = []; earlier = []; events = map Shown (codes shown) }
 
 abbrev show : ℕ → State → Outcome
-show byte s = Done (showing (byte ∷ []) s)
+show byte s = Done (state_after_output (byte ∷ []) s)
 
 abbrev evaluate : List Subject → List (Selected ℕ) → Option (List ℕ) → String → String → Outcome
 evaluate subjects selected other a b =
-    evaluating items show (record { subjects = subjects; selected = selected; other = other }) (after a b "")
+    evaluate_outcome items show (record { subjects = subjects; selected = selected; other = other }) (after a b "")
 
 -- rows of an EVALUATE, what A and B hold, and what is shown
 abbrev Shows : List ((String → String → Outcome) × String × String × String) → Type 0
@@ -181,11 +181,11 @@ no_fault = (simp told_by_form, (simp told_by_form, (simp told_by_form, (simp tol
 -- ---- rules
 
 -- rows of subjects, the objects of a WHEN, and what is broken
-abbrev Breaks : List (List Subject × List Choice × List Broken) → Type 0
+abbrev Breaks : List (List Subject × List Choice × List RuleBreach) → Type 0
 Breaks [] = Unit {0}
 Breaks (row ∷ more) = (when_rules items row.0 (when row.1) ≡ row.2) × Breaks more
 
-abbrev one_broken : ℕ → Place → List Broken
+abbrev one_broken : ℕ → Place → List RuleBreach
 one_broken rule place = record { rule = rule; place = place } ∷ []
 
 -- A WHEN 1 ALSO 2; A ALSO B WHEN 1

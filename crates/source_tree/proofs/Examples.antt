@@ -8,19 +8,19 @@ use Rattle.source_tree.specs.declared.literal.Figurative.TheVariants.{Space, Quo
 use Rattle.source_tree.specs.declared.literal.LiteralValue.TheVariants.{Numeric, Nonnumeric, Figurative, All}
 use Rattle.source_tree.specs.declared.literal.Literal.{Literal}
 use Rattle.source_tree.specs.declared.expression.Operand.TheVariants as operand
-use Rattle.source_tree.specs.declared.performing.Performed.TheVariants.{Statements}
-use Rattle.source_tree.specs.declared.performing.Turns.TheVariants.{Once, Times}
-use Rattle.source_tree.specs.declared.text.Text.TheVariants as text_as
-use Rattle.source_tree.specs.declared.ending.Ending.TheVariants as ending
+use Rattle.source_tree.specs.declared.perform_statement.Performed.TheVariants.{Statements}
+use Rattle.source_tree.specs.declared.perform_statement.Repetition.TheVariants.{Once, Times}
+use Rattle.source_tree.specs.declared.text_statement.TextStatement.TheVariants as text_as
+use Rattle.source_tree.specs.declared.control_statement.ControlStatement.TheVariants as ending
 use Rattle.source_tree.specs.declared.statement.Verb.TheVariants as verb
 use Rattle.source_tree.specs.declared.statement.Statement.{Statement, out-Statement, roll-Statement}
 use Rattle.source_tree.specs.declared.program.Paragraph.{Paragraph}
 use Rattle.source_tree.specs.declared.program.Program.{Program}
 use Rattle.source_tree.specs.State.{Stopped, Budget, Done, Over}
 use Rattle.source_tree.specs.Display.{shown_literal, line_feed}
-use Rattle.source_tree.specs.Showing.{displayed}
-use Rattle.source_tree.specs.Setting.{Setting}
-use Rattle.source_tree.specs.Given.{Given}
+use Rattle.source_tree.specs.Showing.{displayed_bytes}
+use Rattle.source_tree.specs.Setting.{ProgramContext}
+use Rattle.source_tree.specs.Given.{RunInput}
 use Rattle.source_tree.specs.State.{State}
 use Rattle.source_tree.specs.Performing.{turns_of}
 use Rattle.source_tree.specs.Meaning as given
@@ -40,26 +40,26 @@ abbrev pub display : Place → List Literal → Bool → Statement
 display place literals advancing = roll-Statement (record { place = place; verb = verb.Text (text_as.Display (map operand.Literal literals) advancing) })
 
 abbrev pub stop_run : Place → Statement
-stop_run place = roll-Statement (record { place = place; verb = verb.Ending ending.StopRun })
+stop_run place = roll-Statement (record { place = place; verb = verb.ControlStatement ending.StopRun })
 
 -- PERFORM with these statements
 abbrev pub perform : Place → List Statement → Statement
-perform place inside = roll-Statement (record { place = place; verb = verb.Performing (record { performed = Statements inside; turns = Once }) })
+perform place inside = roll-Statement (record { place = place; verb = verb.PerformStatement (record { performed = Statements inside; turns = Once }) })
 
 -- PERFORM these statements so many TIMES
 abbrev pub perform_times : Place → List ℕ → List Statement → Statement
 perform_times place digits inside =
-    roll-Statement (record { place = place; verb = verb.Performing (record { performed = Statements inside; turns = Times (record { digits = digits; place = place }) }) })
+    roll-Statement (record { place = place; verb = verb.PerformStatement (record { performed = Statements inside; turns = Times (record { digits = digits; place = place }) }) })
 
 -- with this budget, on 30 July 1926
-abbrev with : ℕ → Given
+abbrev with : ℕ → RunInput
 with budget = record { budget = budget; day = 50 ∷ 54 ∷ 48 ∷ 55 ∷ 51 ∷ 48 ∷ []; lines = []; files = [] }
 
 abbrev pub meaning : Program → ℕ → Run
 meaning program budget = given.meaning program (with budget)
 
 -- no items
-abbrev nothing_declared : Setting
+abbrev nothing_declared : ProgramContext
 nothing_declared = record { scope = record { items = []; files = []; procedures = [] }; paragraphs = [] }
 
 -- of a program without items
@@ -187,12 +187,12 @@ nothing_to_do : meaning (plain []) 0 ≡ record { events = []; end = Stopped; li
 nothing_to_do = refl
 
 -- DISPLAY "A" 12.50 'it''s' WITH NO ADVANCING
-three_operands : displayed [] (map operand.Literal (text (65 ∷ []) ∷ number (49 ∷ 50 ∷ []) (53 ∷ 48 ∷ []) ∷ text (105 ∷ 116 ∷ 39 ∷ 115 ∷ []) ∷ [])) false []
+three_operands : displayed_bytes [] (map operand.Literal (text (65 ∷ []) ∷ number (49 ∷ 50 ∷ []) (53 ∷ 48 ∷ []) ∷ text (105 ∷ 116 ∷ 39 ∷ 115 ∷ []) ∷ [])) false []
     ≡ Ok (65 ∷ 49 ∷ 50 ∷ 46 ∷ 53 ∷ 48 ∷ 105 ∷ 116 ∷ 39 ∷ 115 ∷ [])
 three_operands = refl
 
 -- the same line ended
-line_ended : displayed [] (map operand.Literal (text (65 ∷ []) ∷ [])) true [] ≡ Ok (65 ∷ 10 ∷ [])
+line_ended : displayed_bytes [] (map operand.Literal (text (65 ∷ []) ∷ [])) true [] ≡ Ok (65 ∷ 10 ∷ [])
 line_ended = refl
 
 -- -.50, +007 and 5 are shown as they were written
@@ -208,6 +208,6 @@ unfolding out-Statement roll-Statement denote.Hole.Carrier.out denote.Hole.Carri
 last_line = refl
 
 -- DISPLAY SPACE ALL "AB" QUOTE
-figurative_constants : displayed [] (map operand.Literal (record { value = Figurative Space; place = at 5 20 } ∷ record { value = All (65 ∷ 66 ∷ []); place = at 5 26 } ∷ record { value = Figurative Quote; place = at 5 35 } ∷ [])) false []
+figurative_constants : displayed_bytes [] (map operand.Literal (record { value = Figurative Space; place = at 5 20 } ∷ record { value = All (65 ∷ 66 ∷ []); place = at 5 26 } ∷ record { value = Figurative Quote; place = at 5 35 } ∷ [])) false []
     ≡ Ok (32 ∷ 65 ∷ 66 ∷ 34 ∷ [])
 figurative_constants = refl

@@ -14,7 +14,7 @@ use Rattle.source_tree.specs.declared.statement.Verb.{Verb}
 use Rattle.source_tree.specs.declared.statement.Verb.TheVariants as verb
 use Rattle.source_tree.specs.declared.statement.Statement.{Statement}
 use Rattle.source_tree.specs.declared.program.Program.{Program}
-use Rattle.source_tree.specs.Broken.{Broken}
+use Rattle.source_tree.specs.Broken.{RuleBreach}
 use Rattle.source_tree.specs.Records.{program_items}
 use Rattle.source_tree.specs.ProgramFiles.{files_of}
 use Rattle.source_tree.specs.FileRules.{file_name_rules, program_file_rules}
@@ -23,7 +23,7 @@ use Rattle.source_tree.proofs.Samples.{name, here, item, group, redefining, occu
 use Rattle.source_tree.proofs.FileSamples.{select, with_status, relative, indexed, alternate, described, opening, close, read_next, read_by, reading, read_into, write, writing, write_from, delete, start, start_at, starting, program}
 unfoldable use Rattle.source_tree.proofs.Computing.{computing}
 
-abbrev rules : List Broken → List ℕ
+abbrev rules : List RuleBreach → List ℕ
 rules = map (λ one. one.rule)
 
 -- ---- files: the record R of F, and working storage
@@ -200,8 +200,8 @@ some_storage = entries (item (codes "01") (codes "N") (codes "99") ∷ redefinin
 abbrev some_program : Program
 some_program = program some_files some_records some_storage []
 
-abbrev of_filing : Verb Statement → List Broken
-of_filing (verb.Filing one) = filing_rules (program_items some_program) (files_of (program_items some_program) some_program) one
+abbrev of_filing : Verb Statement → List RuleBreach
+of_filing (verb.FileStatement one) = filing_rules (program_items some_program) (files_of (program_items some_program) some_program) one
 of_filing _ = []
 
 abbrev Broke : List (Verb Statement × List ℕ) → Type 0

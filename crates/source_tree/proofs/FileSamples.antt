@@ -9,7 +9,7 @@ use Rattle.records.specs.declared.verb.OpenMode.{OpenMode}
 use Rattle.records.specs.Files.{Files}
 use Rattle.source_tree.specs.declared.condition.Relation.{Relation}
 use Rattle.source_tree.specs.declared.entry.Entry.{Entry}
-use Rattle.source_tree.specs.declared.filing.Filing.TheVariants as filing
+use Rattle.source_tree.specs.declared.file_statement.FileStatement.TheVariants as filing
 use Rattle.source_tree.specs.declared.phrases.FilePhrases.{FilePhrases}
 use Rattle.source_tree.specs.declared.phrases.FilePhrases.TheVariants.{Absent, AtEnd, InvalidKey}
 use Rattle.source_tree.specs.declared.select.OrganizationClause.TheVariants as organization
@@ -19,10 +19,10 @@ use Rattle.source_tree.specs.declared.select.FileDescription.{FileDescription}
 use Rattle.source_tree.specs.declared.statement.Statement.{Statement, roll-Statement}
 use Rattle.source_tree.specs.declared.statement.Verb.{Verb}
 use Rattle.source_tree.specs.declared.statement.Verb.TheVariants as verb
-use Rattle.source_tree.specs.declared.moving.Moving.TheVariants.{Move}
-use Rattle.source_tree.specs.declared.text.Text.TheVariants.{Display}
+use Rattle.source_tree.specs.declared.data_statement.DataStatement.TheVariants.{Move}
+use Rattle.source_tree.specs.declared.text_statement.TextStatement.TheVariants.{Display}
 use Rattle.source_tree.specs.declared.program.Program.{Program}
-use Rattle.source_tree.specs.Given.{Given}
+use Rattle.source_tree.specs.Given.{RunInput}
 use Rattle.source_tree.proofs.Samples.{at, here, name, plain, text, the_item, the_literal}
 
 -- ---- files: a sequential one that is called as it is on the volume, and others
@@ -62,14 +62,14 @@ described called entries = record { name = name (codes called); entries = entrie
 -- ---- statements
 
 abbrev pub opening : OpenMode → String → Verb Statement
-opening mode file = verb.Filing (filing.Open (record { mode = mode; file = name (codes file) } ∷ []))
+opening mode file = verb.FileStatement (filing.Open (record { mode = mode; file = name (codes file) } ∷ []))
 
 abbrev pub close : String → Verb Statement
-close file = verb.Filing (filing.Close (name (codes file) ∷ []))
+close file = verb.FileStatement (filing.Close (name (codes file) ∷ []))
 
 abbrev pub reading : Bool → Option String → FilePhrases Statement → String → Verb Statement
-reading next None phrases file = verb.Filing (filing.Read (name (codes file)) next None None phrases)
-reading next (Some key) phrases file = verb.Filing (filing.Read (name (codes file)) next None (Some (plain (codes key))) phrases)
+reading next None phrases file = verb.FileStatement (filing.Read (name (codes file)) next None None phrases)
+reading next (Some key) phrases file = verb.FileStatement (filing.Read (name (codes file)) next None (Some (plain (codes key))) phrases)
 
 abbrev pub read : String → Verb Statement
 read file = reading false None Absent file
@@ -81,40 +81,40 @@ abbrev pub read_by : String → String → Verb Statement
 read_by key file = reading false (Some key) Absent file
 
 abbrev pub read_into : String → FilePhrases Statement → String → Verb Statement
-read_into item phrases file = verb.Filing (filing.Read (name (codes file)) false (Some (plain (codes item))) None phrases)
+read_into item phrases file = verb.FileStatement (filing.Read (name (codes file)) false (Some (plain (codes item))) None phrases)
 
 abbrev pub writing : FilePhrases Statement → String → Verb Statement
-writing phrases called = verb.Filing (filing.Write (plain (codes called)) None phrases)
+writing phrases called = verb.FileStatement (filing.Write (plain (codes called)) None phrases)
 
 abbrev pub write : String → Verb Statement
 write called = writing Absent called
 
 abbrev pub write_from : String → String → Verb Statement
-write_from from called = verb.Filing (filing.Write (plain (codes called)) (Some (plain (codes from))) Absent)
+write_from from called = verb.FileStatement (filing.Write (plain (codes called)) (Some (plain (codes from))) Absent)
 
 abbrev pub rewriting : FilePhrases Statement → String → Verb Statement
-rewriting phrases called = verb.Filing (filing.Rewrite (plain (codes called)) None phrases)
+rewriting phrases called = verb.FileStatement (filing.Rewrite (plain (codes called)) None phrases)
 
 abbrev pub rewrite : String → Verb Statement
 rewrite called = rewriting Absent called
 
 abbrev pub delete : String → Verb Statement
-delete file = verb.Filing (filing.Delete (name (codes file)) Absent)
+delete file = verb.FileStatement (filing.Delete (name (codes file)) Absent)
 
 abbrev pub start : String → Verb Statement
-start file = verb.Filing (filing.Start (name (codes file)) None Absent)
+start file = verb.FileStatement (filing.Start (name (codes file)) None Absent)
 
 -- with NOT or without
 abbrev pub starting : Bool → Relation → String → String → Verb Statement
 starting negated relation key file =
-    verb.Filing (filing.Start (name (codes file)) (Some (record { operator = record { negated = negated; relation = relation }; key = plain (codes key) })) Absent)
+    verb.FileStatement (filing.Start (name (codes file)) (Some (record { operator = record { negated = negated; relation = relation }; key = plain (codes key) })) Absent)
 
 abbrev pub start_at : Relation → String → String → Verb Statement
 start_at relation key file = starting false relation key file
 
 -- MOVE of a text, and DISPLAY of an item WITH NO ADVANCING
 abbrev pub put : String → String → Verb Statement
-put bytes item = verb.Moving (Move (the_literal (text (codes bytes))) (plain (codes item) ∷ []))
+put bytes item = verb.DataStatement (Move (the_literal (text (codes bytes))) (plain (codes item) ∷ []))
 
 abbrev pub show : String → Verb Statement
 show item = verb.Text (Display (the_item (codes item) ∷ []) false)
@@ -146,7 +146,7 @@ program selects files storage statements = record {
 }
 
 -- enough budget, over these files
-abbrev pub over : Files → Given
+abbrev pub over : Files → RunInput
 over files = record { budget = 99; day = codes "260730"; lines = []; files = files }
 
 -- the statuses that were received, and the bytes that were shown

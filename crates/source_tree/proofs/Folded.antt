@@ -16,11 +16,11 @@ use Rattle.source_tree.specs.declared.condition.Condition.TheVariants as conditi
 use Rattle.source_tree.specs.declared.condition.Condition.TheVariants.{rolls-Name, rolls-Relation, rolls-Not, rolls-All, rolls-Any}
 use Rattle.source_tree.specs.declared.condition.Condition.TheOpen.{Condition-F}
 use Rattle.source_tree.specs.declared.condition.Condition.TheFolds.{map-Condition, fold-roll-Condition}
-use Rattle.source_tree.specs.Places.{Placed}
+use Rattle.source_tree.specs.Places.{LocatedItem}
 use Rattle.source_tree.specs.Storage.{Storage}
-use Rattle.source_tree.specs.Broken.{Broken, each}
+use Rattle.source_tree.specs.Broken.{RuleBreach, each}
 use Rattle.source_tree.specs.Evaluated.{◌>>=◌}
-use Rattle.source_tree.specs.Conditions.{Truth, alone, alone_side, relation_holds, name_holds, all_hold, any_holds, condition_layer, holds}
+use Rattle.source_tree.specs.Conditions.{ConditionValue, alone, alone_side, relation_holds, name_holds, all_hold, any_holds, condition_layer, holds}
 use Rattle.source_tree.specs.ConditionRules.{condition_name_rules, relation_rules, broken_already, condition_layer_rules, condition_rules}
 
 -- ---- a side that is an operand alone is that operand
@@ -29,15 +29,15 @@ pub alone_operand : (one : Operand) → alone_side (side.Expression (expression.
 alone_operand one =
     ap (λ (e : Expression). alone_side (side.Expression e)) (sym (rolls-Operand one)) ∙ ap alone (out-roll-Expression (Expression-F.Operand one))
 
-module _ (items : List Placed) where
+module _ (items : List LocatedItem) where
   -- ---- what it tells
 
   told : (one : Condition) (form : Condition-F Condition) → roll-Condition form ≡ one → (storage : Storage)
-      → holds items one storage ≡ condition_layer items (map-Condition Condition Truth (holds items) form) storage
+      → holds items one storage ≡ condition_layer items (map-Condition Condition ConditionValue (holds items) form) storage
   unfolding holds
   told one form e storage =
       ap (λ (c : Condition). holds items c storage) (sym e)
-      ∙ ap (λ (t : Truth). t storage) (fold-roll-Condition Truth (condition_layer items) form)
+      ∙ ap (λ (t : ConditionValue). t storage) (fold-roll-Condition ConditionValue (condition_layer items) form)
 
   pub name_tells : (one : Reference) (storage : Storage) → holds items (condition.Name one) storage ≡ name_holds items one storage
   name_tells one = told (condition.Name one) (Condition-F.Name one) (rolls-Name one)
@@ -59,9 +59,9 @@ module _ (items : List Placed) where
   -- ---- its rules
 
   ruled : (one : Condition) (form : Condition-F Condition) → roll-Condition form ≡ one
-      → condition_rules items one ≡ condition_layer_rules items (map-Condition Condition (List Broken) (condition_rules items) form)
+      → condition_rules items one ≡ condition_layer_rules items (map-Condition Condition (List RuleBreach) (condition_rules items) form)
   unfolding condition_rules
-  ruled one form e = ap (condition_rules items) (sym e) ∙ fold-roll-Condition (List Broken) (condition_layer_rules items) form
+  ruled one form e = ap (condition_rules items) (sym e) ∙ fold-roll-Condition (List RuleBreach) (condition_layer_rules items) form
 
   pub name_is : (one : Reference) → condition_rules items (condition.Name one) ≡ condition_name_rules items one
   name_is one = ruled (condition.Name one) (Condition-F.Name one) (rolls-Name one)

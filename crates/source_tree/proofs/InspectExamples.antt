@@ -5,20 +5,20 @@ use Rattle.source_tree.specs.declared.literal.Figurative.TheVariants as figurati
 use Rattle.source_tree.specs.declared.entry.Entry.{Entry}
 use Rattle.source_tree.specs.declared.expression.Operand.{Operand}
 use Rattle.source_tree.specs.declared.expression.Operand.TheVariants as operand
-use Rattle.source_tree.specs.declared.inspecting.Limits.{Limits}
-use Rattle.source_tree.specs.declared.inspecting.Occurrences.{Occurrences}
-use Rattle.source_tree.specs.declared.inspecting.Occurrences.TheVariants as how
-use Rattle.source_tree.specs.declared.inspecting.Tallied.{Tallied}
-use Rattle.source_tree.specs.declared.inspecting.Tallied.TheVariants as tallied
-use Rattle.source_tree.specs.declared.inspecting.Tallying.{Tallying}
-use Rattle.source_tree.specs.declared.inspecting.Replacing.{Replacing}
-use Rattle.source_tree.specs.declared.inspecting.Replacing.TheVariants as replacing
-use Rattle.source_tree.specs.declared.inspecting.Inspecting.{Inspecting}
-use Rattle.source_tree.specs.Broken.{Broken}
+use Rattle.source_tree.specs.declared.inspect_statement.Limits.{Limits}
+use Rattle.source_tree.specs.declared.inspect_statement.Occurrences.{Occurrences}
+use Rattle.source_tree.specs.declared.inspect_statement.Occurrences.TheVariants as how
+use Rattle.source_tree.specs.declared.inspect_statement.Tallied.{Tallied}
+use Rattle.source_tree.specs.declared.inspect_statement.Tallied.TheVariants as tallied
+use Rattle.source_tree.specs.declared.inspect_statement.Tallying.{Tallying}
+use Rattle.source_tree.specs.declared.inspect_statement.Replacing.{Replacing}
+use Rattle.source_tree.specs.declared.inspect_statement.Replacing.TheVariants as replacing
+use Rattle.source_tree.specs.declared.inspect_statement.InspectStatement.{InspectStatement}
+use Rattle.source_tree.specs.Broken.{RuleBreach}
 use Rattle.source_tree.specs.Places.{items_of}
 use Rattle.source_tree.specs.Storage.{Storage}
 use Rattle.source_tree.specs.Evaluated as fault
-use Rattle.source_tree.specs.Evaluated.{Evaluated}
+use Rattle.source_tree.specs.Evaluated.{Evaluation}
 use Rattle.source_tree.specs.Inspecting.{inspect}
 use Rattle.source_tree.specs.InspectRules.{inspect_rules}
 use Rattle.source_tree.proofs.Samples.{group, item, occurring, binary, packed, entries, number, text, constant, reference, plain, by_item, the_item, the_literal}
@@ -51,7 +51,7 @@ by_text occurrences one by limits = replacing_by occurrences (the_literal (text 
 abbrev counter : List ℕ → List Tallied → Tallying
 counter called entries = record { counter = plain called; tallied = entries }
 
-abbrev inspection : List ℕ → List Tallying → List Replacing → Inspecting
+abbrev inspection : List ℕ → List Tallying → List Replacing → InspectStatement
 inspection subject tallying replacing = record { subject = plain subject; tallying = tallying; replacing = replacing }
 
 -- ---- T of six characters, N of one digit, and M of one with a decimal
@@ -59,7 +59,7 @@ inspection subject tallying replacing = record { subject = plain subject; tallyi
 abbrev six : List Entry
 six = entries (item (codes "77") (codes "T") (codes "X(6)") ∷ item (codes "77") (codes "N") (codes "9") ∷ item (codes "77") (codes "M") (codes "9V9") ∷ [])
 
-abbrev inspected : List ℕ → List ℕ → List Tallying → List Replacing → Evaluated Storage
+abbrev inspected : List ℕ → List ℕ → List Tallying → List Replacing → Evaluation Storage
 inspected subject n tallying replacing = inspect (items_of six) (inspection (codes "T") tallying replacing) (subject ∷ n ∷ codes "98" ∷ [])
 
 -- the subject, the counter, what is tallied and replaced, and what subject and counter become
@@ -78,7 +78,7 @@ worked_rows : Inspects ((codes "000120", codes "0", for_n (counting how.Leading 
     ∷ (codes "ABCABC", codes "0", [], replacing.Characters (the_literal (text (codes "*"))) (before_text (codes "C")) ∷ [], codes "**CABC", codes "0")
     ∷ (codes "ABCABC", codes "0", for_n (counting how.All (codes "B") anywhere ∷ counting how.All (codes "C") anywhere ∷ []), [], codes "ABCABC", codes "4")
     ∷ [])
-unfolding computing arithmetic.sum tallies replaced_subject walk receivers.fitted
+unfolding computing arithmetic.sum tallies replaced_subject walk receivers.fitted_decimal
 worked_rows = (refl, (refl, (refl, (refl, (refl, (refl, (refl, tt)))))))
 
 -- The tens are cut; both phrases look at the text as it was; ALL "AB" BY ZERO takes two zeros; the last "BC" before "CA" doesn't end before
@@ -87,13 +87,13 @@ more_rows : Inspects ((codes "ABABAB", codes "8", for_n (counting how.All (codes
     ∷ (codes "ABCABC", codes "0", for_n (counting how.All (codes "A") anywhere ∷ []), by_text how.All (codes "A") (codes "B") anywhere ∷ [], codes "BBCBBC", codes "2")
     ∷ (codes "ABCABC", codes "0", [], replacing_by how.All (the_literal (text (codes "AB"))) (the_literal (constant figurative.Zero)) anywhere ∷ [], codes "00C00C", codes "0")
     ∷ (codes "ABCABC", codes "0", for_n (counting how.All (codes "B") anywhere ∷ []), by_text how.All (codes "BC") (codes "XY") (before_text (codes "CA")) ∷ by_text how.All (codes "C") (codes "Z") anywhere ∷ [], codes "ABZABZ", codes "2") ∷ [])
-unfolding computing arithmetic.sum tallies replaced_subject walk receivers.fitted
+unfolding computing arithmetic.sum tallies replaced_subject walk receivers.fitted_decimal
 more_rows = (refl, (refl, (refl, (refl, tt))))
 
 -- One walk for both: what fits for M's entry isn't N's. M holds 9.8, and its tens are cut.
 two_counters : inspected (codes "ABCABC") (codes "0") (counter (codes "M") (counting how.All (codes "AB") anywhere ∷ []) ∷ counter (codes "N") (tallied.Characters anywhere ∷ []) ∷ []) []
     ≡ Ok (codes "ABCABC" ∷ codes "2" ∷ codes "18" ∷ [])
-unfolding computing arithmetic.sum tallies walk receivers.fitted
+unfolding computing arithmetic.sum tallies walk receivers.fitted_decimal
 two_counters = refl
 
 no_number : inspected (codes "ABCABC") (codes "x") (for_n (tallied.Characters anywhere ∷ [])) [] ≡ Err fault.Data
@@ -137,12 +137,12 @@ replaced_alone = (refl, refl, refl)
 abbrev overlapping : List Entry
 overlapping = entries (group (codes "01") (codes "T") ∷ item (codes "05") (codes "C") (codes "9") ∷ item (codes "05") (codes "R") (codes "XX") ∷ [])
 
-abbrev inspects : List Replacing → Evaluated Storage
+abbrev inspects : List Replacing → Evaluation Storage
 inspects replacing = inspect (items_of overlapping) (inspection (codes "T") (counter (codes "C") (tallied.Characters anywhere ∷ []) ∷ []) replacing) (codes "0AB" ∷ [])
 
 counter_in_subject : (inspects [] ≡ Ok (codes "3AB" ∷ []))
     × (inspects (by_text how.All (codes "A") (codes "X") anywhere ∷ []) ≡ Ok (codes "0XB" ∷ []))
-unfolding computing arithmetic.sum tallies replaced_subject walk receivers.fitted
+unfolding computing arithmetic.sum tallies replaced_subject walk receivers.fitted_decimal
 counter_in_subject = (refl, refl)
 
 -- ---- Faults come in the order of writing: I is no number, and 5 is past the table.
@@ -154,7 +154,7 @@ of_table = entries (group (codes "01") (codes "G") ∷ occurring (codes "3") (it
 abbrev element : List ℕ → Option Operand
 element called = Some (operand.Item (reference (codes "E") (by_item called ∷ [])))
 
-abbrev by_two : Bool → Evaluated Storage
+abbrev by_two : Bool → Evaluation Storage
 by_two after_first = inspect (items_of of_table)
     (inspection (codes "G") [] (replacing.Characters (the_literal (text (codes "X"))) (record { before = element (codes "I"); after = element (codes "J"); after_first = after_first }) ∷ []))
     (codes "ABC" ∷ codes "x" ∷ codes "5" ∷ [])
@@ -164,7 +164,7 @@ unfolding computing
 order_of_limits = (refl, refl)
 
 -- BEFORE C and AFTER A of ABC, in either order
-abbrev between : Bool → Evaluated Storage
+abbrev between : Bool → Evaluation Storage
 between after_first = inspect (items_of of_table)
     (inspection (codes "G") [] (replacing.Characters (the_literal (text (codes "X"))) (record { before = Some (the_literal (text (codes "C"))); after = Some (the_literal (text (codes "A"))); after_first = after_first }) ∷ []))
     (codes "ABC" ∷ codes "1" ∷ codes "1" ∷ [])
@@ -175,7 +175,7 @@ either_order = (refl, refl)
 
 -- ---- the rules: each broken alone, and nearly broken
 
-abbrev rules : List Broken → List ℕ
+abbrev rules : List RuleBreach → List ℕ
 rules = map (λ one. one.rule)
 
 abbrev operands : List Entry

@@ -15,28 +15,28 @@ use Rattle.source_tree.specs.declared.literal.Literal.{Literal}
 use Rattle.source_tree.specs.declared.reference.Reference.{Reference}
 use Rattle.source_tree.specs.declared.expression.Operand.{Operand}
 use Rattle.source_tree.specs.declared.expression.Operand.TheVariants as operand
-use Rattle.source_tree.specs.declared.inspecting.Limits.{Limits}
-use Rattle.source_tree.specs.declared.inspecting.Occurrences.{Occurrences}
-use Rattle.source_tree.specs.declared.inspecting.Occurrences.TheVariants as how
-use Rattle.source_tree.specs.declared.inspecting.TalliedText.{TalliedText}
-use Rattle.source_tree.specs.declared.inspecting.Tallied.{Tallied}
-use Rattle.source_tree.specs.declared.inspecting.Tallied.TheVariants as tallied
-use Rattle.source_tree.specs.declared.inspecting.Tallying.{Tallying}
-use Rattle.source_tree.specs.declared.inspecting.ReplacedText.{ReplacedText}
-use Rattle.source_tree.specs.declared.inspecting.Replacing.{Replacing}
-use Rattle.source_tree.specs.declared.inspecting.Replacing.TheVariants as replacing
-use Rattle.source_tree.specs.declared.inspecting.Inspecting.{Inspecting}
-use Rattle.source_tree.specs.Broken.{Broken, where_so, each}
+use Rattle.source_tree.specs.declared.inspect_statement.Limits.{Limits}
+use Rattle.source_tree.specs.declared.inspect_statement.Occurrences.{Occurrences}
+use Rattle.source_tree.specs.declared.inspect_statement.Occurrences.TheVariants as how
+use Rattle.source_tree.specs.declared.inspect_statement.TalliedText.{TalliedText}
+use Rattle.source_tree.specs.declared.inspect_statement.Tallied.{Tallied}
+use Rattle.source_tree.specs.declared.inspect_statement.Tallied.TheVariants as tallied
+use Rattle.source_tree.specs.declared.inspect_statement.Tallying.{Tallying}
+use Rattle.source_tree.specs.declared.inspect_statement.ReplacedText.{ReplacedText}
+use Rattle.source_tree.specs.declared.inspect_statement.Replacing.{Replacing}
+use Rattle.source_tree.specs.declared.inspect_statement.Replacing.TheVariants as replacing
+use Rattle.source_tree.specs.declared.inspect_statement.InspectStatement.{InspectStatement}
+use Rattle.source_tree.specs.Broken.{RuleBreach, where_so, each}
 use Rattle.source_tree.specs.Display.{figurative_byte, shown_literal}
 use Rattle.source_tree.specs.LookUp.{is_item, items_named, first}
-use Rattle.source_tree.specs.NameRules.{form_rule, named, item_rules}
-use Rattle.source_tree.specs.Places.{Placed}
+use Rattle.source_tree.specs.NameRules.{form_rule, unique_name_rules, reference_rules}
+use Rattle.source_tree.specs.Places.{LocatedItem}
 use Rattle.source_tree.specs.Storage.{Storage}
 use Rattle.source_tree.specs.ValueRules.{has_form, most_literal_characters}
 use Rattle.source_tree.specs.ConditionRules.{operand_place}
 use Rattle.source_tree.specs.InspectRules.{counter_item, inspected_item, inspected_literal, inspected_rules, only_size, size_of, literal_size, replacing_size, same_size, by_rules, limit_rules, limits_rules, ordered_limits, tallied_text_rules, tallied_rules, tallying_rules, replaced_text_rules, replacing_rules, inspect_rules}
 use Rattle.source_tree.specs.Inspecting.{inspect}
-use Rattle.source_tree.specs.InspectLayout.{Source, Bytes, source, found_size, text_size, text_sizes, replacing_literal, replacing_text, What, Any, Occurs, Inspected, tallied_text, replaced_text, all_inspected, tallied_entries, counter_entries, replacing_entries, what_texts, by_texts, limit_text, limit_texts, entry_texts, entries_texts, fit_of, span_at, what_fit, by_span, limit_span, before_at, after_at, by_at, limits_at, entry_at, entries_at, all_tallied, all_replaced, tallied_size, inspected_size, inspection, inspect_by_spans}
+use Rattle.source_tree.specs.InspectLayout.{Source, Bytes, source, found_size, text_size, text_sizes, replacing_literal, replacing_text, EntryPattern, Any, Occurs, InspectEntry, tallied_text, replaced_text, all_inspected, tallied_entries, counter_entries, replacing_entries, what_texts, by_texts, limit_text, limit_texts, entry_texts, entries_texts, fit_of, span_at, what_fit, by_span, limit_span, before_at, after_at, by_at, limits_at, entry_at, entries_at, all_tallied, all_replaced, tallied_size, inspected_size, inspection, inspect_by_spans}
 use Rattle.source_tree.proofs.SoundFiles.{left_none, right_none, kept}
 use Rattle.source_tree.proofs.InspectTaking.{sizes_append}
 use Rattle.source_tree.proofs.InspectMeaning.{whole_size, spans_mean}
@@ -61,8 +61,8 @@ filtered : {A : Type 0} (P : A → Type 0) (test : A → Bool) (xs : List A) →
 filtered P test [] h = tt
 filtered P test (x ∷ xs) h = kept_or_not P (test x) x (filter test xs) h.0 (filtered P test xs h.1)
 
-only_named : (place : Place) (rules : Placed → List Broken) (found : List Placed) → named place rules found ≡ []
-    → (one : Placed) × (found ≡ one ∷ []) × (rules one ≡ [])
+only_named : (place : Place) (rules : LocatedItem → List RuleBreach) (found : List LocatedItem) → unique_name_rules place rules found ≡ []
+    → (one : LocatedItem) × (found ≡ one ∷ []) × (rules one ≡ [])
 only_named place rules [] e = absurd cc
 only_named place rules (one ∷ []) e = (one, refl, e)
 only_named place rules (one ∷ other ∷ more) e = absurd cc
@@ -70,21 +70,21 @@ only_named place rules (one ∷ other ∷ more) e = absurd cc
 same_numbers : (n m : ℕ) → (n == m) ≡ true → n ≡ m
 same_numbers n m e = grind (arith, nat_tests)
 
-module _ (items : List Placed) where
+module _ (items : List LocatedItem) where
   -- ---- texts of some characters
 
   abbrev IsSome : Source → Type 0
   IsSome one = 1 ≤ text_size items one
 
-  abbrev what_size : What → ℕ
+  abbrev what_size : EntryPattern → ℕ
   what_size Any = 1
   what_size (Occurs kind text) = text_size items text
 
-  abbrev SomeWhat : What → Type 0
+  abbrev SomeWhat : EntryPattern → Type 0
   SomeWhat Any = Unit {0}
   SomeWhat (Occurs kind text) = IsSome text
 
-  abbrev SameBy : What → Option Source → Type 0
+  abbrev SameBy : EntryPattern → Option Source → Type 0
   SameBy what None = Unit {0}
   SameBy what (Some by) = text_size items by ≡ what_size what
 
@@ -92,18 +92,18 @@ module _ (items : List Placed) where
   SomeLimit None = Unit {0}
   SomeLimit (Some one) = IsSome (source one)
 
-  record IsSized (one : Inspected) : Type 0 where
+  record IsSized (one : InspectEntry) : Type 0 where
     what : SomeWhat one.what
     by : SameBy one.what one.by
     before : SomeLimit one.limits.before
     after : SomeLimit one.limits.after
 
-  abbrev AreSized : List Inspected → Type 0
+  abbrev AreSized : List InspectEntry → Type 0
   AreSized = AllByRecursion IsSized
 
   -- ---- Their entries have them within all that is taken.
 
-  pub record EntriesWithin (one : Inspecting) : Type 0 where
+  pub record EntriesWithin (one : InspectStatement) : Type 0 where
     pub tallying : AreWithin (inspection items one).tallying (inspected_size items one)
     pub replacing : AreWithin (inspection items one).replacing (inspected_size items one)
 
@@ -144,21 +144,21 @@ module _ (items : List Placed) where
   fit_long how.Leading span = refl
   fit_long how.First span = refl
 
-  what_long : (at : ℕ) (one : What) → what_size one ≡ fit_length (what_fit items at one)
+  what_long : (at : ℕ) (one : EntryPattern) → what_size one ≡ fit_length (what_fit items at one)
   what_long at Any = refl
   what_long at (Occurs kind text) = fit_long kind (span_at items at text)
 
-  what_some : (one : What) → SomeWhat one → 1 ≤ what_size one
+  what_some : (one : EntryPattern) → SomeWhat one → 1 ≤ what_size one
   what_some Any h = omega arith
   what_some (Occurs kind text) h = h
 
-  what_within : (one : What) (at size : ℕ) → SomeWhat one → at + text_sizes items (what_texts one) ≤ size
+  what_within : (one : EntryPattern) (at size : ℕ) → SomeWhat one → at + text_sizes items (what_texts one) ≤ size
       → IsFit size (what_fit items at one)
   what_within Any at size h le = tt
   what_within (Occurs kind text) at size h le = fit_within kind size (span_at items at text)
       (text_within text at size h (omega (arith, le)))
 
-  by_within : (what : What) (one : Option Source) (at before size : ℕ) → SomeWhat what → SameBy what one
+  by_within : (what : EntryPattern) (one : Option Source) (at before size : ℕ) → SomeWhat what → SameBy what one
       → at + text_sizes items (by_texts one) ≤ size
       → IsBy size (what_fit items before what) (by_span items at one)
   by_within what None at before size h same le = tt
@@ -169,7 +169,7 @@ module _ (items : List Placed) where
             ∙ what_long before what,
       )
 
-  entry_within : (one : Inspected) (at size : ℕ) → IsSized one → at + text_sizes items (entry_texts one) ≤ size
+  entry_within : (one : InspectEntry) (at size : ℕ) → IsSized one → at + text_sizes items (entry_texts one) ≤ size
       → IsEntry size (entry_at items at one)
   entry_within one at size k le =
       let what = what_texts one.what in
@@ -185,7 +185,7 @@ module _ (items : List Placed) where
         by = by_within one.what one.by (by_at items at one) at size k.what k.by (omega (arith, a, b, le));
       }
 
-  entries_within : (all : List Inspected) (at size : ℕ) → AreSized all
+  entries_within : (all : List InspectEntry) (at size : ℕ) → AreSized all
       → at + text_sizes items (entries_texts all) ≤ size → AllByRecursion (IsEntry size) (entries_at items at all)
   entries_within [] at size k le = tt
   entries_within (one ∷ more) at size k le =
@@ -197,7 +197,7 @@ module _ (items : List Placed) where
 
   -- ---- from the rules: sizes
 
-  item_size : (one : Reference) → item_rules items inspected_item one ≡ []
+  item_size : (one : Reference) → reference_rules items inspected_item one ≡ []
       → only_size (items_named items one.item) ≡ Some (text_size items (Bytes one))
   item_size one e =
       let found = only_named one.item.name.place _ (items_named items one.item) (left_none _ _ e) in
@@ -254,10 +254,10 @@ module _ (items : List Placed) where
       ∙ kept (has_form one.value) (form_rule one.value) one.place e
 
   module _ (sized : AllByRecursion (λ one. 1 ≤ one.item.length) items) where
-    item_some : (one : Reference) → item_rules items inspected_item one ≡ [] → IsSome (Bytes one)
+    item_some : (one : Reference) → reference_rules items inspected_item one ≡ [] → IsSome (Bytes one)
     item_some one e =
         let found = only_named one.item.name.place _ (items_named items one.item) (left_none _ _ e) in
-        let P : Placed → Type 0 = λ x. 1 ≤ x.item.length in
+        let P : LocatedItem → Type 0 = λ x. 1 ≤ x.item.length in
         let there : AllByRecursion P (found.0 ∷ []) = subst (AllByRecursion P) found.1
         (filtered P (is_item one.item) items sized) in
         subst (λ n. 1 ≤ n) (sym (ap (λ l. found_size (first l)) found.1)) there.0
@@ -288,7 +288,7 @@ module _ (items : List Placed) where
     limits_some : (one : Limits) → limits_rules items one ≡ [] → SomeLimit one.before × SomeLimit one.after
     limits_some one e = ordered_some one.before one.after one.after_first e
 
-    all_sized : {A : Type 0} (rules : A → List Broken) (entries : A → List Inspected)
+    all_sized : {A : Type 0} (rules : A → List RuleBreach) (entries : A → List InspectEntry)
         → ((one : A) → rules one ≡ [] → AreSized (entries one))
         → (all : List A) → each rules all ≡ [] → AreSized (all_inspected entries all)
     all_sized rules entries keep [] e = tt
@@ -322,7 +322,7 @@ module _ (items : List Placed) where
 
     counter_sized : (one : Tallying) → tallying_rules items one ≡ [] → AreSized (counter_entries one)
     counter_sized one e = all_sized (tallied_rules items) tallied_entries tallied_sized one.tallied
-        (right_none (item_rules items counter_item one.counter) (each (tallied_rules items) one.tallied) e)
+        (right_none (reference_rules items counter_item one.counter) (each (tallied_rules items) one.tallied) e)
 
     -- REPLACING
 
@@ -362,9 +362,9 @@ module _ (items : List Placed) where
 
     -- ---- INSPECT
 
-    kept_within : (one : Inspecting) → inspect_rules items one ≡ [] → EntriesWithin one
+    kept_within : (one : InspectStatement) → inspect_rules items one ≡ [] → EntriesWithin one
     kept_within one e =
-        let a = item_rules items inspected_item one.subject in
+        let a = reference_rules items inspected_item one.subject in
         let b = each (tallying_rules items) one.tallying in
         let c = each (replacing_rules items) one.replacing in
         let size = inspected_size items one in
@@ -383,14 +383,14 @@ module _ (items : List Placed) where
         }
 
 -- each item has a byte or more
-abbrev pub AreSomeBytes : List Placed → Type 0
-AreSomeBytes items = (n : ℕ) (item : Placed) → slice_get items n ≡ Some item → 1 ≤ item.item.length
+abbrev pub AreSomeBytes : List LocatedItem → Type 0
+AreSomeBytes items = (n : ℕ) (item : LocatedItem) → slice_get items n ≡ Some item → 1 ≤ item.item.length
 
-pub inspection_within : (items : List Placed) → AreSomeBytes items → (one : Inspecting) → inspect_rules items one ≡ []
+pub inspection_within : (items : List LocatedItem) → AreSomeBytes items → (one : InspectStatement) → inspect_rules items one ≡ []
     → EntriesWithin items one
 inspection_within items sized one e = kept_within items (by_number (λ item. 1 ≤ item.item.length) items sized) one e
 
-pub inspected_alike : (items : List Placed) → AreSomeBytes items → (one : Inspecting) (storage : Storage)
+pub inspected_alike : (items : List LocatedItem) → AreSomeBytes items → (one : InspectStatement) (storage : Storage)
     → inspect_rules items one ≡ [] → inspect items one storage ≡ inspect_by_spans items one storage
 inspected_alike items sized one storage e =
     let within = inspection_within items sized one e in

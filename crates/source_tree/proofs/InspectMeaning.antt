@@ -9,18 +9,18 @@ use Rattle.text_ops.specs.declared.entry.Entry.{Entry}
 use Rattle.text_ops.specs.Entries.{IsEntry, AreWithin}
 use Rattle.text_ops.specs.Inspect as spans
 use Rattle.text_ops.specs.Inspect.{tally}
-use Rattle.source_tree.specs.declared.inspecting.Tallying.{Tallying}
-use Rattle.source_tree.specs.declared.inspecting.Replacing.{Replacing}
-use Rattle.source_tree.specs.declared.inspecting.Replacing.TheVariants as replacing
-use Rattle.source_tree.specs.declared.inspecting.Inspecting.{Inspecting}
-use Rattle.source_tree.specs.Places.{Placed}
+use Rattle.source_tree.specs.declared.inspect_statement.Tallying.{Tallying}
+use Rattle.source_tree.specs.declared.inspect_statement.Replacing.{Replacing}
+use Rattle.source_tree.specs.declared.inspect_statement.Replacing.TheVariants as replacing
+use Rattle.source_tree.specs.declared.inspect_statement.InspectStatement.{InspectStatement}
+use Rattle.source_tree.specs.Places.{LocatedItem}
 use Rattle.source_tree.specs.Storage.{Storage}
-use Rattle.source_tree.specs.Evaluated.{Evaluated, ◌>>=◌}
-use Rattle.source_tree.specs.References.{ItemPlace, part_of, storing, place_of}
+use Rattle.source_tree.specs.Evaluated.{Evaluation, ◌>>=◌}
+use Rattle.source_tree.specs.References.{ItemPlace, part_of, storage_with, place_of}
 use Rattle.source_tree.specs.InspectWalk.{TextEntry, tallies, replaced_subject}
 use Rattle.source_tree.specs.Inspecting as meaning
 use Rattle.source_tree.specs.Inspecting.{text_at, take_all, take_tallied, take_counter, take_replacing, counter_fits, add_each, store_text, count_and_replace, inspect}
-use Rattle.source_tree.specs.InspectLayout.{Source, Bytes, Characters, Taking, Counter, Text, text_sizes, taken_size, Inspected, replaced_text, all_inspected, counter_entries, replacing_entries, entry_texts, entries_texts, tallying_takings, by_span, by_at, entries_at, entry_counts, all_replaced, tallied_size, inspected_size, inspection, InspectTaken, with_counter, with_text, take_each, fits_together, counted, store_replaced, inspect_at, inspect_by_spans}
+use Rattle.source_tree.specs.InspectLayout.{Source, Bytes, Characters, InspectArgument, Counter, Text, text_sizes, taken_size, InspectEntry, replaced_text, all_inspected, counter_entries, replacing_entries, entry_texts, entries_texts, tallying_takings, by_span, by_at, entries_at, entry_counts, all_replaced, tallied_size, inspected_size, inspection, InspectTaken, with_counter, with_text, take_each, fits_together, counted_fits, store_replaced, inspect_at, inspect_by_spans}
 use Rattle.source_tree.proofs.InspectWalks.{entry_of, of_each, HasBy, tallied_same, replaced_same}
 use Rattle.source_tree.proofs.InspectTaking.{Alike, okay, bind_same, bind_ok, sizes_append, texts_append, Reads, reads_then, read_all, entries_in, entries_append, takes_counter, takes_all_replaced}
 
@@ -40,7 +40,7 @@ further count from (suc n) (suc k) le = further count (from + 1) n k (omega (ari
 
 counts_same : (counters : List meaning.Counter) (count : ℕ → ℕ) (from k : ℕ)
     → k ≡ length (meaning.all_entries counters)
-    → counter_fits counters (of_each count from k) ≡ counted count from (map (λ one. length one.entries) counters)
+    → counter_fits counters (of_each count from k) ≡ counted_fits count from (map (λ one. length one.entries) counters)
 counts_same [] count from k e = refl
 counts_same (one ∷ more) count from k e =
     let n = length one.entries in
@@ -59,7 +59,7 @@ both a b = record { counters = a.counters ++ b.counters; texts = a.texts ++ b.te
 abbrev only : List ℕ → InspectTaken
 only texts = record { counters = []; texts = texts }
 
-counter_before : (p : Evaluated ItemPlace) (u v : Evaluated InspectTaken)
+counter_before : (p : Evaluation ItemPlace) (u v : Evaluation InspectTaken)
     → (p >>= (λ place. (u >>= (λ a. v >>= (λ b. okay (both a b)))) >>= (λ t. okay (with_counter place t))))
     ≡ ((p >>= (λ place. u >>= (λ t. okay (with_counter place t)))) >>= (λ a. v >>= (λ b. okay (both a b))))
 counter_before (Err f) u v = refl
@@ -67,7 +67,7 @@ counter_before (Ok place) (Err f) v = refl
 counter_before (Ok place) (Ok a) (Err f) = refl
 counter_before (Ok place) (Ok a) (Ok b) = refl
 
-text_before : (text : List ℕ) (u v : Evaluated InspectTaken)
+text_before : (text : List ℕ) (u v : Evaluation InspectTaken)
     → ((u >>= (λ a. v >>= (λ b. okay (both a b)))) >>= (λ t. okay (with_text text t)))
     ≡ ((u >>= (λ t. okay (with_text text t))) >>= (λ a. v >>= (λ b. okay (both a b))))
 text_before text (Err f) v = refl
@@ -75,66 +75,66 @@ text_before text (Ok a) (Err f) = refl
 text_before text (Ok a) (Ok b) = ap (λ (l : List ℕ). okay (record (both a b) { texts = l }))
     (sym (append_assoc text a.texts b.texts))
 
-item_before : (p : Evaluated ItemPlace) (text : ItemPlace → List ℕ) (u v : Evaluated InspectTaken)
+item_before : (p : Evaluation ItemPlace) (text : ItemPlace → List ℕ) (u v : Evaluation InspectTaken)
     → (p >>= (λ place. (u >>= (λ a. v >>= (λ b. okay (both a b)))) >>= (λ t. okay (with_text (text place) t))))
     ≡ ((p >>= (λ place. u >>= (λ t. okay (with_text (text place) t)))) >>= (λ a. v >>= (λ b. okay (both a b))))
 item_before (Err f) text u v = refl
 item_before (Ok place) text u v = text_before (text place) u v
 
-only_item : (p : Evaluated ItemPlace) (text : ItemPlace → List ℕ) (u : Evaluated (List ℕ))
+only_item : (p : Evaluation ItemPlace) (text : ItemPlace → List ℕ) (u : Evaluation (List ℕ))
     → (p >>= (λ place. (u >>= (λ a. okay (only a))) >>= (λ t. okay (with_text (text place) t))))
     ≡ (((p >>= (λ place. okay (text place))) >>= (λ t. u >>= (λ o. okay (t ++ o)))) >>= (λ a. okay (only a)))
 only_item (Err f) text u = refl
 only_item (Ok place) text (Err f) = refl
 only_item (Ok place) text (Ok a) = refl
 
-only_text : (text : List ℕ) (u : Evaluated (List ℕ))
+only_text : (text : List ℕ) (u : Evaluation (List ℕ))
     → ((u >>= (λ a. okay (only a))) >>= (λ t. okay (with_text text t)))
     ≡ ((u >>= (λ o. okay (text ++ o))) >>= (λ a. okay (only a)))
 only_text text (Err f) = refl
 only_text text (Ok a) = refl
 
-module _ (items : List Placed) (storage : Storage) where
-  take_append : (xs ys : List Taking)
+module _ (items : List LocatedItem) (storage : Storage) where
+  take_append : (xs ys : List InspectArgument)
       → take_each items (xs ++ ys) storage
       ≡ take_each items xs storage >>= (λ a. take_each items ys storage >>= (λ b. Ok (both a b)))
   take_append [] ys = bind_ok (take_each items ys storage)
   take_append (Counter one ∷ xs) ys =
-      ap (λ (r : Evaluated InspectTaken). place_of items one storage
+      ap (λ (r : Evaluation InspectTaken). place_of items one storage
       >>= (λ place. r >>= (λ t. okay (with_counter place t)))) (take_append xs ys)
       ∙ counter_before (place_of items one storage) (take_each items xs storage) (take_each items ys storage)
   take_append (Text (Bytes one) ∷ xs) ys =
-      ap (λ (r : Evaluated InspectTaken). place_of items one storage
+      ap (λ (r : Evaluation InspectTaken). place_of items one storage
       >>= (λ place. r >>= (λ t. okay (with_text (text_at storage place) t)))) (take_append xs ys)
       ∙ item_before (place_of items one storage) (text_at storage) (take_each items xs storage)
       (take_each items ys storage)
   take_append (Text (Characters text) ∷ xs) ys =
-      ap (λ (r : Evaluated InspectTaken). r >>= (λ t. okay (with_text text t))) (take_append xs ys)
+      ap (λ (r : Evaluation InspectTaken). r >>= (λ t. okay (with_text text t))) (take_append xs ys)
       ∙ text_before text (take_each items xs storage) (take_each items ys storage)
 
   only_texts : (texts : List Source)
       → take_each items (map Text texts) storage ≡ read_all items storage texts >>= (λ a. Ok (only a))
   only_texts [] = refl
   only_texts (Bytes one ∷ more) =
-      ap (λ (r : Evaluated InspectTaken). place_of items one storage
+      ap (λ (r : Evaluation InspectTaken). place_of items one storage
       >>= (λ place. r >>= (λ t. okay (with_text (text_at storage place) t)))) (only_texts more)
       ∙ only_item (place_of items one storage) (text_at storage) (read_all items storage more)
   only_texts (Characters text ∷ more) =
-      ap (λ (r : Evaluated InspectTaken). r >>= (λ t. okay (with_text text t))) (only_texts more)
+      ap (λ (r : Evaluation InspectTaken). r >>= (λ t. okay (with_text text t))) (only_texts more)
       ∙ only_text text (read_all items storage more)
 
   -- ---- counters and their entries
 
-  entries_long : (all : List Inspected) (texts : List ℕ) (at : ℕ)
+  entries_long : (all : List InspectEntry) (texts : List ℕ) (at : ℕ)
       → length (entries_in items storage all texts at) ≡ length all
   entries_long [] texts at = refl
   entries_long (one ∷ more) texts at = ap suc (entries_long more texts (at + text_sizes items (entry_texts one)))
 
-  abbrev EntriesRead : List Inspected → List ℕ → List TextEntry → Type 0
+  abbrev EntriesRead : List InspectEntry → List ℕ → List TextEntry → Type 0
   EntriesRead all bytes entries = Reads (List TextEntry) (text_sizes items (entries_texts all)) bytes
       (entries_in items storage all) entries
 
-  read_both : (xs ys : List Inspected) (a b : List ℕ) (front back : List TextEntry) → EntriesRead xs a front
+  read_both : (xs ys : List InspectEntry) (a b : List ℕ) (front back : List TextEntry) → EntriesRead xs a front
       → EntriesRead ys b back → EntriesRead (xs ++ ys) (a ++ b) (front ++ back)
   read_both xs ys a b front back h k =
       let n = text_sizes items (entries_texts xs) in
@@ -163,8 +163,8 @@ module _ (items : List Placed) (storage : Storage) where
   abbrev made : ItemPlace → List TextEntry → List meaning.Counter
   made place entries = record { place = place; entries = entries } ∷ []
 
-  one_more : (one : Tallying) (more : List Tallying) (p : Evaluated ItemPlace) (u : Evaluated (List ℕ))
-      (v : Evaluated (List TextEntry)) (x : Evaluated InspectTaken) (y : Evaluated (List meaning.Counter))
+  one_more : (one : Tallying) (more : List Tallying) (p : Evaluation ItemPlace) (u : Evaluation (List ℕ))
+      (v : Evaluation (List TextEntry)) (x : Evaluation InspectTaken) (y : Evaluation (List meaning.Counter))
       → Alike (EntriesRead (counter_entries one)) u v → Alike (CountersTaken more) x y
       → Alike (CountersTaken (one ∷ more))
       (p >>= (λ place. ((u >>= (λ a. okay (only a))) >>= (λ a. x >>= (λ b. okay (both a b))))
@@ -206,16 +206,16 @@ module _ (items : List Placed) (storage : Storage) where
       let same : take_each items (map Text texts ++ tallying_takings more) storage
       ≡ (u >>= (λ a. okay (only a))) >>= (λ a. x >>= (λ b. okay (both a b))) =
       take_append (map Text texts) (tallying_takings more)
-      ∙ ap (λ (r : Evaluated InspectTaken). r >>= (λ a. x >>= (λ b. okay (both a b)))) (only_texts texts) in
-      subst (λ (r : Evaluated InspectTaken). Alike (CountersTaken (one ∷ more))
+      ∙ ap (λ (r : Evaluation InspectTaken). r >>= (λ a. x >>= (λ b. okay (both a b)))) (only_texts texts) in
+      subst (λ (r : Evaluation InspectTaken). Alike (CountersTaken (one ∷ more))
       (p >>= (λ place. r >>= (λ t. okay (with_counter place t))))
       (take_all (take_counter items storage) (one ∷ more))) (sym same)
       (one_more one more p u v x y (takes_counter items storage one) (counters_taken more))
 
 -- ---- sizes
 
-module _ (items : List Placed) where
-  taken_append : (xs ys : List Taking) → taken_size items (xs ++ ys) ≡ taken_size items xs + taken_size items ys
+module _ (items : List LocatedItem) where
+  taken_append : (xs ys : List InspectArgument) → taken_size items (xs ++ ys) ≡ taken_size items xs + taken_size items ys
   taken_append [] ys = omega arith
   taken_append (Counter x ∷ xs) ys = taken_append xs ys
   taken_append (Text x ∷ xs) ys = omega (arith, taken_append xs ys)
@@ -239,7 +239,7 @@ module _ (items : List Placed) where
       ∙ sizes_append items texts (entries_texts others) in
       omega (arith, a, b, c, d)
 
-  pub whole_size : (one : Inspecting)
+  pub whole_size : (one : InspectStatement)
       → inspected_size items one ≡ tallied_size items one + text_sizes items (entries_texts (all_replaced items one))
   whole_size one =
       let texts = entries_texts (all_replaced items one) in
@@ -250,17 +250,17 @@ module _ (items : List Placed) where
 
   -- ---- REPLACING's entries have what replaces.
 
-  abbrev HaveBy : List Inspected → Type 0
+  abbrev HaveBy : List InspectEntry → Type 0
   HaveBy all = AllByRecursion (λ one. one.by ≢ None) all
 
   some_is : (x : Source) → ◌≢◌ {A = Option Source} (Some x) None
   some_is x e = absurd cc
 
-  have_both : (xs ys : List Inspected) → HaveBy xs → HaveBy ys → HaveBy (xs ++ ys)
+  have_both : (xs ys : List InspectEntry) → HaveBy xs → HaveBy ys → HaveBy (xs ++ ys)
   have_both [] ys h k = k
   have_both (x ∷ xs) ys h k = (h.0, have_both xs ys h.1 k)
 
-  have_all : {A : Type 0} (inspected : A → List Inspected) → ((one : A) → HaveBy (inspected one)) → (all : List A)
+  have_all : {A : Type 0} (inspected : A → List InspectEntry) → ((one : A) → HaveBy (inspected one)) → (all : List A)
       → HaveBy (all_inspected inspected all)
   have_all inspected each [] = tt
   have_all inspected each (one ∷ more) = have_both (inspected one) (all_inspected inspected more) (each one)
@@ -275,7 +275,7 @@ module _ (items : List Placed) where
   span_has at None h = absurd (h refl)
   span_has at (Some x) h = λ e. absurd cc
 
-  entries_have : (size at : ℕ) (all : List Inspected) → HaveBy all
+  entries_have : (size at : ℕ) (all : List InspectEntry) → HaveBy all
       → AllByRecursion (IsEntry size) (entries_at items at all)
       → AllByRecursion (λ one. IsEntry size one × HasBy one) (entries_at items at all)
   entries_have size at [] h k = tt
@@ -287,12 +287,12 @@ module _ (items : List Placed) where
 -- ---- the stores
 
 store_same : (texts : List ℕ) (all : List Entry) (bytes : List ℕ) (subject : ItemPlace) (storage : Storage)
-    → replaced_subject (map (entry_of texts) all) bytes ≡ spans.replaced texts all bytes
+    → replaced_subject (map (entry_of texts) all) bytes ≡ spans.replaced_subject texts all bytes
     → store_replaced texts all bytes subject storage ≡ store_text (map (entry_of texts) all) bytes subject storage
 store_same texts [] bytes subject storage e = refl
-store_same texts (one ∷ more) bytes subject storage e = ap (λ l. storing subject l storage) (sym e)
+store_same texts (one ∷ more) bytes subject storage e = ap (λ l. storage_with subject l storage) (sym e)
 
-module _ (items : List Placed) (one : Inspecting) (storage : Storage)
+module _ (items : List LocatedItem) (one : InspectStatement) (storage : Storage)
     (tallying_within : AreWithin (inspection items one).tallying (inspected_size items one))
     (replacing_within : AreWithin (inspection items one).replacing (inspected_size items one)) where
   inspected_same : (subject : ItemPlace) (a b : InspectTaken) (counters : List meaning.Counter)
@@ -328,9 +328,9 @@ module _ (items : List Placed) (one : Inspecting) (storage : Storage)
       let many : length how.tallying
       ≡ length (meaning.all_entries counters) = sym (length-map how.tallying (entry_of texts))
       ∙ ap length tallied_are in
-      let counts : counted (tally texts how.tallying bytes) 0 how.counters
+      let counts : counted_fits (tally texts how.tallying bytes) 0 how.counters
       ≡ counter_fits counters (tallies (meaning.all_entries counters) bytes) =
-      ap (counted (tally texts how.tallying bytes) 0) (sym h.sizes)
+      ap (counted_fits (tally texts how.tallying bytes) 0) (sym h.sizes)
       ∙ sym (counts_same counters (tally texts how.tallying bytes) 0 (length how.tallying) many)
       ∙ ap (counter_fits counters)
       (sym (tallied_same texts (IsEntry (length texts)) (λ e is. is) how.tallying bytes front))
@@ -341,7 +341,7 @@ module _ (items : List Placed) (one : Inspecting) (storage : Storage)
       (replaced_same texts (λ e. IsEntry (length texts) e × HasBy e) (λ e is. is.0) how.replacing bytes back
       (λ e is. is.1))
       ∙ ap (λ l. store_text l bytes subject after) replaced_are in
-      ap (λ l. add_each l (counted (tally texts how.tallying bytes) 0 how.counters) storage
+      ap (λ l. add_each l (counted_fits (tally texts how.tallying bytes) 0 how.counters) storage
       >>= (λ after. okay (store_replaced texts how.replacing bytes subject after))) places
       ∙ ap (λ l. add_each (map (λ (c : meaning.Counter). c.place) counters) l storage
       >>= (λ after. okay (store_replaced texts how.replacing bytes subject after))) counts
@@ -349,8 +349,8 @@ module _ (items : List Placed) (one : Inspecting) (storage : Storage)
       (counter_fits counters (tallies (meaning.all_entries counters) bytes)) storage) _ _
       (λ after. ap (λ l. okay l) (store after))
 
-  taken_same : (subject : ItemPlace) (x : Evaluated InspectTaken) (u : Evaluated (List ℕ))
-      (v : Evaluated (List meaning.Counter)) (w : Evaluated (List TextEntry))
+  taken_same : (subject : ItemPlace) (x : Evaluation InspectTaken) (u : Evaluation (List ℕ))
+      (v : Evaluation (List meaning.Counter)) (w : Evaluation (List TextEntry))
       → Alike (CountersTaken items storage one.tallying) x v
       → Alike (EntriesRead items storage (all_replaced items one)) u w
       → ((x >>= (λ a. (u >>= (λ t. okay (only t))) >>= (λ b. okay (both a b))))
@@ -372,9 +372,9 @@ module _ (items : List Placed) (one : Inspecting) (storage : Storage)
       let u = read_all items storage texts in
       let how = λ (taken : InspectTaken). inspect_at (inspection items one) taken.texts taken.counters subject
       storage in
-      ap (λ (r : Evaluated InspectTaken). r >>= how)
+      ap (λ (r : Evaluation InspectTaken). r >>= how)
       (take_append items storage (tallying_takings one.tallying) (map Text texts)
-      ∙ ap (λ (r : Evaluated InspectTaken). x >>= (λ a. r >>= (λ b. okay (both a b))))
+      ∙ ap (λ (r : Evaluation InspectTaken). x >>= (λ a. r >>= (λ b. okay (both a b))))
       (only_texts items storage texts))
       ∙ taken_same subject x u (take_all (take_counter items storage) one.tallying)
       (take_all (take_replacing items storage) one.replacing)

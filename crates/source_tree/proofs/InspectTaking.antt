@@ -2,7 +2,7 @@
 use Rattle.std.proofs.Common.{◌≡◌, ℕ, ◌+◌, ◌-◌, Bool, true, false, List, [], ◌∷◌, ◌++◌, map, length, take, drop, Option, Some, None, refl, ap, sym, subst, ◌∙◌, arith, append_assoc, length-append, take_at, drop_at}
 use Rattle.std.specs.Prelude.{Ok, Err, slice_range, replicate}
 use Rattle.std.proofs.lemmas.List.{length-take, length-replicate, append-nil}
-use Rattle.items.specs.Texts.{padded, space}
+use Rattle.items.specs.Texts.{padded_text, space}
 use Rattle.text_ops.specs.declared.entry.Span.{Span}
 use Rattle.text_ops.specs.Entries.{bytes_in}
 use Rattle.source_tree.specs.declared.literal.LiteralValue.{LiteralValue}
@@ -10,57 +10,57 @@ use Rattle.source_tree.specs.declared.literal.LiteralValue.TheVariants as litera
 use Rattle.source_tree.specs.declared.reference.Reference.{Reference}
 use Rattle.source_tree.specs.declared.expression.Operand.{Operand}
 use Rattle.source_tree.specs.declared.expression.Operand.TheVariants as operand
-use Rattle.source_tree.specs.declared.inspecting.Limits.{Limits}
-use Rattle.source_tree.specs.declared.inspecting.Occurrences.{Occurrences}
-use Rattle.source_tree.specs.declared.inspecting.Occurrences.TheVariants as how
-use Rattle.source_tree.specs.declared.inspecting.TalliedText.{TalliedText}
-use Rattle.source_tree.specs.declared.inspecting.Tallied.{Tallied}
-use Rattle.source_tree.specs.declared.inspecting.Tallied.TheVariants as tallied
-use Rattle.source_tree.specs.declared.inspecting.Tallying.{Tallying}
-use Rattle.source_tree.specs.declared.inspecting.ReplacedText.{ReplacedText}
-use Rattle.source_tree.specs.declared.inspecting.Replacing.{Replacing}
-use Rattle.source_tree.specs.declared.inspecting.Replacing.TheVariants as replacing
+use Rattle.source_tree.specs.declared.inspect_statement.Limits.{Limits}
+use Rattle.source_tree.specs.declared.inspect_statement.Occurrences.{Occurrences}
+use Rattle.source_tree.specs.declared.inspect_statement.Occurrences.TheVariants as how
+use Rattle.source_tree.specs.declared.inspect_statement.TalliedText.{TalliedText}
+use Rattle.source_tree.specs.declared.inspect_statement.Tallied.{Tallied}
+use Rattle.source_tree.specs.declared.inspect_statement.Tallied.TheVariants as tallied
+use Rattle.source_tree.specs.declared.inspect_statement.Tallying.{Tallying}
+use Rattle.source_tree.specs.declared.inspect_statement.ReplacedText.{ReplacedText}
+use Rattle.source_tree.specs.declared.inspect_statement.Replacing.{Replacing}
+use Rattle.source_tree.specs.declared.inspect_statement.Replacing.TheVariants as replacing
 use Rattle.source_tree.specs.Display.{shown_literal}
 use Rattle.source_tree.specs.LookUp.{items_named, first}
-use Rattle.source_tree.specs.Places.{Placed}
+use Rattle.source_tree.specs.Places.{LocatedItem}
 use Rattle.source_tree.specs.Storage.{Storage}
-use Rattle.source_tree.specs.Evaluated.{Evaluated, ◌>>=◌, needed}
+use Rattle.source_tree.specs.Evaluated.{Evaluation, ◌>>=◌, evaluation_of}
 use Rattle.source_tree.specs.References.{ItemPlace, part_of, place_behind, bytes_before, occurrence, place_of}
 use Rattle.source_tree.specs.InspectWalk.{Pattern, AnyCharacter, Occurrence, TextEntry}
 use Rattle.source_tree.specs.Inspecting.{text_at, replacing_characters, LimitTexts, text_entry, take_all, take_text, take_by, take_limit, take_limits, take_tallied_text, take_tallied, take_replaced_text, take_replacing}
 use Rattle.source_tree.specs.InspectLayout as layout
-use Rattle.source_tree.specs.InspectLayout.{Source, Bytes, Characters, source, Taking, Counter, Text, found_size, text_size, text_sizes, replacing_literal, replacing_text, Inspected, tallied_text, replaced_text, all_inspected, tallied_entries, counter_entries, replacing_entries, limit_text, limit_texts, entry_texts, entries_texts, tallying_takings, fit_of, span_at, limit_span, before_at, after_at, entry_at, entries_at, entry_counts, InspectTaken, with_counter, with_text, take_each}
+use Rattle.source_tree.specs.InspectLayout.{Source, Bytes, Characters, source, InspectArgument, Counter, Text, found_size, text_size, text_sizes, replacing_literal, replacing_text, InspectEntry, tallied_text, replaced_text, all_inspected, tallied_entries, counter_entries, replacing_entries, limit_text, limit_texts, entry_texts, entries_texts, tallying_takings, fit_of, span_at, limit_span, before_at, after_at, entry_at, entries_at, entry_counts, InspectTaken, with_counter, with_text, take_each}
 use Rattle.source_tree.proofs.InspectWalks.{pattern_of, text_of, entry_of}
 
 -- ---- what is found out in two ways
 
 -- the same fault, or what belongs together
-abbrev pub Alike : {A B : Type 0} → (A → B → Type 0) → Evaluated A → Evaluated B → Type 0
+abbrev pub Alike : {A B : Type 0} → (A → B → Type 0) → Evaluation A → Evaluation B → Type 0
 Alike R (Ok a) (Ok b) = R a b
 Alike R (Ok a) (Err g) = ⊥
 Alike R (Err f) (Ok b) = ⊥
 Alike R (Err f) (Err g) = f ≡ g
 
-abbrev pub okay : {A : Type 0} → A → Evaluated A
+abbrev pub okay : {A : Type 0} → A → Evaluation A
 okay x = Ok x
 
 same_Ok : {A : Type 0} (x y : A) → okay x ≡ okay y → x ≡ y
 same_Ok x y e = cc
 
-pub bind_same : {A B : Type 0} (r : Evaluated A) (f g : A → Evaluated B) → ((x : A) → f x ≡ g x) → r >>= f ≡ r >>= g
+pub bind_same : {A B : Type 0} (r : Evaluation A) (f g : A → Evaluation B) → ((x : A) → f x ≡ g x) → r >>= f ≡ r >>= g
 bind_same (Ok x) f g same = same x
 bind_same (Err fault) f g same = refl
 
-pub bind_ok : {A : Type 0} (r : Evaluated A) → r ≡ r >>= (λ x. okay x)
+pub bind_ok : {A : Type 0} (r : Evaluation A) → r ≡ r >>= (λ x. okay x)
 bind_ok (Ok x) = refl
 bind_ok (Err fault) = refl
 
-bound : {A B : Type 0} (r : Evaluated A) (f : A → Evaluated B) (y : B) → r >>= f ≡ Ok y
+bound : {A B : Type 0} (r : Evaluation A) (f : A → Evaluation B) (y : B) → r >>= f ≡ Ok y
     → (x : A) × (r ≡ Ok x) × (f x ≡ Ok y)
 bound (Ok x) f y e = (x, refl, e)
 bound (Err fault) f y e = absurd cc
 
-needed_is : {A : Type 0} (o : Option A) (x : A) → needed o ≡ Ok x → o ≡ Some x
+needed_is : {A : Type 0} (o : Option A) (x : A) → evaluation_of o ≡ Ok x → o ≡ Some x
 needed_is None x e = absurd cc
 needed_is (Some y) x e = ap Some (same_Ok y x e)
 
@@ -74,19 +74,19 @@ cut front text back n e =
     ∙ ap (take n) (drop_at front (text ++ back) (length front) refl)
     ∙ take_at text back n e
 
-padded_long : (n : ℕ) (text : List ℕ) → length (padded n text) ≡ n
+padded_long : (n : ℕ) (text : List ℕ) → length (padded_text n text) ≡ n
 padded_long n text =
     let spaces = replicate (n - length text) space in
     let whole = length-append (take n text) spaces in
     let many : length spaces ≡ n - length text = length-replicate (n - length text) space in
     omega (arith, whole, length-take n text, many)
 
-module _ (items : List Placed) where
+module _ (items : List LocatedItem) where
   pub sizes_append : (xs ys : List Source) → text_sizes items (xs ++ ys) ≡ text_sizes items xs + text_sizes items ys
   sizes_append [] ys = omega arith
   sizes_append (x ∷ xs) ys = omega (arith, sizes_append xs ys)
 
-pub texts_append : (xs ys : List Inspected) → entries_texts (xs ++ ys) ≡ entries_texts xs ++ entries_texts ys
+pub texts_append : (xs ys : List InspectEntry) → entries_texts (xs ++ ys) ≡ entries_texts xs ++ entries_texts ys
 texts_append [] ys = refl
 texts_append (x ∷ xs) ys = ap (λ l. entry_texts x ++ l) (texts_append xs ys)
     ∙ sym (append_assoc (entry_texts x) (entries_texts xs) (entries_texts ys))
@@ -113,18 +113,18 @@ reads_then X Z n m a b find on x z h k = record {
       ∙ k.found (front ++ a) back;
 }
 
-module _ (items : List Placed) (storage : Storage) where
+module _ (items : List LocatedItem) (storage : Storage) where
   -- ---- texts, one after another
 
-  abbrev pub read : Source → Evaluated (List ℕ)
+  abbrev pub read : Source → Evaluation (List ℕ)
   read (Bytes one) = place_of items one storage >>= (λ place. Ok (text_at storage place))
   read (Characters text) = Ok text
 
-  abbrev pub read_all : List Source → Evaluated (List ℕ)
+  abbrev pub read_all : List Source → Evaluation (List ℕ)
   read_all [] = Ok []
   read_all (one ∷ more) = read one >>= (λ text. read_all more >>= (λ others. Ok (text ++ others)))
 
-  regroup : (r u v : Evaluated (List ℕ))
+  regroup : (r u v : Evaluation (List ℕ))
       → (r >>= (λ t. (u >>= (λ a. v >>= (λ b. okay (a ++ b)))) >>= (λ o. okay (t ++ o))))
       ≡ ((r >>= (λ t. u >>= (λ a. okay (t ++ a)))) >>= (λ a. v >>= (λ b. okay (a ++ b))))
   regroup (Err f) u v = refl
@@ -136,13 +136,13 @@ module _ (items : List Placed) (storage : Storage) where
       → read_all (xs ++ ys) ≡ read_all xs >>= (λ a. read_all ys >>= (λ b. Ok (a ++ b)))
   read_append [] ys = bind_ok (read_all ys)
   read_append (x ∷ xs) ys =
-      ap (λ (r : Evaluated (List ℕ)). read x >>= (λ t. r >>= (λ o. okay (t ++ o)))) (read_append xs ys)
+      ap (λ (r : Evaluation (List ℕ)). read x >>= (λ t. r >>= (λ o. okay (t ++ o)))) (read_append xs ys)
       ∙ regroup (read x) (read_all xs) (read_all ys)
 
   place_long : (one : Reference) (place : ItemPlace) → place_of items one storage ≡ Ok place
       → place.item.length ≡ found_size (first (items_named items one.item))
   place_long one place e =
-      let found = bound (needed (first (items_named items one.item)))
+      let found = bound (evaluation_of (first (items_named items one.item)))
       (λ it. occurrence items one.subscripts it storage) place e in
       let behind = bound (bytes_before items found.0.dimensions one.subscripts storage)
       (λ more. Ok (place_behind found.0 more)) place found.2 in
@@ -157,13 +157,13 @@ module _ (items : List Placed) (storage : Storage) where
   read_long (Characters known) text e = sym (ap length (same_Ok known text e))
 
   -- ---- What is taken is found in the bytes of these texts.
-  abbrev pub Takes : (X : Type 0) → List Source → (List ℕ → ℕ → X) → Evaluated X → Type 0
+  abbrev pub Takes : (X : Type 0) → List Source → (List ℕ → ℕ → X) → Evaluation X → Type 0
   Takes X texts find y = Alike (λ bytes x. Reads X (text_sizes items texts) bytes find x) (read_all texts) y
 
   takes_none : (X : Type 0) (x : X) → Takes X [] (λ texts at. x) (Ok x)
   takes_none X x = record { size_is = refl; found = λ front back. refl }
 
-  mapped : (X Z : Type 0) (n : ℕ) (find : List ℕ → ℕ → X) (h : X → Z) (u : Evaluated (List ℕ)) (y : Evaluated X)
+  mapped : (X Z : Type 0) (n : ℕ) (find : List ℕ → ℕ → X) (h : X → Z) (u : Evaluation (List ℕ)) (y : Evaluation X)
       → Alike (λ bytes x. Reads X n bytes find x) u y
       → Alike (λ bytes z. Reads Z n bytes (λ texts at. h (find texts at)) z) u (y >>= (λ x. Ok (h x)))
   mapped X Z n find h (Ok a) (Ok x) k = record {
@@ -174,11 +174,11 @@ module _ (items : List Placed) (storage : Storage) where
   mapped X Z n find h (Err f) (Ok x) k = k
   mapped X Z n find h (Err f) (Err g) k = k
 
-  takes_map : (X Z : Type 0) (texts : List Source) (find : List ℕ → ℕ → X) (h : X → Z) (y : Evaluated X)
+  takes_map : (X Z : Type 0) (texts : List Source) (find : List ℕ → ℕ → X) (h : X → Z) (y : Evaluation X)
       → Takes X texts find y → Takes Z texts (λ t at. h (find t at)) (y >>= (λ x. Ok (h x)))
   takes_map X Z texts find h y k = mapped X Z (text_sizes items texts) find h (read_all texts) y k
 
-  elsewhere : (X : Type 0) (n : ℕ) (find other : List ℕ → ℕ → X) (u : Evaluated (List ℕ)) (y : Evaluated X)
+  elsewhere : (X : Type 0) (n : ℕ) (find other : List ℕ → ℕ → X) (u : Evaluation (List ℕ)) (y : Evaluation X)
       → ((texts : List ℕ) (at : ℕ) → find texts at ≡ other texts at)
       → Alike (λ bytes x. Reads X n bytes find x) u y → Alike (λ bytes x. Reads X n bytes other x) u y
   elsewhere X n find other (Ok a) (Ok x) same k = record {
@@ -189,12 +189,12 @@ module _ (items : List Placed) (storage : Storage) where
   elsewhere X n find other (Err f) (Ok x) same k = k
   elsewhere X n find other (Err f) (Err g) same k = k
 
-  takes_as : (X : Type 0) (texts : List Source) (find other : List ℕ → ℕ → X) (y : Evaluated X)
+  takes_as : (X : Type 0) (texts : List Source) (find other : List ℕ → ℕ → X) (y : Evaluation X)
       → ((t : List ℕ) (at : ℕ) → find t at ≡ other t at) → Takes X texts find y → Takes X texts other y
   takes_as X texts find other y same k = elsewhere X (text_sizes items texts) find other (read_all texts) y same k
 
   behind : (X Z : Type 0) (n m k : ℕ) (find : List ℕ → ℕ → X) (on : X → List ℕ → ℕ
-      → Z) (u v : Evaluated (List ℕ)) (y : Evaluated X) (next : X → Evaluated Z) → k ≡ n + m
+      → Z) (u v : Evaluation (List ℕ)) (y : Evaluation X) (next : X → Evaluation Z) → k ≡ n + m
       → Alike (λ bytes x. Reads X n bytes find x) u y
       → ((x : X) → y ≡ Ok x → Alike (λ bytes z. Reads Z m bytes (on x) z) v (next x))
       → Alike (λ bytes z. Reads Z k bytes (λ texts at. on (find texts at) texts (at + n)) z)
@@ -204,7 +204,7 @@ module _ (items : List Placed) (storage : Storage) where
   behind X Z n m k find on (Ok a) v (Err g) next size h more = absurd h
   behind X Z n m k find on (Ok a) v (Ok x) next size h more = second v (next x) (more x refl)
     where
-      second : (v : Evaluated (List ℕ)) (w : Evaluated Z) → Alike (λ bytes z. Reads Z m bytes (on x) z) v w
+      second : (v : Evaluation (List ℕ)) (w : Evaluation Z) → Alike (λ bytes z. Reads Z m bytes (on x) z) v w
           → Alike (λ bytes z. Reads Z k bytes (λ texts at. on (find texts at) texts (at + n)) z)
           (v >>= (λ b. Ok (a ++ b))) w
       second (Err f) (Err g) l = l
@@ -214,7 +214,7 @@ module _ (items : List Placed) (storage : Storage) where
           (sym size) (reads_then X Z n m a b find on x z h l)
 
   takes_then : (X Z : Type 0) (xs ys : List Source) (find : List ℕ → ℕ → X) (on : X → List ℕ → ℕ
-      → Z) (y : Evaluated X) (next : X → Evaluated Z)
+      → Z) (y : Evaluation X) (next : X → Evaluation Z)
       → Takes X xs find y → ((x : X) → y ≡ Ok x → Takes Z ys (on x) (next x))
       → Takes Z (xs ++ ys) (λ texts at. on (find texts at) texts (at + text_sizes items xs)) (y >>= next)
   takes_then X Z xs ys find on y next h more =
@@ -224,13 +224,13 @@ module _ (items : List Placed) (storage : Storage) where
       (behind X Z (text_sizes items xs) (text_sizes items ys) (text_sizes items (xs ++ ys)) find on (read_all xs)
       (read_all ys) y next (sizes_append items xs ys) h more)
 
-  takes_nil : (X : Type 0) (xs : List Source) (find : List ℕ → ℕ → X) (y : Evaluated X) → Takes X xs find y
+  takes_nil : (X : Type 0) (xs : List Source) (find : List ℕ → ℕ → X) (y : Evaluation X) → Takes X xs find y
       → Takes X (xs ++ []) find y
   takes_nil X xs find y h = subst (λ l. Takes X l find y) (sym (append-nil xs)) h
 
   -- ---- one text
 
-  cut_from : (one : Source) (r : Evaluated (List ℕ))
+  cut_from : (one : Source) (r : Evaluation (List ℕ))
       → ((text : List ℕ) → r ≡ Ok text → length text ≡ text_size items one)
       → Alike (λ bytes text. Reads (List ℕ) (text_sizes items (one ∷ [])) bytes
       (λ texts at. bytes_in texts (span_at items at one)) text) (r >>= (λ text. Ok (text ++ []))) r
@@ -318,10 +318,10 @@ module _ (items : List Placed) (storage : Storage) where
 
   -- ---- entries
 
-  abbrev pub entries_in : List Inspected → List ℕ → ℕ → List TextEntry
+  abbrev pub entries_in : List InspectEntry → List ℕ → ℕ → List TextEntry
   entries_in all texts at = map (entry_of texts) (entries_at items at all)
 
-  abbrev pub TakesEntries : List Inspected → Evaluated (List TextEntry) → Type 0
+  abbrev pub TakesEntries : List InspectEntry → Evaluation (List TextEntry) → Type 0
   TakesEntries all y = Takes (List TextEntry) (entries_texts all) (entries_in all) y
 
   pattern_same : (kind : Occurrences) (texts : List ℕ) (span : Span)
@@ -367,7 +367,7 @@ module _ (items : List Placed) (storage : Storage) where
       → TakesEntries (record { what = layout.Any; by = None; limits = one } ∷ [])
       (take_tallied items storage (tallied.Characters one))
   takes_any one =
-      let all : List Inspected = record { what = layout.Any; by = None; limits = one } ∷ [] in
+      let all : List InspectEntry = record { what = layout.Any; by = None; limits = one } ∷ [] in
       let taken = take_tallied items storage (tallied.Characters one) in
       takes_nil (List TextEntry) (limit_texts one) (entries_in all) taken
       (takes_as (List TextEntry) (limit_texts one)
@@ -398,7 +398,7 @@ module _ (items : List Placed) (storage : Storage) where
       let text = source one.text in
       let by = replacing_text (text_size items text) one.by in
       let behind_text = by ∷ limit_texts one.limits in
-      let all : List Inspected = replaced_text items kind one ∷ [] in
+      let all : List InspectEntry = replaced_text items kind one ∷ [] in
       let taken = take_replaced_text items storage kind one in
       let find = λ (texts : List ℕ) (at : ℕ). bytes_in texts (span_at items at text) in
       let on = λ (found texts : List ℕ) (at : ℕ).
@@ -428,7 +428,7 @@ module _ (items : List Placed) (storage : Storage) where
       (take_replacing items storage (replacing.Characters by one))
   takes_any_by by one =
       let text = replacing_text 1 by in
-      let all : List Inspected = record { what = layout.Any; by = Some text; limits = one } ∷ [] in
+      let all : List InspectEntry = record { what = layout.Any; by = Some text; limits = one } ∷ [] in
       let taken = take_replacing items storage (replacing.Characters by one) in
       takes_nil (List TextEntry) (text ∷ limit_texts one) (entries_in all) taken
       (takes_as (List TextEntry) (text ∷ limit_texts one)
@@ -442,7 +442,7 @@ module _ (items : List Placed) (storage : Storage) where
 
   -- ---- lists of them
 
-  pub entries_append : (xs ys : List Inspected) (texts : List ℕ) (at : ℕ)
+  pub entries_append : (xs ys : List InspectEntry) (texts : List ℕ) (at : ℕ)
       → entries_in (xs ++ ys) texts at
       ≡ entries_in xs texts at ++ entries_in ys texts (at + text_sizes items (entries_texts xs))
   entries_append [] ys texts at = ap (entries_in ys texts) (omega arith)
@@ -454,7 +454,7 @@ module _ (items : List Placed) (storage : Storage) where
       ap (λ l. entry_of texts (entry_at items at x) ∷ l) (entries_append xs ys texts next
       ∙ ap (λ k. entries_in xs texts next ++ entries_in ys texts k) here)
 
-  takes_both : (xs ys : List Inspected) (y z : Evaluated (List TextEntry)) → TakesEntries xs y → TakesEntries ys z
+  takes_both : (xs ys : List InspectEntry) (y z : Evaluation (List TextEntry)) → TakesEntries xs y → TakesEntries ys z
       → TakesEntries (xs ++ ys) (y >>= (λ front. z >>= (λ back. Ok (front ++ back))))
   takes_both xs ys y z h k =
       let next = λ (front : List TextEntry). z >>= (λ back. okay (front ++ back)) in
@@ -468,7 +468,7 @@ module _ (items : List Placed) (storage : Storage) where
       (λ front is. takes_map (List TextEntry) (List TextEntry) (entries_texts ys) (entries_in ys)
       (λ back. front ++ back) z k)))
 
-  takes_all : {A : Type 0} (inspected : A → List Inspected) (take_one : A → Evaluated (List TextEntry))
+  takes_all : {A : Type 0} (inspected : A → List InspectEntry) (take_one : A → Evaluation (List TextEntry))
       → ((one : A) → TakesEntries (inspected one) (take_one one))
       → (all : List A) → TakesEntries (all_inspected inspected all) (take_all take_one all)
   takes_all inspected take_one each [] = takes_none (List TextEntry) []

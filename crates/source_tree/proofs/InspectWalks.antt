@@ -17,10 +17,10 @@ use Rattle.text_ops.specs.declared.progress.Fitted.{Fitted}
 use Rattle.text_ops.specs.Places.{first_place}
 use Rattle.text_ops.specs.Entries.{bytes_in, fit_length, IsSpan, IsFit, IfSpan, IsBy, IsEntry}
 use Rattle.text_ops.specs.Walk as spans
-use Rattle.text_ops.specs.Walk.{stands, passed, later, after, size_of, walk as walk_spans}
-use Rattle.text_ops.specs.Inspect.{count_of, replacement, written, with_each, tally, replaced as replaced_spans}
-use Rattle.source_tree.specs.declared.inspecting.Occurrences.TheVariants as how
-use Rattle.source_tree.specs.InspectWalk.{Pattern, AnyCharacter, Occurrence, TextEntry, ActiveEntry, pattern_size, first_after, end_before, entry_at_start, may_fit, is_met, fits, after_fit, FirstFit, with_entry, first_fit, WalkResult, behind_text, walk_on, walk, tallies, replaced_subject}
+use Rattle.text_ops.specs.Walk.{fits_at, progress_after, later, walk_after, size_of, walk as walk_spans}
+use Rattle.text_ops.specs.Inspect.{count_of, replacement, text_written_at, with_each, tally, replaced_subject as replaced_spans}
+use Rattle.source_tree.specs.declared.inspect_statement.Occurrences.TheVariants as how
+use Rattle.source_tree.specs.InspectWalk.{Pattern, AnyCharacter, Occurrence, TextEntry, ActiveEntry, pattern_size, first_place_after, end_before, entry_at_start, may_fit, is_met, fits, after_fit, FirstFit, with_active_entry, first_fit, WalkResult, behind_text, walk_on, walk, tallies, replaced_subject}
 
 -- ---- plain facts
 
@@ -145,7 +145,7 @@ module _ (texts : List ℕ) where
 
   met : (what : Fit) (p : Progress) (one : ActiveEntry) (at : ℕ) (rest : List ℕ) → IsFit (length texts) what
       → IsAsFar what p.first p.limit one
-      → (leb (at + fit_length what) p.limit && stands texts p what at rest)
+      → (leb (at + fit_length what) p.limit && fits_at texts p what at rest)
       ≡ (leb (at + pattern_size (pattern_of what)) one.limit && (leb one.first at && is_met (pattern_of what) one at
       rest))
   met f.Characters p one at rest is far = at_one at p.first p.limit one.first one.limit far.0 far.1
@@ -163,7 +163,7 @@ module _ (texts : List ℕ) where
 
   -- ---- behind a fit
 
-  entry_stays : (p : Progress) (what : Fit) (at : ℕ) → (passed p what at).entry ≡ p.entry
+  entry_stays : (p : Progress) (what : Fit) (at : ℕ) → (progress_after p what at).entry ≡ p.entry
   entry_stays p f.Characters at = refl
   entry_stays p (f.All text) at = refl
   entry_stays p (f.Leading text) at = refl
@@ -171,7 +171,7 @@ module _ (texts : List ℕ) where
 
   behind_fit : (what : Fit) (p : Progress) (one : ActiveEntry) (at : ℕ)
       → pattern_size one.entry.pattern ≡ fit_length what → IsAsFar what p.first p.limit one → one.first ≤ at
-      → IsAsFar what (passed p what at).first (passed p what at).limit (after_fit one at)
+      → IsAsFar what (progress_after p what at).first (progress_after p what at).limit (after_fit one at)
   behind_fit f.Characters p one at size far le = far
   behind_fit (f.All span) p one at size far le = far
   behind_fit (f.Leading span) p one at size far le = (ap (λ n. at + n) (sym size), far.1, omega (arith, le))
@@ -263,7 +263,7 @@ skipped_some c rest active at n h =
 
 -- behind what is done a text is put in the place of as many characters
 put_behind : (done by left : List ℕ) (at : ℕ) → length done ≡ at
-    → written at by (done ++ left) ≡ (done ++ by) ++ drop (length by) left
+    → text_written_at at by (done ++ left) ≡ (done ++ by) ++ drop (length by) left
 put_behind done by left at e =
     ap (λ l. (l ++ by) ++ drop (at + length by) (done ++ left)) (take_at done left at e)
     ∙ ap (λ l. (done ++ by) ++ l) (sym (drop-drop (length by) at (done ++ left))
@@ -299,12 +299,12 @@ module _ (texts : List ℕ) (K : Entry → Type 0) (is_entry : (one : Entry) →
       (leb one.first at && is_met e.pattern one at rest)) (sym h.entry)
 
   follows_on : (p : Progress) (one : ActiveEntry) (at : ℕ) (rest : List ℕ) → Follows p one → fits one at rest ≡ true
-      → Follows (passed p p.entry.fit at) (after_fit one at)
+      → Follows (progress_after p p.entry.fit at) (after_fit one at)
   follows_on p one at rest h e =
       let here = right_true (leb (at + pattern_size one.entry.pattern) one.limit)
       (leb one.first at && is_met one.entry.pattern one at rest) e in
       let le = leb-true one.first at (left_true (leb one.first at) (is_met one.entry.pattern one at rest) here) in
-      let q = passed p p.entry.fit at in
+      let q = progress_after p p.entry.fit at in
       let stays : p.entry ≡ q.entry = sym (entry_stays texts p p.entry.fit at) in
       record {
         keeps = subst K stays h.keeps;
@@ -317,7 +317,7 @@ module _ (texts : List ℕ) (K : Entry → Type 0) (is_entry : (one : Entry) →
     keeps : K g.progress.entry
     entry : h.entry ≡ entry_of texts g.progress.entry
     place : g.at ≡ at
-    active : Follow (after ps (Some g)) h.active
+    active : Follow (walk_after ps (Some g)) h.active
     counts : map count_in h.active ≡ raised (map count_in all) g.number
 
   abbrev AreFound : List Progress → List ActiveEntry → ℕ → Option Fitted → Option FirstFit → Type 0
@@ -329,13 +329,13 @@ module _ (texts : List ℕ) (K : Entry → Type 0) (is_entry : (one : Entry) →
   found_later : (p : Progress) (ps : List Progress) (one : ActiveEntry) (all : List ActiveEntry) (at : ℕ)
       (o : Option Fitted) (q : Option FirstFit)
       → Follows p one → AreFound ps all at o q
-      → AreFound (p ∷ ps) (one ∷ all) at (option_map later o) (option_map (with_entry one) q)
+      → AreFound (p ∷ ps) (one ∷ all) at (option_map later o) (option_map (with_active_entry one) q)
   found_later p ps one all at None None h found = tt
   found_later p ps one all at None (Some b) h found = absurd found
   found_later p ps one all at (Some a) None h found = absurd found
   found_later p ps one all at (Some a) (Some b) h found =
       let further : a.number + 1 ≡ suc a.number = add-one a.number in
-      let there = passed a.progress a.progress.entry.fit a.at in
+      let there = progress_after a.progress a.progress.entry.fit a.at in
       record {
         keeps = found.keeps;
         entry = found.entry;
@@ -350,7 +350,7 @@ module _ (texts : List ℕ) (K : Entry → Type 0) (is_entry : (one : Entry) →
       → fits one at rest ≡ b → Follows p one → Follow ps all → AreFound ps all at o q
       → AreFound (p ∷ ps) (one ∷ all) at (cond b (Some (record { number = 0; progress = p; at = at }))
       (option_map later o))
-      (cond b (Some (record { entry = one.entry; active = after_fit one at ∷ all })) (option_map (with_entry one) q))
+      (cond b (Some (record { entry = one.entry; active = after_fit one at ∷ all })) (option_map (with_active_entry one) q))
   found_first true p ps one all at rest o q e h others found =
       record {
         keeps = h.keeps;
@@ -415,7 +415,7 @@ module _ (texts : List ℕ) (K : Entry → Type 0) (is_entry : (one : Entry) →
         let by = replacement texts one.by in
         let size : length by ≡ size_of g = by_size one (is_entry one found.keeps) (has one found.keeps) in
         let next : length (done ++ by) ≡ at + size_of g = omega (arith, length-append done by, e, size) in
-        ap (λ n. with_each texts all (written n by (done ++ rest))) found.place
+        ap (λ n. with_each texts all (text_written_at n by (done ++ rest))) found.place
         ∙ ap (with_each texts all) (put_behind done by rest at e ∙ ap (λ n. (done ++ by) ++ drop n rest) size)
         ∙ walks.text has (done ++ by) next
         ∙ append_assoc done by w.text
@@ -445,9 +445,9 @@ module _ (texts : List ℕ) (K : Entry → Type 0) (is_entry : (one : Entry) →
       let further : walk rest b.active (at + 1) (pattern_size b.entry.pattern - 1)
       ≡ walk (drop size (c ∷ rest)) b.active (at + size) 0 =
       ap (λ n. walk rest b.active (at + 1) (n - 1)) long ∙ skipped_some c rest b.active at size some in
-      let more = on (after ps (Some a)) b.active (at + size) (drop size (c ∷ rest)) found.active
+      let more = on (walk_after ps (Some a)) b.active (at + size) (drop size (c ∷ rest)) found.active
       (omega (arith, length-drop size (c ∷ rest), le, some)) in
-      subst (λ w. Walks (a ∷ walk_spans depth texts (after ps (Some a)) (at + size) (drop size (c ∷ rest))) active
+      subst (λ w. Walks (a ∷ walk_spans depth texts (walk_after ps (Some a)) (at + size) (drop size (c ∷ rest))) active
       (behind_text b.entry.by w) at (c ∷ rest)) (sym further)
       (past_fit a _ ps active b _ at (c ∷ rest) found more)
 
@@ -464,12 +464,12 @@ module _ (texts : List ℕ) (K : Entry → Type 0) (is_entry : (one : Entry) →
   -- ---- from the left
 
   after_same : (one : Option Span) (subject : List ℕ) → IfSpan (length texts) one
-      → spans.first_after texts one subject ≡ first_after (text_of texts one) subject
+      → spans.first_place_after texts one subject ≡ first_place_after (text_of texts one) subject
   after_same None subject is = refl
   after_same (Some span) subject is = behind (first_place (bytes_in texts span) subject)
     where
       behind : (o : Option ℕ)
-          → spans.behind span.length (length subject) o
+          → spans.end_of_first span.length (length subject) o
           ≡ unwrap_or (option_map (λ at. at + length (bytes_in texts span)) o) (length subject)
       behind None = refl
       behind (Some at) = ap (λ n. at + n) (sym (span_size texts span is))
@@ -493,7 +493,7 @@ module _ (texts : List ℕ) (K : Entry → Type 0) (is_entry : (one : Entry) →
   begins (f.First span) first limit one e h none = (e, h ∙ sym (ap (left texts one.limit) none))
 
   follows_begun : (one : Entry) (subject : List ℕ) → K one
-      → Follows (spans.begun texts subject one) (entry_at_start subject (entry_of texts one))
+      → Follows (spans.initial_progress texts subject one) (entry_at_start subject (entry_of texts one))
   follows_begun one subject k = record {
     keeps = k;
     entry = refl;
@@ -502,7 +502,7 @@ module _ (texts : List ℕ) (K : Entry → Type 0) (is_entry : (one : Entry) →
   }
 
   follow_begun : (all : List Entry) (subject : List ℕ) → AllByRecursion K all
-      → Follow (map (spans.begun texts subject) all) (map (entry_at_start subject) (map (entry_of texts) all))
+      → Follow (map (spans.initial_progress texts subject) all) (map (entry_at_start subject) (map (entry_of texts) all))
   follow_begun [] subject h = tt
   follow_begun (one ∷ more) subject h = (follows_begun one subject h.0, follow_begun more subject h.1)
 

@@ -11,7 +11,7 @@ use Rattle.records.specs.declared.select.Access.{Access}
 use Rattle.records.specs.declared.select.Access.TheVariants.{Sequential, Random, Dynamic}
 use Rattle.records.specs.declared.verb.OpenMode.TheVariants.{Input, Output, InputOutput}
 use Rattle.records.specs.Rows.{Row}
-use Rattle.records.specs.Files.{Files, Named}
+use Rattle.records.specs.Files.{Files, NamedFile}
 use Rattle.source_tree.specs.declared.condition.Relation.TheVariants.{Equal, Greater, GreaterOrEqual}
 use Rattle.source_tree.specs.declared.entry.Entry.{Entry}
 use Rattle.source_tree.specs.declared.select.Select.{Select}
@@ -37,7 +37,7 @@ runs access alternates statements = meaning (of_file (indexed access "K" alterna
 abbrev told : Access → List AlternateKeyClause → List (Verb Statement) → List (List ℕ)
 told access alternates statements = statuses (runs access alternates statements).events
 
-abbrev rows_of : List Named → List (List ℕ)
+abbrev rows_of : List NamedFile → List (List ℕ)
 rows_of [] = []
 rows_of (one ∷ more) = map (λ (row : Row). row.bytes) one.file.rows
 

@@ -9,23 +9,23 @@ use Rattle.source_tree.specs.declared.entry.Entry.{Entry}
 use Rattle.source_tree.specs.declared.reference.Subscript.{Subscript}
 use Rattle.source_tree.specs.declared.reference.Reference.{Reference}
 use Rattle.source_tree.specs.declared.expression.Operand.{Operand}
-use Rattle.source_tree.specs.Broken.{Broken}
+use Rattle.source_tree.specs.Broken.{RuleBreach}
 use Rattle.source_tree.specs.Places.{items_of}
 use Rattle.source_tree.specs.Starts.{areas_at_start}
 use Rattle.source_tree.specs.Storage.{Storage}
 use Rattle.source_tree.specs.Evaluated as fault
-use Rattle.source_tree.specs.Evaluated.{Evaluated, ◌>>=◌}
+use Rattle.source_tree.specs.Evaluated.{Evaluation, ◌>>=◌}
 use Rattle.source_tree.specs.LookUp.{conditions_named}
-use Rattle.source_tree.specs.NameRules.{item_rules, any_item}
+use Rattle.source_tree.specs.NameRules.{reference_rules, any_item}
 use Rattle.source_tree.specs.MoveRules.{move_rules}
 use Rattle.source_tree.specs.TextRules.{display_rules, accept_line_rules, accept_date_rules}
 use Rattle.source_tree.specs.Moving.{move}
-use Rattle.source_tree.specs.Showing.{displayed}
+use Rattle.source_tree.specs.Showing.{displayed_bytes}
 use Rattle.source_tree.specs.Accepting.{next_line, accept_line, accept_date}
 use Rattle.source_tree.proofs.Samples.{group, item, unnamed, redefining, occurring, valued, binary, packed, signed, justified, blank, entries, one_value, condition, number, minus, decimal, signed_number, text, constant, all, qualified, reference, plain, counted, by_item, the_item, the_literal}
 unfoldable use Rattle.source_tree.proofs.Computing.{computing}
 
-abbrev rules : List Broken → List ℕ
+abbrev rules : List RuleBreach → List ℕ
 rules = map (λ one. one.rule)
 
 -- ---- names: G of A and of T OCCURS 3 with the condition name FULL, H of U of A, N PIC 9V9, M PIC 9, and L of C OCCURS 2 with FULL
@@ -47,7 +47,7 @@ some_entries = entries (
 abbrev Broke : List (List ℕ × List (List ℕ) × List Subscript × List ℕ) → Type 0
 Broke [] = Unit {0}
 Broke (row ∷ more) =
-    (rules (item_rules (items_of some_entries) any_item (record { item = qualified row.0 row.1; subscripts = row.2 })) ≡ row.3) × Broke more
+    (rules (reference_rules (items_of some_entries) any_item (record { item = qualified row.0 row.1; subscripts = row.2 })) ≡ row.3) × Broke more
 
 -- 40 unknown, or a condition name; 41 ambiguous; 50 number of subscripts; 51 decimals in a subscript
 names : Broke ((codes "Z", [], [], 40 ∷ [])
@@ -124,7 +124,7 @@ permitted = (refl, (refl, (refl, (refl, (refl, (refl, (refl, (refl, (refl, (refl
 
 -- ---- MOVE: one item, a sender, and the item's bytes
 
-abbrev after : List Entry → Operand → List Reference → Evaluated Storage
+abbrev after : List Entry → Operand → List Reference → Evaluation Storage
 after all sender receivers = move (items_of all) sender receivers (areas_at_start all)
 
 abbrev Moves : List (ItemEntry × Operand × List ℕ) → Type 0
@@ -183,8 +183,8 @@ past_the_table = refl
 abbrev under_redefines : List Entry
 under_redefines = entries (item (codes "01") (codes "A") (codes "99") ∷ redefining (codes "A") (item (codes "01") (codes "B") (codes "XX")) ∷ [])
 
-abbrev shows : List Operand → Evaluated (List ℕ)
-shows operands = displayed (items_of under_redefines) operands true (codes "xy" ∷ [])
+abbrev shows : List Operand → Evaluation (List ℕ)
+shows operands = displayed_bytes (items_of under_redefines) operands true (codes "xy" ∷ [])
 
 shows_bytes : shows (the_item (codes "B") ∷ []) ≡ Ok (codes "xy" ++ 10 ∷ [])
 unfolding computing
@@ -201,7 +201,7 @@ bad_second = refl
 -- S9(3)V99 with -1.5, V99 with .5, 9(4) COMP with 7, a group of them as its bytes, and literals as written
 abbrev Shows : List (List Entry × Operand × List ℕ) → Type 0
 Shows [] = Unit {0}
-Shows (row ∷ more) = (displayed (items_of row.0) (row.1 ∷ []) false (areas_at_start row.0) ≡ Ok row.2) × Shows more
+Shows (row ∷ more) = (displayed_bytes (items_of row.0) (row.1 ∷ []) false (areas_at_start row.0) ≡ Ok row.2) × Shows more
 
 shown_items : Shows ((entries (valued (signed_number sign.Minus (codes "1") (codes "5")) (item (codes "77") (codes "A") (codes "S9(3)V99")) ∷ []), the_item (codes "A"), codes "-001.50")
     ∷ (entries (valued (decimal [] (codes "5")) (item (codes "77") (codes "A") (codes "V99")) ∷ []), the_item (codes "A"), codes ".50")
@@ -219,7 +219,7 @@ shown_items = (refl, (refl, (refl, (refl, (refl, (refl, (refl, tt)))))))
 abbrev one_item : List ℕ → List Entry
 one_item picture = entries (item (codes "77") (codes "A") picture ∷ [])
 
-abbrev accepts : List (List ℕ) → Evaluated Storage
+abbrev accepts : List (List ℕ) → Evaluation Storage
 accepts lines = accept_line (items_of (one_item (codes "X(4)"))) (next_line lines) (plain (codes "A")) (codes "QQQQ" ∷ [])
 
 shorter_line : accepts (codes "AB" ∷ codes "ABCDEF" ∷ []) ≡ Ok (codes "AB  " ∷ [])
@@ -239,7 +239,7 @@ line_as_bytes : accept_line (items_of (one_item (codes "9(3)"))) (codes "7") (pl
 unfolding computing
 line_as_bytes = refl
 
-abbrev dated : List ℕ → Evaluated Storage
+abbrev dated : List ℕ → Evaluation Storage
 dated picture = accept_date (items_of (one_item picture)) (codes "850917") (plain (codes "A")) (areas_at_start (one_item picture))
 
 whole_date : dated (codes "9(6)") ≡ Ok (codes "850917" ∷ [])

@@ -3,15 +3,15 @@ use Rattle.std.proofs.Common.{◌≡◌, ℕ, zero, suc, false, List, [], ◌∷
 use Rattle.std.specs.Prelude.{codes, map, ◌<◌, Option, All}
 use Rattle.station.specs.State.{Shown}
 use Rattle.lexical.specs.declared.place.Place.{Place}
-use Rattle.perform_order.specs.declared.performed.PerformedRange.{PerformedRange}
-use Rattle.perform_order.specs.Order.{AllFall, heights}
+use Rattle.perform_graph.specs.declared.performed.PerformedRange.{PerformedRange}
+use Rattle.perform_graph.specs.Order.{AllDecrease, rank_in}
 use Rattle.source_tree.specs.declared.name.Name.{Name}
-use Rattle.source_tree.specs.declared.performing.Performed.TheVariants.{Procedures}
-use Rattle.source_tree.specs.declared.performing.Turns.{Turns}
-use Rattle.source_tree.specs.declared.performing.Turns.TheVariants.{Once, Times}
+use Rattle.source_tree.specs.declared.perform_statement.Performed.TheVariants.{Procedures}
+use Rattle.source_tree.specs.declared.perform_statement.Repetition.{Repetition}
+use Rattle.source_tree.specs.declared.perform_statement.Repetition.TheVariants.{Once, Times}
 use Rattle.source_tree.specs.declared.expression.Operand.TheVariants as operand
-use Rattle.source_tree.specs.declared.text.Text.TheVariants as text_as
-use Rattle.source_tree.specs.declared.ending.Ending.TheVariants as ending
+use Rattle.source_tree.specs.declared.text_statement.TextStatement.TheVariants as text_as
+use Rattle.source_tree.specs.declared.control_statement.ControlStatement.TheVariants as ending
 use Rattle.source_tree.specs.declared.statement.Verb.TheVariants as verb
 use Rattle.source_tree.specs.declared.statement.Statement.{Statement, out-Statement, roll-Statement}
 use Rattle.source_tree.specs.declared.statement.Statement.TheOpen.{Statement-F}
@@ -19,7 +19,7 @@ use Rattle.source_tree.specs.declared.statement.Statement.TheFolds.{map-Statemen
 use Rattle.source_tree.specs.declared.program.Paragraph.{Paragraph}
 use Rattle.source_tree.specs.declared.program.Section.{Section}
 use Rattle.source_tree.specs.declared.program.Program.{Program}
-use Rattle.source_tree.specs.Broken.{Broken}
+use Rattle.source_tree.specs.Broken.{RuleBreach}
 use Rattle.source_tree.specs.State.{Stopped, Budget}
 use Rattle.source_tree.specs.Procedures.{Range, Procedure, procedures_of, range_of}
 use Rattle.source_tree.specs.PerformRules.{procedure_name_rules, range_rules}
@@ -100,10 +100,10 @@ no_last = refl
 
 -- ---- rules
 
-abbrev broken : ℕ → Place → Broken
+abbrev broken : ℕ → Place → RuleBreach
 broken rule place = record { rule = rule; place = place }
 
-abbrev rules : List Section → List ℕ → Option Name → List Broken
+abbrev rules : List Section → List ℕ → Option Name → List RuleBreach
 rules sections called to = range_rules all_permitted (procedures_of sections) (first called) to
 
 -- MAIN THRU T breaks none, and neither do the names that are given
@@ -141,16 +141,16 @@ ambiguous = refl
 
 -- ---- runs
 
-abbrev perform : ℕ → List ℕ → Option Name → Turns → Statement
+abbrev perform : ℕ → List ℕ → Option Name → Repetition → Statement
 perform line called to often =
-    roll-Statement (record { place = at line 12; verb = verb.Performing (record { performed = Procedures (first called) to; turns = often }) })
+    roll-Statement (record { place = at line 12; verb = verb.PerformStatement (record { performed = Procedures (first called) to; turns = often }) })
 
 -- DISPLAY of a text with NO ADVANCING
 abbrev show : ℕ → List ℕ → Statement
 show line bytes = display (at line 12) (text bytes ∷ []) false
 
 abbrev exit : ℕ → Statement
-exit line = roll-Statement (record { place = at line 12; verb = verb.Ending ending.Exit })
+exit line = roll-Statement (record { place = at line 12; verb = verb.ControlStatement ending.Exit })
 
 abbrev of_paragraphs : List Paragraph → Program
 of_paragraphs paragraphs = record { name = given 0 (codes "CALLS"); selects = []; files = []; storage = []; sections = outside paragraphs ∷ [] }
@@ -205,13 +205,13 @@ here = procedures_of calls.sections
 
 main_performs : statement_performs here (perform 2 (codes "A") (Some (last (codes "C"))) Once) ≡ performance (at 9 20) (range 1 3) ∷ []
 main_performs =
-    performs_is here (record { place = at 2 12; verb = verb.Performing (record { performed = Procedures (first (codes "A")) (Some (last (codes "C"))); turns = Once }) })
+    performs_is here (record { place = at 2 12; verb = verb.PerformStatement (record { performed = Procedures (first (codes "A")) (Some (last (codes "C"))); turns = Once }) })
 
 b_performs : statement_performs here (perform 8 (codes "C") None Once) ≡ performance (at 9 20) (range 3 3) ∷ []
-b_performs = performs_is here (record { place = at 8 12; verb = verb.Performing (record { performed = Procedures (first (codes "C")) None; turns = Once }) })
+b_performs = performs_is here (record { place = at 8 12; verb = verb.PerformStatement (record { performed = Procedures (first (codes "C")) None; turns = Once }) })
 
 stop_performs : statement_performs here (stop_run (at 3 12)) ≡ []
-stop_performs = performs_is here (record { place = at 3 12; verb = verb.Ending ending.StopRun })
+stop_performs = performs_is here (record { place = at 3 12; verb = verb.ControlStatement ending.StopRun })
 
 show_performs : (line : ℕ) (bytes : List ℕ) → statement_performs here (show line bytes) ≡ []
 show_performs line bytes =
@@ -241,7 +241,7 @@ low (suc (suc zero)) other within = omega arith
 low (suc (suc (suc zero))) other within = omega arith
 low (suc (suc (suc (suc more)))) other within = absurd (omega arith)
 
-lower : AllFall (heights steps) (performed_range 0 1 3 ∷ performed_range 2 3 3 ∷ [])
+lower : AllDecrease (rank_in steps) (performed_range 0 1 3 ∷ performed_range 2 3 3 ∷ [])
 lower zero other within zero is = let behind_main = is.first in absurd (omega arith)
 lower zero other within (suc zero) is = omega arith
 lower zero other within (suc (suc zero)) is = omega arith
@@ -256,4 +256,4 @@ lower (suc (suc more)) other within paragraph is = absurd (omega arith)
 
 calls_have_an_order : HasOrder calls
 calls_have_an_order =
-    (steps, record { one_each = refl; below = low; fall = subst (AllFall (heights steps)) (sym (ap (map (λ one. one.1)) calls_perform)) lower })
+    (steps, record { one_each = refl; below = low; fall = subst (AllDecrease (rank_in steps)) (sym (ap (map (λ one. one.1)) calls_perform)) lower })

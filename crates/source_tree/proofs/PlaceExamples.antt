@@ -5,16 +5,16 @@ use Rattle.source_tree.specs.declared.entry.SignPosition.TheVariants as position
 use Rattle.source_tree.specs.declared.literal.Figurative.TheVariants as figurative
 use Rattle.source_tree.specs.declared.reference.Subscript.{Subscript}
 use Rattle.source_tree.specs.declared.entry.Entry.{Entry}
-use Rattle.source_tree.specs.Places.{Placed, items_of}
+use Rattle.source_tree.specs.Places.{LocatedItem, items_of}
 use Rattle.source_tree.specs.Evaluated as fault
-use Rattle.source_tree.specs.Evaluated.{Evaluated, ◌>>=◌}
+use Rattle.source_tree.specs.Evaluated.{Evaluation, ◌>>=◌}
 use Rattle.source_tree.specs.References.{place_of}
 use Rattle.source_tree.specs.Starts.{areas_at_start}
 use Rattle.source_tree.proofs.Samples.{group, item, unnamed, redefining, occurring, valued, binary, packed, signed, justified, blank, entries, number, minus, decimal, text, constant, all, reference, counted, by_item, by_item_less, by_item_more}
 unfoldable use Rattle.source_tree.proofs.Computing.{computing}
 
 -- its area, its offset, its length
-abbrev seen : Placed → ℕ × ℕ × ℕ
+abbrev seen : LocatedItem → ℕ × ℕ × ℕ
 seen one = (one.area, one.offset, one.item.length)
 
 abbrev places : List Entry → List (ℕ × ℕ × ℕ)
@@ -77,7 +77,7 @@ table = entries (
     ∷ valued (number (codes "2")) (item (codes "77") (codes "I") (codes "9"))
     ∷ [])
 
-abbrev dimensions : Placed → List (ℕ × ℕ)
+abbrev dimensions : LocatedItem → List (ℕ × ℕ)
 dimensions one = map (λ d. (d.stride, d.count)) one.dimensions
 
 -- 24 bytes; of C from one row to the next 8, from one column to the next 2
@@ -89,7 +89,7 @@ table_dimensions : map dimensions (items_of table) ≡ [] ∷ ((8, 3) ∷ []) �
 unfolding computing
 table_dimensions = refl
 
-abbrev offset_of : List ℕ → List Subscript → Evaluated (ℕ × ℕ)
+abbrev offset_of : List ℕ → List Subscript → Evaluation (ℕ × ℕ)
 offset_of called subscripts =
     place_of (items_of table) (reference called subscripts) (areas_at_start table) >>= (λ place. Ok (place.offset, place.item.length))
 

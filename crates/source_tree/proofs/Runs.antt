@@ -2,25 +2,25 @@
 -- doesn't end for want of it does the same and has so much more left.
 use Rattle.std.proofs.Common.{◌≡◌, ℕ, zero, suc, ◌+◌, ◌≤◌, List, [], ◌∷◌, refl, sym, ap, subst, arith}
 use Rattle.std.specs.Prelude.{Bool, true, false, Option, Some, None, Ok, Err}
-use Rattle.source_tree.specs.declared.text.Text.{Text}
-use Rattle.source_tree.specs.declared.text.Text.TheVariants as text
-use Rattle.source_tree.specs.declared.ending.Ending.{Ending}
-use Rattle.source_tree.specs.declared.ending.Ending.TheVariants as ending
-use Rattle.source_tree.specs.declared.performing.Performed.{Performed}
-use Rattle.source_tree.specs.declared.performing.Performed.TheVariants.{Procedures, Statements}
+use Rattle.source_tree.specs.declared.text_statement.TextStatement.{TextStatement}
+use Rattle.source_tree.specs.declared.text_statement.TextStatement.TheVariants as text
+use Rattle.source_tree.specs.declared.control_statement.ControlStatement.{ControlStatement}
+use Rattle.source_tree.specs.declared.control_statement.ControlStatement.TheVariants as ending
+use Rattle.source_tree.specs.declared.perform_statement.Performed.{Performed}
+use Rattle.source_tree.specs.declared.perform_statement.Performed.TheVariants.{Procedures, Statements}
 use Rattle.source_tree.specs.Storage.{Storage}
-use Rattle.source_tree.specs.Places.{Placed}
-use Rattle.source_tree.specs.Evaluated.{Evaluated}
-use Rattle.source_tree.specs.State.{State, Stopped, Budget, Faulted, Outcome, Done, Over, showing, then_do, in_turn, spend_from, spend, with_value, changing, outcome_state}
-use Rattle.source_tree.specs.Showing.{displayed}
+use Rattle.source_tree.specs.Places.{LocatedItem}
+use Rattle.source_tree.specs.Evaluated.{Evaluation}
+use Rattle.source_tree.specs.State.{State, Stopped, Budget, Faulted, Outcome, Done, Over, state_after_output, then_do, in_turn, spend_from, spend, with_value, change_outcome, outcome_state}
+use Rattle.source_tree.specs.Showing.{displayed_bytes}
 use Rattle.source_tree.specs.Procedures.{Range, Procedure, range_of}
 use Rattle.source_tree.specs.Texts.{texts}
 use Rattle.source_tree.specs.Accepting.{next_line, later_lines, accept_line, accept_date}
-use Rattle.source_tree.specs.Arithmetic.{Stored, operation, is_there, in_phrase, phrase_for, calculating}
-use Rattle.source_tree.specs.Stringing.{Strings, string, stringing}
+use Rattle.source_tree.specs.Arithmetic.{StoreResult, operation, is_there, in_phrase, phrase_for, arithmetic_outcome}
+use Rattle.source_tree.specs.Stringing.{Strings, string_stores, string_outcome}
 use Rattle.source_tree.specs.Inspecting.{inspect}
 use Rattle.source_tree.specs.declared.phrases.Phrases.{Phrases}
-use Rattle.source_tree.specs.declared.stringing.Stringing.{Stringing}
+use Rattle.source_tree.specs.declared.string_statement.StringStatement.{StringStatement}
 use Rattle.source_tree.specs.declared.arithmetic.Arithmetic.{Arithmetic}
 use Rattle.source_tree.specs.declared.reference.Reference.{Reference}
 use Rattle.source_tree.specs.Performing.{turns, performed_range, body}
@@ -103,7 +103,7 @@ done_runs = record { falls = λ s. omega arith; grows = λ s. itself s; alike = 
 pub stop_runs : IsRun (Over Stopped)
 stop_runs = record { falls = λ s. tt; grows = λ s. itself s; alike = λ k s. refl }
 
-pub show_runs : (bytes : List ℕ) → IsRun (λ s. Done (showing bytes s))
+pub show_runs : (bytes : List ℕ) → IsRun (λ s. Done (state_after_output bytes s))
 show_runs bytes = record { falls = λ s. omega arith; grows = λ s. shown_more bytes s; alike = λ k s. refl }
 
 pub in_turn_runs : {A : Type 0} (run : A → State → Outcome) → ((one : A) → IsRun (run one)) → (all : List A) → IsRun (in_turn run all)
@@ -112,19 +112,19 @@ in_turn_runs run r (one ∷ more) = then_runs (run one) (in_turn run more) (r on
 
 -- What is evaluated of storage doesn't depend on the budget.
 module _ {A : Type 0} (go : A → State → Outcome) (r : (x : A) → IsRun (go x)) where
-  value_within : (e : Evaluated A) (s : State) → Within s.budget (with_value e s (λ x. go x s))
+  value_within : (e : Evaluation A) (s : State) → Within s.budget (with_value e s (λ x. go x s))
   value_within (Ok x) s = (r x).falls s
   value_within (Err fault) s = tt
 
-  value_grows : (e : Evaluated A) (s : State) → Onward s (outcome_state (with_value e s (λ x. go x s)))
+  value_grows : (e : Evaluation A) (s : State) → Onward s (outcome_state (with_value e s (λ x. go x s)))
   value_grows (Ok x) s = (r x).grows s
   value_grows (Err fault) s = itself s
 
-  value_alike : (e : Evaluated A) (k : ℕ) (s : State) → Alike k (with_value e s (λ x. go x s)) (with_value e (richer k s) (λ x. go x (richer k s)))
+  value_alike : (e : Evaluation A) (k : ℕ) (s : State) → Alike k (with_value e s (λ x. go x s)) (with_value e (richer k s) (λ x. go x (richer k s)))
   value_alike (Ok x) k s = (r x).alike k s
   value_alike (Err fault) k s = refl
 
-  pub value_runs : (find : Storage → Evaluated A) → IsRun (λ s. with_value (find s.storage) s (λ x. go x s))
+  pub value_runs : (find : Storage → Evaluation A) → IsRun (λ s. with_value (find s.storage) s (λ x. go x s))
   value_runs find = record {
     falls = λ s. value_within (find s.storage) s;
     grows = λ s. value_grows (find s.storage) s;
@@ -134,16 +134,16 @@ module _ {A : Type 0} (go : A → State → Outcome) (r : (x : A) → IsRun (go 
 storing_runs : (after : Storage) → IsRun (λ s. Done (record s { storage = after }))
 storing_runs after = record { falls = λ s. omega arith; grows = λ s. itself s; alike = λ k s. refl }
 
-pub changing_runs : (change : Storage → Evaluated Storage) → IsRun (changing change)
+pub changing_runs : (change : Storage → Evaluation Storage) → IsRun (change_outcome change)
 changing_runs change = value_runs (λ after s. Done (record s { storage = after })) storing_runs change
 
 -- ACCEPT leaves fewer lines, whatever the budget.
 accepting_runs : (lines : List (List ℕ) → List (List ℕ)) (after : Storage) → IsRun (λ s. Done (record s { storage = after; lines = lines s.lines }))
 accepting_runs lines after = record { falls = λ s. omega arith; grows = λ s. itself s; alike = λ k s. refl }
 
-accept_runs : (items : List Placed) (receiver : Reference) → IsRun (texts items (text.Accept receiver))
+accept_runs : (items : List LocatedItem) (receiver : Reference) → IsRun (texts items (text.Accept receiver))
 accept_runs items receiver =
-    let find : State → Evaluated Storage = λ s. accept_line items (next_line s.lines) receiver s.storage in
+    let find : State → Evaluation Storage = λ s. accept_line items (next_line s.lines) receiver s.storage in
     let go : Storage → State → Outcome = λ after s. Done (record s { storage = after; lines = later_lines s.lines }) in
     record {
       falls = λ s. value_within go (accepting_runs later_lines) (find s) s;
@@ -151,9 +151,9 @@ accept_runs items receiver =
       alike = λ k s. value_alike go (accepting_runs later_lines) (find s) k s;
     }
 
-accept_date_runs : (items : List Placed) (receiver : Reference) → IsRun (texts items (text.AcceptDate receiver))
+accept_date_runs : (items : List LocatedItem) (receiver : Reference) → IsRun (texts items (text.AcceptDate receiver))
 accept_date_runs items receiver =
-    let find : State → Evaluated Storage = λ s. accept_date items s.day receiver s.storage in
+    let find : State → Evaluation Storage = λ s. accept_date items s.day receiver s.storage in
     let go : Storage → State → Outcome = λ after s. Done (record s { storage = after }) in
     record {
       falls = λ s. value_within go storing_runs (find s) s;
@@ -161,13 +161,13 @@ accept_date_runs items receiver =
       alike = λ k s. value_alike go storing_runs (find s) k s;
     }
 
-pub texts_runs : (items : List Placed) (one : Text) → IsRun (texts items one)
-texts_runs items (text.Display operands advancing) = value_runs (λ bytes s. Done (showing bytes s)) show_runs (displayed items operands advancing)
+pub texts_runs : (items : List LocatedItem) (one : TextStatement) → IsRun (texts items one)
+texts_runs items (text.Display operands advancing) = value_runs (λ bytes s. Done (state_after_output bytes s)) show_runs (displayed_bytes items operands advancing)
 texts_runs items (text.Accept receiver) = accept_runs items receiver
 texts_runs items (text.AcceptDate receiver) = accept_date_runs items receiver
 texts_runs items (text.Inspect one) = changing_runs (inspect items one)
 
-pub finish_runs : (one : Ending) → IsRun (finish one)
+pub finish_runs : (one : ControlStatement) → IsRun (finish one)
 finish_runs ending.StopRun = stop_runs
 finish_runs ending.Continue = done_runs
 finish_runs ending.Exit = done_runs
@@ -195,14 +195,14 @@ module _ {S : Type 0} (run : S → State → Outcome) (r : (one : S) → IsRun (
   phrase_runs phrases true = in_phrase_runs phrases.arose
   phrase_runs phrases false = in_phrase_runs phrases.did_not
 
-  pub calculating_runs : (items : List Placed) (one : Arithmetic S) → IsRun (calculating items run one)
+  pub calculating_runs : (items : List LocatedItem) (one : Arithmetic S) → IsRun (arithmetic_outcome items run one)
   calculating_runs items one =
       value_runs (λ after s. phrase_for run one.phrases after.size_error (record s { storage = after.storage }))
-      (λ (after : Stored). then_runs (λ s. Done (record s { storage = after.storage })) (phrase_for run one.phrases after.size_error) (storing_runs after.storage) (phrase_runs one.phrases after.size_error))
+      (λ (after : StoreResult). then_runs (λ s. Done (record s { storage = after.storage })) (phrase_for run one.phrases after.size_error) (storing_runs after.storage) (phrase_runs one.phrases after.size_error))
       (operation items (is_there one.phrases.arose) one.operation)
 
-  pub stringing_runs : (items : List Placed) (one : Stringing S) → IsRun (stringing items run one)
+  pub stringing_runs : (items : List LocatedItem) (one : StringStatement S) → IsRun (string_outcome items run one)
   stringing_runs items one =
       value_runs (λ after s. phrase_for run one.phrases after.overflow (record s { storage = after.storage }))
       (λ (after : Strings). then_runs (λ s. Done (record s { storage = after.storage })) (phrase_for run one.phrases after.overflow) (storing_runs after.storage) (phrase_runs one.phrases after.overflow))
-      (string items one)
+      (string_stores items one)

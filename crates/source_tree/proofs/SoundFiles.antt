@@ -17,28 +17,28 @@ use Rattle.source_tree.specs.declared.select.Select.{Select}
 use Rattle.source_tree.specs.declared.select.FileDescription.{FileDescription}
 use Rattle.source_tree.specs.declared.program.Program.{Program}
 use Rattle.source_tree.specs.Names.{same}
-use Rattle.source_tree.specs.Levels.{nested, leading}
-use Rattle.source_tree.specs.Places.{Placed}
+use Rattle.source_tree.specs.Levels.{forest_of, leading_conditions}
+use Rattle.source_tree.specs.Places.{LocatedItem}
 use Rattle.source_tree.specs.LookUp.{items_named, first}
 use Rattle.source_tree.specs.Records.{storage_areas, record_length}
-use Rattle.source_tree.specs.ProgramFiles.{Described, described, place_in_record, plain_place, key_place, item_place, with_key, alternates, organization_by, file_by, files_from, files_of}
+use Rattle.source_tree.specs.ProgramFiles.{DescribedFile, described_file, place_in_record, plain_place, key_place, item_place, with_key, alternates, organization_by, file_by, files_from, files_of}
 use Rattle.source_tree.specs.SoundFiles.{IsRelativeKey, IsStatus, IsSound}
-use Rattle.source_tree.specs.Broken.{Broken, where_so, each}
+use Rattle.source_tree.specs.Broken.{RuleBreach, where_so, each}
 use Rattle.source_tree.specs.ValueRules.{are_some}
 use Rattle.records.specs.Tests.{is_sequential}
 use Rattle.source_tree.specs.Rooms.{area_lengths}
 use Rattle.source_tree.specs.EntryRules.{most_entries, outermost, level_rules, homeless, excess, forest_rules}
-use Rattle.source_tree.specs.NameRules.{named}
+use Rattle.source_tree.specs.NameRules.{unique_name_rules}
 use Rattle.source_tree.specs.PerformRules.{is_among, given_once}
-use Rattle.source_tree.specs.FileRules.{most_files, most_record_bytes, most_key_bytes, most_alternate_keys, broken_at, select_names, description_names, unmatched, file_name_rules, file_entries, record_storage_rules, description_rules, descriptions_rules, is_plain, is_key_kind, is_one_of, is_in_area, is_key_item, key_item, another_clause, another_key, in_clause, clause_item, alternate_rules, indexed_rules, relative_rules, organization_rules, excess_key, is_unsigned_integer, relative_item, is_two_characters, status_item, select_rules, program_file_rules}
+use Rattle.source_tree.specs.FileRules.{most_files, most_record_bytes, most_key_bytes, most_alternate_keys, broken_at, select_names, description_names, broken_match_rule, file_name_rules, file_entries, record_storage_rules, description_rules, descriptions_rules, is_plain, is_key_kind, is_one_of, is_in_area, is_key_item, key_item, another_clause, another_key, in_clause, clause_item, alternate_rules, indexed_rules, relative_rules, organization_rules, excess_key, is_unsigned_integer, relative_item, is_two_characters, status_item, select_rules, program_file_rules}
 
 -- ---- lists of broken rules that are empty
 
-pub left_none : (xs ys : List Broken) → xs ++ ys ≡ [] → xs ≡ []
+pub left_none : (xs ys : List RuleBreach) → xs ++ ys ≡ [] → xs ≡ []
 left_none [] ys e = refl
 left_none (x ∷ xs) ys e = absurd cc
 
-pub right_none : (xs ys : List Broken) → xs ++ ys ≡ [] → ys ≡ []
+pub right_none : (xs ys : List RuleBreach) → xs ++ ys ≡ [] → ys ≡ []
 right_none [] ys e = e
 right_none (x ∷ xs) ys e = absurd cc
 
@@ -122,11 +122,11 @@ count_with one (other ∷ more) = count_by one other (with_key one more) more (n
 abbrev is_apart : List ℕ → AlternateKey → Bool
 is_apart taken one = not (is_one_of one.place.offset taken)
 
-record KeepsRules (there : Described) (taken : List ℕ) (place : KeyPlace) : Type 0 where
+record KeepsRules (there : DescribedFile) (taken : List ℕ) (place : KeyPlace) : Type 0 where
   lies : is_place (record_length there.entries) place ≡ true
   apart : not (is_one_of place.offset taken) ≡ true
 
-item_keeps : (there : Described) (taken : List ℕ) (key : Reference) (one : Placed) → key_item there taken key one ≡ [] → KeepsRules there taken (place_in_record (Some one))
+item_keeps : (there : DescribedFile) (taken : List ℕ) (key : Reference) (one : LocatedItem) → key_item there taken key one ≡ [] → KeepsRules there taken (place_in_record (Some one))
 item_keeps there taken key one e =
     let size = record_length there.entries in
     let free = not (is_one_of one.offset taken) in
@@ -139,12 +139,12 @@ item_keeps there taken key one e =
     let within = (and_parts (one.area == there.area) (nat_le (one.offset + one.item.length) size) ((and_parts (is_plain key one) (is_in_area there one) inner).1)).1 in
     record { lies = and_from (nat_le 1 one.item.length && nat_le one.item.length 100) (nat_le (one.offset + one.item.length) size) long within; apart = parts.1 }
 
-found_keeps : (there : Described) (taken : List ℕ) (key : Reference) (found : List Placed) → named key.item.name.place (key_item there taken key) found ≡ [] → KeepsRules there taken (place_in_record (first found))
+found_keeps : (there : DescribedFile) (taken : List ℕ) (key : Reference) (found : List LocatedItem) → unique_name_rules key.item.name.place (key_item there taken key) found ≡ [] → KeepsRules there taken (place_in_record (first found))
 found_keeps there taken key [] e = absurd cc
 found_keeps there taken key (only ∷ []) e = item_keeps there taken key only e
 found_keeps there taken key (one ∷ other ∷ more) e = absurd cc
 
-module _ (items : List Placed) (there : Described) where
+module _ (items : List LocatedItem) (there : DescribedFile) where
   key_keeps : (taken : List ℕ) (key : Reference) → clause_item items (key_item there taken) key ≡ [] → KeepsRules there taken (key_place items key)
   key_keeps taken key e = found_keeps there taken key (items_named items key.item) e
 
@@ -199,7 +199,7 @@ another_none (one ∷ more) e = absurd cc
 few : (keys : List AlternateKeyClause) → each excess_key (drop most_alternate_keys keys) ≡ [] → length keys ≤ 7
 few keys e = let zero_left : length (drop 7 keys) ≡ 0 = excess_none (drop most_alternate_keys keys) e in let counts = length-drop 7 keys in omega arith
 
-module _ (items : List Placed) where
+module _ (items : List LocatedItem) where
   as_many : (keys : List AlternateKeyClause) → length (alternates items keys) ≡ length keys
   as_many [] = refl
   as_many (one ∷ more) =
@@ -211,19 +211,19 @@ module _ (items : List Placed) where
 size_of_one : (one : FileDescription) → description_rules one ≡ [] → are_some most_record_bytes (record_length one.entries) ≡ true
 size_of_one one e =
     kept (are_some most_record_bytes (record_length one.entries)) 69 one.name.place
-    (right_none (each level_rules one.entries ++ each homeless (leading one.entries) ++ forest_rules (outermost true) None (nested one.entries))
+    (right_none (each level_rules one.entries ++ each homeless (leading_conditions one.entries) ++ forest_rules (outermost true) None (forest_of one.entries))
     (where_so (not (are_some most_record_bytes (record_length one.entries))) 69 one.name.place) e)
 
-abbrev HasSize : Described → Type 0
+abbrev HasSize : DescribedFile → Type 0
 HasSize there = are_some most_record_bytes (record_length there.entries) ≡ true
 
 size_by : (area : ℕ) (name : Name) (one : FileDescription) (more : List FileDescription) (test : Bool) → (test || is_among name (description_names more)) ≡ true → HasSize (record { area = area; entries = one.entries })
-    → (is_among name (description_names more) ≡ true → HasSize (described (area + 1) name more))
-    → HasSize (if test then record { area = area; entries = one.entries } else described (area + 1) name more)
+    → (is_among name (description_names more) ≡ true → HasSize (described_file (area + 1) name more))
+    → HasSize (if test then record { area = area; entries = one.entries } else described_file (area + 1) name more)
 size_by area name one more true among own rest = own
 size_by area name one more false among own rest = rest among
 
-has_size : (area : ℕ) (name : Name) (descriptions : List FileDescription) → is_among name (description_names descriptions) ≡ true → each description_rules descriptions ≡ [] → HasSize (described area name descriptions)
+has_size : (area : ℕ) (name : Name) (descriptions : List FileDescription) → is_among name (description_names descriptions) ≡ true → each description_rules descriptions ≡ [] → HasSize (described_file area name descriptions)
 has_size area name [] among e = absurd cc
 has_size area name (one ∷ more) among e =
     size_by area name one more (same name one.name) among (size_of_one one (left_none (description_rules one) (each description_rules more) e))
@@ -231,7 +231,7 @@ has_size area name (one ∷ more) among e =
 
 -- ---- a file
 
-module _ (items : List Placed) (there : Described) where
+module _ (items : List LocatedItem) (there : DescribedFile) where
   indexed_keys : (one : Select) (record_key : Option Reference) → indexed_rules items there one.name record_key one.alternate_keys ≡ [] → length one.alternate_keys ≤ 7
       → are_keys (record_length there.entries) (organization_by items clause.Indexed record_key) (alternates items one.alternate_keys) ≡ true
   indexed_keys one None e most = absurd cc
@@ -270,7 +270,7 @@ no_clause : (clause : Option Reference) → in_clause another_clause clause ≡ 
 no_clause None e = refl
 no_clause (Some one) e = absurd cc
 
-relative_found : (there : Described) (key : Reference) (found : List Placed) → named key.item.name.place (relative_item there key) found ≡ [] → IfSome (plain_place (first found)) (IsRelativeKey there.area)
+relative_found : (there : DescribedFile) (key : Reference) (found : List LocatedItem) → unique_name_rules key.item.name.place (relative_item there key) found ≡ [] → IfSome (plain_place (first found)) (IsRelativeKey there.area)
 relative_found there key [] e = absurd cc
 relative_found there key (one ∷ other ∷ more) e = absurd cc
 relative_found there key (only ∷ []) e =
@@ -278,7 +278,7 @@ relative_found there key (only ∷ []) e =
     (kept (is_plain key only && is_unsigned_integer only.item.kind && not (only.area == there.area)) 60 key.item.name.place e) in
     record { kind = (and_parts (is_plain key only) (is_unsigned_integer only.item.kind) parts.0).1; outside = parts.1 }
 
-status_found : (areas : ℕ) (key : Reference) (found : List Placed) → named key.item.name.place (status_item areas key) found ≡ [] → IfSome (plain_place (first found)) (IsStatus areas)
+status_found : (areas : ℕ) (key : Reference) (found : List LocatedItem) → unique_name_rules key.item.name.place (status_item areas key) found ≡ [] → IfSome (plain_place (first found)) (IsStatus areas)
 status_found areas key [] e = absurd cc
 status_found areas key (one ∷ other ∷ more) e = absurd cc
 status_found areas key (only ∷ []) e =
@@ -286,7 +286,7 @@ status_found areas key (only ∷ []) e =
     (kept (is_plain key only && is_two_characters only.item.kind only.item.length && nat_lt only.area areas) 59 key.item.name.place e) in
     record { kind = (and_parts (is_plain key only) (is_two_characters only.item.kind only.item.length) parts.0).1; within = parts.1 }
 
-module _ (items : List Placed) where
+module _ (items : List LocatedItem) where
   status_sound : (areas : ℕ) (clause : Option Reference) → in_clause (clause_item items (status_item areas)) clause ≡ [] → IfSome (item_place items clause) (IsStatus areas)
   status_sound areas None e = tt
   status_sound areas (Some one) e = status_found areas one (items_named items one.item) e
@@ -295,11 +295,11 @@ module _ (items : List Placed) where
   no_item area None e = tt
   no_item area (Some one) e = absurd cc
 
-  relative_by : (there : Described) (one : Select) (clause : Option Reference) → relative_rules items there one clause ≡ [] → IfSome (item_place items clause) (IsRelativeKey there.area)
+  relative_by : (there : DescribedFile) (one : Select) (clause : Option Reference) → relative_rules items there one clause ≡ [] → IfSome (item_place items clause) (IsRelativeKey there.area)
   relative_by there one None e = tt
   relative_by there one (Some key) e = relative_found there key (items_named items key.item) e
 
-  relative_sound : (there : Described) (organization : OrganizationClause) (one : Select) → organization_rules items there organization one ≡ [] → IfSome (item_place items one.relative_key) (IsRelativeKey there.area)
+  relative_sound : (there : DescribedFile) (organization : OrganizationClause) (one : Select) → organization_rules items there organization one ≡ [] → IfSome (item_place items one.relative_key) (IsRelativeKey there.area)
   relative_sound there clause.Sequential one e =
       let access = where_so (not (is_sequential one.access)) 58 one.name.place in
       let relative = in_clause another_clause one.relative_key in
@@ -312,10 +312,10 @@ module _ (items : List Placed) where
   relative_sound there clause.Indexed one e =
       no_item there.area one.relative_key (no_clause one.relative_key (left_none (in_clause another_clause one.relative_key) (indexed_rules items there one.name one.record_key one.alternate_keys) e))
 
-module _ (items : List Placed) (areas : ℕ) (descriptions : List FileDescription) (sizes : each description_rules descriptions ≡ []) where
-  file_sound : (number : ℕ) (one : Select) → is_among one.name (description_names descriptions) ≡ true → select_rules items areas descriptions one ≡ [] → IsSound areas (file_by items number one (described areas one.name descriptions))
+module _ (items : List LocatedItem) (areas : ℕ) (descriptions : List FileDescription) (sizes : each description_rules descriptions ≡ []) where
+  file_sound : (number : ℕ) (one : Select) → is_among one.name (description_names descriptions) ≡ true → select_rules items areas descriptions one ≡ [] → IsSound areas (file_by items number one (described_file areas one.name descriptions))
   file_sound number one among e =
-      let there = described areas one.name descriptions in
+      let there = described_file areas one.name descriptions in
       let size = record_length there.entries in
       let assigned = where_so (not (is_name one.assigned.characters)) 66 one.assigned.place in
       let clauses = organization_rules items there one.organization one in
@@ -331,33 +331,33 @@ module _ (items : List Placed) (areas : ℕ) (descriptions : List FileDescriptio
         status = status_sound items areas one.status (right_none (assigned ++ clauses ++ many) status e);
       }
 
-  files_sound : (number : ℕ) (selects : List Select) → each (unmatched (description_names descriptions)) (select_names selects) ≡ [] → each (select_rules items areas descriptions) selects ≡ []
+  files_sound : (number : ℕ) (selects : List Select) → each (broken_match_rule (description_names descriptions)) (select_names selects) ≡ [] → each (select_rules items areas descriptions) selects ≡ []
       → AllByRecursion (IsSound areas) (files_from items areas descriptions number selects)
   files_sound number [] names e = tt
   files_sound number (one ∷ more) names e = (
     file_sound number one
-        (kept (is_among one.name (description_names descriptions)) 57 one.name.place (left_none (unmatched (description_names descriptions) one.name) (each (unmatched (description_names descriptions)) (select_names more)) names))
+        (kept (is_among one.name (description_names descriptions)) 57 one.name.place (left_none (broken_match_rule (description_names descriptions) one.name) (each (broken_match_rule (description_names descriptions)) (select_names more)) names))
         (left_none (select_rules items areas descriptions one) (each (select_rules items areas descriptions) more) e),
-    files_sound (number + 1) more (right_none (unmatched (description_names descriptions) one.name) (each (unmatched (description_names descriptions)) (select_names more)) names)
+    files_sound (number + 1) more (right_none (broken_match_rule (description_names descriptions) one.name) (each (broken_match_rule (description_names descriptions)) (select_names more)) names)
         (right_none (select_rules items areas descriptions one) (each (select_rules items areas descriptions) more) e),
   )
 
 -- ---- a program
 
-pub names_matched : (selected others : List Name) → file_name_rules selected others ≡ [] → each (unmatched others) selected ≡ []
+pub names_matched : (selected others : List Name) → file_name_rules selected others ≡ [] → each (broken_match_rule others) selected ≡ []
 names_matched selected others e =
-    let last = each (unmatched selected) others in
-    let matched = each (unmatched others) selected in
+    let last = each (broken_match_rule selected) others in
+    let matched = each (broken_match_rule others) selected in
     let front = each (broken_at 69) (drop most_files selected) ++ given_once [] selected ++ given_once [] others in
     right_none front matched (left_none (front ++ matched) last e)
 
 sizes_kept : (program : Program) → descriptions_rules program.storage program.files ≡ [] → each description_rules program.files ≡ []
 sizes_kept program e =
     let before = each excess (drop (most_entries - length program.storage) (file_entries program.files)) in
-    let behind = record_storage_rules (sum (area_lengths (nested program.storage))) program.files in
+    let behind = record_storage_rules (sum (area_lengths (forest_of program.storage))) program.files in
     right_none before (each description_rules program.files) (left_none (before ++ each description_rules program.files) behind e)
 
-pub sound_files : (items : List Placed) (program : Program) → program_file_rules items program ≡ [] → AllByRecursion (IsSound (storage_areas program.storage)) (files_of items program)
+pub sound_files : (items : List LocatedItem) (program : Program) → program_file_rules items program ≡ [] → AllByRecursion (IsSound (storage_areas program.storage)) (files_of items program)
 sound_files items program e =
     let names = file_name_rules (select_names program.selects) (description_names program.files) in
     let entries = descriptions_rules program.storage program.files in

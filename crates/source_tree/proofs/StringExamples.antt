@@ -5,24 +5,24 @@ use Rattle.source_tree.specs.declared.literal.Figurative.TheVariants as figurati
 use Rattle.source_tree.specs.declared.entry.Entry.{Entry}
 use Rattle.source_tree.specs.declared.reference.Reference.{Reference}
 use Rattle.source_tree.specs.declared.expression.Operand.{Operand}
-use Rattle.source_tree.specs.declared.stringing.Sending.{Sending}
-use Rattle.source_tree.specs.declared.stringing.Stringing.{Stringing}
+use Rattle.source_tree.specs.declared.string_statement.Sending.{Sending}
+use Rattle.source_tree.specs.declared.string_statement.StringStatement.{StringStatement}
 use Rattle.source_tree.specs.declared.statement.Statement.{Statement}
-use Rattle.source_tree.specs.Broken.{Broken}
+use Rattle.source_tree.specs.Broken.{RuleBreach}
 use Rattle.source_tree.specs.Places.{items_of}
 use Rattle.source_tree.specs.Storage.{Storage}
 use Rattle.source_tree.specs.Evaluated as fault
-use Rattle.source_tree.specs.Evaluated.{Evaluated, ◌>>=◌}
-use Rattle.source_tree.specs.Initializing.{initialize, set}
-use Rattle.source_tree.specs.Stringing.{Strings, string}
+use Rattle.source_tree.specs.Evaluated.{Evaluation, ◌>>=◌}
+use Rattle.source_tree.specs.Initializing.{initialize, storage_after_set}
+use Rattle.source_tree.specs.Stringing.{Strings, string_stores}
 use Rattle.source_tree.specs.SettingRules.{initialize_rules, set_rules}
 use Rattle.source_tree.specs.StringRules.{string_rules}
 use Rattle.source_tree.proofs.Samples.{group, item, unnamed, redefining, occurring, binary, justified, entries, one_value, condition, number, text, constant, all, reference, plain, counted, by_item, the_item, the_literal}
 unfoldable use Rattle.source_tree.proofs.Computing.{computing}
 use Rattle.decimal18.specs.Receiver as receivers
-unfoldable use Rattle.text_ops.specs.Strings.{delimited, strung}
+unfoldable use Rattle.text_ops.specs.Strings.{delimited_characters, string_of_senders}
 
-abbrev rules : List Broken → List ℕ
+abbrev rules : List RuleBreach → List ℕ
 rules = map (λ one. one.rule)
 
 -- ---- INITIALIZE of G with a FILLER, what redefines, a group in it and a table
@@ -38,7 +38,7 @@ a_group = entries (
     ∷ item (codes "10") (codes "B") (codes "Z9")
     ∷ unnamed (item (codes "10") [] (codes "9")) ∷ [])
 
-abbrev initialized : Reference → Evaluated Storage
+abbrev initialized : Reference → Evaluation Storage
 initialized one = initialize (items_of a_group) (one ∷ []) (codes "abcdefghijk" ∷ [])
 
 whole_group : initialized (plain (codes "G")) ≡ Ok (codes "  c00 0h 0k" ∷ [])
@@ -74,8 +74,8 @@ with_conditions = entries (justified (item (codes "77") (codes "J") (codes "X(3)
     ∷ entries (item (codes "77") (codes "N") (codes "9(3)") ∷ []) ++ condition (codes "SEVEN") (one_value (number (codes "7")) ∷ [])
     ∷ condition (codes "STARS") (one_value (constant figurative.Zero) ∷ []) ∷ []
 
-abbrev set_to : List Reference → Evaluated Storage
-set_to conditions = set (items_of with_conditions) conditions (codes "abc" ∷ codes "123" ∷ [])
+abbrev set_to : List Reference → Evaluation Storage
+set_to conditions = storage_after_set (items_of with_conditions) conditions (codes "abc" ∷ codes "123" ∷ [])
 
 set_two : set_to (plain (codes "SHORT") ∷ plain (codes "SEVEN") ∷ []) ≡ Ok (codes "X  " ∷ codes "007" ∷ [])
 unfolding computing
@@ -106,16 +106,16 @@ texts = entries (
 abbrev sending : List Operand → Option Operand → Sending
 sending senders delimiter = record { senders = senders; delimiter = delimiter }
 
-abbrev into : List Sending → Option Reference → Stringing Statement
+abbrev into : List Sending → Option Reference → StringStatement Statement
 into sendings pointer = record { sendings = sendings; receiver = plain (codes "T"); pointer = pointer; phrases = record { arose = None; did_not = None } }
 
-abbrev strings : List ℕ → List Sending → Option Reference → Evaluated Strings
-strings pointer sendings to = string (items_of texts) (into sendings to) (codes "...." ∷ pointer ∷ codes " " ∷ codes "A*B" ∷ [])
+abbrev strings : List ℕ → List Sending → Option Reference → Evaluation Strings
+strings pointer sendings to = string_stores (items_of texts) (into sendings to) (codes "...." ∷ pointer ∷ codes " " ∷ codes "A*B" ∷ [])
 
-abbrev left : List ℕ → List ℕ → Evaluated Strings
+abbrev left : List ℕ → List ℕ → Evaluation Strings
 left text pointer = Ok (record { storage = text ∷ pointer ∷ codes " " ∷ codes "A*B" ∷ []; overflow = false })
 
-abbrev overflowed : List ℕ → List ℕ → Evaluated Strings
+abbrev overflowed : List ℕ → List ℕ → Evaluation Strings
 overflowed text pointer = Ok (record { storage = text ∷ pointer ∷ codes " " ∷ codes "A*B" ∷ []; overflow = true })
 
 abbrev by_space : List Operand → Sending
@@ -125,29 +125,29 @@ abbrev pointer : Option Reference
 pointer = Some (plain (codes "P"))
 
 worked_row : strings (codes "2") (by_space (the_literal (text (codes "AB")) ∷ the_literal (text (codes "C D")) ∷ []) ∷ []) pointer ≡ left (codes ".ABC") (codes "5")
-unfolding computing delimited strung receivers.fitted
+unfolding computing delimited_characters string_of_senders receivers.fitted_decimal
 worked_row = refl
 
 with_a_third : strings (codes "2") (by_space (the_literal (text (codes "AB")) ∷ the_literal (text (codes "C D")) ∷ the_literal (text (codes "E")) ∷ []) ∷ []) pointer ≡ overflowed (codes ".ABC") (codes "5")
-unfolding computing delimited strung receivers.fitted
+unfolding computing delimited_characters string_of_senders receivers.fitted_decimal
 with_a_third = refl
 
 -- an item as delimiter; SIZE
 two_sendings : strings (codes "2") (sending (the_literal (text (codes "X Y")) ∷ the_item (codes "W") ∷ []) (Some (the_item (codes "D"))) ∷ []) None ≡ left (codes "XA*B") (codes "2")
-unfolding computing delimited strung
+unfolding computing delimited_characters string_of_senders
 two_sendings = refl
 
 -- outside of the receiver nothing is stored
 before_the_receiver : strings (codes "0") (sending (the_item (codes "W") ∷ []) None ∷ []) pointer ≡ overflowed (codes "....") (codes "0")
-unfolding computing delimited strung
+unfolding computing delimited_characters string_of_senders
 before_the_receiver = refl
 
 behind_the_receiver : strings (codes "5") (sending (the_item (codes "W") ∷ []) None ∷ []) pointer ≡ overflowed (codes "....") (codes "5")
-unfolding computing delimited strung
+unfolding computing delimited_characters string_of_senders
 behind_the_receiver = refl
 
 no_number : strings (codes "x") (sending (the_item (codes "W") ∷ []) None ∷ []) pointer ≡ Err fault.Data
-unfolding computing delimited strung
+unfolding computing delimited_characters string_of_senders
 no_number = refl
 
 -- ---- the rules of STRING: each broken alone, and nearly broken
@@ -163,7 +163,7 @@ operands = entries (
     ∷ binary (item (codes "77") (codes "C") (codes "9(4)"))
     ∷ item (codes "77") (codes "E") (codes "Z9") ∷ [])
 
-abbrev the_string : Operand → Option Operand → List ℕ → Option Reference → Stringing Statement
+abbrev the_string : Operand → Option Operand → List ℕ → Option Reference → StringStatement Statement
 the_string sender delimiter receiver to = record (into (sending (sender ∷ []) delimiter ∷ []) to) { receiver = plain receiver }
 
 abbrev Broke : List (Operand × Option Operand × List ℕ × Option Reference × List ℕ) → Type 0

@@ -15,14 +15,14 @@ use Rattle.source_tree.specs.declared.condition.Relation.TheVariants as relation
 use Rattle.source_tree.specs.declared.condition.Side.{Side}
 use Rattle.source_tree.specs.declared.condition.Side.TheVariants as side
 use Rattle.source_tree.specs.declared.condition.Condition.TheVariants as condition
-use Rattle.source_tree.specs.Places.{Placed}
+use Rattle.source_tree.specs.Places.{LocatedItem}
 use Rattle.source_tree.specs.Literals.{item_sender, literal_sender}
 use Rattle.source_tree.specs.Storage.{Storage}
-use Rattle.source_tree.specs.Evaluated.{Evaluated, ◌>>=◌, needed}
+use Rattle.source_tree.specs.Evaluated.{Evaluation, ◌>>=◌, evaluation_of}
 use Rattle.source_tree.specs.References.{ItemPlace, part_of, place_of}
-use Rattle.source_tree.specs.Computed.{Computed}
+use Rattle.source_tree.specs.Computed.{ArithmeticValue}
 use Rattle.source_tree.specs.ConditionRules.{is_literal_alone}
-use Rattle.source_tree.specs.Conditions.{stands, senders_stand, numbers_stand, zero_value, alone_side, relation_of, side_number, holds}
+use Rattle.source_tree.specs.Conditions.{satisfies, senders_stand, numbers_stand, zero_value, alone_side, relation_of, side_number, holds}
 use Rattle.source_tree.specs.Evaluate.{without_value, take_bytes, take_item, take_value}
 use Rattle.source_tree.proofs.Folded.{relation_tells}
 
@@ -30,21 +30,21 @@ use Rattle.source_tree.proofs.Folded.{relation_tells}
 abbrev pub zero_at : Place → Side
 zero_at place = side.Literal (record { value = literal.Figurative figurative.Zero; place = place })
 
-number_beside : (found : Evaluated Computed) → without_value (found >>= (λ x. numbers_stand relation.Equal x zero_value)) ≡ (found >>= (λ x. without_value (needed x)))
+number_beside : (found : Evaluation ArithmeticValue) → without_value (found >>= (λ x. numbers_stand relation.Equal x zero_value)) ≡ (found >>= (λ x. without_value (evaluation_of x)))
 number_beside (Ok (Some x)) = refl
 number_beside (Ok None) = refl
 number_beside (Err fault) = refl
 
 -- an order that is there where a number is
 order_beside : (found : Option Fraction) (zero : Fraction)
-    → without_value (needed (compare.both order found (Some zero)) >>= (λ ordering. Ok (stands relation.Equal ordering))) ≡ without_value (needed found)
+    → without_value (evaluation_of (compare.both order found (Some zero)) >>= (λ ordering. Ok (satisfies relation.Equal ordering))) ≡ without_value (evaluation_of found)
 order_beside (Some x) zero = refl
 order_beside None zero = refl
 
 bytes_beside : (one : Kind) (length : ℕ) (bytes : List ℕ)
     → without_value (senders_stand relation.Equal (item_sender (record { kind = one; length = length }) bytes) (literal_sender (literal.Figurative figurative.Zero)))
     ≡ take_bytes one bytes
-unfolding compare.compared
+unfolding compare.comparison_of
 bytes_beside kind.Group length bytes = refl
 bytes_beside (kind.Alphabetic justified) length bytes = refl
 bytes_beside (kind.Alphanumeric justified) length bytes = refl
@@ -52,8 +52,8 @@ bytes_beside kind.AlphanumericEdited length bytes = refl
 bytes_beside (kind.NumericEdited blank) length bytes = refl
 bytes_beside (kind.Numeric form) length bytes = order_beside (value_of form bytes) (record { coefficient = pos 0; scale = 0 })
 
-module _ (items : List Placed) where
-  item_beside : (storage : Storage) (found : Evaluated ItemPlace)
+module _ (items : List LocatedItem) where
+  item_beside : (storage : Storage) (found : Evaluation ItemPlace)
       → without_value ((found >>= (λ place. Ok (item_sender place.item (part_of storage place)))) >>= (λ x. senders_stand relation.Equal x (literal_sender (literal.Figurative figurative.Zero))))
       ≡ (found >>= take_item storage)
   item_beside storage (Ok place) = bytes_beside place.item.kind place.item.length (part_of storage place)

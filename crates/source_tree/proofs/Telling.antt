@@ -6,9 +6,9 @@ use Rattle.station.specs.State.{Event, Shown, Noted}
 use Rattle.records.specs.Files.{Files}
 use Rattle.records.specs.Statuses.{bytes_of}
 use Rattle.records.specs.Steps.{Step}
-use Rattle.source_tree.specs.State.{State, all_files, showing}
+use Rattle.source_tree.specs.State.{State, all_files, state_after_output}
 use Rattle.source_tree.specs.ProgramFiles.{FilePlaces}
-use Rattle.source_tree.specs.FileStatements.{received}
+use Rattle.source_tree.specs.FileStatements.{state_after_status}
 use Rattle.source_tree.specs.Told.{note_count, Further, Onward}
 
 none_added : (n : ℕ) → n ≡ 0 + n
@@ -51,11 +51,11 @@ no_notes : (bytes : List ℕ) → note_count (map Shown bytes) ≡ 0
 no_notes [] = refl
 no_notes (byte ∷ bytes) = no_notes bytes
 
-pub shown_more : (bytes : List ℕ) (s : State) → Onward s (showing bytes s)
+pub shown_more : (bytes : List ℕ) (s : State) → Onward s (state_after_output bytes s)
 shown_more bytes s = record { told = map Shown bytes; events_are = refl; left = []; files_are = sym (append-nil (all_files s)); one_each = sym (no_notes bytes) }
 
 -- A file statement has one note, and leaves files.
-pub noted_more : (file : FilePlaces) (step : Step) (s : State) → Onward s (received file step s)
+pub noted_more : (file : FilePlaces) (step : Step) (s : State) → Onward s (state_after_status file step s)
 noted_more file step s = record {
   told = Noted (record { file = file.number; status = bytes_of step.status }) ∷ [];
   events_are = refl;

@@ -4,8 +4,8 @@ use Rattle.std.specs.Prelude.{◌==◌, map, Some, None, Ok}
 use Rattle.station.specs.State.{Shown}
 use Rattle.source_tree.specs.declared.until.TestTime.TheVariants.{Before, After}
 use Rattle.source_tree.specs.Storage.{Storage}
-use Rattle.source_tree.specs.Conditions.{Truth}
-use Rattle.source_tree.specs.State.{State, Outcome, Done, Over, Budget, showing}
+use Rattle.source_tree.specs.Conditions.{ConditionValue}
+use Rattle.source_tree.specs.State.{State, Outcome, Done, Over, Budget, state_after_output}
 use Rattle.source_tree.specs.Until.{until_from}
 use Rattle.source_tree.specs.Branching.{way}
 
@@ -18,11 +18,11 @@ held _ = 0
 abbrev after_turns : ℕ → ℕ → List ℕ → State
 after_turns budget byte shown = record { budget = budget; line = 9; day = []; lines = []; storage = (byte ∷ []) ∷ []; files = []; connectors = []; earlier = []; events = map Shown shown }
 
-abbrev is_four : Truth
+abbrev is_four : ConditionValue
 is_four storage = Ok (held storage == 4)
 
 abbrev show_item : State → Outcome
-show_item s = Done (showing (held s.storage ∷ []) s)
+show_item s = Done (state_after_output (held s.storage ∷ []) s)
 
 abbrev add_one : State → Outcome
 add_one s = Done (record s { storage = ((held s.storage + 1) ∷ []) ∷ [] })
@@ -48,7 +48,7 @@ two_turns = refl
 
 -- a statement that shows a byte
 abbrev shows : ℕ → State → Outcome
-shows byte s = Done (showing (byte ∷ []) s)
+shows byte s = Done (state_after_output (byte ∷ []) s)
 
 first_way : way shows (1 ∷ 2 ∷ []) (Some (3 ∷ [])) true (after_turns 5 0 []) ≡ Done (after_turns 5 0 (1 ∷ 2 ∷ []))
 first_way = refl

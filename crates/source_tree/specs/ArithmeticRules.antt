@@ -17,53 +17,53 @@ use Rattle.source_tree.specs.declared.expression.Expression.TheFolds.{fold-Expre
 use Rattle.source_tree.specs.declared.arithmetic.Receiver.{Receiver}
 use Rattle.source_tree.specs.declared.arithmetic.Operation.{Operation}
 use Rattle.source_tree.specs.declared.arithmetic.Operation.TheVariants.{Add, AddGiving, Subtract, SubtractGiving, Multiply, MultiplyGiving, Divide, DivideGiving, DivideRemainder, Compute}
-use Rattle.source_tree.specs.Places.{Placed}
-use Rattle.source_tree.specs.Broken.{Broken, where_so, each}
-use Rattle.source_tree.specs.NameRules.{item_rules, literal_rules}
+use Rattle.source_tree.specs.Places.{LocatedItem}
+use Rattle.source_tree.specs.Broken.{RuleBreach, where_so, each}
+use Rattle.source_tree.specs.NameRules.{reference_rules, literal_rules}
 
 abbrev pub is_numeric_kind : Kind → Bool
 is_numeric_kind (kind.Numeric numeric) = true
 is_numeric_kind _ = false
 
 -- an item that holds a number
-abbrev pub numeric_item : Place → Placed → List Broken
+abbrev pub numeric_item : Place → LocatedItem → List RuleBreach
 numeric_item place one = where_so (not (is_numeric_kind one.item.kind)) 51 place
 
 -- an item that a number can be stored in: numeric, or numeric edited
-abbrev pub number_receiver : Place → Placed → List Broken
+abbrev pub number_receiver : Place → LocatedItem → List RuleBreach
 number_receiver place one = where_so (not (wants_number one.item.kind)) 51 place
 
 -- a numeric literal, or ZERO
-abbrev pub is_number : LiteralValue → Bool
-is_number (literal.Numeric one) = true
-is_number (literal.Figurative figurative.Zero) = true
-is_number _ = false
+abbrev pub is_number_literal : LiteralValue → Bool
+is_number_literal (literal.Numeric one) = true
+is_number_literal (literal.Figurative figurative.Zero) = true
+is_number_literal _ = false
 
-abbrev pub number_rules : List Placed → Operand → List Broken
-number_rules items (operand.Item one) = item_rules items numeric_item one
-number_rules items (operand.Literal one) = where_so (not (is_number one.value)) 51 one.place ++ literal_rules one
+abbrev pub number_rules : List LocatedItem → Operand → List RuleBreach
+number_rules items (operand.Item one) = reference_rules items numeric_item one
+number_rules items (operand.Literal one) = where_so (not (is_number_literal one.value)) 51 one.place ++ literal_rules one
 
 -- receivers whose own number has a part in the result
-abbrev pub updated_rules : List Placed → List Receiver → List Broken
-updated_rules items receivers = each (λ (one : Receiver). item_rules items numeric_item one.item) receivers
+abbrev pub updated_rules : List LocatedItem → List Receiver → List RuleBreach
+updated_rules items receivers = each (λ (one : Receiver). reference_rules items numeric_item one.item) receivers
 
 -- receivers behind GIVING, REMAINDER and COMPUTE
-abbrev pub given_rules : List Placed → List Receiver → List Broken
-given_rules items receivers = each (λ (one : Receiver). item_rules items number_receiver one.item) receivers
+abbrev pub given_rules : List LocatedItem → List Receiver → List RuleBreach
+given_rules items receivers = each (λ (one : Receiver). reference_rules items number_receiver one.item) receivers
 
-abbrev pub operand_pair_rules : Operator × List Broken → List Broken
+abbrev pub operand_pair_rules : Operator × List RuleBreach → List RuleBreach
 operand_pair_rules one = one.1
 
-abbrev pub expression_layer_rules : List Placed → Expression-F (List Broken) → List Broken
+abbrev pub expression_layer_rules : List LocatedItem → Expression-F (List RuleBreach) → List RuleBreach
 expression_layer_rules items (Expression-F.Operand one) = number_rules items one
 expression_layer_rules items (Expression-F.Negated inner) = inner
 expression_layer_rules items (Expression-F.Chain first more) = first ++ each operand_pair_rules more
 
-unfoldable pub expression_rules : List Placed → Expression → List Broken
-expression_rules items = fold-Expression (List Broken) (expression_layer_rules items)
+unfoldable pub expression_rules : List LocatedItem → Expression → List RuleBreach
+expression_rules items = fold-Expression (List RuleBreach) (expression_layer_rules items)
 
 -- in the order of writing
-abbrev pub operation_rules : List Placed → Operation → List Broken
+abbrev pub operation_rules : List LocatedItem → Operation → List RuleBreach
 operation_rules items (Add operands receivers) = each (number_rules items) operands ++ updated_rules items receivers
 operation_rules items (AddGiving operands receivers) = each (number_rules items) operands ++ given_rules items receivers
 operation_rules items (Subtract operands receivers) = each (number_rules items) operands ++ updated_rules items receivers
@@ -74,5 +74,5 @@ operation_rules items (MultiplyGiving factor by receivers) = number_rules items 
 operation_rules items (Divide divisor receivers) = number_rules items divisor ++ updated_rules items receivers
 operation_rules items (DivideGiving first order second receivers) = number_rules items first ++ number_rules items second ++ given_rules items receivers
 operation_rules items (DivideRemainder first order second quotient remainder) =
-    number_rules items first ++ number_rules items second ++ item_rules items number_receiver quotient.item ++ item_rules items number_receiver remainder
+    number_rules items first ++ number_rules items second ++ reference_rules items number_receiver quotient.item ++ reference_rules items number_receiver remainder
 operation_rules items (Compute receivers value) = given_rules items receivers ++ expression_rules items value

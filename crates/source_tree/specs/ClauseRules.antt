@@ -77,15 +77,15 @@ abbrev pub may_have_sign : Kind → Bool
 may_have_sign (kind.Numeric numeric) = is_signed_display numeric.usage
 may_have_sign _ = false
 
-abbrev pub is_number : Kind → Bool
-is_number (kind.Numeric numeric) = true
-is_number _ = false
+abbrev pub is_numeric_kind_of : Kind → Bool
+is_numeric_kind_of (kind.Numeric numeric) = true
+is_numeric_kind_of _ = false
 
 -- The clauses of an elementary item.
 abbrev pub wrong_form : Around → ItemEntry → Item → Option Picture → Bool
 wrong_form around one item None = false
 wrong_form around one item (Some picture) =
-    (is_some one.sign && not (may_have_sign item.kind)) || (not (is_display (usage_of around one)) && not (is_number item.kind))
+    (is_some one.sign && not (may_have_sign item.kind)) || (not (is_display (usage_of around one)) && not (is_numeric_kind_of item.kind))
 
 abbrev pub are_same : UsageClause → UsageClause → Bool
 are_same clause.Display clause.Display = true

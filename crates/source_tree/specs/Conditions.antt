@@ -3,7 +3,7 @@ use Rattle.std.specs.Prelude.{pos, Bool, true, false, not, ◌&&◌, ◌||◌, i
 use Rattle.std.specs.declared.cmp.Ordering.{Ordering}
 use Rattle.std.specs.declared.cmp.Ordering.TheVariants as o
 use Rattle.decimal18.specs.Order.{order}
-use Rattle.text_ops.specs.Compare.{compared}
+use Rattle.text_ops.specs.Compare.{comparison_of}
 use Rattle.text_ops.specs.Classes.{is_class}
 use Rattle.text_ops.specs.declared.class.Class as tested
 use Rattle.text_ops.specs.declared.class.Class.TheVariants as tested_class
@@ -25,39 +25,39 @@ use Rattle.source_tree.specs.declared.condition.Side.TheVariants as side
 use Rattle.source_tree.specs.declared.condition.Condition.{Condition}
 use Rattle.source_tree.specs.declared.condition.Condition.TheOpen.{Condition-F}
 use Rattle.source_tree.specs.declared.condition.Condition.TheFolds.{fold-Condition}
-use Rattle.source_tree.specs.Places.{Placed}
+use Rattle.source_tree.specs.Places.{LocatedItem}
 use Rattle.source_tree.specs.Literals.{Sender, item_sender, literal_sender}
 use Rattle.source_tree.specs.LookUp.{NamedCondition, conditions_named, first}
 use Rattle.source_tree.specs.Storage.{Storage}
-use Rattle.source_tree.specs.Evaluated.{Evaluated, ◌>>=◌, needed}
+use Rattle.source_tree.specs.Evaluated.{Evaluation, ◌>>=◌, evaluation_of}
 use Rattle.source_tree.specs.References.{ItemPlace, part_of, place_of, occurrence}
 use Rattle.source_tree.specs.Moving.{taken_of}
-use Rattle.source_tree.specs.Computed.{Computed, operand_value, expression_value}
+use Rattle.source_tree.specs.Computed.{ArithmeticValue, operand_value, expression_value}
 
 -- what an order says of a relation
-abbrev pub stands : Relation → Ordering → Bool
-stands relation.Less o.Less = true
-stands relation.Less _ = false
-stands relation.LessOrEqual o.Greater = false
-stands relation.LessOrEqual _ = true
-stands relation.Equal o.Equal = true
-stands relation.Equal _ = false
-stands relation.NotEqual o.Equal = false
-stands relation.NotEqual _ = true
-stands relation.GreaterOrEqual o.Less = false
-stands relation.GreaterOrEqual _ = true
-stands relation.Greater o.Greater = true
-stands relation.Greater _ = false
+abbrev pub satisfies : Relation → Ordering → Bool
+satisfies relation.Less o.Less = true
+satisfies relation.Less _ = false
+satisfies relation.LessOrEqual o.Greater = false
+satisfies relation.LessOrEqual _ = true
+satisfies relation.Equal o.Equal = true
+satisfies relation.Equal _ = false
+satisfies relation.NotEqual o.Equal = false
+satisfies relation.NotEqual _ = true
+satisfies relation.GreaterOrEqual o.Less = false
+satisfies relation.GreaterOrEqual _ = true
+satisfies relation.Greater o.Greater = true
+satisfies relation.Greater _ = false
 
 -- Two operands alone: by their values, or by their characters. Bytes that are no number are a fault.
-abbrev pub senders_stand : Relation → Sender → Sender → Evaluated Bool
-senders_stand one a b = needed (compared a.taken a.bytes b.taken b.bytes) >>= (λ ordering. Ok (stands one ordering))
+abbrev pub senders_stand : Relation → Sender → Sender → Evaluation Bool
+senders_stand one a b = evaluation_of (comparison_of a.taken a.bytes b.taken b.bytes) >>= (λ ordering. Ok (satisfies one ordering))
 
 -- A size error in a condition is a fault (own choice).
-abbrev pub numbers_stand : Relation → Computed → Computed → Evaluated Bool
-numbers_stand one x y = needed x >>= (λ a. needed y >>= (λ b. Ok (stands one (order a b))))
+abbrev pub numbers_stand : Relation → ArithmeticValue → ArithmeticValue → Evaluation Bool
+numbers_stand one x y = evaluation_of x >>= (λ a. evaluation_of y >>= (λ b. Ok (satisfies one (order a b))))
 
-abbrev pub zero_value : Computed
+abbrev pub zero_value : ArithmeticValue
 zero_value = Some (record { coefficient = pos 0; scale = 0 })
 
 -- the relation to zero that a sign is; NOT gives the opposite one
@@ -75,22 +75,22 @@ class_of class.Alphabetic = tested_class.Alphabetic
 class_of class.AlphabeticLower = tested_class.AlphabeticLower
 class_of class.AlphabeticUpper = tested_class.AlphabeticUpper
 
-abbrev pub unless : Bool → Bool → Bool
-unless negated truth = if negated then not truth else truth
+abbrev pub negated_if : Bool → Bool → Bool
+negated_if negated truth = if negated then not truth else truth
 
 -- from one to another
-abbrev pub lies_within : Sender → Sender → Sender → Evaluated Bool
+abbrev pub lies_within : Sender → Sender → Sender → Evaluation Bool
 lies_within value first last =
     senders_stand relation.GreaterOrEqual value first >>= (λ above. senders_stand relation.LessOrEqual value last >>= (λ below. Ok (above && below)))
 
 -- A value of a condition name: the literal, or what lies from it to the last one.
-abbrev pub in_range : Sender → Literal → Option Literal → Evaluated Bool
+abbrev pub in_range : Sender → Literal → Option Literal → Evaluation Bool
 in_range value first None = senders_stand relation.Equal value (literal_sender first.value)
 in_range value first (Some last) = lies_within value (literal_sender first.value) (literal_sender last.value)
 
 -- All values are looked at, which tells nothing else than stopping at the first that fits: the item is a number or isn't. `found`: an
 -- earlier one fitted.
-abbrev pub in_ranges : Bool → Sender → List ValueRange → Evaluated Bool
+abbrev pub in_ranges : Bool → Sender → List ValueRange → Evaluation Bool
 in_ranges found value [] = Ok found
 in_ranges found value (one ∷ more) = in_range value one.first one.last >>= (λ fits. in_ranges (found || fits) value more)
 
@@ -104,52 +104,52 @@ abbrev pub alone_side : Side → Option Operand
 alone_side (side.Expression one) = alone (out-Expression one)
 alone_side (side.Literal one) = Some (operand.Literal one)
 
-abbrev pub Truth : Type 0
-Truth = Storage → Evaluated Bool
+abbrev pub ConditionValue : Type 0
+ConditionValue = Storage → Evaluation Bool
 
 -- `items` are those of the program.
-module _ (items : List Placed) where
+module _ (items : List LocatedItem) where
   -- a side as a number
-  abbrev pub side_number : Side → Storage → Evaluated Computed
+  abbrev pub side_number : Side → Storage → Evaluation ArithmeticValue
   side_number (side.Expression one) storage = expression_value items one storage
   side_number (side.Literal one) storage = operand_value items (operand.Literal one) storage
 
   -- Two operands alone are compared as what they are, others as numbers. The left one is evaluated first.
-  abbrev pub relation_of : Option Operand → Option Operand → Side → Relation → Side → Truth
+  abbrev pub relation_of : Option Operand → Option Operand → Side → Relation → Side → ConditionValue
   relation_of (Some a) (Some b) left one right storage =
       taken_of items a storage >>= (λ x. taken_of items b storage >>= senders_stand one x)
   relation_of _ _ left one right storage =
       side_number left storage >>= (λ x. side_number right storage >>= numbers_stand one x)
 
-  abbrev pub relation_holds : Side → Relation → Side → Truth
+  abbrev pub relation_holds : Side → Relation → Side → ConditionValue
   relation_holds left one right = relation_of (alone_side left) (alone_side right) left one right
 
-  abbrev pub sign_holds : Computed → Bool → SignTest → Evaluated Bool
+  abbrev pub sign_holds : ArithmeticValue → Bool → SignTest → Evaluation Bool
   sign_holds x negated one = numbers_stand (sign_relation one negated) x zero_value
 
-  abbrev pub class_holds : Bool → Class → Storage → ItemPlace → Evaluated Bool
-  class_holds negated one storage place = Ok (unless negated (is_class (class_of one) place.item.kind (part_of storage place)))
+  abbrev pub class_holds : Bool → Class → Storage → ItemPlace → Evaluation Bool
+  class_holds negated one storage place = Ok (negated_if negated (is_class (class_of one) place.item.kind (part_of storage place)))
 
-  abbrev pub value_holds : NamedCondition → Storage → ItemPlace → Evaluated Bool
+  abbrev pub value_holds : NamedCondition → Storage → ItemPlace → Evaluation Bool
   value_holds found storage place = in_ranges false (item_sender place.item (part_of storage place)) found.condition.values
 
-  abbrev pub condition_holds : Reference → Storage → NamedCondition → Evaluated Bool
+  abbrev pub condition_holds : Reference → Storage → NamedCondition → Evaluation Bool
   condition_holds reference storage found = occurrence items reference.subscripts found.item storage >>= value_holds found storage
 
   -- Whether a condition name is true: its item, in the occurrence referred to, has one of the values.
-  abbrev pub name_holds : Reference → Truth
-  name_holds reference storage = needed (first (conditions_named items reference.item)) >>= condition_holds reference storage
+  abbrev pub name_holds : Reference → ConditionValue
+  name_holds reference storage = evaluation_of (first (conditions_named items reference.item)) >>= condition_holds reference storage
 
   -- from the left, until the truth is known (own choice)
-  abbrev pub all_hold : List Truth → Truth
+  abbrev pub all_hold : List ConditionValue → ConditionValue
   all_hold [] storage = Ok true
   all_hold (one ∷ more) storage = one storage >>= (λ truth. if truth then all_hold more storage else Ok false)
 
-  abbrev pub any_holds : List Truth → Truth
+  abbrev pub any_holds : List ConditionValue → ConditionValue
   any_holds [] storage = Ok false
   any_holds (one ∷ more) storage = one storage >>= (λ truth. if truth then Ok true else any_holds more storage)
 
-  abbrev pub condition_layer : Condition-F Truth → Truth
+  abbrev pub condition_layer : Condition-F ConditionValue → ConditionValue
   condition_layer (Condition-F.Name reference) storage = name_holds reference storage
   condition_layer (Condition-F.Relation left one right) storage = relation_holds left one right storage
   condition_layer (Condition-F.Sign value negated one) storage = expression_value items value storage >>= (λ x. sign_holds x negated one)
@@ -158,5 +158,5 @@ module _ (items : List Placed) where
   condition_layer (Condition-F.All parts) storage = all_hold parts storage
   condition_layer (Condition-F.Any parts) storage = any_holds parts storage
 
-  unfoldable pub holds : Condition → Truth
-  holds = fold-Condition Truth condition_layer
+  unfoldable pub holds : Condition → ConditionValue
+  holds = fold-Condition ConditionValue condition_layer

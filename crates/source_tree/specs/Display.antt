@@ -32,8 +32,8 @@ shown_decimals [] = []
 shown_decimals (digit ∷ digits) = point ∷ digit ∷ digits
 
 -- A number is shown as it was written (own choice, but for unsigned integers).
-abbrev pub shown_number : NumericLiteral → List ℕ
-shown_number n = shown_sign n.sign ++ n.whole ++ shown_decimals n.decimals
+abbrev pub literal_text : NumericLiteral → List ℕ
+literal_text n = shown_sign n.sign ++ n.whole ++ shown_decimals n.decimals
 
 -- the character of a figurative constant (COBOL-85, Nucleus, "Figurative constants"); HIGH-VALUE and LOW-VALUE are the
 -- greatest and the least byte (own choice)
@@ -46,7 +46,7 @@ figurative_byte Quote = 34
 
 -- A figurative constant is shown once. ALL shows its literal once (own choice).
 abbrev pub shown_literal : LiteralValue → List ℕ
-shown_literal (value.Numeric number) = shown_number number
+shown_literal (value.Numeric number) = literal_text number
 shown_literal (value.Nonnumeric bytes) = bytes
 shown_literal (value.Figurative one) = figurative_byte one ∷ []
 shown_literal (value.All bytes) = bytes

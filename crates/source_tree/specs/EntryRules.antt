@@ -9,12 +9,12 @@ use Rattle.source_tree.specs.declared.entry.ConditionEntry.{ConditionEntry}
 use Rattle.source_tree.specs.declared.entry.Entry.{Entry}
 use Rattle.source_tree.specs.declared.entry.Entry.TheVariants as entry
 use Rattle.source_tree.specs.Integers.{number_of}
-use Rattle.source_tree.specs.Levels.{Forest, End, Tree, nested, leading}
+use Rattle.source_tree.specs.Levels.{Forest, End, Tree, forest_of, leading_conditions}
 use Rattle.source_tree.specs.Clauses.{nothing_around, inside, occurrences}
 use Rattle.source_tree.specs.Rooms.{redefines, item_with, area_length}
-use Rattle.source_tree.specs.Broken.{Broken, where_so, each}
+use Rattle.source_tree.specs.Broken.{RuleBreach, where_so, each}
 use Rattle.source_tree.specs.ClauseRules.{has_items, wrong_clause, wrong_picture, too_large, too_many}
-use Rattle.source_tree.specs.RedefinitionRules.{Redefinable, remembered, wrong_redefinition}
+use Rattle.source_tree.specs.RedefinitionRules.{Redefinable, redefinable_after, wrong_redefinition}
 use Rattle.source_tree.specs.ValueRules.{value_rules, condition_rules}
 
 -- What the rules of an entry look at around it.
@@ -43,7 +43,7 @@ most_level = 49
 abbrev pub is_level : ℕ → Bool
 is_level level = (nat_le 1 level && nat_le level most_level) || (level == 77)
 
-abbrev pub level_rules : Entry → List Broken
+abbrev pub level_rules : Entry → List RuleBreach
 level_rules (entry.Item one) = where_so (not (is_level (number_of one.level))) 43 one.level.place
 level_rules (entry.Condition one) = []
 
@@ -58,11 +58,11 @@ first_level (Tree one conditions inner next) = number_of one.level
 
 -- ---- one entry
 
-abbrev pub redefinition_rules : Bool → ItemEntry → ℕ → Option Name → Option Redefinable → List Broken
+abbrev pub redefinition_rules : Bool → ItemEntry → ℕ → Option Name → Option Redefinable → List RuleBreach
 redefinition_rules is_record one bytes None last = []
 redefinition_rules is_record one bytes (Some name) last = where_so (wrong_redefinition is_record one bytes name last) 46 name.place
 
-abbrev pub own_rules : Position → ItemEntry → Item → Forest → Option Redefinable → List Broken
+abbrev pub own_rules : Position → ItemEntry → Item → Forest → Option Redefinable → List RuleBreach
 own_rules at one item inner last =
     where_so (too_many one) 69 one.level.place
     ++ where_so (too_large item) 48 one.level.place
@@ -82,14 +82,14 @@ below at one inner = record {
 }
 
 -- Each entry after those in it, and its condition names.
-abbrev pub forest_rules : Position → Option Redefinable → Forest → List Broken
+abbrev pub forest_rules : Position → Option Redefinable → Forest → List RuleBreach
 forest_rules at last End = []
 forest_rules at last (Tree one conditions inner next) =
     let item : Item = item_with at.around one inner in
     forest_rules (below at one inner) None inner
     ++ (own_rules at one item inner last
     ++ (each (condition_rules item) conditions
-    ++ forest_rules at (remembered one (occurrences one * item.length) last) next))
+    ++ forest_rules at (redefinable_after one (occurrences one * item.length) last) next))
 
 -- ---- all of working storage
 
@@ -104,11 +104,11 @@ place_of_entry (entry.Item one) = one.level.place
 place_of_entry (entry.Condition one) = one.name.place
 
 -- 43: a condition name that comes before all items
-abbrev pub homeless : ConditionEntry → List Broken
+abbrev pub homeless : ConditionEntry → List RuleBreach
 homeless one = record { rule = 43; place = one.name.place } ∷ []
 
 -- 48: each area that goes past the limit, after so many bytes of areas before it
-abbrev pub storage_rules : ℕ → Forest → List Broken
+abbrev pub storage_rules : ℕ → Forest → List RuleBreach
 storage_rules before End = []
 storage_rules before (Tree one conditions inner next) =
     if redefines one then storage_rules before next
@@ -116,14 +116,14 @@ storage_rules before (Tree one conditions inner next) =
     ++ storage_rules (before + area_length one conditions inner next) next
 
 -- 69: each entry past the limit
-abbrev pub excess : Entry → List Broken
+abbrev pub excess : Entry → List RuleBreach
 excess one = record { rule = 69; place = place_of_entry one } ∷ []
 
 -- The broken rules of working storage, the first that is looked for first.
-abbrev pub entry_rules : List Entry → List Broken
+abbrev pub entry_rules : List Entry → List RuleBreach
 entry_rules entries =
     each excess (drop most_entries entries)
     ++ (each level_rules entries
-    ++ (each homeless (leading entries)
-    ++ (forest_rules (outermost false) None (nested entries)
-    ++ storage_rules 0 (nested entries))))
+    ++ (each homeless (leading_conditions entries)
+    ++ (forest_rules (outermost false) None (forest_of entries)
+    ++ storage_rules 0 (forest_of entries))))

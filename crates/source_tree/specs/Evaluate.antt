@@ -12,18 +12,18 @@ use Rattle.source_tree.specs.declared.condition.Relation.TheVariants.{Equal, Gre
 use Rattle.source_tree.specs.declared.condition.Side.{Side}
 use Rattle.source_tree.specs.declared.condition.Condition.{Condition}
 use Rattle.source_tree.specs.declared.condition.Condition.TheVariants.{Name, Relation, Not, All, Any}
-use Rattle.source_tree.specs.declared.evaluate.Subject.{Subject}
-use Rattle.source_tree.specs.declared.evaluate.Subject.TheVariants as subject
-use Rattle.source_tree.specs.declared.evaluate.Choice.{Choice}
-use Rattle.source_tree.specs.declared.evaluate.Choice.TheVariants as choice
-use Rattle.source_tree.specs.declared.evaluate.Object.{Object}
-use Rattle.source_tree.specs.declared.evaluate.When.{When}
-use Rattle.source_tree.specs.declared.evaluate.Selected.{Selected}
-use Rattle.source_tree.specs.declared.evaluate.Evaluate.{Evaluate}
-use Rattle.source_tree.specs.Places.{Placed}
+use Rattle.source_tree.specs.declared.evaluate_statement.Subject.{Subject}
+use Rattle.source_tree.specs.declared.evaluate_statement.Subject.TheVariants as subject
+use Rattle.source_tree.specs.declared.evaluate_statement.Choice.{Choice}
+use Rattle.source_tree.specs.declared.evaluate_statement.Choice.TheVariants as choice
+use Rattle.source_tree.specs.declared.evaluate_statement.Object.{Object}
+use Rattle.source_tree.specs.declared.evaluate_statement.When.{When}
+use Rattle.source_tree.specs.declared.evaluate_statement.Selected.{Selected}
+use Rattle.source_tree.specs.declared.evaluate_statement.Evaluate.{Evaluate}
+use Rattle.source_tree.specs.Places.{LocatedItem}
 use Rattle.source_tree.specs.LookUp.{NamedCondition, conditions_named}
 use Rattle.source_tree.specs.Storage.{Storage}
-use Rattle.source_tree.specs.Evaluated.{Evaluated, ◌>>=◌, needed}
+use Rattle.source_tree.specs.Evaluated.{Evaluation, ◌>>=◌, evaluation_of}
 use Rattle.source_tree.specs.References.{ItemPlace, part_of, place_of}
 use Rattle.source_tree.specs.Conditions.{alone_side, side_number, holds}
 use Rattle.source_tree.specs.State.{State, Outcome, in_turn, with_value}
@@ -49,7 +49,7 @@ abbrev pub alike : Condition → Condition → Condition
 alike a b = Any (All (a ∷ b ∷ []) ∷ All (Not a ∷ Not b ∷ []) ∷ [])
 
 -- the values that an object names
-pub record Wanted : Type 0 where
+pub record ObjectValues : Type 0 where
   pub negated : Bool
   pub first : Side
   pub last : Option Side
@@ -59,51 +59,51 @@ abbrev pub value_within : Side → Side → Option Side → Condition
 value_within value first None = Relation value Equal first
 value_within value first (Some last) = All (Relation value GreaterOrEqual first ∷ Relation value LessOrEqual last ∷ [])
 
-abbrev pub value_asked : Side → Wanted → Condition
+abbrev pub value_asked : Side → ObjectValues → Condition
 value_asked value one = told_as (not one.negated) (value_within value one.first one.last)
 
 -- What a subject or an object is once its names are looked up: a value, TRUE or FALSE, or a condition.
-pub data Looked (V : Type 0) : Type 0 where
-  Value : V → Looked V
-  Truth : Bool → Looked V
-  Asking : Condition → Looked V
+pub data ResolvedOperand (V : Type 0) : Type 0 where
+  Value : V → ResolvedOperand V
+  Truth : Bool → ResolvedOperand V
+  Asking : Condition → ResolvedOperand V
 
 -- a reference alone, which is a condition name where some condition is called so
-abbrev pub looked_name : {V : Type 0} → V → Bool → Reference → List NamedCondition → Looked V
+abbrev pub looked_name : {V : Type 0} → V → Bool → Reference → List NamedCondition → ResolvedOperand V
 looked_name value negated one [] = Value value
 looked_name value negated one (found ∷ more) = Asking (told_as (not negated) (Name one))
 
-abbrev pub looked_operand : {V : Type 0} → List Placed → V → Bool → Option Operand → Looked V
+abbrev pub looked_operand : {V : Type 0} → List LocatedItem → V → Bool → Option Operand → ResolvedOperand V
 looked_operand items value negated (Some (operand.Item one)) = looked_name value negated one (conditions_named items one.item)
 looked_operand items value negated (Some (operand.Literal one)) = Value value
 looked_operand items value negated None = Value value
 
 -- With THRU there are values alone.
-abbrev pub looked_wanted : List Placed → Wanted → Option Side → Looked Wanted
+abbrev pub looked_wanted : List LocatedItem → ObjectValues → Option Side → ResolvedOperand ObjectValues
 looked_wanted items one None = looked_operand items one one.negated (alone_side one.first)
 looked_wanted items one (Some last) = Value one
 
-abbrev pub looked_subject : List Placed → Subject → Looked Side
+abbrev pub looked_subject : List LocatedItem → Subject → ResolvedOperand Side
 looked_subject items (subject.Value one) = looked_operand items one false (alone_side one)
 looked_subject items (subject.Condition one) = Asking one
 looked_subject items (subject.Truth one) = Truth one
 
 -- an object other than ANY
-abbrev pub looked_choice : List Placed → Choice → Looked Wanted
+abbrev pub looked_choice : List LocatedItem → Choice → ResolvedOperand ObjectValues
 looked_choice items choice.Any = Truth true
 looked_choice items (choice.Value negated first last) = looked_wanted items (record { negated = negated; first = first; last = last }) last
 looked_choice items (choice.Condition one) = Asking one
 looked_choice items (choice.Truth one) = Truth one
 
 -- whether both are values, or neither
-abbrev pub fit : Looked Side → Looked Wanted → Bool
-fit (Value a) (Value b) = true
-fit (Value a) _ = false
-fit _ (Value b) = false
-fit _ _ = true
+abbrev pub are_comparable : ResolvedOperand Side → ResolvedOperand ObjectValues → Bool
+are_comparable (Value a) (Value b) = true
+are_comparable (Value a) _ = false
+are_comparable _ (Value b) = false
+are_comparable _ _ = true
 
 -- What asks for a value, or whether two truths are the same. Where they don't fit that is never so; the rules leave no such case.
-abbrev pub asked_of : Looked Side → Looked Wanted → Condition
+abbrev pub asked_of : ResolvedOperand Side → ResolvedOperand ObjectValues → Condition
 asked_of (Value a) (Value b) = value_asked a b
 asked_of (Truth a) (Truth b) = told_as a (constant b)
 asked_of (Truth a) (Asking b) = told_as a b
@@ -113,33 +113,33 @@ asked_of _ _ = constant false
 
 -- ---- how a subject is taken: what is left of it is whether that is a fault
 
-abbrev pub without_value : {A : Type 0} → Evaluated A → Evaluated (Unit {0})
+abbrev pub without_value : {A : Type 0} → Evaluation A → Evaluation (Unit {0})
 without_value found = found >>= (λ value. Ok tt)
 
 -- The bytes of a numeric item are a number.
-abbrev pub take_bytes : Kind → List ℕ → Evaluated (Unit {0})
-take_bytes (kind.Numeric form) bytes = without_value (needed (value_of form bytes))
+abbrev pub take_bytes : Kind → List ℕ → Evaluation (Unit {0})
+take_bytes (kind.Numeric form) bytes = without_value (evaluation_of (value_of form bytes))
 take_bytes _ bytes = Ok tt
 
-abbrev pub take_item : Storage → ItemPlace → Evaluated (Unit {0})
+abbrev pub take_item : Storage → ItemPlace → Evaluation (Unit {0})
 take_item storage place = take_bytes place.item.kind (part_of storage place)
 
 -- `items` are those of the program.
-module _ (items : List Placed) where
+module _ (items : List LocatedItem) where
   -- A value: an item alone by its subscripts and its bytes, and anything else by its number, as in a relation. A literal is there.
-  abbrev pub take_value : Option Operand → Side → Storage → Evaluated (Unit {0})
+  abbrev pub take_value : Option Operand → Side → Storage → Evaluation (Unit {0})
   take_value (Some (operand.Item one)) value storage = place_of items one storage >>= take_item storage
   take_value (Some (operand.Literal one)) value storage = Ok tt
-  take_value None value storage = side_number items value storage >>= (λ x. without_value (needed x))
+  take_value None value storage = side_number items value storage >>= (λ x. without_value (evaluation_of x))
 
   -- A condition is taken by its truth.
-  abbrev pub take_looked : Looked Side → Storage → Evaluated (Unit {0})
+  abbrev pub take_looked : ResolvedOperand Side → Storage → Evaluation (Unit {0})
   take_looked (Value one) storage = take_value (alone_side one) one storage
   take_looked (Truth one) storage = Ok tt
   take_looked (Asking one) storage = without_value (holds items one storage)
 
   -- each in turn
-  abbrev pub take_subjects : List Subject → Storage → Evaluated (Unit {0})
+  abbrev pub take_subjects : List Subject → Storage → Evaluation (Unit {0})
   take_subjects [] storage = Ok tt
   take_subjects (one ∷ more) storage = take_looked (looked_subject items one) storage >>= (λ _. take_subjects more storage)
 
@@ -148,16 +148,16 @@ module _ (items : List Placed) where
   -- whether an object may stand for a subject: ANY for each, a value for a value, what is true or false for what is true or false
   abbrev pub fits : Subject → Choice → Bool
   fits one choice.Any = true
-  fits one other = fit (looked_subject items one) (looked_choice items other)
+  fits one other = are_comparable (looked_subject items one) (looked_choice items other)
 
   -- the condition that an object asks of its subject
-  abbrev pub asked : Subject → Choice → Condition
-  asked one choice.Any = constant true
-  asked one other = asked_of (looked_subject items one) (looked_choice items other)
+  abbrev pub selection_condition : Subject → Choice → Condition
+  selection_condition one choice.Any = constant true
+  selection_condition one other = asked_of (looked_subject items one) (looked_choice items other)
 
   -- those of a WHEN, subject by subject
   abbrev pub asked_each : List Subject → List Object → List Condition
-  asked_each (one ∷ more) (object ∷ others) = asked one object.choice ∷ asked_each more others
+  asked_each (one ∷ more) (object ∷ others) = selection_condition one object.choice ∷ asked_each more others
   asked_each _ _ = []
 
   -- whether all objects of a WHEN are met
@@ -174,12 +174,12 @@ module _ (items : List Placed) where
 
   module _ {S : Type 0} (run : S → State → Outcome) where
     -- the statements behind the first WHENs of which one is met, else those of OTHER
-    abbrev pub selecting : List Subject → List (Selected S) → Option (List S) → State → Outcome
-    selecting subjects [] other s = in_phrase run other s
-    selecting subjects (one ∷ more) other s =
+    abbrev pub selection_outcome : List Subject → List (Selected S) → Option (List S) → State → Outcome
+    selection_outcome subjects [] other s = in_phrase run other s
+    selection_outcome subjects (one ∷ more) other s =
         with_value (holds items (selected_asked subjects one) s.storage) s
-        (λ truth. one_of (in_turn run one.statements) (selecting subjects more other) truth s)
+        (λ truth. one_of (in_turn run one.statements) (selection_outcome subjects more other) truth s)
 
-    abbrev pub evaluating : Evaluate S → State → Outcome
-    evaluating one s =
-        with_value (take_subjects one.subjects s.storage) s (λ _. selecting one.subjects one.selected one.other s)
+    abbrev pub evaluate_outcome : Evaluate S → State → Outcome
+    evaluate_outcome one s =
+        with_value (take_subjects one.subjects s.storage) s (λ _. selection_outcome one.subjects one.selected one.other s)

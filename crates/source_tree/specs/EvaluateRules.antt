@@ -3,42 +3,42 @@
 use Rattle.std.specs.Prelude.{◌==◌, not, if◌then◌else◌, map, List, [], ◌∷◌, ◌++◌, length}
 use Rattle.lexical.specs.declared.place.Place.{Place}
 use Rattle.source_tree.specs.declared.condition.Side.{Side}
-use Rattle.source_tree.specs.declared.evaluate.Subject.{Subject}
-use Rattle.source_tree.specs.declared.evaluate.Object.{Object}
-use Rattle.source_tree.specs.declared.evaluate.When.{When}
-use Rattle.source_tree.specs.declared.evaluate.Selected.{Selected}
-use Rattle.source_tree.specs.Places.{Placed}
-use Rattle.source_tree.specs.Broken.{Broken, where_so, each}
+use Rattle.source_tree.specs.declared.evaluate_statement.Subject.{Subject}
+use Rattle.source_tree.specs.declared.evaluate_statement.Object.{Object}
+use Rattle.source_tree.specs.declared.evaluate_statement.When.{When}
+use Rattle.source_tree.specs.declared.evaluate_statement.Selected.{Selected}
+use Rattle.source_tree.specs.Places.{LocatedItem}
+use Rattle.source_tree.specs.Broken.{RuleBreach, where_so, each}
 use Rattle.source_tree.specs.ConditionRules.{side_rules, condition_rules}
-use Rattle.source_tree.specs.Evaluate.{Looked, Value, Truth, Asking, looked_subject, fits, asked}
+use Rattle.source_tree.specs.Evaluate.{ResolvedOperand, Value, Truth, Asking, looked_subject, fits, selection_condition}
 
 -- a comparison that isn't permitted is told where the object begins
-abbrev pub at_object : Place → Broken → Broken
+abbrev pub at_object : Place → RuleBreach → RuleBreach
 at_object place one = if one.rule == 52 then record one { place = place } else one
 
-module _ (items : List Placed) where
+module _ (items : List LocatedItem) where
   -- a value is ruled by itself
-  abbrev pub looked_rules : Looked Side → List Broken
+  abbrev pub looked_rules : ResolvedOperand Side → List RuleBreach
   looked_rules (Value one) = side_rules items one
   looked_rules (Truth one) = []
   looked_rules (Asking one) = condition_rules items one
 
-  abbrev pub subject_rules : Subject → List Broken
+  abbrev pub subject_rules : Subject → List RuleBreach
   subject_rules one = looked_rules (looked_subject items one)
 
-  abbrev pub object_rules : Subject → Object → List Broken
+  abbrev pub object_rules : Subject → Object → List RuleBreach
   object_rules one object =
-      where_so (not (fits items one object.choice)) 53 object.place ++ map (at_object object.place) (condition_rules items (asked items one object.choice))
+      where_so (not (fits items one object.choice)) 53 object.place ++ map (at_object object.place) (condition_rules items (selection_condition items one object.choice))
 
   -- subject by subject
-  abbrev pub objects_rules : List Subject → List Object → List Broken
+  abbrev pub objects_rules : List Subject → List Object → List RuleBreach
   objects_rules (one ∷ more) (object ∷ others) = object_rules one object ++ objects_rules more others
   objects_rules _ _ = []
 
-  abbrev pub when_rules : List Subject → When → List Broken
+  abbrev pub when_rules : List Subject → When → List RuleBreach
   when_rules subjects one =
       where_so (not (length one.objects == length subjects)) 53 one.place ++ objects_rules subjects one.objects
 
-  module _ {S : Type 0} (inside : S → List Broken) where
-    abbrev pub selected_rules : List Subject → Selected S → List Broken
+  module _ {S : Type 0} (inside : S → List RuleBreach) where
+    abbrev pub selected_rules : List Subject → Selected S → List RuleBreach
     selected_rules subjects one = each (when_rules subjects) one.whens ++ each inside one.statements

@@ -7,15 +7,15 @@ pub data Fault : Type 0 where
   Subscript : Fault
   FileStatus : Fault
 
-abbrev pub Evaluated : Type 0 → Type 0
-Evaluated A = Result A Fault
+abbrev pub Evaluation : Type 0 → Type 0
+Evaluation A = Result A Fault
 
 infixl 10 ◌>>=◌
-abbrev pub ◌>>=◌ : {A B : Type 0} → Evaluated A → (A → Evaluated B) → Evaluated B
+abbrev pub ◌>>=◌ : {A B : Type 0} → Evaluation A → (A → Evaluation B) → Evaluation B
 (Ok x) >>= f = f x
 (Err fault) >>= f = Err fault
 
 -- A number, or whatever else has to be there. Where the rules are kept, what the tree demands is there.
-abbrev pub needed : {A : Type 0} → Option A → Evaluated A
-needed (Some x) = Ok x
-needed None = Err Data
+abbrev pub evaluation_of : {A : Type 0} → Option A → Evaluation A
+evaluation_of (Some x) = Ok x
+evaluation_of None = Err Data

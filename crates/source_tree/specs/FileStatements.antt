@@ -14,7 +14,7 @@ use Rattle.records.specs.Statuses as statuses
 use Rattle.records.specs.Steps.{Step}
 use Rattle.records.specs.FileStep.{file_step, connectors_after}
 use Rattle.source_tree.specs.Storage.{Storage}
-use Rattle.source_tree.specs.References.{ItemPlace, part_of, storing, whole_part}
+use Rattle.source_tree.specs.References.{ItemPlace, part_of, storage_with, whole_part}
 use Rattle.source_tree.specs.ProgramFiles.{FilePlaces}
 use Rattle.source_tree.specs.State.{State, Outcome}
 
@@ -33,7 +33,7 @@ area_of file storage = record { bytes = slice_index_or storage file.area []; num
 
 -- The number is stored back where it changed.
 abbrev pub number_stored : Kind → ItemPlace → ℕ → Storage → Storage
-number_stored (kind.Numeric numeric) place n storage = storing place (bytes_of numeric (record { coefficient = pos n; scale = 0 })) storage
+number_stored (kind.Numeric numeric) place n storage = storage_with place (bytes_of numeric (record { coefficient = pos n; scale = 0 })) storage
 number_stored _ place n storage = storage
 
 abbrev pub with_number : Option ItemPlace → ℕ → ℕ → Storage → Storage
@@ -47,15 +47,15 @@ with_area file old area storage = with_number file.relative_key old area.number 
 
 abbrev pub with_status : Option ItemPlace → Status → Storage → Storage
 with_status None status storage = storage
-with_status (Some place) status storage = storing place (statuses.bytes_of status) storage
+with_status (Some place) status storage = storage_with place (statuses.bytes_of status) storage
 
 -- what a step leaves in storage; above, this and `step_by` stay as they are named here
 unfoldable pub stored_by : FilePlaces → Step → Storage → Storage
 stored_by file step storage = with_status file.status step.status (with_area file (area_of file storage).number step.area storage)
 
 -- the state once its status is received
-abbrev pub received : FilePlaces → Step → State → State
-received file step s = record s {
+abbrev pub state_after_status : FilePlaces → Step → State → State
+state_after_status file step s = record s {
   storage = stored_by file step s.storage;
   files = step.files;
   connectors = connectors_after s.connectors file.number step;
@@ -71,7 +71,7 @@ abbrev pub step_on : List Entry → FilePlaces → Verb → State → Step
 step_on entries file verb s = step_by entries file verb s.files s.connectors s.storage
 
 abbrev pub going_on : FilePlaces → (Status → State → Outcome) → State → Step → Outcome
-going_on file go s step = go step.status (received file step s)
+going_on file go s step = go step.status (state_after_status file step s)
 
 -- a file statement, and what goes on with its status
 abbrev pub file_statement : List Entry → FilePlaces → Verb → (Status → State → Outcome) → State → Outcome

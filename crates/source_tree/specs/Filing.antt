@@ -20,13 +20,13 @@ use Rattle.source_tree.specs.declared.condition.RelationalOperator.{RelationalOp
 use Rattle.source_tree.specs.declared.expression.Operand.TheVariants as operand
 use Rattle.source_tree.specs.declared.phrases.FilePhrases.{FilePhrases}
 use Rattle.source_tree.specs.declared.phrases.FilePhrases.TheVariants as phrases
-use Rattle.source_tree.specs.declared.filing.Opening.{Opening}
-use Rattle.source_tree.specs.declared.filing.StartKey.{StartKey}
-use Rattle.source_tree.specs.declared.filing.Filing.{Filing}
-use Rattle.source_tree.specs.declared.filing.Filing.TheVariants.{Open, Close, Read, Write, Rewrite, Delete, Start}
+use Rattle.source_tree.specs.declared.file_statement.Opening.{Opening}
+use Rattle.source_tree.specs.declared.file_statement.StartKey.{StartKey}
+use Rattle.source_tree.specs.declared.file_statement.FileStatement.{FileStatement}
+use Rattle.source_tree.specs.declared.file_statement.FileStatement.TheVariants.{Open, Close, Read, Write, Rewrite, Delete, Start}
 use Rattle.source_tree.specs.Storage.{Storage, bytes_at}
-use Rattle.source_tree.specs.Evaluated.{FileStatus, Evaluated}
-use Rattle.source_tree.specs.Places.{Placed}
+use Rattle.source_tree.specs.Evaluated.{FileStatus, Evaluation}
+use Rattle.source_tree.specs.Places.{LocatedItem}
 use Rattle.source_tree.specs.LookUp.{items_named, first}
 use Rattle.source_tree.specs.Literals.{item_sender}
 use Rattle.source_tree.specs.References.{ItemPlace}
@@ -34,7 +34,7 @@ use Rattle.source_tree.specs.Moving.{move, move_to_each}
 use Rattle.source_tree.specs.Arithmetic.{in_phrase}
 use Rattle.source_tree.specs.ProgramFiles.{ProgramFile, files_named, files_with, entries_of, key_place}
 use Rattle.source_tree.specs.FileStatements.{file_statement}
-use Rattle.source_tree.specs.State.{State, Faulted, Outcome, Done, Over, then_do, in_turn, changing}
+use Rattle.source_tree.specs.State.{State, Faulted, Outcome, Done, Over, then_do, in_turn, change_outcome}
 
 -- ---- statuses by their first character: 0x, 1x, 2x, and others
 
@@ -54,14 +54,14 @@ class_of status = class_by (bytes_of status)
 -- ---- what follows a status
 
 -- A status from 10 on that no phrase takes is a fault where no item holds it (own choice).
-abbrev pub unheard : Option ItemPlace → State → Outcome
-unheard (Some item) s = Done s
-unheard None s = Over (Faulted FileStatus s.line) s
+abbrev pub unheard_outcome : Option ItemPlace → State → Outcome
+unheard_outcome (Some item) s = Done s
+unheard_outcome None s = Over (Faulted FileStatus s.line) s
 
 module _ {S : Type 0} (run : S → State → Outcome) where
   abbrev pub taken_phrase : Option ItemPlace → Option (List S) → State → Outcome
   taken_phrase item (Some statements) s = in_turn run statements s
-  taken_phrase item None s = unheard item s
+  taken_phrase item None s = unheard_outcome item s
 
   -- the phrase that fits
   abbrev pub by_class : Option ItemPlace → FilePhrases S → Class → State → Outcome
@@ -70,7 +70,7 @@ module _ {S : Type 0} (run : S → State → Outcome) where
   by_class item (phrases.InvalidKey pair) Successful s = in_phrase run pair.did_not s
   by_class item (phrases.AtEnd pair) AtEnd s = taken_phrase item pair.arose s
   by_class item (phrases.InvalidKey pair) InvalidKey s = taken_phrase item pair.arose s
-  by_class item phrases class s = unheard item s
+  by_class item phrases class s = unheard_outcome item s
 
   -- `onward` comes after a success, before its phrase.
   abbrev pub by_status : Option ItemPlace → FilePhrases S → (State → Outcome) → Class → State → Outcome
@@ -88,14 +88,14 @@ abbrev pub key_from : ℕ → List AlternateKey → ℕ → KeyOfReference
 key_from number [] offset = Prime
 key_from number (one ∷ more) offset = if one.place.offset == offset then Alternate number else key_from (number + 1) more offset
 
-abbrev pub key_named : List Placed → ProgramFile → Reference → KeyOfReference
+abbrev pub key_named : List LocatedItem → ProgramFile → Reference → KeyOfReference
 key_named items file one = key_from 0 file.entry.spec.alternates (key_place items one).offset
 
-abbrev pub read_key : List Placed → ProgramFile → Option Reference → KeyOfReference
+abbrev pub read_key : List LocatedItem → ProgramFile → Option Reference → KeyOfReference
 read_key items file None = Prime
 read_key items file (Some one) = key_named items file one
 
-abbrev pub read_verb : List Placed → ProgramFile → Bool → Option Reference → Verb
+abbrev pub read_verb : List LocatedItem → ProgramFile → Bool → Option Reference → Verb
 read_verb items file next key = if is_in_sequence file next then verb.ReadNext else verb.Read (read_key items file key)
 
 -- the operators that the rules permit
@@ -113,22 +113,22 @@ abbrev pub start_on : ProgramFile → RelationalOperator → KeyOfReference → 
 start_on file operator key size = verb.Start (start_relation operator) key (min size (key_length file.entry.spec key))
 
 -- without KEY, EQUAL on the prime key or on RELATIVE KEY
-abbrev pub start_verb : List Placed → ProgramFile → Option StartKey → Verb
+abbrev pub start_verb : List LocatedItem → ProgramFile → Option StartKey → Verb
 start_verb items file None = verb.Start relating.Equal Prime (key_length file.entry.spec Prime)
 start_verb items file (Some one) = start_on file one.operator (key_named items file one.key) (key_place items one.key).length
 
 -- ---- moves: READ INTO after a success, FROM before the file statement
 
-abbrev pub move_record : List Placed → ProgramFile → Reference → Storage → Evaluated Storage
+abbrev pub move_record : List LocatedItem → ProgramFile → Reference → Storage → Evaluation Storage
 move_record items file into storage = move_to_each items (item_sender file.sent (bytes_at storage file.places.area 0 file.sent.length)) (into ∷ []) storage
 
-abbrev pub into_item : List Placed → Option Reference → ProgramFile → State → Outcome
+abbrev pub into_item : List LocatedItem → Option Reference → ProgramFile → State → Outcome
 into_item items None file s = Done s
-into_item items (Some into) file s = changing (move_record items file into) s
+into_item items (Some into) file s = change_outcome (move_record items file into) s
 
-abbrev pub from_item : List Placed → Reference → Option Reference → State → Outcome
+abbrev pub from_item : List LocatedItem → Reference → Option Reference → State → Outcome
 from_item items to None s = Done s
-from_item items to (Some from) s = changing (move items (operand.Item from) (to ∷ [])) s
+from_item items to (Some from) s = change_outcome (move items (operand.Item from) (to ∷ [])) s
 
 -- ---- statements
 
@@ -137,11 +137,11 @@ on_file None go s = Done s
 on_file (Some file) go s = go file s
 
 -- the file of a record
-abbrev pub file_with_record : List ProgramFile → Option Placed → Option ProgramFile
+abbrev pub file_with_record : List ProgramFile → Option LocatedItem → Option ProgramFile
 file_with_record files None = None
 file_with_record files (Some one) = first (files_with files one.area)
 
-module _ (items : List Placed) (files : List ProgramFile) {S : Type 0} (run : S → State → Outcome) where
+module _ (items : List LocatedItem) (files : List ProgramFile) {S : Type 0} (run : S → State → Outcome) where
   abbrev pub statement_on : FilePhrases S → (State → Outcome) → Verb → ProgramFile → State → Outcome
   statement_on phrases onward verb file s =
       file_statement (entries_of files) file.places verb (λ status. by_status run file.places.status phrases onward (class_of status)) s
@@ -158,24 +158,24 @@ module _ (items : List Placed) (files : List ProgramFile) {S : Type 0} (run : S 
   abbrev pub close_one : Name → State → Outcome
   close_one one s = on_name one (statement_on phrases.Absent Done verb.Close) s
 
-  abbrev pub read : Bool → Option Reference → Option Reference → FilePhrases S → ProgramFile → State → Outcome
-  read next into key phrases file s = statement_on phrases (into_item items into file) (read_verb items file next key) file s
+  abbrev pub read_outcome : Bool → Option Reference → Option Reference → FilePhrases S → ProgramFile → State → Outcome
+  read_outcome next into key phrases file s = statement_on phrases (into_item items into file) (read_verb items file next key) file s
 
   abbrev pub start : Option StartKey → FilePhrases S → ProgramFile → State → Outcome
   start key phrases file s = statement_on phrases Done (start_verb items file key) file s
 
   -- Each file of OPEN and CLOSE is a file statement.
-  abbrev pub filing : Filing S → State → Outcome
-  filing (Open all) s = in_turn open_one all s
-  filing (Close all) s = in_turn close_one all s
-  filing (Read file next into key phrases) s = on_name file (read next into key phrases) s
-  filing (Write one from phrases) s = then_do (from_item items one from s) (on_record one (statement_on phrases Done verb.Write))
-  filing (Rewrite one from phrases) s = then_do (from_item items one from s) (on_record one (statement_on phrases Done verb.Rewrite))
-  filing (Delete file phrases) s = on_name file (statement_on phrases Done verb.Delete) s
-  filing (Start file key phrases) s = on_name file (start key phrases) s
+  abbrev pub file_outcome : FileStatement S → State → Outcome
+  file_outcome (Open all) s = in_turn open_one all s
+  file_outcome (Close all) s = in_turn close_one all s
+  file_outcome (Read file next into key phrases) s = on_name file (read_outcome next into key phrases) s
+  file_outcome (Write one from phrases) s = then_do (from_item items one from s) (on_record one (statement_on phrases Done verb.Write))
+  file_outcome (Rewrite one from phrases) s = then_do (from_item items one from s) (on_record one (statement_on phrases Done verb.Rewrite))
+  file_outcome (Delete file phrases) s = on_name file (statement_on phrases Done verb.Delete) s
+  file_outcome (Start file key phrases) s = on_name file (start key phrases) s
 
 -- the phrases of a statement; OPEN and CLOSE have none
-abbrev pub phrases_of : {S : Type 0} → Filing S → FilePhrases S
+abbrev pub phrases_of : {S : Type 0} → FileStatement S → FilePhrases S
 phrases_of (Open all) = phrases.Absent
 phrases_of (Close all) = phrases.Absent
 phrases_of (Read file next into key phrases) = phrases

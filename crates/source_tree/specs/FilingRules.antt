@@ -26,17 +26,17 @@ use Rattle.source_tree.specs.declared.select.Select.{Select}
 use Rattle.source_tree.specs.declared.expression.Operand.TheVariants as operand
 use Rattle.source_tree.specs.declared.phrases.FilePhrases.{FilePhrases}
 use Rattle.source_tree.specs.declared.phrases.FilePhrases.TheVariants as phrases
-use Rattle.source_tree.specs.declared.filing.Opening.{Opening}
-use Rattle.source_tree.specs.declared.filing.StartKey.{StartKey}
-use Rattle.source_tree.specs.declared.filing.Filing.{Filing}
-use Rattle.source_tree.specs.declared.filing.Filing.TheVariants.{Open, Close, Read, Write, Rewrite, Delete, Start}
+use Rattle.source_tree.specs.declared.file_statement.Opening.{Opening}
+use Rattle.source_tree.specs.declared.file_statement.StartKey.{StartKey}
+use Rattle.source_tree.specs.declared.file_statement.FileStatement.{FileStatement}
+use Rattle.source_tree.specs.declared.file_statement.FileStatement.TheVariants.{Open, Close, Read, Write, Rewrite, Delete, Start}
 use Rattle.source_tree.specs.Levels.{level_of}
-use Rattle.source_tree.specs.Places.{Placed}
+use Rattle.source_tree.specs.Places.{LocatedItem}
 use Rattle.source_tree.specs.LookUp.{is_item}
 use Rattle.source_tree.specs.ProgramFiles.{ProgramFile, files_named, files_with, place_in_record}
 use Rattle.source_tree.specs.Filing.{is_in_sequence}
-use Rattle.source_tree.specs.Broken.{Broken, where_so, each}
-use Rattle.source_tree.specs.NameRules.{named, item_rules}
+use Rattle.source_tree.specs.Broken.{RuleBreach, where_so, each}
+use Rattle.source_tree.specs.NameRules.{unique_name_rules, reference_rules}
 use Rattle.source_tree.specs.MoveRules.{receives, move_rules}
 use Rattle.source_tree.specs.FileRules.{is_plain, clause_item}
 
@@ -73,45 +73,45 @@ abbrev pub keys_of : ProgramFile → List KeyPlace
 keys_of file = keys_by file.entry.spec.organization file.entry.spec.alternates
 
 -- an item of the record
-abbrev pub is_in_record : ProgramFile → Reference → Placed → Bool
+abbrev pub is_in_record : ProgramFile → Reference → LocatedItem → Bool
 is_in_record file reference one = is_plain reference one && (one.area == file.places.area)
 
 -- A clause names the item. Where the rules of SELECTs are kept it names no other.
-abbrev pub clause_names : Option Reference → Placed → Bool
+abbrev pub clause_names : Option Reference → LocatedItem → Bool
 clause_names None one = false
 clause_names (Some clause) one = is_item clause.item one
 
-abbrev pub alternate_names : Placed → AlternateKeyClause → Bool
+abbrev pub alternate_names : LocatedItem → AlternateKeyClause → Bool
 alternate_names one clause = is_item clause.key.item one
 
 -- RECORD KEY or ALTERNATE RECORD KEY names the item.
-abbrev pub names_key : Select → Placed → Bool
+abbrev pub names_key : Select → LocatedItem → Bool
 names_key select one = clause_names select.record_key one || list_any (alternate_names one) select.alternate_keys
 
-abbrev pub is_key_of : ProgramFile → Reference → Placed → Bool
+abbrev pub is_key_of : ProgramFile → Reference → LocatedItem → Bool
 is_key_of file reference one = is_plain reference one && names_key file.select one
 
-abbrev pub read_key_item : ProgramFile → Reference → Placed → List Broken
+abbrev pub read_key_item : ProgramFile → Reference → LocatedItem → List RuleBreach
 read_key_item file reference one = where_so (not (is_key_of file reference one)) 62 reference.item.name.place
 
-abbrev pub is_text : Kind → Bool
-is_text kind.Group = true
-is_text (kind.Alphanumeric justified) = true
-is_text _ = false
+abbrev pub is_text_kind : Kind → Bool
+is_text_kind kind.Group = true
+is_text_kind (kind.Alphanumeric justified) = true
+is_text_kind _ = false
 
 -- it begins at the key's first byte, and is no longer
 abbrev pub begins_key : KeyPlace → KeyPlace → Bool
 begins_key one key = (one.offset == key.offset) && nat_le one.length key.length
 
-abbrev pub begins_key_of : ProgramFile → Reference → Placed → Bool
+abbrev pub begins_key_of : ProgramFile → Reference → LocatedItem → Bool
 begins_key_of file reference one =
-    is_in_record file reference one && is_text one.item.kind && list_any (begins_key (place_in_record (Some one))) (keys_of file)
+    is_in_record file reference one && is_text_kind one.item.kind && list_any (begins_key (place_in_record (Some one))) (keys_of file)
 
 -- the RELATIVE KEY of a relative file
-abbrev pub is_relative_key : ProgramFile → Reference → Placed → Bool
+abbrev pub is_relative_key : ProgramFile → Reference → LocatedItem → Bool
 is_relative_key file reference one = is_relative file.entry.spec.organization && is_plain reference one && clause_names file.select.relative_key one
 
-abbrev pub start_key_item : ProgramFile → Reference → Placed → List Broken
+abbrev pub start_key_item : ProgramFile → Reference → LocatedItem → List RuleBreach
 start_key_item file reference one =
     where_so (not (is_key_of file reference one || begins_key_of file reference one || is_relative_key file reference one)) 63 reference.item.name.place
 
@@ -128,38 +128,38 @@ is_start_operator one = may_start one.negated one.relation
 
 -- ---- statements; `place` is where the file or the record is named
 
-module _ (items : List Placed) (files : List ProgramFile) where
-  abbrev pub file_named_rules : Name → (ProgramFile → List Broken) → List Broken
-  file_named_rules name asked = named name.place asked (files_named files name)
+module _ (items : List LocatedItem) (files : List ProgramFile) where
+  abbrev pub file_named_rules : Name → (ProgramFile → List RuleBreach) → List RuleBreach
+  file_named_rules name asked = unique_name_rules name.place asked (files_named files name)
 
-  abbrev pub any_file : ProgramFile → List Broken
+  abbrev pub any_file : ProgramFile → List RuleBreach
   any_file file = []
 
   -- Only sequential files are extended.
-  abbrev pub open_rules : Opening → List Broken
+  abbrev pub open_rules : Opening → List RuleBreach
   open_rules one = file_named_rules one.file (λ file. where_so (is_extend one.mode && not (is_sequential_file file.entry.spec.organization)) 61 one.file.place)
 
-  abbrev pub close_rules : Name → List Broken
+  abbrev pub close_rules : Name → List RuleBreach
   close_rules one = file_named_rules one any_file
 
   -- AT END stands at a READ in sequence alone, and INVALID KEY at no statement on a sequential file.
-  abbrev pub phrase_kind_rules : {S : Type 0} → Place → FilePhrases S → ProgramFile → List Broken
+  abbrev pub phrase_kind_rules : {S : Type 0} → Place → FilePhrases S → ProgramFile → List RuleBreach
   phrase_kind_rules place phrases file =
       where_so (has_at_end phrases || (has_invalid_key phrases && is_sequential_file file.entry.spec.organization)) 62 place
 
-  abbrev pub read_phrase_rules : {S : Type 0} → Place → Bool → FilePhrases S → List Broken
+  abbrev pub read_phrase_rules : {S : Type 0} → Place → Bool → FilePhrases S → List RuleBreach
   read_phrase_rules place in_sequence phrases =
       where_so ((has_at_end phrases && not in_sequence) || (has_invalid_key phrases && in_sequence)) 62 place
 
-  abbrev pub read_key_rules : Bool → ProgramFile → Option Reference → List Broken
+  abbrev pub read_key_rules : Bool → ProgramFile → Option Reference → List RuleBreach
   read_key_rules in_sequence file None = []
   read_key_rules in_sequence file (Some key) = where_so in_sequence 62 key.item.name.place ++ clause_item items (read_key_item file) key
 
-  abbrev pub into_rules : ProgramFile → Option Reference → List Broken
+  abbrev pub into_rules : ProgramFile → Option Reference → List RuleBreach
   into_rules file None = []
-  into_rules file (Some into) = item_rules items (receives (Some (taken.Item file.sent))) into
+  into_rules file (Some into) = reference_rules items (receives (Some (taken.Item file.sent))) into
 
-  abbrev pub read_rules : {S : Type 0} → Place → Bool → Option Reference → Option Reference → FilePhrases S → ProgramFile → List Broken
+  abbrev pub read_rules : {S : Type 0} → Place → Bool → Option Reference → Option Reference → FilePhrases S → ProgramFile → List RuleBreach
   read_rules place next into key phrases file =
       where_so (next && is_random file.entry.access) 62 place
       ++ read_phrase_rules place (is_in_sequence file next) phrases
@@ -167,28 +167,28 @@ module _ (items : List Placed) (files : List ProgramFile) where
       ++ into_rules file into
 
   -- 40: the 01 record of an FD
-  abbrev pub record_item : {S : Type 0} → FilePhrases S → Place → Placed → List Broken
+  abbrev pub record_item : {S : Type 0} → FilePhrases S → Place → LocatedItem → List RuleBreach
   record_item phrases place one =
-      where_so (not (level_of one.entry == 1)) 40 place ++ named place (phrase_kind_rules place phrases) (files_with files one.area)
+      where_so (not (level_of one.entry == 1)) 40 place ++ unique_name_rules place (phrase_kind_rules place phrases) (files_with files one.area)
 
-  abbrev pub from_rules : Reference → Option Reference → List Broken
+  abbrev pub from_rules : Reference → Option Reference → List RuleBreach
   from_rules to None = []
   from_rules to (Some from) = move_rules items (operand.Item from) (to ∷ [])
 
   -- WRITE and REWRITE
-  abbrev pub record_rules : {S : Type 0} → Reference → Option Reference → FilePhrases S → List Broken
-  record_rules one from phrases = item_rules items (record_item phrases) one ++ from_rules one from
+  abbrev pub record_rules : {S : Type 0} → Reference → Option Reference → FilePhrases S → List RuleBreach
+  record_rules one from phrases = reference_rules items (record_item phrases) one ++ from_rules one from
 
-  abbrev pub delete_rules : {S : Type 0} → Place → FilePhrases S → ProgramFile → List Broken
+  abbrev pub delete_rules : {S : Type 0} → Place → FilePhrases S → ProgramFile → List RuleBreach
   delete_rules place phrases file =
       where_so (is_sequential_file file.entry.spec.organization) 61 place ++ phrase_kind_rules place phrases file
 
-  abbrev pub start_key_rules : ProgramFile → Option StartKey → List Broken
+  abbrev pub start_key_rules : ProgramFile → Option StartKey → List RuleBreach
   start_key_rules file None = []
   start_key_rules file (Some one) =
       where_so (not (is_start_operator one.operator)) 63 one.key.item.name.place ++ clause_item items (start_key_item file) one.key
 
-  abbrev pub start_rules : {S : Type 0} → Place → Option StartKey → FilePhrases S → ProgramFile → List Broken
+  abbrev pub start_rules : {S : Type 0} → Place → Option StartKey → FilePhrases S → ProgramFile → List RuleBreach
   start_rules place key phrases file =
       where_so (is_sequential_file file.entry.spec.organization || is_random file.entry.access) 61 place
       ++ where_so (is_relative file.entry.spec.organization && is_none file.places.relative_key) 60 place
@@ -196,7 +196,7 @@ module _ (items : List Placed) (files : List ProgramFile) where
       ++ phrase_kind_rules place phrases file
 
   -- a file statement without the statements in its phrases
-  abbrev pub filing_rules : {S : Type 0} → Filing S → List Broken
+  abbrev pub filing_rules : {S : Type 0} → FileStatement S → List RuleBreach
   filing_rules (Open all) = each open_rules all
   filing_rules (Close all) = each close_rules all
   filing_rules (Read file next into key phrases) = file_named_rules file (read_rules file.place next into key phrases)

@@ -16,12 +16,12 @@ use Rattle.source_tree.specs.declared.entry.ValueRange.{ValueRange}
 use Rattle.source_tree.specs.Levels.{Forest, End, Tree}
 use Rattle.source_tree.specs.Clauses.{inside, editing_of, occurrences}
 use Rattle.source_tree.specs.Rooms.{redefines, item_with}
-use Rattle.source_tree.specs.Places.{Placed}
+use Rattle.source_tree.specs.Places.{LocatedItem}
 use Rattle.source_tree.specs.Starts.{or_initial, with_value}
 use Rattle.source_tree.specs.Literals.{Sender, literal_sender}
 use Rattle.source_tree.specs.Storage.{Storage}
-use Rattle.source_tree.specs.Evaluated.{Evaluated, ◌>>=◌, needed}
-use Rattle.source_tree.specs.References.{ItemPlace, part_of, storing, occurrence}
+use Rattle.source_tree.specs.Evaluated.{Evaluation, ◌>>=◌, evaluation_of}
+use Rattle.source_tree.specs.References.{ItemPlace, part_of, storage_with, occurrence}
 use Rattle.source_tree.specs.LookUp.{NamedCondition, items_named, conditions_named, first}
 use Rattle.source_tree.specs.Moving.{moved_by}
 
@@ -38,12 +38,12 @@ overlaid [] old = old
 overlaid (one ∷ more) [] = []
 overlaid (one ∷ more) (byte ∷ bytes) = or_old one byte ∷ overlaid more bytes
 
-abbrev pub overlaying : Pattern → ItemPlace → Storage → Storage
-overlaying pattern place storage = storing place (overlaid pattern (part_of storage place)) storage
+abbrev pub overlaid_storage : Pattern → ItemPlace → Storage → Storage
+overlaid_storage pattern place storage = storage_with place (overlaid pattern (part_of storage place)) storage
 
 -- all bytes
-abbrev pub whole : List ℕ → Pattern
-whole bytes = map Some bytes
+abbrev pub whole_pattern : List ℕ → Pattern
+whole_pattern bytes = map Some bytes
 
 -- ---- INITIALIZE
 
@@ -57,8 +57,8 @@ abbrev pub initial_sender : Kind → Sender
 initial_sender kind = literal_sender (literal.Figurative (initial_figurative kind))
 
 -- An elementary item takes them as MOVE moves them; an edited one is edited.
-abbrev pub initialized : Option Picture → Item → Pattern
-initialized editing item = whole (or_initial item (moved_by editing item (initial_sender item.kind)))
+abbrev pub initial_pattern : Option Picture → Item → Pattern
+initial_pattern editing item = whole_pattern (or_initial item (moved_by editing item (initial_sender item.kind)))
 
 -- A FILLER stays.
 abbrev pub unless_filler : Option Name → Item → Pattern → Pattern
@@ -71,7 +71,7 @@ by_kind kind.Group within alone = within
 by_kind _ within alone = alone
 
 abbrev pub entry_pattern : Around → ItemEntry → Item → Pattern → Pattern
-entry_pattern around one item within = by_kind item.kind within (unless_filler one.name item (initialized (editing_of around one) item))
+entry_pattern around one item within = by_kind item.kind within (unless_filler one.name item (initial_pattern (editing_of around one) item))
 
 -- The entries of a group in order, each occurrence alike; those that redefine, and what is in them, are left out.
 abbrev pub entries_pattern : Around → Forest → Pattern
@@ -82,31 +82,31 @@ entries_pattern around (Tree one conditions inner next) =
     ++ entries_pattern around next
 
 -- the item that is named
-abbrev pub named_pattern : Placed → Pattern
-named_pattern one = by_kind one.item.kind (entries_pattern one.inside one.entries) (initialized one.editing one.item)
+abbrev pub named_pattern : LocatedItem → Pattern
+named_pattern one = by_kind one.item.kind (entries_pattern one.inside one.entries) (initial_pattern one.editing one.item)
 
 -- Each receiver's subscripts are evaluated just before its own store.
-abbrev pub initialize : List Placed → List Reference → Storage → Evaluated Storage
+abbrev pub initialize : List LocatedItem → List Reference → Storage → Evaluation Storage
 initialize items [] storage = Ok storage
 initialize items (one ∷ more) storage =
-    needed (first (items_named items one.item)) >>= (λ found.
+    evaluation_of (first (items_named items one.item)) >>= (λ found.
     occurrence items one.subscripts found storage >>= (λ place.
-    initialize items more (overlaying (named_pattern found) place storage)))
+    initialize items more (overlaid_storage (named_pattern found) place storage)))
 
 -- ---- SET of condition names TO TRUE
 
 -- the first value of a condition name, as a VALUE of its item; a condition name has one or more
 abbrev pub first_value : Item → List ValueRange → Pattern
 first_value item [] = []
-first_value item (one ∷ more) = whole (with_value item (literal_sender one.first.value))
+first_value item (one ∷ more) = whole_pattern (with_value item (literal_sender one.first.value))
 
 abbrev pub set_pattern : NamedCondition → Pattern
 set_pattern found = first_value found.item.item found.condition.values
 
 -- It is stored in the item, in the occurrence referred to.
-abbrev pub set : List Placed → List Reference → Storage → Evaluated Storage
-set items [] storage = Ok storage
-set items (one ∷ more) storage =
-    needed (first (conditions_named items one.item)) >>= (λ found.
+abbrev pub storage_after_set : List LocatedItem → List Reference → Storage → Evaluation Storage
+storage_after_set items [] storage = Ok storage
+storage_after_set items (one ∷ more) storage =
+    evaluation_of (first (conditions_named items one.item)) >>= (λ found.
     occurrence items one.subscripts found.item storage >>= (λ place.
-    set items more (overlaying (set_pattern found) place storage)))
+    storage_after_set items more (overlaid_storage (set_pattern found) place storage)))

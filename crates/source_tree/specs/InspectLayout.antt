@@ -5,29 +5,29 @@ use Rattle.text_ops.specs.declared.entry.Span.{Span}
 use Rattle.text_ops.specs.declared.entry.Fit.{Fit}
 use Rattle.text_ops.specs.declared.entry.Fit.TheVariants as fit
 use Rattle.text_ops.specs.declared.entry.Entry.{Entry}
-use Rattle.text_ops.specs.Inspect.{tally, replaced}
+use Rattle.text_ops.specs.Inspect.{tally, replaced_subject}
 use Rattle.source_tree.specs.declared.literal.LiteralValue.{LiteralValue}
 use Rattle.source_tree.specs.declared.literal.LiteralValue.TheVariants as literal
 use Rattle.source_tree.specs.declared.reference.Reference.{Reference}
 use Rattle.source_tree.specs.declared.expression.Operand.{Operand}
 use Rattle.source_tree.specs.declared.expression.Operand.TheVariants as operand
-use Rattle.source_tree.specs.declared.inspecting.Limits.{Limits}
-use Rattle.source_tree.specs.declared.inspecting.Occurrences.{Occurrences}
-use Rattle.source_tree.specs.declared.inspecting.Occurrences.TheVariants as occurrences
-use Rattle.source_tree.specs.declared.inspecting.TalliedText.{TalliedText}
-use Rattle.source_tree.specs.declared.inspecting.Tallied.{Tallied}
-use Rattle.source_tree.specs.declared.inspecting.Tallied.TheVariants as tallied
-use Rattle.source_tree.specs.declared.inspecting.Tallying.{Tallying}
-use Rattle.source_tree.specs.declared.inspecting.ReplacedText.{ReplacedText}
-use Rattle.source_tree.specs.declared.inspecting.Replacing.{Replacing}
-use Rattle.source_tree.specs.declared.inspecting.Replacing.TheVariants as replacing
-use Rattle.source_tree.specs.declared.inspecting.Inspecting.{Inspecting}
+use Rattle.source_tree.specs.declared.inspect_statement.Limits.{Limits}
+use Rattle.source_tree.specs.declared.inspect_statement.Occurrences.{Occurrences}
+use Rattle.source_tree.specs.declared.inspect_statement.Occurrences.TheVariants as occurrences
+use Rattle.source_tree.specs.declared.inspect_statement.TalliedText.{TalliedText}
+use Rattle.source_tree.specs.declared.inspect_statement.Tallied.{Tallied}
+use Rattle.source_tree.specs.declared.inspect_statement.Tallied.TheVariants as tallied
+use Rattle.source_tree.specs.declared.inspect_statement.Tallying.{Tallying}
+use Rattle.source_tree.specs.declared.inspect_statement.ReplacedText.{ReplacedText}
+use Rattle.source_tree.specs.declared.inspect_statement.Replacing.{Replacing}
+use Rattle.source_tree.specs.declared.inspect_statement.Replacing.TheVariants as replacing
+use Rattle.source_tree.specs.declared.inspect_statement.InspectStatement.{InspectStatement}
 use Rattle.source_tree.specs.Display.{figurative_byte, shown_literal}
-use Rattle.source_tree.specs.Places.{Placed}
+use Rattle.source_tree.specs.Places.{LocatedItem}
 use Rattle.source_tree.specs.LookUp.{items_named, first}
 use Rattle.source_tree.specs.Storage.{Storage}
-use Rattle.source_tree.specs.Evaluated.{Evaluated, ◌>>=◌}
-use Rattle.source_tree.specs.References.{ItemPlace, part_of, storing, place_of}
+use Rattle.source_tree.specs.Evaluated.{Evaluation, ◌>>=◌}
+use Rattle.source_tree.specs.References.{ItemPlace, part_of, storage_with, place_of}
 use Rattle.source_tree.specs.Inspecting.{text_at, add_each}
 
 -- ---- texts, and what is taken
@@ -43,26 +43,26 @@ source (operand.Item one) = Bytes one
 source (operand.Literal one) = Characters (shown_literal one.value)
 
 -- a counter's place, or a text
-pub data Taking : Type 0 where
-  Counter : Reference → Taking
-  Text : Source → Taking
+pub data InspectArgument : Type 0 where
+  Counter : Reference → InspectArgument
+  Text : Source → InspectArgument
 
 -- the size of an item's text
-abbrev pub found_size : Option Placed → ℕ
+abbrev pub found_size : Option LocatedItem → ℕ
 found_size None = 0
 found_size (Some found) = found.item.length
 
-abbrev pub text_size : List Placed → Source → ℕ
+abbrev pub text_size : List LocatedItem → Source → ℕ
 text_size items (Bytes one) = found_size (first (items_named items one.item))
 text_size items (Characters text) = length text
 
 -- the size of all joined
-abbrev pub text_sizes : List Placed → List Source → ℕ
+abbrev pub text_sizes : List LocatedItem → List Source → ℕ
 text_sizes items [] = 0
 text_sizes items (one ∷ more) = text_size items one + text_sizes items more
 
 -- the size of the texts among what is taken
-abbrev pub taken_size : List Placed → List Taking → ℕ
+abbrev pub taken_size : List LocatedItem → List InspectArgument → ℕ
 taken_size items [] = 0
 taken_size items (Counter one ∷ more) = taken_size items more
 taken_size items (Text one ∷ more) = text_size items one + taken_size items more
@@ -79,19 +79,19 @@ replacing_text size (operand.Literal one) = replacing_literal size one.value
 -- ---- entries, of TALLYING and REPLACING the same
 
 -- What an entry fits: any character, or a text.
-pub data What : Type 0 where
-  Any : What
-  Occurs : Occurrences → Source → What
+pub data EntryPattern : Type 0 where
+  Any : EntryPattern
+  Occurs : Occurrences → Source → EntryPattern
 
-pub record Inspected : Type 0 where
-  pub what : What
+pub record InspectEntry : Type 0 where
+  pub what : EntryPattern
   pub by : Option Source
   pub limits : Limits
 
-abbrev pub tallied_text : Occurrences → TalliedText → Inspected
+abbrev pub tallied_text : Occurrences → TalliedText → InspectEntry
 tallied_text how one = record { what = Occurs how (source one.text); by = None; limits = one.limits }
 
-abbrev pub replaced_text : List Placed → Occurrences → ReplacedText → Inspected
+abbrev pub replaced_text : List LocatedItem → Occurrences → ReplacedText → InspectEntry
 replaced_text items how one = record {
   what = Occurs how (source one.text);
   by = Some (replacing_text (text_size items (source one.text)) one.by);
@@ -99,24 +99,24 @@ replaced_text items how one = record {
 }
 
 -- those of each, in the order of writing
-abbrev pub all_inspected : {A : Type 0} → (A → List Inspected) → List A → List Inspected
+abbrev pub all_inspected : {A : Type 0} → (A → List InspectEntry) → List A → List InspectEntry
 all_inspected inspected [] = []
 all_inspected inspected (one ∷ more) = inspected one ++ all_inspected inspected more
 
-abbrev pub tallied_entries : Tallied → List Inspected
+abbrev pub tallied_entries : Tallied → List InspectEntry
 tallied_entries (tallied.Characters limits) = record { what = Any; by = None; limits = limits } ∷ []
 tallied_entries (tallied.Texts how texts) = all_inspected (λ one. tallied_text how one ∷ []) texts
 
-abbrev pub counter_entries : Tallying → List Inspected
+abbrev pub counter_entries : Tallying → List InspectEntry
 counter_entries one = all_inspected tallied_entries one.tallied
 
-abbrev pub replacing_entries : List Placed → Replacing → List Inspected
+abbrev pub replacing_entries : List LocatedItem → Replacing → List InspectEntry
 replacing_entries items (replacing.Characters by limits) = record { what = Any; by = Some (replacing_text 1 by); limits = limits } ∷ []
 replacing_entries items (replacing.Texts how texts) = all_inspected (λ one. replaced_text items how one ∷ []) texts
 
 -- ---- the order of writing: what an entry fits, what replaces it, and BEFORE and AFTER as they stand
 
-abbrev pub what_texts : What → List Source
+abbrev pub what_texts : EntryPattern → List Source
 what_texts Any = []
 what_texts (Occurs how text) = text ∷ []
 
@@ -133,14 +133,14 @@ limit_texts one =
     if one.after_first then limit_text one.after ++ limit_text one.before
     else limit_text one.before ++ limit_text one.after
 
-abbrev pub entry_texts : Inspected → List Source
+abbrev pub entry_texts : InspectEntry → List Source
 entry_texts one = what_texts one.what ++ by_texts one.by ++ limit_texts one.limits
 
-abbrev pub entries_texts : List Inspected → List Source
+abbrev pub entries_texts : List InspectEntry → List Source
 entries_texts [] = []
 entries_texts (one ∷ more) = entry_texts one ++ entries_texts more
 
-abbrev pub tallying_takings : List Tallying → List Taking
+abbrev pub tallying_takings : List Tallying → List InspectArgument
 tallying_takings [] = []
 tallying_takings (one ∷ more) = Counter one.counter ∷ (map Text (entries_texts (counter_entries one)) ++ tallying_takings more)
 
@@ -151,11 +151,11 @@ fit_of occurrences.All span = fit.All span
 fit_of occurrences.Leading span = fit.Leading span
 fit_of occurrences.First span = fit.First span
 
-module _ (items : List Placed) where
+module _ (items : List LocatedItem) where
   abbrev pub span_at : ℕ → Source → Span
   span_at at one = record { start = at; length = text_size items one }
 
-  abbrev pub what_fit : ℕ → What → Fit
+  abbrev pub what_fit : ℕ → EntryPattern → Fit
   what_fit at Any = fit.Characters
   what_fit at (Occurs how text) = fit_of how (span_at at text)
 
@@ -174,13 +174,13 @@ module _ (items : List Placed) where
   abbrev pub after_at : ℕ → Limits → ℕ
   after_at at one = if one.after_first then at else at + text_sizes items (limit_text one.before)
 
-  abbrev pub by_at : ℕ → Inspected → ℕ
+  abbrev pub by_at : ℕ → InspectEntry → ℕ
   by_at at one = at + text_sizes items (what_texts one.what)
 
-  abbrev pub limits_at : ℕ → Inspected → ℕ
+  abbrev pub limits_at : ℕ → InspectEntry → ℕ
   limits_at at one = by_at at one + text_sizes items (by_texts one.by)
 
-  abbrev pub entry_at : ℕ → Inspected → Entry
+  abbrev pub entry_at : ℕ → InspectEntry → Entry
   entry_at at one = record {
     fit = what_fit at one.what;
     before = limit_span (before_at (limits_at at one) one.limits) one.limits.before;
@@ -188,7 +188,7 @@ module _ (items : List Placed) where
     by = by_span (by_at at one) one.by;
   }
 
-  abbrev pub entries_at : ℕ → List Inspected → List Entry
+  abbrev pub entries_at : ℕ → List InspectEntry → List Entry
   entries_at at [] = []
   entries_at at (one ∷ more) = entry_at at one ∷ entries_at (at + text_sizes items (entry_texts one)) more
 
@@ -202,26 +202,26 @@ abbrev pub entry_counts : List Tallying → List ℕ
 entry_counts [] = []
 entry_counts (one ∷ more) = length (counter_entries one) ∷ entry_counts more
 
-module _ (items : List Placed) where
+module _ (items : List LocatedItem) where
   -- All counters' entries are one list.
-  abbrev pub all_tallied : Inspecting → List Inspected
+  abbrev pub all_tallied : InspectStatement → List InspectEntry
   all_tallied one = all_inspected counter_entries one.tallying
 
-  abbrev pub all_replaced : Inspecting → List Inspected
+  abbrev pub all_replaced : InspectStatement → List InspectEntry
   all_replaced one = all_inspected (replacing_entries items) one.replacing
 
-  abbrev pub takings : Inspecting → List Taking
+  abbrev pub takings : InspectStatement → List InspectArgument
   takings one = tallying_takings one.tallying ++ map Text (entries_texts (all_replaced one))
 
   -- The size of TALLYING's texts, behind which REPLACING's stand.
-  abbrev pub tallied_size : Inspecting → ℕ
+  abbrev pub tallied_size : InspectStatement → ℕ
   tallied_size one = text_sizes items (entries_texts (all_tallied one))
 
   -- the size of all texts
-  abbrev pub inspected_size : Inspecting → ℕ
+  abbrev pub inspected_size : InspectStatement → ℕ
   inspected_size one = taken_size items (takings one)
 
-  abbrev pub inspection : Inspecting → Inspection
+  abbrev pub inspection : InspectStatement → Inspection
   inspection one = record {
     counters = entry_counts one.tallying;
     tallying = entries_at items 0 (all_tallied one);
@@ -241,7 +241,7 @@ with_counter place taken = record taken { counters = place ∷ taken.counters }
 abbrev pub with_text : List ℕ → InspectTaken → InspectTaken
 with_text text taken = record taken { texts = text ++ taken.texts }
 
-abbrev pub take_each : List Placed → List Taking → Storage → Evaluated InspectTaken
+abbrev pub take_each : List LocatedItem → List InspectArgument → Storage → Evaluation InspectTaken
 take_each items [] storage = Ok (record { counters = []; texts = [] })
 take_each items (Counter one ∷ more) storage =
     place_of items one storage >>= (λ place. take_each items more storage >>= (λ taken. Ok (with_counter place taken)))
@@ -257,24 +257,24 @@ fits_together count from zero = 0
 fits_together count from (suc more) = count from + fits_together count (from + 1) more
 
 -- for each counter, which has so many entries
-abbrev pub counted : (ℕ → ℕ) → ℕ → List ℕ → List ℕ
-counted count from [] = []
-counted count from (entries ∷ more) = fits_together count from entries ∷ counted count (from + entries) more
+abbrev pub counted_fits : (ℕ → ℕ) → ℕ → List ℕ → List ℕ
+counted_fits count from [] = []
+counted_fits count from (entries ∷ more) = fits_together count from entries ∷ counted_fits count (from + entries) more
 
 -- ---- INSPECT
 
 -- Without REPLACING no text is stored.
 abbrev pub store_replaced : List ℕ → List Entry → List ℕ → ItemPlace → Storage → Storage
 store_replaced texts [] bytes subject storage = storage
-store_replaced texts (one ∷ more) bytes subject storage = storing subject (replaced texts (one ∷ more) bytes) storage
+store_replaced texts (one ∷ more) bytes subject storage = storage_with subject (replaced_subject texts (one ∷ more) bytes) storage
 
 -- With the texts and places that were taken. Both phrases look at the subject's bytes as they are before anything is stored.
-abbrev pub inspect_at : Inspection → List ℕ → List ItemPlace → ItemPlace → Storage → Evaluated Storage
+abbrev pub inspect_at : Inspection → List ℕ → List ItemPlace → ItemPlace → Storage → Evaluation Storage
 inspect_at how texts counters subject storage =
-    add_each counters (counted (tally texts how.tallying (part_of storage subject)) 0 how.counters) storage
+    add_each counters (counted_fits (tally texts how.tallying (part_of storage subject)) 0 how.counters) storage
     >>= (λ after. Ok (store_replaced texts how.replacing (part_of storage subject) subject after))
 
-abbrev pub inspect_by_spans : List Placed → Inspecting → Storage → Evaluated Storage
+abbrev pub inspect_by_spans : List LocatedItem → InspectStatement → Storage → Evaluation Storage
 inspect_by_spans items one storage =
     place_of items one.subject storage >>= (λ subject.
     take_each items (takings items one) storage >>= (λ taken.

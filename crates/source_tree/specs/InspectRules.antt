@@ -11,20 +11,20 @@ use Rattle.source_tree.specs.declared.literal.LiteralValue.TheVariants as litera
 use Rattle.source_tree.specs.declared.literal.Literal.{Literal}
 use Rattle.source_tree.specs.declared.expression.Operand.{Operand}
 use Rattle.source_tree.specs.declared.expression.Operand.TheVariants as operand
-use Rattle.source_tree.specs.declared.inspecting.Limits.{Limits}
-use Rattle.source_tree.specs.declared.inspecting.TalliedText.{TalliedText}
-use Rattle.source_tree.specs.declared.inspecting.Tallied.{Tallied}
-use Rattle.source_tree.specs.declared.inspecting.Tallied.TheVariants as tallied
-use Rattle.source_tree.specs.declared.inspecting.Tallying.{Tallying}
-use Rattle.source_tree.specs.declared.inspecting.ReplacedText.{ReplacedText}
-use Rattle.source_tree.specs.declared.inspecting.Replacing.{Replacing}
-use Rattle.source_tree.specs.declared.inspecting.Replacing.TheVariants as replacing
-use Rattle.source_tree.specs.declared.inspecting.Inspecting.{Inspecting}
+use Rattle.source_tree.specs.declared.inspect_statement.Limits.{Limits}
+use Rattle.source_tree.specs.declared.inspect_statement.TalliedText.{TalliedText}
+use Rattle.source_tree.specs.declared.inspect_statement.Tallied.{Tallied}
+use Rattle.source_tree.specs.declared.inspect_statement.Tallied.TheVariants as tallied
+use Rattle.source_tree.specs.declared.inspect_statement.Tallying.{Tallying}
+use Rattle.source_tree.specs.declared.inspect_statement.ReplacedText.{ReplacedText}
+use Rattle.source_tree.specs.declared.inspect_statement.Replacing.{Replacing}
+use Rattle.source_tree.specs.declared.inspect_statement.Replacing.TheVariants as replacing
+use Rattle.source_tree.specs.declared.inspect_statement.InspectStatement.{InspectStatement}
 use Rattle.source_tree.specs.Display.{shown_literal}
-use Rattle.source_tree.specs.Places.{Placed}
+use Rattle.source_tree.specs.Places.{LocatedItem}
 use Rattle.source_tree.specs.LookUp.{items_named}
-use Rattle.source_tree.specs.Broken.{Broken, where_so, each}
-use Rattle.source_tree.specs.NameRules.{literal_rules, item_rules}
+use Rattle.source_tree.specs.Broken.{RuleBreach, where_so, each}
+use Rattle.source_tree.specs.NameRules.{literal_rules, reference_rules}
 use Rattle.source_tree.specs.ConditionRules.{is_display, operand_place}
 
 -- ---- operands
@@ -33,7 +33,7 @@ abbrev pub is_counter : Kind → Bool
 is_counter (kind.Numeric n) = true
 is_counter _ = false
 
-abbrev pub counter_item : Place → Placed → List Broken
+abbrev pub counter_item : Place → LocatedItem → List RuleBreach
 counter_item place one = where_so (not (is_counter one.item.kind)) 64 place
 
 -- an item whose bytes are looked at: all but numbers in another usage than DISPLAY, or with S
@@ -41,26 +41,26 @@ abbrev pub may_be_inspected : Kind → Bool
 may_be_inspected (kind.Numeric n) = is_display n.usage && not (is_signed n)
 may_be_inspected _ = true
 
-abbrev pub inspected_item : Place → Placed → List Broken
+abbrev pub inspected_item : Place → LocatedItem → List RuleBreach
 inspected_item place one = where_so (not (may_be_inspected one.item.kind)) 64 place
 
-abbrev pub inspected_literal : Literal → LiteralValue → List Broken
+abbrev pub inspected_literal : Literal → LiteralValue → List RuleBreach
 inspected_literal one (literal.Numeric number) = record { rule = 64; place = one.place } ∷ []
 inspected_literal one _ = literal_rules one
 
 -- a text
-abbrev pub inspected_rules : List Placed → Operand → List Broken
-inspected_rules items (operand.Item one) = item_rules items inspected_item one
+abbrev pub inspected_rules : List LocatedItem → Operand → List RuleBreach
+inspected_rules items (operand.Item one) = reference_rules items inspected_item one
 inspected_rules items (operand.Literal one) = inspected_literal one one.value
 
 -- ---- sizes
 
 -- A name that names nothing, or several things, is another rule's.
-abbrev pub only_size : List Placed → Option ℕ
+abbrev pub only_size : List LocatedItem → Option ℕ
 only_size (only ∷ []) = Some only.item.length
 only_size _ = None
 
-abbrev pub size_of : List Placed → Operand → Option ℕ
+abbrev pub size_of : List LocatedItem → Operand → Option ℕ
 size_of items (operand.Item one) = only_size (items_named items one.item)
 size_of items (operand.Literal one) = Some (length (shown_literal one.value))
 
@@ -69,7 +69,7 @@ literal_size (literal.Figurative constant) = None
 literal_size value = Some (length (shown_literal value))
 
 -- A figurative constant as replacing text has any size.
-abbrev pub replacing_size : List Placed → Operand → Option ℕ
+abbrev pub replacing_size : List LocatedItem → Operand → Option ℕ
 replacing_size items (operand.Item one) = only_size (items_named items one.item)
 replacing_size items (operand.Literal one) = literal_size one.value
 
@@ -78,43 +78,43 @@ same_size (Some one) (Some other) = one == other
 same_size _ _ = true
 
 -- a replacing text, of a text of this size
-abbrev pub by_rules : List Placed → Option ℕ → Operand → List Broken
+abbrev pub by_rules : List LocatedItem → Option ℕ → Operand → List RuleBreach
 by_rules items size by = inspected_rules items by ++ where_so (not (same_size size (replacing_size items by))) 64 (operand_place by)
 
 -- ---- entries, in the order of writing
 
-abbrev pub limit_rules : List Placed → Option Operand → List Broken
+abbrev pub limit_rules : List LocatedItem → Option Operand → List RuleBreach
 limit_rules items None = []
 limit_rules items (Some one) = inspected_rules items one
 
 -- first one limit, then the other
-abbrev pub two_limits : List Placed → Option Operand → Option Operand → List Broken
+abbrev pub two_limits : List LocatedItem → Option Operand → Option Operand → List RuleBreach
 two_limits items first second = limit_rules items first ++ limit_rules items second
 
-abbrev pub ordered_limits : List Placed → Option Operand → Option Operand → Bool → List Broken
+abbrev pub ordered_limits : List LocatedItem → Option Operand → Option Operand → Bool → List RuleBreach
 ordered_limits items before after true = two_limits items after before
 ordered_limits items before after false = two_limits items before after
 
-abbrev pub limits_rules : List Placed → Limits → List Broken
+abbrev pub limits_rules : List LocatedItem → Limits → List RuleBreach
 limits_rules items one = ordered_limits items one.before one.after one.after_first
 
-abbrev pub tallied_text_rules : List Placed → TalliedText → List Broken
+abbrev pub tallied_text_rules : List LocatedItem → TalliedText → List RuleBreach
 tallied_text_rules items one = inspected_rules items one.text ++ limits_rules items one.limits
 
-abbrev pub tallied_rules : List Placed → Tallied → List Broken
+abbrev pub tallied_rules : List LocatedItem → Tallied → List RuleBreach
 tallied_rules items (tallied.Characters limits) = limits_rules items limits
 tallied_rules items (tallied.Texts occurrences texts) = each (tallied_text_rules items) texts
 
-abbrev pub tallying_rules : List Placed → Tallying → List Broken
-tallying_rules items one = item_rules items counter_item one.counter ++ each (tallied_rules items) one.tallied
+abbrev pub tallying_rules : List LocatedItem → Tallying → List RuleBreach
+tallying_rules items one = reference_rules items counter_item one.counter ++ each (tallied_rules items) one.tallied
 
-abbrev pub replaced_text_rules : List Placed → ReplacedText → List Broken
+abbrev pub replaced_text_rules : List LocatedItem → ReplacedText → List RuleBreach
 replaced_text_rules items one = inspected_rules items one.text ++ by_rules items (size_of items one.text) one.by ++ limits_rules items one.limits
 
-abbrev pub replacing_rules : List Placed → Replacing → List Broken
+abbrev pub replacing_rules : List LocatedItem → Replacing → List RuleBreach
 replacing_rules items (replacing.Characters by limits) = by_rules items (Some 1) by ++ limits_rules items limits
 replacing_rules items (replacing.Texts occurrences texts) = each (replaced_text_rules items) texts
 
-abbrev pub inspect_rules : List Placed → Inspecting → List Broken
+abbrev pub inspect_rules : List LocatedItem → InspectStatement → List RuleBreach
 inspect_rules items one =
-    item_rules items inspected_item one.subject ++ each (tallying_rules items) one.tallying ++ each (replacing_rules items) one.replacing
+    reference_rules items inspected_item one.subject ++ each (tallying_rules items) one.tallying ++ each (replacing_rules items) one.replacing

@@ -5,8 +5,8 @@ use Rattle.std.specs.Prelude.{ℕ, zero, suc, ◌+◌, ◌-◌, ◌==◌, nat_eq
 use Rattle.std.specs.List.{starts_with}
 use Rattle.std.specs.Option.{option_map, unwrap_or}
 use Rattle.text_ops.specs.Places.{first_place}
-use Rattle.source_tree.specs.declared.inspecting.Occurrences.{Occurrences}
-use Rattle.source_tree.specs.declared.inspecting.Occurrences.TheVariants as occurrences
+use Rattle.source_tree.specs.declared.inspect_statement.Occurrences.{Occurrences}
+use Rattle.source_tree.specs.declared.inspect_statement.Occurrences.TheVariants as occurrences
 
 -- ---- entries
 
@@ -30,9 +30,9 @@ pub record TextEntry : Type 0 where
 -- ---- limits, found beforehand. Places count from 0.
 
 -- AFTER: right behind the first occurrence of its text; without an occurrence nowhere.
-abbrev pub first_after : Option (List ℕ) → List ℕ → ℕ
-first_after None subject = 0
-first_after (Some text) subject = unwrap_or (option_map (λ at. at + length text) (first_place text subject)) (length subject)
+abbrev pub first_place_after : Option (List ℕ) → List ℕ → ℕ
+first_place_after None subject = 0
+first_place_after (Some text) subject = unwrap_or (option_map (λ at. at + length text) (first_place text subject)) (length subject)
 
 -- BEFORE: up to the first occurrence of its text; without an occurrence everywhere.
 abbrev pub end_before : Option (List ℕ) → List ℕ → ℕ
@@ -50,7 +50,7 @@ pub record ActiveEntry : Type 0 where
 abbrev pub entry_at_start : List ℕ → TextEntry → ActiveEntry
 entry_at_start subject one = record {
   entry = one;
-  first = first_after one.after subject;
+  first = first_place_after one.after subject;
   limit = end_before one.before subject;
   fit_ends = [];
 }
@@ -83,14 +83,14 @@ pub record FirstFit : Type 0 where
   pub entry : TextEntry
   pub active : List ActiveEntry
 
-abbrev pub with_entry : ActiveEntry → FirstFit → FirstFit
-with_entry one fit = record fit { active = one ∷ fit.active }
+abbrev pub with_active_entry : ActiveEntry → FirstFit → FirstFit
+with_active_entry one fit = record fit { active = one ∷ fit.active }
 
 abbrev pub first_fit : List ActiveEntry → ℕ → List ℕ → Option FirstFit
 first_fit [] at rest = None
 first_fit (one ∷ more) at rest =
     if fits one at rest then Some (record { entry = one.entry; active = after_fit one at ∷ more })
-    else option_map (with_entry one) (first_fit more at rest)
+    else option_map (with_active_entry one) (first_fit more at rest)
 
 -- ---- all places, from the left
 

@@ -30,17 +30,17 @@ beyond level End = End
 beyond level (Tree one conditions inner next) =
     if nat_lt level (level_of one) then beyond level next else Tree one conditions inner next
 
-abbrev pub with_entry : ItemEntry → List ConditionEntry → Forest → Forest
-with_entry one conditions forest = Tree one conditions (deeper (level_of one) forest) (beyond (level_of one) forest)
+abbrev pub with_item_entry : ItemEntry → List ConditionEntry → Forest → Forest
+with_item_entry one conditions forest = Tree one conditions (deeper (level_of one) forest) (beyond (level_of one) forest)
 
 -- the condition names before the first item: those of the item before them
-abbrev pub leading : List Entry → List ConditionEntry
-leading [] = []
-leading (Item one ∷ more) = []
-leading (Condition one ∷ more) = one ∷ leading more
+abbrev pub leading_conditions : List Entry → List ConditionEntry
+leading_conditions [] = []
+leading_conditions (Item one ∷ more) = []
+leading_conditions (Condition one ∷ more) = one ∷ leading_conditions more
 
 -- A group has the entries after it up to the first whose level isn't greater.
-abbrev pub nested : List Entry → Forest
-nested [] = End
-nested (Item one ∷ more) = with_entry one (leading more) (nested more)
-nested (Condition one ∷ more) = nested more
+abbrev pub forest_of : List Entry → Forest
+forest_of [] = End
+forest_of (Item one ∷ more) = with_item_entry one (leading_conditions more) (forest_of more)
+forest_of (Condition one ∷ more) = forest_of more

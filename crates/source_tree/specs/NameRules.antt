@@ -17,9 +17,9 @@ use Rattle.source_tree.specs.declared.reference.Subscript.TheVariants as subscri
 use Rattle.source_tree.specs.declared.reference.Reference.{Reference}
 use Rattle.source_tree.specs.declared.expression.Operand.{Operand}
 use Rattle.source_tree.specs.declared.expression.Operand.TheVariants as operand
-use Rattle.source_tree.specs.Places.{Placed}
+use Rattle.source_tree.specs.Places.{LocatedItem}
 use Rattle.source_tree.specs.LookUp.{items_named}
-use Rattle.source_tree.specs.Broken.{Broken, where_so, each}
+use Rattle.source_tree.specs.Broken.{RuleBreach, where_so, each}
 use Rattle.source_tree.specs.ValueRules.{most_literal_digits, are_some, has_form}
 
 -- the rule that a literal of another form breaks: 17 a numeric one, 18 a nonnumeric one
@@ -27,53 +27,53 @@ abbrev pub form_rule : LiteralValue → ℕ
 form_rule (literal.Numeric one) = 17
 form_rule _ = 18
 
-abbrev pub literal_rules : Literal → List Broken
+abbrev pub literal_rules : Literal → List RuleBreach
 literal_rules one = where_so (not (has_form one.value)) (form_rule one.value) one.place
 
 -- An integer has 1 to 18 digits.
 abbrev pub is_integer : Integer → Bool
 is_integer one = list_all is_ascii_digit one.digits && are_some most_literal_digits (length one.digits)
 
-abbrev pub integer_rules : Integer → List Broken
+abbrev pub integer_rules : Integer → List RuleBreach
 integer_rules one = where_so (not (is_integer one)) 17 one.place
 
 -- A name names one thing.
-abbrev pub named : {A : Type 0} → Place → (A → List Broken) → List A → List Broken
-named place rules [] = record { rule = 40; place = place } ∷ []
-named place rules (only ∷ []) = rules only
-named place rules (one ∷ other ∷ more) = record { rule = 41; place = place } ∷ []
+abbrev pub unique_name_rules : {A : Type 0} → Place → (A → List RuleBreach) → List A → List RuleBreach
+unique_name_rules place rules [] = record { rule = 40; place = place } ∷ []
+unique_name_rules place rules (only ∷ []) = rules only
+unique_name_rules place rules (one ∷ other ∷ more) = record { rule = 41; place = place } ∷ []
 
 abbrev pub is_integer_kind : Kind → Bool
 is_integer_kind (kind.Numeric numeric) = numeric.scale == 0
 is_integer_kind _ = false
 
 -- The item of a subscript is an integer, and has no subscripts.
-abbrev pub subscript_item : Place → Placed → List Broken
+abbrev pub subscript_item : Place → LocatedItem → List RuleBreach
 subscript_item place one =
     where_so (not (length one.dimensions == 0)) 50 place ++ where_so (not (is_integer_kind one.item.kind)) 51 place
 
-abbrev pub adjustment_rules : Adjustment → List Broken
+abbrev pub adjustment_rules : Adjustment → List RuleBreach
 adjustment_rules adjustment.Nothing = []
 adjustment_rules (adjustment.Plus n) = integer_rules n
 adjustment_rules (adjustment.Minus n) = integer_rules n
 
-abbrev pub subscript_rules : List Placed → written.Subscript → List Broken
+abbrev pub subscript_rules : List LocatedItem → written.Subscript → List RuleBreach
 subscript_rules items (subscript.Literal n) = integer_rules n
 subscript_rules items (subscript.Item item adjusting) =
-    named item.name.place (subscript_item item.name.place) (items_named items item) ++ adjustment_rules adjusting
+    unique_name_rules item.name.place (subscript_item item.name.place) (items_named items item) ++ adjustment_rules adjusting
 
 -- A reference to an item, and what is asked of that item.
-abbrev pub item_rules : List Placed → (Place → Placed → List Broken) → Reference → List Broken
-item_rules items asked one =
-    named one.item.name.place
+abbrev pub reference_rules : List LocatedItem → (Place → LocatedItem → List RuleBreach) → Reference → List RuleBreach
+reference_rules items asked one =
+    unique_name_rules one.item.name.place
     (λ found. where_so (not (length one.subscripts == length found.dimensions)) 50 one.item.name.place ++ asked one.item.name.place found)
     (items_named items one.item)
     ++ each (subscript_rules items) one.subscripts
 
 -- any item will do
-abbrev pub any_item : Place → Placed → List Broken
+abbrev pub any_item : Place → LocatedItem → List RuleBreach
 any_item place one = []
 
-abbrev pub operand_rules : List Placed → Operand → List Broken
-operand_rules items (operand.Item one) = item_rules items any_item one
+abbrev pub operand_rules : List LocatedItem → Operand → List RuleBreach
+operand_rules items (operand.Item one) = reference_rules items any_item one
 operand_rules items (operand.Literal one) = literal_rules one

@@ -6,8 +6,8 @@ use Rattle.source_tree.specs.declared.name.Name.{Name}
 use Rattle.source_tree.specs.declared.program.Section.{Section}
 use Rattle.source_tree.specs.Names.{same}
 use Rattle.source_tree.specs.Procedures.{Range, Procedure, procedures_of, procedures_named, range_of}
-use Rattle.source_tree.specs.Broken.{Broken, where_so}
-use Rattle.source_tree.specs.NameRules.{named}
+use Rattle.source_tree.specs.Broken.{RuleBreach, where_so}
+use Rattle.source_tree.specs.NameRules.{unique_name_rules}
 
 -- ---- names that are given
 
@@ -25,22 +25,22 @@ is_among name [] = false
 is_among name (one ∷ more) = same name one || is_among name more
 
 -- names of which each is no other's, behind these
-abbrev pub given_once : List Name → List Name → List Broken
+abbrev pub given_once : List Name → List Name → List RuleBreach
 given_once before [] = []
 given_once before (one ∷ more) = where_so (is_among one before) 42 one.place ++ given_once (before ++ one ∷ []) more
 
-abbrev pub procedure_name_rules : List Section → List Broken
+abbrev pub procedure_name_rules : List Section → List RuleBreach
 procedure_name_rules sections = given_once [] (names_of (procedures_of sections))
 
 -- ---- names that PERFORM names
 
-abbrev pub no_rules : Procedure → List Broken
+abbrev pub no_rules : Procedure → List RuleBreach
 no_rules one = []
 
-abbrev pub procedure_named : List Procedure → Name → List Broken
-procedure_named procedures name = named name.place no_rules (procedures_named procedures name)
+abbrev pub procedure_named : List Procedure → Name → List RuleBreach
+procedure_named procedures name = unique_name_rules name.place no_rules (procedures_named procedures name)
 
-abbrev pub last_named : List Procedure → Option Name → List Broken
+abbrev pub last_named : List Procedure → Option Name → List RuleBreach
 last_named procedures None = []
 last_named procedures (Some name) = procedure_named procedures name
 
@@ -51,12 +51,12 @@ last_place first (Some last) = last.place
 
 -- `permits` says which ranges may be performed where the PERFORM stands.
 module _ (permits : Range → Bool) where
-  abbrev pub found_rules : Name → Option Name → Option Range → List Broken
+  abbrev pub found_rules : Name → Option Name → Option Range → List RuleBreach
   found_rules first last None = []
   found_rules first last (Some range) =
       where_so (nat_lt range.last range.first) 55 (last_place first last) ++ where_so (not (permits range)) 54 first.place
 
   -- the procedures from one to the end of another
-  abbrev pub range_rules : List Procedure → Name → Option Name → List Broken
+  abbrev pub range_rules : List Procedure → Name → Option Name → List RuleBreach
   range_rules procedures first last =
       procedure_named procedures first ++ last_named procedures last ++ found_rules first last (range_of procedures first last)

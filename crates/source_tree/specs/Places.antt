@@ -11,12 +11,12 @@ use Rattle.source_tree.specs.declared.entry.ConditionEntry.{ConditionEntry}
 use Rattle.source_tree.specs.declared.entry.Entry.{Entry}
 use Rattle.source_tree.specs.Integers.{number_of}
 use Rattle.source_tree.specs.Names.{with_name}
-use Rattle.source_tree.specs.Levels.{Forest, End, Tree, nested}
+use Rattle.source_tree.specs.Levels.{Forest, End, Tree, forest_of}
 use Rattle.source_tree.specs.Clauses.{nothing_around, inside, editing_of, occurrences}
 use Rattle.source_tree.specs.Rooms.{redefines, item_with}
 
 -- An item where it stands: its first occurrence is `offset` bytes behind the start of its area.
-pub record Placed : Type 0 where
+pub record LocatedItem : Type 0 where
   pub entry : ItemEntry
   pub item : Item
   -- the picture by which it is edited, if it is
@@ -46,8 +46,8 @@ with_dimension (Some count) size dimensions = dimensions ++ record { stride = si
 abbrev pub dimensions_of : Surroundings → ItemEntry → Item → List Dimension
 dimensions_of around one item = with_dimension one.occurs item.length around.dimensions
 
-abbrev pub placed : Surroundings → ItemEntry → List ConditionEntry → Item → Forest → ℕ → Placed
-placed around one conditions item inner at = record {
+abbrev pub located_item : Surroundings → ItemEntry → List ConditionEntry → Item → Forest → ℕ → LocatedItem
+located_item around one conditions item inner at = record {
   entry = one;
   item = item;
   editing = editing_of around.around one;
@@ -69,24 +69,24 @@ within around one item = record {
 }
 
 -- The entries from here on. One that redefines stands where the last one stands that doesn't: `last` is that place.
-abbrev pub places : Surroundings → ℕ → ℕ → Forest → List Placed
+abbrev pub places : Surroundings → ℕ → ℕ → Forest → List LocatedItem
 places around last here End = []
 places around last here (Tree one conditions inner next) =
     let item : Item = item_with around.around one inner in
     let at : ℕ = if redefines one then last else here in
-    placed around one conditions item inner at ∷ (places (within around one item) at at inner
+    located_item around one conditions item inner at ∷ (places (within around one item) at at inner
     ++ places around at (here + (if redefines one then 0 else occurrences one * item.length)) next)
 
 abbrev pub top : ℕ → List Name → Surroundings
 top area groups = record { around = nothing_around; groups = groups; area = area; dimensions = [] }
 
 -- Each 01 and 77 that redefines nothing begins an area, of which so many are before it.
-abbrev pub storage_places : ℕ → Forest → List Placed
+abbrev pub storage_places : ℕ → Forest → List LocatedItem
 storage_places areas End = []
 storage_places areas (Tree one conditions inner next) =
     let area : ℕ = if redefines one then areas - 1 else areas in
     places (top area []) 0 0 (Tree one conditions inner End) ++ storage_places (area + 1) next
 
 -- All items of working storage, in order.
-abbrev pub items_of : List Entry → List Placed
-items_of entries = storage_places 0 (nested entries)
+abbrev pub items_of : List Entry → List LocatedItem
+items_of entries = storage_places 0 (forest_of entries)

@@ -62,14 +62,14 @@ abbrev pub to_end_of : Range → Option Range → Option Range
 to_end_of first None = None
 to_end_of first (Some last) = Some (record { first = first.first; last = last.last })
 
-abbrev pub through : List Procedure → Option Name → Option Range → Option Range
-through procedures last None = None
-through procedures None (Some first) = Some first
-through procedures (Some last) (Some first) = to_end_of first (range_named procedures last)
+abbrev pub range_through : List Procedure → Option Name → Option Range → Option Range
+range_through procedures last None = None
+range_through procedures None (Some first) = Some first
+range_through procedures (Some last) (Some first) = to_end_of first (range_named procedures last)
 
 -- What is performed from one procedure to the end of another, or of the same where no other is named. Nothing, where a name names none.
 abbrev pub range_of : List Procedure → Name → Option Name → Option Range
-range_of procedures first last = through procedures last (range_named procedures first)
+range_of procedures first last = range_through procedures last (range_named procedures first)
 
 -- the paragraphs of a range
 abbrev pub within_range : Range → List Paragraph → List Paragraph

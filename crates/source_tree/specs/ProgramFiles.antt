@@ -19,10 +19,10 @@ use Rattle.source_tree.specs.declared.select.Select.{Select}
 use Rattle.source_tree.specs.declared.select.FileDescription.{FileDescription}
 use Rattle.source_tree.specs.declared.program.Program.{Program}
 use Rattle.source_tree.specs.Names.{same}
-use Rattle.source_tree.specs.Levels.{Forest, End, Tree, nested}
+use Rattle.source_tree.specs.Levels.{Forest, End, Tree, forest_of}
 use Rattle.source_tree.specs.Clauses.{nothing_around, group}
 use Rattle.source_tree.specs.Rooms.{item_with}
-use Rattle.source_tree.specs.Places.{Placed}
+use Rattle.source_tree.specs.Places.{LocatedItem}
 use Rattle.source_tree.specs.LookUp.{items_named, first}
 use Rattle.source_tree.specs.References.{ItemPlace, place_behind}
 use Rattle.source_tree.specs.Records.{storage_areas, record_length}
@@ -48,13 +48,13 @@ pub record ProgramFile : Type 0 where
 
 -- ---- the FD: a file's record area and records; a file without one has none
 
-pub record Described : Type 0 where
+pub record DescribedFile : Type 0 where
   pub area : ℕ
   pub entries : List Entry
 
-abbrev pub described : ℕ → Name → List FileDescription → Described
-described area name [] = record { area = area; entries = [] }
-described area name (one ∷ more) = if same name one.name then record { area = area; entries = one.entries } else described (area + 1) name more
+abbrev pub described_file : ℕ → Name → List FileDescription → DescribedFile
+described_file area name [] = record { area = area; entries = [] }
+described_file area name (one ∷ more) = if same name one.name then record { area = area; entries = one.entries } else described_file (area + 1) name more
 
 -- The only record, or where there are several the record area as a group (own choice).
 abbrev pub sent_of : ℕ → Forest → Item
@@ -63,12 +63,12 @@ sent_of size records = group size
 
 -- ---- keys; where the rules are kept, each key names one item
 
-abbrev pub place_in_record : Option Placed → KeyPlace
+abbrev pub place_in_record : Option LocatedItem → KeyPlace
 place_in_record None = record { offset = 0; length = 0 }
 place_in_record (Some one) = record { offset = one.offset; length = one.item.length }
 
 -- Items without subscripts have one place.
-abbrev pub plain_place : Option Placed → Option ItemPlace
+abbrev pub plain_place : Option LocatedItem → Option ItemPlace
 plain_place None = None
 plain_place (Some one) = Some (place_behind one 0)
 
@@ -85,7 +85,7 @@ abbrev pub with_key : AlternateKey → List AlternateKey → List AlternateKey
 with_key one [] = one ∷ []
 with_key one (other ∷ more) = if nat_lt other.place.offset one.place.offset then other ∷ with_key one more else one ∷ other ∷ more
 
-module _ (items : List Placed) where
+module _ (items : List LocatedItem) where
   abbrev pub key_place : Reference → KeyPlace
   key_place one = place_in_record (first (items_named items one.item))
 
@@ -122,23 +122,23 @@ module _ (items : List Placed) where
     key_digits = digits_at (item_place one.relative_key);
   }
 
-  abbrev pub file_by : ℕ → Select → Described → ProgramFile
+  abbrev pub file_by : ℕ → Select → DescribedFile → ProgramFile
   file_by number one there = record {
     name = one.name;
     select = one;
     entry = entry_by one (record_length there.entries);
     places = record { number = number; area = there.area; relative_key = item_place one.relative_key; status = item_place one.status };
-    sent = sent_of (record_length there.entries) (nested there.entries);
+    sent = sent_of (record_length there.entries) (forest_of there.entries);
   }
 
   -- those of SELECTs of which the first has this number; the first FD has this area
   abbrev pub files_from : ℕ → List FileDescription → ℕ → List Select → List ProgramFile
   files_from area descriptions number [] = []
   files_from area descriptions number (one ∷ more) =
-      file_by number one (described area one.name descriptions) ∷ files_from area descriptions (number + 1) more
+      file_by number one (described_file area one.name descriptions) ∷ files_from area descriptions (number + 1) more
 
 -- the files of a program with these items
-abbrev pub files_of : List Placed → Program → List ProgramFile
+abbrev pub files_of : List LocatedItem → Program → List ProgramFile
 files_of items program = files_from items (storage_areas program.storage) program.files 0 program.selects
 
 -- those of this name

@@ -1,17 +1,17 @@
 -- Rule 54: no PERFORM leads back to the paragraph that it stands in (own choice; COBOL-85 leaves open what recursion does).
 use Rattle.std.specs.Prelude.{◌≡◌, ℕ, ◌+◌, Bool, true, map, List, [], ◌∷◌, ◌++◌, length, slice_get, Option, Some, None}
 use Rattle.lexical.specs.declared.place.Place.{Place}
-use Rattle.perform_order.specs.declared.performed.PerformedRange.{PerformedRange}
-use Rattle.perform_order.specs.Order.{IsIn, AreHeights, PerformOneAnother}
-use Rattle.source_tree.specs.declared.branching.Branching.{Branching}
-use Rattle.source_tree.specs.declared.branching.Branching.TheVariants as branch
-use Rattle.source_tree.specs.declared.evaluate.Selected.{Selected}
-use Rattle.source_tree.specs.declared.evaluate.Evaluate.{Evaluate}
+use Rattle.perform_graph.specs.declared.performed.PerformedRange.{PerformedRange}
+use Rattle.perform_graph.specs.Order.{IsIn, AreRanks, PerformOneAnother}
+use Rattle.source_tree.specs.declared.conditional_statement.ConditionalStatement.{ConditionalStatement}
+use Rattle.source_tree.specs.declared.conditional_statement.ConditionalStatement.TheVariants as branch
+use Rattle.source_tree.specs.declared.evaluate_statement.Selected.{Selected}
+use Rattle.source_tree.specs.declared.evaluate_statement.Evaluate.{Evaluate}
 use Rattle.source_tree.specs.declared.phrases.Phrases.{Phrases}
 use Rattle.source_tree.specs.declared.phrases.FilePhrases.{FilePhrases}
 use Rattle.source_tree.specs.declared.phrases.FilePhrases.TheVariants.{Absent, AtEnd, InvalidKey}
-use Rattle.source_tree.specs.declared.performing.Performed.{Performed}
-use Rattle.source_tree.specs.declared.performing.Performed.TheVariants.{Procedures, Statements}
+use Rattle.source_tree.specs.declared.perform_statement.Performed.{Performed}
+use Rattle.source_tree.specs.declared.perform_statement.Performed.TheVariants.{Procedures, Statements}
 use Rattle.source_tree.specs.declared.statement.Verb.{Verb}
 use Rattle.source_tree.specs.declared.statement.Verb.TheVariants as verb
 use Rattle.source_tree.specs.declared.statement.Statement.{Statement}
@@ -61,20 +61,20 @@ selected_performs inside one = each_performs inside one.statements
 abbrev pub evaluate_performs : {S : Type 0} → (S → List Performance) → Evaluate S → List Performance
 evaluate_performs inside one = each_performs (selected_performs inside) one.selected ++ phrase_performs inside one.other
 
-abbrev pub branching_performs : {S : Type 0} → (S → List Performance) → Branching S → List Performance
+abbrev pub branching_performs : {S : Type 0} → (S → List Performance) → ConditionalStatement S → List Performance
 branching_performs inside (branch.If condition statements otherwise) = each_performs inside statements ++ phrase_performs inside otherwise
 branching_performs inside (branch.Evaluate one) = evaluate_performs inside one
 
 -- a statement, by its family
 abbrev pub verb_performs : List Procedure → {S : Type 0} → (S → List Performance) → Verb S → List Performance
-verb_performs procedures inside (verb.Moving one) = []
+verb_performs procedures inside (verb.DataStatement one) = []
 verb_performs procedures inside (verb.Arithmetic one) = phrases_performs inside one.phrases
-verb_performs procedures inside (verb.Branching one) = branching_performs inside one
-verb_performs procedures inside (verb.Performing one) = performed_performs procedures inside one.performed
+verb_performs procedures inside (verb.ConditionalStatement one) = branching_performs inside one
+verb_performs procedures inside (verb.PerformStatement one) = performed_performs procedures inside one.performed
 verb_performs procedures inside (verb.Text one) = []
-verb_performs procedures inside (verb.Stringing one) = phrases_performs inside one.phrases
-verb_performs procedures inside (verb.Filing one) = file_phrases_performs inside (phrases_of one)
-verb_performs procedures inside (verb.Ending one) = []
+verb_performs procedures inside (verb.StringStatement one) = phrases_performs inside one.phrases
+verb_performs procedures inside (verb.FileStatement one) = file_phrases_performs inside (phrases_of one)
+verb_performs procedures inside (verb.ControlStatement one) = []
 
 abbrev pub performs_layer : List Procedure → Statement-F (List Performance) → List Performance
 performs_layer procedures one = verb_performs procedures (λ performs. performs) one.verb
@@ -107,17 +107,17 @@ performs_from procedures number (one ∷ more) =
 abbrev pub performs : Program → List (Place × PerformedRange)
 performs program = performs_from (procedures_of program.sections) 0 (paragraphs program)
 
-abbrev pub performed : Program → List PerformedRange
-performed program = map (λ one. one.1) (performs program)
+abbrev pub performed_by_program : Program → List PerformedRange
+performed_by_program program = map (λ one. one.1) (performs program)
 
 -- Paragraphs have heights that fall along each PERFORM: none leads back.
 abbrev pub HasOrder : Program → Type 0
-HasOrder program = (heights : List ℕ) × AreHeights (length (paragraphs program)) (performed program) heights
+HasOrder program = (heights : List ℕ) × AreRanks (length (paragraphs program)) (performed_by_program program) heights
 
 -- A PERFORM that is named at this place performs one of some paragraphs of which each performs one of them, and stands in one of them.
-pub record LeadsBack (program : Program) (place : Place) : Type 0 where
+pub record IsRecursivePerform (program : Program) (place : Place) : Type 0 where
   pub among : ℕ → Bool
-  pub ring : PerformOneAnother among (performed program)
+  pub ring : PerformOneAnother among (performed_by_program program)
   pub at : ℕ
   pub one : PerformedRange
   pub stands : slice_get (performs program) at ≡ Some (place, one)

@@ -14,8 +14,8 @@ pub record Redefinable : Type 0 where
   pub bytes : ℕ
   pub has_occurs : Bool
 
-abbrev pub remembered : ItemEntry → ℕ → Option Redefinable → Option Redefinable
-remembered one bytes last =
+abbrev pub redefinable_after : ItemEntry → ℕ → Option Redefinable → Option Redefinable
+redefinable_after one bytes last =
     if redefines one then last
     else Some (record { name = one.name; level = number_of one.level; bytes = bytes; has_occurs = is_some one.occurs })
 

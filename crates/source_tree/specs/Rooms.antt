@@ -30,13 +30,13 @@ longest around End = 0
 longest around (Tree one conditions inner next) = max (occurrences one * (item_with around one inner).length) (longest around next)
 
 -- those at the front that redefine
-abbrev pub redefining : Forest → Forest
-redefining End = End
-redefining (Tree one conditions inner next) = if redefines one then Tree one conditions inner (redefining next) else End
+abbrev pub leading_redefinitions : Forest → Forest
+leading_redefinitions End = End
+leading_redefinitions (Tree one conditions inner next) = if redefines one then Tree one conditions inner (leading_redefinitions next) else End
 
 -- The bytes of the area that a 01 or 77 begins: those of the longest of it and the ones after it that redefine it.
 abbrev pub area_length : ItemEntry → List ConditionEntry → Forest → Forest → ℕ
-area_length one conditions inner next = longest nothing_around (Tree one conditions inner (redefining next))
+area_length one conditions inner next = longest nothing_around (Tree one conditions inner (leading_redefinitions next))
 
 -- The lengths of all areas of working storage.
 abbrev pub area_lengths : Forest → List ℕ

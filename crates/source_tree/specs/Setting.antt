@@ -2,7 +2,7 @@
 use Rattle.std.specs.Prelude.{List}
 use Rattle.source_tree.specs.declared.program.Paragraph.{Paragraph}
 use Rattle.source_tree.specs.declared.program.Program.{Program}
-use Rattle.source_tree.specs.Places.{Placed}
+use Rattle.source_tree.specs.Places.{LocatedItem}
 use Rattle.source_tree.specs.Records.{program_items}
 use Rattle.source_tree.specs.ProgramFiles.{ProgramFile, files_of}
 use Rattle.source_tree.specs.Procedures.{Procedure, paragraphs_in, procedures_of}
@@ -10,13 +10,13 @@ use Rattle.source_tree.specs.Procedures.{Procedure, paragraphs_in, procedures_of
 -- what names name
 pub record Scope : Type 0 where
   -- the items of working storage and of records where they stand
-  pub items : List Placed
+  pub items : List LocatedItem
   -- the files, in the order of their SELECTs
   pub files : List ProgramFile
   -- sections and paragraphs
   pub procedures : List Procedure
 
-pub record Setting : Type 0 where
+pub record ProgramContext : Type 0 where
   pub scope : Scope
   -- all paragraphs of the program, in order
   pub paragraphs : List Paragraph
@@ -25,11 +25,11 @@ pub record Setting : Type 0 where
 abbrev pub paragraphs : Program → List Paragraph
 paragraphs program = paragraphs_in program.sections
 
-abbrev pub scope_with : List Placed → Program → Scope
+abbrev pub scope_with : List LocatedItem → Program → Scope
 scope_with items program = record { items = items; files = files_of items program; procedures = procedures_of program.sections }
 
 abbrev pub scope : Program → Scope
 scope program = scope_with (program_items program) program
 
-abbrev pub setting : Program → Setting
-setting program = record { scope = scope program; paragraphs = paragraphs program }
+abbrev pub context_of : Program → ProgramContext
+context_of program = record { scope = scope program; paragraphs = paragraphs program }

@@ -4,7 +4,7 @@ use Rattle.station.specs.State.{Event, Shown}
 use Rattle.records.specs.Files.{Files}
 use Rattle.records.specs.Connector.{Connector}
 use Rattle.source_tree.specs.Storage.{Storage}
-use Rattle.source_tree.specs.Evaluated.{Fault, Evaluated}
+use Rattle.source_tree.specs.Evaluated.{Fault, Evaluation}
 
 pub record State : Type 0 where
   -- how many statements may still begin (own choice)
@@ -42,8 +42,8 @@ pub data Outcome : Type 0 where
   Over : End → State → Outcome
 
 -- after these bytes were shown
-abbrev pub showing : List ℕ → State → State
-showing bytes s = record s { events = s.events ++ map Shown bytes }
+abbrev pub state_after_output : List ℕ → State → State
+state_after_output bytes s = record s { events = s.events ++ map Shown bytes }
 
 -- goes on where a stretch is done
 abbrev pub then_do : Outcome → (State → Outcome) → Outcome
@@ -51,13 +51,13 @@ then_do (Done s) go = go s
 then_do (Over end s) go = Over end s
 
 -- goes on with what was evaluated; a fault ends the run at the statement's line
-abbrev pub with_value : {A : Type 0} → Evaluated A → State → (A → Outcome) → Outcome
+abbrev pub with_value : {A : Type 0} → Evaluation A → State → (A → Outcome) → Outcome
 with_value (Ok x) s go = go x
 with_value (Err fault) s go = Over (Faulted fault s.line) s
 
 -- A statement that only changes storage, or ends the run.
-abbrev pub changing : (Storage → Evaluated Storage) → State → Outcome
-changing change s = with_value (change s.storage) s (λ after. Done (record s { storage = after }))
+abbrev pub change_outcome : (Storage → Evaluation Storage) → State → Outcome
+change_outcome change s = with_value (change s.storage) s (λ after. Done (record s { storage = after }))
 
 -- one after the other, as long as each is done
 abbrev pub in_turn : {A : Type 0} → (A → State → Outcome) → List A → State → Outcome

@@ -1,14 +1,14 @@
 -- Rule 69 of statements: a program has at most 50,000 (own choice). Each counts, also one that stands in another.
 use Rattle.std.specs.Prelude.{ℕ, List, [], ◌∷◌, ◌++◌, slice_get, Option, Some, None}
 use Rattle.lexical.specs.declared.place.Place.{Place}
-use Rattle.source_tree.specs.declared.branching.Branching.{Branching}
-use Rattle.source_tree.specs.declared.branching.Branching.TheVariants as branch
-use Rattle.source_tree.specs.declared.evaluate.Selected.{Selected}
+use Rattle.source_tree.specs.declared.conditional_statement.ConditionalStatement.{ConditionalStatement}
+use Rattle.source_tree.specs.declared.conditional_statement.ConditionalStatement.TheVariants as branch
+use Rattle.source_tree.specs.declared.evaluate_statement.Selected.{Selected}
 use Rattle.source_tree.specs.declared.phrases.Phrases.{Phrases}
 use Rattle.source_tree.specs.declared.phrases.FilePhrases.{FilePhrases}
 use Rattle.source_tree.specs.declared.phrases.FilePhrases.TheVariants.{Absent, AtEnd, InvalidKey}
-use Rattle.source_tree.specs.declared.performing.Performed.{Performed}
-use Rattle.source_tree.specs.declared.performing.Performed.TheVariants.{Procedures, Statements}
+use Rattle.source_tree.specs.declared.perform_statement.Performed.{Performed}
+use Rattle.source_tree.specs.declared.perform_statement.Performed.TheVariants.{Procedures, Statements}
 use Rattle.source_tree.specs.declared.statement.Verb.{Verb}
 use Rattle.source_tree.specs.declared.statement.Verb.TheVariants as verb
 use Rattle.source_tree.specs.declared.statement.Statement.{Statement}
@@ -19,7 +19,7 @@ use Rattle.source_tree.specs.declared.program.Paragraph.{Paragraph}
 use Rattle.source_tree.specs.declared.program.Section.{Section}
 use Rattle.source_tree.specs.declared.program.Program.{Program}
 use Rattle.source_tree.specs.Filing.{phrases_of}
-use Rattle.source_tree.specs.Broken.{Broken}
+use Rattle.source_tree.specs.Broken.{RuleBreach}
 
 abbrev pub most_statements : ℕ
 most_statements = 50000
@@ -47,20 +47,20 @@ abbrev pub in_selected : {S : Type 0} → List (Selected S) → List S
 in_selected [] = []
 in_selected (one ∷ more) = one.statements ++ in_selected more
 
-abbrev pub in_branching : {S : Type 0} → Branching S → List S
+abbrev pub in_branching : {S : Type 0} → ConditionalStatement S → List S
 in_branching (branch.If condition statements otherwise) = statements ++ in_phrase otherwise
 in_branching (branch.Evaluate one) = in_selected one.selected ++ in_phrase one.other
 
 -- by its family
 abbrev pub inside : {S : Type 0} → Verb S → List S
-inside (verb.Moving one) = []
+inside (verb.DataStatement one) = []
 inside (verb.Arithmetic one) = in_phrases one.phrases
-inside (verb.Branching one) = in_branching one
-inside (verb.Performing one) = in_performed one.performed
+inside (verb.ConditionalStatement one) = in_branching one
+inside (verb.PerformStatement one) = in_performed one.performed
 inside (verb.Text one) = []
-inside (verb.Stringing one) = in_phrases one.phrases
-inside (verb.Filing one) = in_file_phrases (phrases_of one)
-inside (verb.Ending one) = []
+inside (verb.StringStatement one) = in_phrases one.phrases
+inside (verb.FileStatement one) = in_file_phrases (phrases_of one)
+inside (verb.ControlStatement one) = []
 
 -- ---- where statements stand, in the order of the text
 
@@ -86,9 +86,9 @@ section_places one = each_place paragraph_places one.paragraphs
 
 -- ---- 69: the first statement past the limit
 
-abbrev pub excess_rules : Option Place → List Broken
+abbrev pub excess_rules : Option Place → List RuleBreach
 excess_rules None = []
 excess_rules (Some place) = record { rule = 69; place = place } ∷ []
 
-abbrev pub statement_count_rules : Program → List Broken
+abbrev pub statement_count_rules : Program → List RuleBreach
 statement_count_rules program = excess_rules (slice_get (each_place section_places program.sections) most_statements)

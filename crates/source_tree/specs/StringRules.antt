@@ -11,12 +11,12 @@ use Rattle.source_tree.specs.declared.literal.LiteralValue.TheVariants as litera
 use Rattle.source_tree.specs.declared.reference.Reference.{Reference}
 use Rattle.source_tree.specs.declared.expression.Operand.{Operand}
 use Rattle.source_tree.specs.declared.expression.Operand.TheVariants as operand
-use Rattle.source_tree.specs.declared.stringing.Sending.{Sending}
-use Rattle.source_tree.specs.declared.stringing.Stringing.{Stringing}
-use Rattle.source_tree.specs.Places.{Placed}
+use Rattle.source_tree.specs.declared.string_statement.Sending.{Sending}
+use Rattle.source_tree.specs.declared.string_statement.StringStatement.{StringStatement}
+use Rattle.source_tree.specs.Places.{LocatedItem}
 use Rattle.source_tree.specs.LookUp.{items_named}
-use Rattle.source_tree.specs.Broken.{Broken, where_so, each}
-use Rattle.source_tree.specs.NameRules.{item_rules}
+use Rattle.source_tree.specs.Broken.{RuleBreach, where_so, each}
+use Rattle.source_tree.specs.NameRules.{reference_rules}
 use Rattle.source_tree.specs.ConditionRules.{is_display}
 
 -- an unsigned integer in DISPLAY usage
@@ -28,24 +28,24 @@ abbrev pub has_characters : Kind → Bool
 has_characters (kind.Numeric n) = is_plain_integer n
 has_characters _ = true
 
-abbrev pub sent_item : Place → Placed → List Broken
+abbrev pub sent_item : Place → LocatedItem → List RuleBreach
 sent_item place one = where_so (not (has_characters one.item.kind)) 65 place
 
-abbrev pub sent_literal : Place → LiteralValue → List Broken
+abbrev pub sent_literal : Place → LiteralValue → List RuleBreach
 sent_literal place (literal.Numeric one) = record { rule = 65; place = place } ∷ []
 sent_literal place (literal.All bytes) = record { rule = 67; place = place } ∷ []
 sent_literal place _ = []
 
 -- a sender or a delimiter
-abbrev pub sent_rules : List Placed → Operand → List Broken
-sent_rules items (operand.Item one) = item_rules items sent_item one
+abbrev pub sent_rules : List LocatedItem → Operand → List RuleBreach
+sent_rules items (operand.Item one) = reference_rules items sent_item one
 sent_rules items (operand.Literal one) = sent_literal one.place one.value
 
-abbrev pub delimiter_rules : List Placed → Option Operand → List Broken
+abbrev pub delimiter_rules : List LocatedItem → Option Operand → List RuleBreach
 delimiter_rules items None = []
 delimiter_rules items (Some one) = sent_rules items one
 
-abbrev pub sending_rules : List Placed → Sending → List Broken
+abbrev pub sending_rules : List LocatedItem → Sending → List RuleBreach
 sending_rules items one = each (sent_rules items) one.senders ++ delimiter_rules items one.delimiter
 
 -- a group, or an alphabetic or alphanumeric item without JUSTIFIED
@@ -55,7 +55,7 @@ is_string_receiver (kind.Alphabetic justified) = not justified
 is_string_receiver (kind.Alphanumeric justified) = not justified
 is_string_receiver _ = false
 
-abbrev pub receiver_item : Place → Placed → List Broken
+abbrev pub receiver_item : Place → LocatedItem → List RuleBreach
 receiver_item place one = where_so (not (is_string_receiver one.item.kind)) 65 place
 
 -- an integer that can hold a number
@@ -63,21 +63,21 @@ abbrev pub can_hold : ℕ → Kind → Bool
 can_hold n (kind.Numeric numeric) = (numeric.scale == 0) && nat_lt n (10 ^ numeric.digits)
 can_hold n _ = false
 
-abbrev pub pointer_item : ℕ → Place → Placed → List Broken
+abbrev pub pointer_item : ℕ → Place → LocatedItem → List RuleBreach
 pointer_item size place one = where_so (not (can_hold (size + 1) one.item.kind)) 65 place
 
 -- the bytes of an item; a name that names nothing, or several things, is another rule's
-abbrev pub only_length : List Placed → ℕ
+abbrev pub only_length : List LocatedItem → ℕ
 only_length (only ∷ []) = only.item.length
 only_length _ = 0
 
-abbrev pub pointer_rules : List Placed → ℕ → Option Reference → List Broken
+abbrev pub pointer_rules : List LocatedItem → ℕ → Option Reference → List RuleBreach
 pointer_rules items size None = []
-pointer_rules items size (Some one) = item_rules items (pointer_item size) one
+pointer_rules items size (Some one) = reference_rules items (pointer_item size) one
 
 -- a STRING without its phrases
-abbrev pub string_rules : List Placed → {S : Type 0} → Stringing S → List Broken
+abbrev pub string_rules : List LocatedItem → {S : Type 0} → StringStatement S → List RuleBreach
 string_rules items one =
     each (sending_rules items) one.sendings
-    ++ item_rules items receiver_item one.receiver
+    ++ reference_rules items receiver_item one.receiver
     ++ pointer_rules items (only_length (items_named items one.receiver.item)) one.pointer

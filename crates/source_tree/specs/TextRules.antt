@@ -7,27 +7,27 @@ use Rattle.lexical.specs.declared.place.Place.{Place}
 use Rattle.source_tree.specs.declared.reference.Reference.{Reference}
 use Rattle.source_tree.specs.declared.expression.Operand.{Operand}
 use Rattle.source_tree.specs.declared.expression.Operand.TheVariants as operand
-use Rattle.source_tree.specs.Places.{Placed}
+use Rattle.source_tree.specs.Places.{LocatedItem}
 use Rattle.source_tree.specs.Accepting.{date_sender}
-use Rattle.source_tree.specs.Broken.{Broken, each}
-use Rattle.source_tree.specs.NameRules.{item_rules, any_item}
+use Rattle.source_tree.specs.Broken.{RuleBreach, each}
+use Rattle.source_tree.specs.NameRules.{reference_rules, any_item}
 use Rattle.source_tree.specs.MoveRules.{receives}
 
 -- A figurative constant is shown, ALL with a literal isn't.
-abbrev pub shown_literal_rules : Place → LiteralValue → List Broken
+abbrev pub shown_literal_rules : Place → LiteralValue → List RuleBreach
 shown_literal_rules place (literal.All bytes) = record { rule = 67; place = place } ∷ []
 shown_literal_rules place _ = []
 
-abbrev pub shown_rules : List Placed → Operand → List Broken
-shown_rules items (operand.Item one) = item_rules items any_item one
+abbrev pub shown_rules : List LocatedItem → Operand → List RuleBreach
+shown_rules items (operand.Item one) = reference_rules items any_item one
 shown_rules items (operand.Literal one) = shown_literal_rules one.place one.value
 
-abbrev pub display_rules : List Placed → List Operand → List Broken
+abbrev pub display_rules : List LocatedItem → List Operand → List RuleBreach
 display_rules items operands = each (shown_rules items) operands
 
-abbrev pub accept_line_rules : List Placed → Reference → List Broken
-accept_line_rules items receiver = item_rules items any_item receiver
+abbrev pub accept_line_rules : List LocatedItem → Reference → List RuleBreach
+accept_line_rules items receiver = reference_rules items any_item receiver
 
 -- a MOVE of six digits
-abbrev pub accept_date_rules : List Placed → Reference → List Broken
-accept_date_rules items receiver = item_rules items (receives (Some (date_sender []).taken)) receiver
+abbrev pub accept_date_rules : List LocatedItem → Reference → List RuleBreach
+accept_date_rules items receiver = reference_rules items (receives (Some (date_sender []).taken)) receiver

@@ -17,7 +17,7 @@ use Rattle.items.specs.declared.taken.Taken.{Taken}
 use Rattle.items.specs.declared.taken.Taken.TheVariants as taken
 use Rattle.items.specs.Numbers.{is_signed}
 use Rattle.items.specs.Texts.{character_of}
-use Rattle.text_ops.specs.Compare.{compared, order_of_texts}
+use Rattle.text_ops.specs.Compare.{comparison_of, order_of_texts}
 use Rattle.source_tree.specs.declared.literal.Figurative.TheVariants as figurative
 use Rattle.source_tree.specs.declared.literal.LiteralValue.{LiteralValue}
 use Rattle.source_tree.specs.declared.literal.LiteralValue.TheVariants as literal
@@ -25,7 +25,7 @@ use Rattle.source_tree.specs.declared.literal.Literal.{Literal}
 use Rattle.source_tree.specs.declared.entry.ValueRange.{ValueRange}
 use Rattle.source_tree.specs.declared.entry.ConditionEntry.{ConditionEntry}
 use Rattle.source_tree.specs.Literals.{Sender, literal_number, literal_sender}
-use Rattle.source_tree.specs.Broken.{Broken, where_so, each}
+use Rattle.source_tree.specs.Broken.{RuleBreach, where_so, each}
 
 -- ---- the form of a literal (COBOL-85, Nucleus, "Literals"; the most characters are this project's own choice)
 
@@ -73,7 +73,7 @@ abbrev pub wrong_value : Kind → ℕ → LiteralValue → Bool
 wrong_value kind size value = not (has_form value) || wrong_class kind size value
 
 -- Where a VALUE may not stand: in a file, under REDEFINES, in a group with VALUE.
-abbrev pub value_rules : Bool → Item → Option Literal → List Broken
+abbrev pub value_rules : Bool → Item → Option Literal → List RuleBreach
 value_rules forbidden item None = []
 value_rules forbidden item (Some one) = where_so (forbidden || wrong_value item.kind item.length one.value) 47 one.place
 
@@ -87,7 +87,7 @@ once taken.All bytes = Some bytes
 
 abbrev pub order_once : Sender → Sender → Option (List ℕ) → Option (List ℕ) → Option Ordering
 order_once one other (Some ones) (Some others) = Some (order_of_texts ones others)
-order_once one other _ _ = compared one.taken one.bytes other.taken other.bytes
+order_once one other _ _ = comparison_of one.taken one.bytes other.taken other.bytes
 
 -- The order of two literals, as in a relation.
 abbrev pub literals_order : Sender → Sender → Option Ordering
@@ -97,14 +97,14 @@ abbrev pub is_greater : Option Ordering → Bool
 is_greater (Some Greater) = true
 is_greater _ = false
 
-abbrev pub last_rules : Item → Literal → Option Literal → List Broken
+abbrev pub last_rules : Item → Literal → Option Literal → List RuleBreach
 last_rules item first None = []
 last_rules item first (Some last) =
     where_so (wrong_value item.kind item.length last.value) 47 last.place
     ++ where_so (is_greater (literals_order (literal_sender first.value) (literal_sender last.value))) 55 first.place
 
-abbrev pub range_rules : Item → ValueRange → List Broken
+abbrev pub range_rules : Item → ValueRange → List RuleBreach
 range_rules item one = where_so (wrong_value item.kind item.length one.first.value) 47 one.first.place ++ last_rules item one.first one.last
 
-abbrev pub condition_rules : Item → ConditionEntry → List Broken
+abbrev pub condition_rules : Item → ConditionEntry → List RuleBreach
 condition_rules item one = each (range_rules item) one.values

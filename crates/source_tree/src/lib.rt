@@ -2,42 +2,43 @@
 #![tactic(auto)]
 
 mod arithmetic;
-mod branching;
 mod condition;
-mod ending;
+mod conditional_statement;
+mod control_statement;
+mod data_statement;
 mod entry;
-mod evaluate;
+mod evaluate_statement;
 mod expression;
-mod filing;
-mod inspecting;
+mod file_statement;
+mod inspect_statement;
 mod laws;
 mod literal;
-mod moving;
 mod name;
-mod performing;
+mod perform_statement;
 mod phrases;
 mod program;
 mod reference;
 mod select;
 mod statement;
-mod stringing;
+mod string_statement;
 mod table;
-mod text;
+mod text_statement;
 mod until;
 
 pub use arithmetic::{Arithmetic, DivisionOrder, Operation, Receiver};
-pub use branching::Branching;
 pub use condition::{Class, Condition, Relation, RelationalOperator, Side, SignTest};
-pub use ending::Ending;
+pub use conditional_statement::ConditionalStatement;
+pub use control_statement::ControlStatement;
+pub use data_statement::DataStatement;
 pub use entry::{
     Around, ConditionEntry, Entry, ItemEntry, PictureText, SignClause, SignPosition, UsageClause,
     ValueRange,
 };
-pub use evaluate::{Choice, Evaluate, Object, Selected, Subject, When};
+pub use evaluate_statement::{Choice, Evaluate, Object, Selected, Subject, When};
 pub use expression::{Expression, Operand, Operator};
-pub use filing::{Filing, Opening, StartKey};
-pub use inspecting::{
-    Inspecting, Limits, Occurrences, ReplacedText, Replacing, Tallied, TalliedText, Tallying,
+pub use file_statement::{FileStatement, Opening, StartKey};
+pub use inspect_statement::{
+    InspectStatement, Limits, Occurrences, ReplacedText, Replacing, Tallied, TalliedText, Tallying,
 };
 pub use laws::{
     budget_law, depth_law, file_verb_law, output_law, record_areas_law, sound_files_law,
@@ -45,16 +46,15 @@ pub use laws::{
 };
 pub use lexical::{NumericLiteral, Place, Sign};
 pub use literal::{Figurative, Integer, Literal, LiteralValue};
-pub use moving::Moving;
 pub use name::Name;
-pub use performing::{Performed, Performing, Turns};
+pub use perform_statement::{PerformStatement, Performed, Repetition};
 pub use phrases::{FilePhrases, Phrases};
 pub use program::{Paragraph, Program, Section, Sentence};
 pub use records::{Access, OpenMode};
 pub use reference::{Adjustment, QualifiedName, Reference, Subscript};
 pub use select::{AlternateKeyClause, AssignedName, FileDescription, OrganizationClause, Select};
 pub use statement::{Statement, Verb};
-pub use stringing::{Sending, Stringing};
+pub use string_statement::{Sending, StringStatement};
 pub use table::Dimension;
-pub use text::Text;
+pub use text_statement::TextStatement;
 pub use until::{TestTime, Until, Varying};

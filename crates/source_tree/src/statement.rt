@@ -1,26 +1,26 @@
 //! Statements.
 
 use crate::arithmetic::Arithmetic;
-use crate::branching::Branching;
-use crate::ending::Ending;
-use crate::filing::Filing;
-use crate::moving::Moving;
-use crate::performing::Performing;
-use crate::stringing::Stringing;
-use crate::text::Text;
+use crate::conditional_statement::ConditionalStatement;
+use crate::control_statement::ControlStatement;
+use crate::data_statement::DataStatement;
+use crate::file_statement::FileStatement;
+use crate::perform_statement::PerformStatement;
+use crate::string_statement::StringStatement;
+use crate::text_statement::TextStatement;
 use lexical::Place;
 
 /// What a statement does, by families. `S` is the statements inside it: in a tree, `Statement`.
 #[derive(Drop)]
 pub enum Verb<S> {
-    Moving(Moving),
+    DataStatement(DataStatement),
     Arithmetic(Arithmetic<S>),
-    Branching(Branching<S>),
-    Performing(Performing<S>),
-    Text(Text),
-    Stringing(Stringing<S>),
-    Filing(Filing<S>),
-    Ending(Ending),
+    ConditionalStatement(ConditionalStatement<S>),
+    PerformStatement(PerformStatement<S>),
+    Text(TextStatement),
+    StringStatement(StringStatement<S>),
+    FileStatement(FileStatement<S>),
+    ControlStatement(ControlStatement),
 }
 
 /// A statement (COBOL-85, Nucleus, "Procedure division").

@@ -3,7 +3,7 @@ use Rattle.std.proofs.Common.{ℕ, zero, suc, length, refl, subst, arith}
 use Rattle.grammar.specs.Reading as read
 use Rattle.grammar.specs.Reading.{Outcome, Parser}
 use Rattle.grammar.specs.declared.fault.Halt.TheVariants.{TooDeep}
-use Rattle.grammar.specs.Parts.{tested}
+use Rattle.grammar.specs.Parts.{lookahead}
 use Rattle.grammar.proofs.Outcomes.{Reached, Halts, Deeper, allow, one_deeper, step, unstep, value, last}
 use Rattle.grammar.proofs.Lists
 use Rattle.grammar.proofs.Lists.{Sound, Complete, Shrinks, Starts}
@@ -61,4 +61,4 @@ pub sentence_shrinks : (depth : ℕ) → Shrinks (g.sentence depth)
 sentence_shrinks depth x i rest s = let a = statements_shrink (g.statement depth) (statement_shrinks depth) x.statements i s.0 s.1 in let b = period_shrinks s.0 rest s.2 in omega arith
 
 pub sentence_starts : (depth : ℕ) → Starts begins_statement (g.sentence depth)
-sentence_starts depth x i rest s = Lists.several_starts (g.statement depth) (tested begins_statement) begins_statement (statement_starts depth) x.statements i s.0 s.1
+sentence_starts depth x i rest s = Lists.several_starts (g.statement depth) (lookahead begins_statement) begins_statement (statement_starts depth) x.statements i s.0 s.1

@@ -11,17 +11,17 @@ use Rattle.source_tree.specs.declared.phrases.FilePhrases.TheVariants.{Absent, A
 use Rattle.grammar.specs.declared.fault.Halt.{Halt}
 use Rattle.grammar.specs.declared.phrase.Phrase.{Phrase}
 use Rattle.grammar.specs.declared.phrase.Phrase.TheVariants as phrase
-use Rattle.grammar.specs.Parts.{Part, ◌then◌, ◌or◌, without, word}
+use Rattle.grammar.specs.Parts.{Part, ◌then◌, ◌or◌, absence_of, word}
 use Rattle.grammar.specs.Reading as read
 use Rattle.grammar.specs.Reading.{Parser, after_word}
 use Rattle.grammar.specs.Phrases as grammar
-use Rattle.grammar.specs.Phrases.{opened, denied, two_sided, two_sided_reader}
+use Rattle.grammar.specs.Phrases.{phrase_words, negated_phrase_words, two_sided, two_sided_reader}
 use Rattle.grammar.proofs.Outcomes.{Reached, step, unstep, value, after, last}
 use Rattle.grammar.proofs.Looking.{some_is, word_stands, word_begins, begins_no_other, true_not_false}
 use Rattle.grammar.proofs.Lists.{Sound, Complete, Shrinks}
 use Rattle.grammar.proofs.Phrases.{two_sided_shrinks, two_sided_sound, two_sided_complete}
 use Rattle.statements.specs.FilePhrases as g
-use Rattle.statements.specs.FilePhrases.{one_stands, begun, some_side, on_invalid_key, key_phrases_reader, or_invalid_key, read_phrases_reader}
+use Rattle.statements.specs.FilePhrases.{one_stands, phrase_beginning, some_side, on_invalid_key, key_phrases_reader, or_invalid_key, read_phrases_reader}
 
 -- ---- AT END and INVALID KEY don't both begin
 
@@ -54,12 +54,12 @@ unfolding same_word
 not_invalid = refl
 
 -- AT END begins with no other word
-no_other_word : (other : Reserved) → same_word w.At other ≡ false → same_word w.End other ≡ false → (i a b : List Token) → opened phrase.AtEnd i a → word other i b → ⊥
+no_other_word : (other : Reserved) → same_word w.At other ≡ false → same_word w.End other ≡ false → (i a b : List Token) → phrase_words phrase.AtEnd i a → word other i b → ⊥
 no_other_word other at_other end_other i a b (i1, inl at, end) s = two_words w.At other at_other i i1 b at s
 no_other_word other at_other end_other i a b (i1, inr (same, absent), end) s = two_words w.End other end_other i1 a b end (subst (λ j. word other j b) same s)
 
 -- where INVALID KEY or its opposite stands, AT END and its opposite do not
-not_both : (i a b : List Token) → begun phrase.AtEnd i a → begun phrase.InvalidKey i b → ⊥
+not_both : (i a b : List Token) → phrase_beginning phrase.AtEnd i a → phrase_beginning phrase.InvalidKey i b → ⊥
 not_both i a b (inl end) (inl (j, invalid, key)) = no_other_word w.Invalid at_invalid end_invalid i a j end invalid
 not_both i a b (inl end) (inr (j, denies, invalid)) = no_other_word w.Not at_not end_not i a j end denies
 not_both i a b (inr (j, denies, end)) (inl (m, invalid, key)) = two_words w.Not w.Invalid not_invalid i j m denies invalid
@@ -73,25 +73,25 @@ module _ {S : Type 0} (statements : List S → Part) where
   neither = record { arose = None; did_not = None }
 
   absent_by : (one : Phrase) (arose did_not : Option (List S)) (i rest : List Token) → (is_some arose || is_some did_not) ≡ false
-      → (grammar.phrase statements (opened one) arose then grammar.phrase statements (denied one) did_not) i rest → without (begun one) i rest
+      → (grammar.phrase statements (phrase_words one) arose then grammar.phrase statements (negated_phrase_words one) did_not) i rest → absence_of (phrase_beginning one) i rest
   absent_by one (Some done) did_not i rest e s = cc
   absent_by one None (Some done) i rest e s = cc
   absent_by one None None i rest e (i1, first, second) = (first.0 ∙ second.0, go)
     where
-      go : (after : List Token) → begun one i after → ⊥
+      go : (after : List Token) → phrase_beginning one i after → ⊥
       go after (inl s) = first.1 after s
-      go after (inr s) = second.1 after (subst (λ j. denied one j after) first.0 s)
+      go after (inr s) = second.1 after (subst (λ j. negated_phrase_words one j after) first.0 s)
 
-  absent : (one : Phrase) (both : Phrases S) (i rest : List Token) → one_stands both ≡ false → two_sided statements one both i rest → without (begun one) i rest
+  absent : (one : Phrase) (both : Phrases S) (i rest : List Token) → one_stands both ≡ false → two_sided statements one both i rest → absence_of (phrase_beginning one) i rest
   absent one both i rest e s = absent_by one both.arose both.did_not i rest e s
 
-  nothing : (one : Phrase) (i rest : List Token) → without (begun one) i rest → two_sided statements one neither i rest
+  nothing : (one : Phrase) (i rest : List Token) → absence_of (phrase_beginning one) i rest → two_sided statements one neither i rest
   nothing one i rest (same, absent) = (i, (refl, λ after s. absent after (inl s)), (same, λ after s. absent after (inr s)))
 
   begins_by : (one : Phrase) (arose did_not : Option (List S)) (i rest : List Token) → (is_some arose || is_some did_not) ≡ true
-      → (grammar.phrase statements (opened one) arose then grammar.phrase statements (denied one) did_not) i rest → (after : List Token) × begun one i after
+      → (grammar.phrase statements (phrase_words one) arose then grammar.phrase statements (negated_phrase_words one) did_not) i rest → (after : List Token) × phrase_beginning one i after
   begins_by one (Some done) did_not i rest e (i1, (m, words, s), second) = (m, inl words)
-  begins_by one None (Some done) i rest e (i1, first, (m, words, s)) = (m, inr (subst (λ j. denied one j m) (sym first.0) words))
+  begins_by one None (Some done) i rest e (i1, first, (m, words, s)) = (m, inr (subst (λ j. negated_phrase_words one j m) (sym first.0) words))
   begins_by one None None i rest e s = cc
 
   -- ---- INVALID KEY alone
@@ -116,11 +116,11 @@ module _ {S : Type 0} (statements : List S → Part) where
   read_phrases_shrink each (InvalidKey both) i rest s = two_sided_shrinks statements phrase.InvalidKey each both i rest s.1
 
   -- where AT END doesn't stand, what is spelled by INVALID KEY alone is spelled
-  or_key : (x : FilePhrases S) (i rest : List Token) → ((after : List Token) → begun phrase.AtEnd i after → ⊥) → g.key_phrases statements x i rest
+  or_key : (x : FilePhrases S) (i rest : List Token) → ((after : List Token) → phrase_beginning phrase.AtEnd i after → ⊥) → g.key_phrases statements x i rest
       → g.read_phrases statements x i rest
   or_key Absent i rest no_end s = (s.0, go)
     where
-      go : (after : List Token) → (begun phrase.AtEnd or begun phrase.InvalidKey) i after → ⊥
+      go : (after : List Token) → (phrase_beginning phrase.AtEnd or phrase_beginning phrase.InvalidKey) i after → ⊥
       go after (inl t) = no_end after t
       go after (inr t) = s.1 after t
   or_key (AtEnd both) i rest no_end s = absurd s

@@ -2,10 +2,10 @@
 use Rattle.std.proofs.Common.{◌≡◌, ℕ, true, false, List, length, Option, None, Some, sym, ap, ◌∙◌, subst, arith}
 use Rattle.std.specs.Prelude.{Ok, is_some}
 use Rattle.tokens.specs.declared.token.Token.{Token}
-use Rattle.source_tree.specs.declared.moving.Moving.TheVariants.{Move, Initialize, Set}
-use Rattle.source_tree.specs.declared.text.Text.TheVariants as text
-use Rattle.source_tree.specs.declared.branching.Branching.TheVariants.{If, Evaluate}
-use Rattle.source_tree.specs.declared.ending.Ending.TheVariants as ending
+use Rattle.source_tree.specs.declared.data_statement.DataStatement.TheVariants.{Move, Initialize, Set}
+use Rattle.source_tree.specs.declared.text_statement.TextStatement.TheVariants as text
+use Rattle.source_tree.specs.declared.conditional_statement.ConditionalStatement.TheVariants.{If, Evaluate}
+use Rattle.source_tree.specs.declared.control_statement.ControlStatement.TheVariants as ending
 use Rattle.source_tree.specs.declared.statement.Verb.{Verb}
 use Rattle.source_tree.specs.declared.statement.Verb.TheVariants as verb
 use Rattle.source_tree.specs.declared.statement.Statement.{Statement, out-Statement, out-roll-Statement, roll-out-Statement}
@@ -45,62 +45,62 @@ use Rattle.statements.proofs.Verbs.Stringing.{stringing_shrinks, stringing_stand
 
 module _ (depth : ℕ) (p : Statement → Part) where
   verb_shrinks : Shrinks p → Shrinks (g.verb_line depth p)
-  verb_shrinks fewer (verb.Moving (Move sender receivers)) i rest s = moving_shrinks sender receivers i rest s
-  verb_shrinks fewer (verb.Moving (Initialize receivers)) i rest s = initializing_shrinks receivers i rest s
-  verb_shrinks fewer (verb.Moving (Set conditions)) i rest s = setting_shrinks conditions i rest s
+  verb_shrinks fewer (verb.DataStatement (Move sender receivers)) i rest s = moving_shrinks sender receivers i rest s
+  verb_shrinks fewer (verb.DataStatement (Initialize receivers)) i rest s = initializing_shrinks receivers i rest s
+  verb_shrinks fewer (verb.DataStatement (Set conditions)) i rest s = setting_shrinks conditions i rest s
   verb_shrinks fewer (verb.Arithmetic one) i rest s = arithmetic_shrinks depth (g.statements p) (statements_shrink p fewer) one i rest s
-  verb_shrinks fewer (verb.Branching (If asked done otherwise)) i rest s = branching_shrinks (g.statements p) depth (statements_shrink p fewer) asked done otherwise i rest s
-  verb_shrinks fewer (verb.Branching (Evaluate one)) i rest s = evaluating_shrinks (g.statements p) depth (statements_shrink p fewer) one i rest s
-  verb_shrinks fewer (verb.Performing one) i rest s = performing_shrinks (g.statements p) depth (statements_shrink p fewer) one i rest s
+  verb_shrinks fewer (verb.ConditionalStatement (If asked done otherwise)) i rest s = branching_shrinks (g.statements p) depth (statements_shrink p fewer) asked done otherwise i rest s
+  verb_shrinks fewer (verb.ConditionalStatement (Evaluate one)) i rest s = evaluating_shrinks (g.statements p) depth (statements_shrink p fewer) one i rest s
+  verb_shrinks fewer (verb.PerformStatement one) i rest s = performing_shrinks (g.statements p) depth (statements_shrink p fewer) one i rest s
   verb_shrinks fewer (verb.Text (text.Display operands advancing)) i rest s = display_shrinks operands advancing i rest s
   verb_shrinks fewer (verb.Text (text.Accept receiver)) i rest s = accepting_shrinks receiver true i rest s
   verb_shrinks fewer (verb.Text (text.AcceptDate receiver)) i rest s = accepting_shrinks receiver false i rest s
   verb_shrinks fewer (verb.Text (text.Inspect one)) i rest s = inspecting_shrinks one i rest s
-  verb_shrinks fewer (verb.Stringing one) i rest s = stringing_shrinks (g.statements p) (statements_shrink p fewer) one i rest s
-  verb_shrinks fewer (verb.Filing one) i rest s = filing_shrinks (g.statements p) (statements_shrink p fewer) one i rest s
-  verb_shrinks fewer (verb.Ending ending.StopRun) i rest s = stop_run_shrinks i rest s
-  verb_shrinks fewer (verb.Ending ending.Continue) i rest s = continuing_shrinks i rest s
-  verb_shrinks fewer (verb.Ending ending.Exit) i rest s = exiting_shrinks i rest s
+  verb_shrinks fewer (verb.StringStatement one) i rest s = stringing_shrinks (g.statements p) (statements_shrink p fewer) one i rest s
+  verb_shrinks fewer (verb.FileStatement one) i rest s = filing_shrinks (g.statements p) (statements_shrink p fewer) one i rest s
+  verb_shrinks fewer (verb.ControlStatement ending.StopRun) i rest s = stop_run_shrinks i rest s
+  verb_shrinks fewer (verb.ControlStatement ending.Continue) i rest s = continuing_shrinks i rest s
+  verb_shrinks fewer (verb.ControlStatement ending.Exit) i rest s = exiting_shrinks i rest s
 
   pub line_shrinks : Shrinks p → Shrinks (g.line depth p)
   line_shrinks fewer x i rest (i1, at, s) = let l = ap length at.0 in let a = verb_shrinks fewer (out-Statement x).verb i1 rest s in omega arith
 
   -- the verb that a line begins with
   abbrev word_of : Verb Statement → VerbWord
-  word_of (verb.Moving (Move sender receivers)) = v.Move
-  word_of (verb.Moving (Initialize receivers)) = v.Initialize
-  word_of (verb.Moving (Set conditions)) = v.Set
+  word_of (verb.DataStatement (Move sender receivers)) = v.Move
+  word_of (verb.DataStatement (Initialize receivers)) = v.Initialize
+  word_of (verb.DataStatement (Set conditions)) = v.Set
   word_of (verb.Arithmetic one) = v.Arithmetic (verb_word one.operation)
-  word_of (verb.Branching (If asked done otherwise)) = v.If
-  word_of (verb.Branching (Evaluate one)) = v.Evaluate
-  word_of (verb.Performing one) = v.Perform
+  word_of (verb.ConditionalStatement (If asked done otherwise)) = v.If
+  word_of (verb.ConditionalStatement (Evaluate one)) = v.Evaluate
+  word_of (verb.PerformStatement one) = v.Perform
   word_of (verb.Text (text.Display operands advancing)) = v.Display
   word_of (verb.Text (text.Accept receiver)) = v.Accept
   word_of (verb.Text (text.AcceptDate receiver)) = v.Accept
   word_of (verb.Text (text.Inspect one)) = v.Inspect
-  word_of (verb.Stringing one) = v.String
-  word_of (verb.Filing one) = v.Filing (file_verb one)
-  word_of (verb.Ending ending.StopRun) = v.Stop
-  word_of (verb.Ending ending.Continue) = v.Continue
-  word_of (verb.Ending ending.Exit) = v.Exit
+  word_of (verb.StringStatement one) = v.String
+  word_of (verb.FileStatement one) = v.Filing (file_verb one)
+  word_of (verb.ControlStatement ending.StopRun) = v.Stop
+  word_of (verb.ControlStatement ending.Continue) = v.Continue
+  word_of (verb.ControlStatement ending.Exit) = v.Exit
 
   verb_stands : (x : Verb Statement) (i rest : List Token) → g.verb_line depth p x i rest → verb_at i ≡ Some (word_of x)
-  verb_stands (verb.Moving (Move sender receivers)) i rest s = moving_stands sender receivers i rest s
-  verb_stands (verb.Moving (Initialize receivers)) i rest s = initializing_stands receivers i rest s
-  verb_stands (verb.Moving (Set conditions)) i rest s = setting_stands conditions i rest s
+  verb_stands (verb.DataStatement (Move sender receivers)) i rest s = moving_stands sender receivers i rest s
+  verb_stands (verb.DataStatement (Initialize receivers)) i rest s = initializing_stands receivers i rest s
+  verb_stands (verb.DataStatement (Set conditions)) i rest s = setting_stands conditions i rest s
   verb_stands (verb.Arithmetic one) i rest s = arithmetic_stands depth (g.statements p) one i rest s
-  verb_stands (verb.Branching (If asked done otherwise)) i rest s = branching_stands (g.statements p) depth asked done otherwise i rest s
-  verb_stands (verb.Branching (Evaluate one)) i rest s = evaluating_stands (g.statements p) depth one i rest s
-  verb_stands (verb.Performing one) i rest s = performing_stands (g.statements p) depth one i rest s
+  verb_stands (verb.ConditionalStatement (If asked done otherwise)) i rest s = branching_stands (g.statements p) depth asked done otherwise i rest s
+  verb_stands (verb.ConditionalStatement (Evaluate one)) i rest s = evaluating_stands (g.statements p) depth one i rest s
+  verb_stands (verb.PerformStatement one) i rest s = performing_stands (g.statements p) depth one i rest s
   verb_stands (verb.Text (text.Display operands advancing)) i rest s = display_stands operands advancing i rest s
   verb_stands (verb.Text (text.Accept receiver)) i rest s = accepting_stands receiver true i rest s
   verb_stands (verb.Text (text.AcceptDate receiver)) i rest s = accepting_stands receiver false i rest s
   verb_stands (verb.Text (text.Inspect one)) i rest s = inspecting_stands one i rest s
-  verb_stands (verb.Stringing one) i rest s = stringing_stands (g.statements p) one i rest s
-  verb_stands (verb.Filing one) i rest s = filing_stands (g.statements p) one i rest s
-  verb_stands (verb.Ending ending.StopRun) i rest s = stop_run_stands i rest s
-  verb_stands (verb.Ending ending.Continue) i rest s = continuing_stands i rest s
-  verb_stands (verb.Ending ending.Exit) i rest s = exiting_stands i rest s
+  verb_stands (verb.StringStatement one) i rest s = stringing_stands (g.statements p) one i rest s
+  verb_stands (verb.FileStatement one) i rest s = filing_stands (g.statements p) one i rest s
+  verb_stands (verb.ControlStatement ending.StopRun) i rest s = stop_run_stands i rest s
+  verb_stands (verb.ControlStatement ending.Continue) i rest s = continuing_stands i rest s
+  verb_stands (verb.ControlStatement ending.Exit) i rest s = exiting_stands i rest s
 
   pub line_starts : Starts begins_statement (g.line depth p)
   line_starts x i rest (i1, at, s) = ap begins_statement at.0 ∙ ap is_some (verb_stands (out-Statement x).verb i1 rest s)
@@ -144,29 +144,29 @@ module _ (Allowed : Halt → Type 0) (depth depth' : ℕ) (computes : Complete A
     (names : Complete Allowed (subject depth') (subject_reader depth)) (compares : Complete Allowed (object depth') (object_reader depth))
     (p : Statement → Part) (nested : Parser Statement) (each : Complete Allowed p nested) (fewer : Shrinks p) (begins : Starts begins_statement p) where
   by_verb_complete : (x : Verb Statement) (i rest : List Token) → g.verb_line depth' p x i rest → Answers Allowed (r.by_verb depth nested (Some (word_of depth' p x)) i) x rest
-  by_verb_complete (verb.Moving (Move sender receivers)) i rest s = moving_complete sender receivers i rest s
-  by_verb_complete (verb.Moving (Initialize receivers)) i rest s = initializing_complete receivers i rest s
-  by_verb_complete (verb.Moving (Set conditions)) i rest s = setting_complete conditions i rest s
+  by_verb_complete (verb.DataStatement (Move sender receivers)) i rest s = moving_complete sender receivers i rest s
+  by_verb_complete (verb.DataStatement (Initialize receivers)) i rest s = initializing_complete receivers i rest s
+  by_verb_complete (verb.DataStatement (Set conditions)) i rest s = setting_complete conditions i rest s
   by_verb_complete (verb.Arithmetic one) i rest s =
       arithmetic_complete Allowed depth depth' computes (g.statements p) (r.statements nested) (statements_complete Allowed p nested each fewer begins) one.operation one.phrases i rest s
-  by_verb_complete (verb.Branching (If asked done otherwise)) i rest s =
+  by_verb_complete (verb.ConditionalStatement (If asked done otherwise)) i rest s =
       branching_complete (g.statements p) (r.statements nested) Allowed (statements_complete Allowed p nested each fewer begins) depth depth' asks asked done otherwise i rest s
-  by_verb_complete (verb.Branching (Evaluate one)) i rest s =
+  by_verb_complete (verb.ConditionalStatement (Evaluate one)) i rest s =
       evaluating_complete Allowed depth depth' compares (g.statements p) (r.statements nested) (statements_complete Allowed p nested each fewer begins) (statements_shrink p fewer) names one i rest s
-  by_verb_complete (verb.Performing one) i rest s =
+  by_verb_complete (verb.PerformStatement one) i rest s =
       performing_complete (g.statements p) Allowed depth depth' asks (r.statements nested) (statements_complete Allowed p nested each fewer begins) (statements_start p begins)
       one.turns one.performed i rest s
   by_verb_complete (verb.Text (text.Display operands advancing)) i rest s = display_complete operands advancing i rest s
   by_verb_complete (verb.Text (text.Accept receiver)) i rest s = accepting_complete receiver true i rest s
   by_verb_complete (verb.Text (text.AcceptDate receiver)) i rest s = accepting_complete receiver false i rest s
   by_verb_complete (verb.Text (text.Inspect one)) i rest s = inspecting_complete one i rest s
-  by_verb_complete (verb.Stringing one) i rest s =
+  by_verb_complete (verb.StringStatement one) i rest s =
       stringing_complete (g.statements p) (r.statements nested) Allowed (statements_complete Allowed p nested each fewer begins) one i rest s
-  by_verb_complete (verb.Filing one) i rest s =
+  by_verb_complete (verb.FileStatement one) i rest s =
       filing_complete (g.statements p) (r.statements nested) Allowed (statements_complete Allowed p nested each fewer begins) one i rest s
-  by_verb_complete (verb.Ending ending.StopRun) i rest s = stop_run_complete i rest s
-  by_verb_complete (verb.Ending ending.Continue) i rest s = continuing_complete i rest s
-  by_verb_complete (verb.Ending ending.Exit) i rest s = exiting_complete i rest s
+  by_verb_complete (verb.ControlStatement ending.StopRun) i rest s = stop_run_complete i rest s
+  by_verb_complete (verb.ControlStatement ending.Continue) i rest s = continuing_complete i rest s
+  by_verb_complete (verb.ControlStatement ending.Exit) i rest s = exiting_complete i rest s
 
   verb_complete : Complete Allowed (g.verb_line depth' p) (r.verb depth nested)
   unfolding r.verb

@@ -8,9 +8,9 @@ use Rattle.tokens.specs.declared.token.Token.{Token}
 use Rattle.tokens.specs.Reserved.{same_word}
 use Rattle.source_tree.specs.declared.condition.Side.{Side}
 use Rattle.source_tree.specs.declared.condition.Condition.{Condition}
-use Rattle.source_tree.specs.declared.evaluate.Choice.{Choice}
-use Rattle.source_tree.specs.declared.evaluate.Choice.TheVariants as choice_as
-use Rattle.source_tree.specs.declared.evaluate.Object.{Object}
+use Rattle.source_tree.specs.declared.evaluate_statement.Choice.{Choice}
+use Rattle.source_tree.specs.declared.evaluate_statement.Choice.TheVariants as choice_as
+use Rattle.source_tree.specs.declared.evaluate_statement.Object.{Object}
 use Rattle.grammar.specs.declared.fault.Halt.TheVariants.{Unexpected, TooDeep}
 use Rattle.grammar.specs.Parts.{word}
 use Rattle.grammar.specs.Reading.{Outcome, one_token}

@@ -6,7 +6,7 @@ use Rattle.tokens.specs.declared.token.Token.{Token}
 use Rattle.source_tree.specs.declared.expression.Operand.{Operand}
 use Rattle.source_tree.specs.declared.expression.Operand.TheVariants.{Item, Literal}
 use Rattle.grammar.specs.declared.fault.Halt.{Halt}
-use Rattle.grammar.specs.Parts.{word, tested, name_in, begins_name}
+use Rattle.grammar.specs.Parts.{word, lookahead, name_in, begins_name}
 use Rattle.grammar.specs.Reading as read
 use Rattle.grammar.specs.Reading.{after_word}
 use Rattle.grammar.proofs.Outcomes.{Reached, step, unstep, value, last}
@@ -46,7 +46,7 @@ pub receiver_sound : Sound receiver receiver_reader
 unfolding receiver_reader
 receiver_sound x i rest e =
     unstep (reference_reader i) _ e (λ item i1 is1 e1.
-    unstep (read.stands (after_word w.Rounded) i1) _ e1 (λ rounded i2 is2 e2.
+    unstep (read.presence_reader (after_word w.Rounded) i1) _ e1 (λ rounded i2 is2 e2.
     subst (λ y. receiver y i rest) (value e2)
     (i1, reference_sound item i i1 is1, stands_sound (finds_word w.Rounded) rounded i1 rest (last is2 e2))))
 
@@ -54,7 +54,7 @@ pub receiver_complete : {Allowed : Halt → Type 0} → Complete Allowed receive
 unfolding receiver_reader
 receiver_complete x i rest (i1, item, rounded) =
     step (reference_reader i) _ (reference_complete x.item i i1 item)
-    (step (read.stands (after_word w.Rounded) i1) _ (stands_complete (finds_word w.Rounded) x.rounded i1 rest rounded) (Reached refl))
+    (step (read.presence_reader (after_word w.Rounded) i1) _ (stands_complete (finds_word w.Rounded) x.rounded i1 rest rounded) (Reached refl))
 
 rounded_shrinks : (i rest : List Token) → word w.Rounded i rest → length rest ≤ length i
 rounded_shrinks i rest s = let a = word_shrinks w.Rounded i rest s in omega arith
@@ -69,18 +69,18 @@ receiver_starts x i rest s = reference_starts x.item i s.0 s.1
 
 pub receivers_sound : Sound receivers receivers_reader
 unfolding receivers_reader
-receivers_sound = lists.several_sound receiver receiver_reader (tested begins_name) begins_name (tests_tested begins_name) receiver_sound
+receivers_sound = lists.several_sound receiver receiver_reader (lookahead begins_name) begins_name (tests_tested begins_name) receiver_sound
 
 pub receivers_complete : {Allowed : Halt → Type 0} → Complete Allowed receivers receivers_reader
 unfolding receivers_reader
 receivers_complete {Allowed = Allowed} =
-    lists.several_complete receiver receiver_reader (tested begins_name) begins_name (tests_tested begins_name) Allowed (receiver_complete {Allowed = Allowed}) receiver_shrinks receiver_starts
+    lists.several_complete receiver receiver_reader (lookahead begins_name) begins_name (tests_tested begins_name) Allowed (receiver_complete {Allowed = Allowed}) receiver_shrinks receiver_starts
 
 pub receivers_shrink : Shrinks receivers
-receivers_shrink = lists.several_shrinks receiver (tested begins_name) receiver_shrinks
+receivers_shrink = lists.several_shrinks receiver (lookahead begins_name) receiver_shrinks
 
 receivers_start : Starts begins_name receivers
-receivers_start = lists.several_starts receiver (tested begins_name) begins_name receiver_starts
+receivers_start = lists.several_starts receiver (lookahead begins_name) begins_name receiver_starts
 
 -- ---- receivers, or an operand before GIVING
 

@@ -12,8 +12,8 @@ use Rattle.statements.specs.declared.receivers.Target.TheVariants.{Receivers, Gi
 use Rattle.statements.specs.Receivers.{numbers, receivers, target, numbers_reader, receivers_reader, target_reader}
 
 -- ADD num... TO {rd... | num GIVING rd...} (COBOL-85, Nucleus, "The ADD statement")
-abbrev pub adding : List Operand → Target → Part
-adding operands to = word w.Add then numbers operands then word w.To then target to
+abbrev pub add_statement : List Operand → Target → Part
+add_statement operands to = word w.Add then numbers operands then word w.To then target to
 
 -- ADD num... GIVING rd...
 abbrev pub adding_up : List Operand → List Receiver → Part
@@ -22,17 +22,17 @@ adding_up operands all = word w.Add then numbers operands then word w.Giving the
 -- ADD num... [TO num] GIVING rd...: the operand behind TO is the last
 abbrev pub adding_giving : List Operand → List Receiver → Part
 adding_giving operands all =
-    adding_up operands all or (λ from rest. (others : List Operand) × (last : Operand) × (operands ≡ others ++ last ∷ []) × adding others (Giving last all) from rest)
+    adding_up operands all or (λ from rest. (others : List Operand) × (last : Operand) × (operands ≡ others ++ last ∷ []) × add_statement others (Giving last all) from rest)
 
-abbrev pub added : List Operand → Target → Operation
-added operands (Receivers all) = Add operands all
-added operands (Giving last all) = AddGiving (operands ++ last ∷ []) all
+abbrev pub add_operation : List Operand → Target → Operation
+add_operation operands (Receivers all) = Add operands all
+add_operation operands (Giving last all) = AddGiving (operands ++ last ∷ []) all
 
 unfoldable pub adding_to_reader : List Operand → Parser Operation
 adding_to_reader operands = do
   expect w.To
   to ← target_reader
-  pure (added operands to)
+  pure (add_operation operands to)
 
 unfoldable pub adding_up_reader : List Operand → Parser Operation
 adding_up_reader operands = do
@@ -43,8 +43,8 @@ adding_up_reader operands = do
 unfoldable pub added_reader : List Operand → Parser Operation
 added_reader operands i = if begins_word w.To i then adding_to_reader operands i else adding_up_reader operands i
 
-unfoldable pub adding_reader : Parser Operation
-adding_reader = do
+unfoldable pub add_reader : Parser Operation
+add_reader = do
   expect w.Add
   operands ← numbers_reader
   added_reader operands

@@ -15,24 +15,24 @@ use Rattle.grammar.specs.Phrases.{two_sided, two_sided_reader}
 use Rattle.statements.specs.declared.verb.ArithmeticVerb.{ArithmeticVerb}
 use Rattle.statements.specs.declared.verb.ArithmeticVerb.TheVariants as v
 use Rattle.statements.specs.declared.receivers.Target.TheVariants.{Receivers, Giving}
-use Rattle.statements.specs.Adding.{adding, adding_giving, adding_reader}
-use Rattle.statements.specs.Subtracting.{subtracting, subtracting_reader}
-use Rattle.statements.specs.Multiplying.{multiplying, multiplying_reader}
-use Rattle.statements.specs.Dividing.{dividing, dividing_giving, quotients, quotient_remainder, dividing_reader}
-use Rattle.statements.specs.Computing.{computing, computing_reader}
+use Rattle.statements.specs.Adding.{add_statement, adding_giving, add_reader}
+use Rattle.statements.specs.Subtracting.{subtract_statement, subtract_reader}
+use Rattle.statements.specs.Multiplying.{multiply_statement, multiply_reader}
+use Rattle.statements.specs.Dividing.{divide_into_statement, dividing_giving, quotients, quotient_remainder, divide_reader}
+use Rattle.statements.specs.Computing.{compute_statement, compute_reader}
 
 -- What is computed: one line for each form. `depth` is how deep an expression may nest.
 abbrev pub operation : ℕ → Operation → Part
-operation depth (Add operands all) = adding operands (Receivers all)
+operation depth (Add operands all) = add_statement operands (Receivers all)
 operation depth (AddGiving operands all) = adding_giving operands all
-operation depth (Subtract operands all) = subtracting operands (Receivers all)
-operation depth (SubtractGiving operands minuend all) = subtracting operands (Giving minuend all)
-operation depth (Multiply factor all) = multiplying factor (Receivers all)
-operation depth (MultiplyGiving factor by all) = multiplying factor (Giving by all)
-operation depth (Divide divisor all) = dividing divisor all
+operation depth (Subtract operands all) = subtract_statement operands (Receivers all)
+operation depth (SubtractGiving operands minuend all) = subtract_statement operands (Giving minuend all)
+operation depth (Multiply factor all) = multiply_statement factor (Receivers all)
+operation depth (MultiplyGiving factor by all) = multiply_statement factor (Giving by all)
+operation depth (Divide divisor all) = divide_into_statement divisor all
 operation depth (DivideGiving first order second all) = dividing_giving first order second (quotients all)
 operation depth (DivideRemainder first order second quotient remainder) = dividing_giving first order second (quotient_remainder quotient remainder)
-operation depth (Compute all value) = computing depth all value
+operation depth (Compute all value) = compute_statement depth all value
 
 -- the END word of a statement
 abbrev pub end_word : Operation → Reserved
@@ -53,11 +53,11 @@ abbrev pub arithmetic : ℕ → (List Statement → Part) → Arithmetic Stateme
 arithmetic depth statements one = operation depth one.operation then two_sided statements SizeError one.phrases then optional (word (end_word one.operation))
 
 abbrev pub operation_reader : ℕ → ArithmeticVerb → Parser Operation
-operation_reader depth v.Add = adding_reader
-operation_reader depth v.Subtract = subtracting_reader
-operation_reader depth v.Multiply = multiplying_reader
-operation_reader depth v.Divide = dividing_reader
-operation_reader depth v.Compute = computing_reader depth
+operation_reader depth v.Add = add_reader
+operation_reader depth v.Subtract = subtract_reader
+operation_reader depth v.Multiply = multiply_reader
+operation_reader depth v.Divide = divide_reader
+operation_reader depth v.Compute = compute_reader depth
 
 unfoldable pub arithmetic_reader : ℕ → Parser (List Statement) → ArithmeticVerb → Parser (Verb Statement)
 arithmetic_reader depth statements one = do

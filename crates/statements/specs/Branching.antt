@@ -1,8 +1,8 @@
 -- IF: its rule, and how it is read; EVALUATE, the other statement of its family, has a file of its own.
 use Rattle.std.specs.Prelude.{ℕ, List, Option}
 use Rattle.tokens.specs.declared.reserved.Reserved.TheVariants as w
-use Rattle.source_tree.specs.declared.branching.Branching.{Branching}
-use Rattle.source_tree.specs.declared.branching.Branching.TheVariants.{If, Evaluate}
+use Rattle.source_tree.specs.declared.conditional_statement.ConditionalStatement.{ConditionalStatement}
+use Rattle.source_tree.specs.declared.conditional_statement.ConditionalStatement.TheVariants.{If, Evaluate}
 use Rattle.source_tree.specs.declared.statement.Verb.{Verb}
 use Rattle.source_tree.specs.declared.statement.Verb.TheVariants as verb
 use Rattle.source_tree.specs.declared.statement.Statement.{Statement}
@@ -10,24 +10,24 @@ use Rattle.grammar.specs.Parts.{Part, ◌then◌, optional, word}
 use Rattle.grammar.specs.Reading.{Parser, ◌>>=◌, ◌>>◌, pure, after_word, expect, skip}
 use Rattle.grammar.specs.Phrases.{phrase, phrase_reader}
 use Rattle.conditions.specs.Conditions.{condition, condition_reader}
-use Rattle.statements.specs.Evaluate.{evaluating}
+use Rattle.statements.specs.Evaluate.{evaluate_statement}
 
 -- IF c [THEN] s [ELSE s] [END-IF] (COBOL-85, Nucleus, "The IF statement"); or EVALUATE. `depth` is how deep a condition may nest.
-abbrev pub branching : ℕ → (List Statement → Part) → Branching Statement → Part
-branching depth statements (If asked done otherwise) =
+abbrev pub conditional_statement : ℕ → (List Statement → Part) → ConditionalStatement Statement → Part
+conditional_statement depth statements (If asked done otherwise) =
     word w.If then condition depth asked then optional (word w.Then) then statements done
     then phrase statements (word w.Else) otherwise then optional (word w.EndIf)
-branching depth statements (Evaluate one) = evaluating depth statements one
+conditional_statement depth statements (Evaluate one) = evaluate_statement depth statements one
 
 unfoldable pub otherwise_reader : Parser (List Statement) → Parser (Option (List Statement))
 otherwise_reader statements = phrase_reader statements (after_word w.Else)
 
-unfoldable pub branching_reader : ℕ → Parser (List Statement) → Parser (Verb Statement)
-branching_reader depth statements = do
+unfoldable pub conditional_reader : ℕ → Parser (List Statement) → Parser (Verb Statement)
+conditional_reader depth statements = do
   expect w.If
   asked ← condition_reader depth
   skip w.Then
   done ← statements
   otherwise ← otherwise_reader statements
   skip w.EndIf
-  pure (verb.Branching (If asked done otherwise))
+  pure (verb.ConditionalStatement (If asked done otherwise))

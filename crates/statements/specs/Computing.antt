@@ -11,7 +11,7 @@ use Rattle.source_tree.specs.declared.expression.Expression.{Expression}
 use Rattle.source_tree.specs.declared.arithmetic.Receiver.{Receiver}
 use Rattle.source_tree.specs.declared.arithmetic.Operation.{Operation}
 use Rattle.source_tree.specs.declared.arithmetic.Operation.TheVariants.{Compute}
-use Rattle.grammar.specs.Parts.{Part, ◌then◌, telling, word}
+use Rattle.grammar.specs.Parts.{Part, ◌then◌, token_with, word}
 use Rattle.grammar.specs.Reading.{Parser, ◌>>=◌, ◌>>◌, pure, expect, one_token}
 use Rattle.expressions.specs.Expressions.{expression, expression_reader}
 use Rattle.statements.specs.Receivers.{receivers, receivers_reader}
@@ -34,11 +34,11 @@ abbrev pub equal_in : Token → Option (Unit {0})
 equal_in one = equal_by one.kind
 
 -- COMPUTE rd... {=|EQUAL} e (COBOL-85, Nucleus, "The COMPUTE statement")
-abbrev pub computing : ℕ → List Receiver → Expression → Part
-computing depth all value = word w.Compute then receivers all then telling equal_in tt then expression depth value
+abbrev pub compute_statement : ℕ → List Receiver → Expression → Part
+compute_statement depth all value = word w.Compute then receivers all then token_with equal_in tt then expression depth value
 
-unfoldable pub computing_reader : ℕ → Parser Operation
-computing_reader depth = do
+unfoldable pub compute_reader : ℕ → Parser Operation
+compute_reader depth = do
   expect w.Compute
   all ← receivers_reader
   one_token equal_in

@@ -9,7 +9,7 @@ use Rattle.source_tree.specs.declared.arithmetic.DivisionOrder.{DivisionOrder}
 use Rattle.source_tree.specs.declared.arithmetic.DivisionOrder.TheVariants.{Into, By}
 use Rattle.source_tree.specs.declared.arithmetic.Operation.{Operation}
 use Rattle.source_tree.specs.declared.arithmetic.Operation.TheVariants.{Divide, DivideGiving, DivideRemainder}
-use Rattle.grammar.specs.Parts.{Part, ◌then◌, without, word}
+use Rattle.grammar.specs.Parts.{Part, ◌then◌, absence_of, word}
 use Rattle.grammar.specs.Reading.{Parser, ◌>>=◌, ◌>>◌, pure, refuse, begins_word, expect}
 use Rattle.expressions.specs.References.{reference, reference_reader}
 use Rattle.expressions.specs.Operands.{number_operand, number_operand_reader}
@@ -18,8 +18,8 @@ use Rattle.statements.specs.declared.receivers.Target.TheVariants.{Receivers, Gi
 use Rattle.statements.specs.Receivers.{receiver, receivers, target, receivers_reader, target_reader}
 
 -- DIVIDE num INTO rd... (COBOL-85, Nucleus, "The DIVIDE statement")
-abbrev pub dividing : Operand → List Receiver → Part
-dividing divisor all = word w.Divide then number_operand divisor then word w.Into then target (Receivers all)
+abbrev pub divide_into_statement : Operand → List Receiver → Part
+divide_into_statement divisor all = word w.Divide then number_operand divisor then word w.Into then target (Receivers all)
 
 abbrev pub order_word : DivisionOrder → Reserved
 order_word Into = w.Into
@@ -32,7 +32,7 @@ dividing_giving first order second quotients =
 
 -- rd...: REMAINDER is left out only where it does not stand
 abbrev pub quotients : List Receiver → Part
-quotients all = receivers all then without (word w.Remainder)
+quotients all = receivers all then absence_of (word w.Remainder)
 
 -- rd REMAINDER d
 abbrev pub quotient_remainder : Receiver → Reference → Part
@@ -79,8 +79,8 @@ by_reader first = do
 unfoldable pub divided_reader : Operand → Parser Operation
 divided_reader first i = if begins_word w.By i then by_reader first i else into_reader first i
 
-unfoldable pub dividing_reader : Parser Operation
-dividing_reader = do
+unfoldable pub divide_reader : Parser Operation
+divide_reader = do
   expect w.Divide
   first ← number_operand_reader
   divided_reader first

@@ -6,17 +6,17 @@ use Rattle.source_tree.specs.declared.phrases.FilePhrases.{FilePhrases}
 use Rattle.source_tree.specs.declared.phrases.FilePhrases.TheVariants.{Absent, AtEnd, InvalidKey}
 use Rattle.grammar.specs.declared.phrase.Phrase.{Phrase}
 use Rattle.grammar.specs.declared.phrase.Phrase.TheVariants as phrase
-use Rattle.grammar.specs.Parts.{Part, ◌or◌, nowhere, without}
+use Rattle.grammar.specs.Parts.{Part, ◌or◌, nowhere, absence_of}
 use Rattle.grammar.specs.Reading.{Parser, ◌>>=◌, pure}
-use Rattle.grammar.specs.Phrases.{opened, denied, two_sided, two_sided_reader}
+use Rattle.grammar.specs.Phrases.{phrase_words, negated_phrase_words, two_sided, two_sided_reader}
 
 -- one of the two stands, or both do
 abbrev pub one_stands : {S : Type 0} → Phrases S → Bool
 one_stands both = is_some both.arose || is_some both.did_not
 
 -- the words of a phrase or of its opposite
-abbrev pub begun : Phrase → Part
-begun one = opened one or denied one
+abbrev pub phrase_beginning : Phrase → Part
+phrase_beginning one = phrase_words one or negated_phrase_words one
 
 -- a phrase, its opposite, or both
 abbrev pub some_side : {S : Type 0} → (List S → Part) → Phrase → Phrases S → Part
@@ -24,13 +24,13 @@ some_side statements one both = λ from rest. (one_stands both ≡ true) × two_
 
 -- [INVALID [KEY] s] [NOT INVALID [KEY] s]
 abbrev pub key_phrases : {S : Type 0} → (List S → Part) → FilePhrases S → Part
-key_phrases statements Absent = without (begun phrase.InvalidKey)
+key_phrases statements Absent = absence_of (phrase_beginning phrase.InvalidKey)
 key_phrases statements (AtEnd both) = nowhere
 key_phrases statements (InvalidKey both) = some_side statements phrase.InvalidKey both
 
 -- [[AT] END s] [NOT [AT] END s], or INVALID KEY likewise
 abbrev pub read_phrases : {S : Type 0} → (List S → Part) → FilePhrases S → Part
-read_phrases statements Absent = without (begun phrase.AtEnd or begun phrase.InvalidKey)
+read_phrases statements Absent = absence_of (phrase_beginning phrase.AtEnd or phrase_beginning phrase.InvalidKey)
 read_phrases statements (AtEnd both) = some_side statements phrase.AtEnd both
 read_phrases statements (InvalidKey both) = some_side statements phrase.InvalidKey both
 

@@ -7,27 +7,27 @@ use Rattle.tokens.specs.declared.token.Token.{Token}
 use Rattle.source_tree.specs.declared.name.Name.{Name}
 use Rattle.source_tree.specs.declared.reference.Reference.{Reference}
 use Rattle.source_tree.specs.declared.phrases.FilePhrases.{FilePhrases}
-use Rattle.source_tree.specs.declared.filing.StartKey.{StartKey}
-use Rattle.source_tree.specs.declared.filing.Filing.{Filing}
-use Rattle.source_tree.specs.declared.filing.Filing.TheVariants as filing_as
+use Rattle.source_tree.specs.declared.file_statement.StartKey.{StartKey}
+use Rattle.source_tree.specs.declared.file_statement.FileStatement.{FileStatement}
+use Rattle.source_tree.specs.declared.file_statement.FileStatement.TheVariants as filing_as
 use Rattle.source_tree.specs.declared.statement.Verb.{Verb}
 use Rattle.source_tree.specs.declared.statement.Verb.TheVariants as verb
 use Rattle.source_tree.specs.declared.statement.Statement.{Statement}
-use Rattle.grammar.specs.Parts.{Part, ◌then◌, without, optional, stands, word, name}
+use Rattle.grammar.specs.Parts.{Part, ◌then◌, absence_of, optional, optional_part, word, name}
 use Rattle.grammar.specs.Reading as r
 use Rattle.grammar.specs.Reading.{Parser, Words, ◌>>=◌, ◌>>◌, pure, expect, skip, after_word, past_word}
 use Rattle.expressions.specs.References.{reference, reference_reader}
-use Rattle.conditions.specs.Relations.{related, relation_reader}
+use Rattle.conditions.specs.Relations.{relational_operator, relation_reader}
 use Rattle.statements.specs.declared.verb.FileVerb.{FileVerb}
 use Rattle.statements.specs.declared.verb.FileVerb.TheVariants as v
 use Rattle.statements.specs.FilePhrases.{key_phrases, read_phrases, key_phrases_reader, read_phrases_reader}
-use Rattle.statements.specs.Opening.{openings, closing, openings_reader, closing_reader}
+use Rattle.statements.specs.Opening.{openings, close_statement, openings_reader, close_reader}
 
 -- ---- items behind words
 
 -- words and d, or neither where the words do not stand
 abbrev pub item_behind : Part → Option Reference → Part
-item_behind words None = without words
+item_behind words None = absence_of words
 item_behind words (Some one) = words then reference one
 
 -- KEY [IS]
@@ -36,40 +36,40 @@ key_is = word w.Key then optional (word w.Is)
 
 -- KEY [IS] [NOT] rel d, or neither where KEY does not stand
 abbrev pub start_key : Option StartKey → Part
-start_key None = without (word w.Key)
-start_key (Some one) = word w.Key then related one.operator then reference one.key
+start_key None = absence_of (word w.Key)
+start_key (Some one) = word w.Key then relational_operator one.operator then reference one.key
 
 -- ---- the statements
 
 -- `statements` spells the statements of the phrases.
 module _ (statements : List Statement → Part) where
   -- READ f [NEXT] [RECORD] [INTO d] [KEY [IS] d] {end|inv} [END-READ]
-  abbrev pub reading : Name → Bool → Option Reference → Option Reference → FilePhrases Statement → Part
-  reading file next into key phrases =
-      word w.Read then name file then stands (word w.Next) next then optional (word w.Record) then item_behind (word w.Into) into
+  abbrev pub read_statement : Name → Bool → Option Reference → Option Reference → FilePhrases Statement → Part
+  read_statement file next into key phrases =
+      word w.Read then name file then optional_part (word w.Next) next then optional (word w.Record) then item_behind (word w.Into) into
       then item_behind key_is key then read_phrases statements phrases then optional (word w.EndRead)
 
   -- WRITE d [FROM d] inv [END-WRITE], and the same by REWRITE
-  abbrev pub storing : Reserved → Reserved → Reference → Option Reference → FilePhrases Statement → Part
-  storing verb end row from phrases =
+  abbrev pub record_statement : Reserved → Reserved → Reference → Option Reference → FilePhrases Statement → Part
+  record_statement verb end row from phrases =
       word verb then reference row then item_behind (word w.From) from then key_phrases statements phrases then optional (word end)
 
   -- DELETE f [RECORD] inv [END-DELETE]
-  abbrev pub deleting : Name → FilePhrases Statement → Part
-  deleting file phrases = word w.Delete then name file then optional (word w.Record) then key_phrases statements phrases then optional (word w.EndDelete)
+  abbrev pub delete_statement : Name → FilePhrases Statement → Part
+  delete_statement file phrases = word w.Delete then name file then optional (word w.Record) then key_phrases statements phrases then optional (word w.EndDelete)
 
   -- START f [KEY [IS] [NOT] rel d] inv [END-START]
-  abbrev pub starting : Name → Option StartKey → FilePhrases Statement → Part
-  starting file key phrases = word w.Start then name file then start_key key then key_phrases statements phrases then optional (word w.EndStart)
+  abbrev pub start_statement : Name → Option StartKey → FilePhrases Statement → Part
+  start_statement file key phrases = word w.Start then name file then start_key key then key_phrases statements phrases then optional (word w.EndStart)
 
-  abbrev pub filing : Filing Statement → Part
-  filing (filing_as.Open files) = openings files
-  filing (filing_as.Close files) = closing files
-  filing (filing_as.Read file next into key phrases) = reading file next into key phrases
-  filing (filing_as.Write row from phrases) = storing w.Write w.EndWrite row from phrases
-  filing (filing_as.Rewrite row from phrases) = storing w.Rewrite w.EndRewrite row from phrases
-  filing (filing_as.Delete file phrases) = deleting file phrases
-  filing (filing_as.Start file key phrases) = starting file key phrases
+  abbrev pub file_statement : FileStatement Statement → Part
+  file_statement (filing_as.Open files) = openings files
+  file_statement (filing_as.Close files) = close_statement files
+  file_statement (filing_as.Read file next into key phrases) = read_statement file next into key phrases
+  file_statement (filing_as.Write row from phrases) = record_statement w.Write w.EndWrite row from phrases
+  file_statement (filing_as.Rewrite row from phrases) = record_statement w.Rewrite w.EndRewrite row from phrases
+  file_statement (filing_as.Delete file phrases) = delete_statement file phrases
+  file_statement (filing_as.Start file key phrases) = start_statement file key phrases
 
 -- ---- reading
 
@@ -100,11 +100,11 @@ start_key_reader i = start_key_at (after_word w.Key i) i
 
 -- `statements` reads the statements of the phrases.
 module _ (statements : Parser (List Statement)) where
-  unfoldable pub reading_reader : Parser (Filing Statement)
-  reading_reader = do
+  unfoldable pub read_reader : Parser (FileStatement Statement)
+  read_reader = do
     expect w.Read
     file ← r.name
-    next ← r.stands (after_word w.Next)
+    next ← r.presence_reader (after_word w.Next)
     skip w.Record
     into ← item_behind_reader (after_word w.Into)
     key ← item_behind_reader after_key_is
@@ -120,22 +120,22 @@ module _ (statements : Parser (List Statement)) where
     phrases ← key_phrases_reader statements
     pure (row, (from, phrases))
 
-  unfoldable pub writing_reader : Parser (Filing Statement)
-  writing_reader = do
+  unfoldable pub write_reader : Parser (FileStatement Statement)
+  write_reader = do
     expect w.Write
     stored ← stored_reader
     skip w.EndWrite
     pure (filing_as.Write stored.0 stored.1.0 stored.1.1)
 
-  unfoldable pub rewriting_reader : Parser (Filing Statement)
-  rewriting_reader = do
+  unfoldable pub rewrite_reader : Parser (FileStatement Statement)
+  rewrite_reader = do
     expect w.Rewrite
     stored ← stored_reader
     skip w.EndRewrite
     pure (filing_as.Rewrite stored.0 stored.1.0 stored.1.1)
 
-  unfoldable pub deleting_reader : Parser (Filing Statement)
-  deleting_reader = do
+  unfoldable pub delete_reader : Parser (FileStatement Statement)
+  delete_reader = do
     expect w.Delete
     file ← r.name
     skip w.Record
@@ -143,8 +143,8 @@ module _ (statements : Parser (List Statement)) where
     skip w.EndDelete
     pure (filing_as.Delete file phrases)
 
-  unfoldable pub starting_reader : Parser (Filing Statement)
-  starting_reader = do
+  unfoldable pub start_reader : Parser (FileStatement Statement)
+  start_reader = do
     expect w.Start
     file ← r.name
     key ← start_key_reader
@@ -153,16 +153,16 @@ module _ (statements : Parser (List Statement)) where
     pure (filing_as.Start file key phrases)
 
   -- the verb decides
-  abbrev pub by_file_verb : FileVerb → Parser (Filing Statement)
+  abbrev pub by_file_verb : FileVerb → Parser (FileStatement Statement)
   by_file_verb v.Open = openings_reader
-  by_file_verb v.Close = closing_reader
-  by_file_verb v.Read = reading_reader
-  by_file_verb v.Write = writing_reader
-  by_file_verb v.Rewrite = rewriting_reader
-  by_file_verb v.Delete = deleting_reader
-  by_file_verb v.Start = starting_reader
+  by_file_verb v.Close = close_reader
+  by_file_verb v.Read = read_reader
+  by_file_verb v.Write = write_reader
+  by_file_verb v.Rewrite = rewrite_reader
+  by_file_verb v.Delete = delete_reader
+  by_file_verb v.Start = start_reader
 
-  unfoldable pub filing_reader : FileVerb → Parser (Verb Statement)
-  filing_reader one = do
+  unfoldable pub file_reader : FileVerb → Parser (Verb Statement)
+  file_reader one = do
     found ← by_file_verb one
-    pure (verb.Filing found)
+    pure (verb.FileStatement found)

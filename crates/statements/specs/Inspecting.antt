@@ -5,27 +5,27 @@ use Rattle.tokens.specs.declared.reserved.Reserved.TheVariants as w
 use Rattle.tokens.specs.declared.token.Kind.{Kind}
 use Rattle.tokens.specs.declared.token.Kind.TheVariants as k
 use Rattle.tokens.specs.declared.token.Token.{Token}
-use Rattle.source_tree.specs.declared.inspecting.Occurrences.{Occurrences}
-use Rattle.source_tree.specs.declared.inspecting.Occurrences.TheVariants.{All, Leading, First}
-use Rattle.source_tree.specs.declared.inspecting.TalliedText.{TalliedText}
-use Rattle.source_tree.specs.declared.inspecting.Tallied.{Tallied}
-use Rattle.source_tree.specs.declared.inspecting.Tallied.TheVariants as tallied_as
-use Rattle.source_tree.specs.declared.inspecting.Tallying.{Tallying}
-use Rattle.source_tree.specs.declared.inspecting.ReplacedText.{ReplacedText}
-use Rattle.source_tree.specs.declared.inspecting.Replacing.{Replacing}
-use Rattle.source_tree.specs.declared.inspecting.Replacing.TheVariants as replacing_as
-use Rattle.source_tree.specs.declared.inspecting.Inspecting.{Inspecting}
-use Rattle.source_tree.specs.declared.text.Text.TheVariants as text_as
+use Rattle.source_tree.specs.declared.inspect_statement.Occurrences.{Occurrences}
+use Rattle.source_tree.specs.declared.inspect_statement.Occurrences.TheVariants.{All, Leading, First}
+use Rattle.source_tree.specs.declared.inspect_statement.TalliedText.{TalliedText}
+use Rattle.source_tree.specs.declared.inspect_statement.Tallied.{Tallied}
+use Rattle.source_tree.specs.declared.inspect_statement.Tallied.TheVariants as tallied_as
+use Rattle.source_tree.specs.declared.inspect_statement.Tallying.{Tallying}
+use Rattle.source_tree.specs.declared.inspect_statement.ReplacedText.{ReplacedText}
+use Rattle.source_tree.specs.declared.inspect_statement.Replacing.{Replacing}
+use Rattle.source_tree.specs.declared.inspect_statement.Replacing.TheVariants as replacing_as
+use Rattle.source_tree.specs.declared.inspect_statement.InspectStatement.{InspectStatement}
+use Rattle.source_tree.specs.declared.text_statement.TextStatement.TheVariants as text_as
 use Rattle.source_tree.specs.declared.statement.Verb.{Verb}
 use Rattle.source_tree.specs.declared.statement.Verb.TheVariants as verb
 use Rattle.source_tree.specs.declared.statement.Statement.{Statement}
 use Rattle.grammar.specs.Parts as g
-use Rattle.grammar.specs.Parts.{Part, ◌then◌, ◌but◌, without, tested, telling, begins_telling, word, begins_name}
+use Rattle.grammar.specs.Parts.{Part, ◌then◌, ◌but◌, absence_of, lookahead, token_with, begins_telling, word, begins_name}
 use Rattle.grammar.specs.Reading as r
 use Rattle.grammar.specs.Reading.{Parser, ◌>>=◌, ◌>>◌, pure, refuse, begins_word, expect, one_token}
 use Rattle.expressions.specs.References.{reference, reference_reader}
 use Rattle.expressions.specs.Looking.{reference_before, after_reference_before}
-use Rattle.statements.specs.Limiting.{text, begins_text, limited, text_reader, limits_reader}
+use Rattle.statements.specs.Limiting.{text, begins_text, limit_phrases, text_reader, limits_reader}
 
 -- ---- how texts occur
 
@@ -58,61 +58,61 @@ replaced_in one = replaced_by one.kind
 
 -- A reference before FOR is a counter, and no text.
 abbrev pub begin_tallied_text : Part
-begin_tallied_text = tested begins_text but reference_before w.For
+begin_tallied_text = lookahead begins_text but reference_before w.For
 
 -- x bd
 abbrev pub tallied_text : TalliedText → Part
-tallied_text one = (text one.text then limited one.limits) but reference_before w.For
+tallied_text one = (text one.text then limit_phrases one.limits) but reference_before w.For
 
 -- CHARACTERS bd|{ALL|LEADING} {x bd}...
-abbrev pub tallied : Tallied → Part
-tallied (tallied_as.Characters limits) = word w.Characters then limited limits
-tallied (tallied_as.Texts occurrences texts) = telling tallied_in occurrences then g.several tallied_text begin_tallied_text texts
+abbrev pub tally_clause : Tallied → Part
+tally_clause (tallied_as.Characters limits) = word w.Characters then limit_phrases limits
+tally_clause (tallied_as.Texts occurrences texts) = token_with tallied_in occurrences then g.several tallied_text begin_tallied_text texts
 
 abbrev pub begins_tallied : List Token → Bool
 begins_tallied i = begins_word w.Characters i || begins_telling tallied_in i
 
 -- d FOR {CHARACTERS bd|{ALL|LEADING} {x bd}...}...
-abbrev pub counting : Tallying → Part
-counting one = reference one.counter then word w.For then g.several tallied (tested begins_tallied) one.tallied
+abbrev pub counter_clause : Tallying → Part
+counter_clause one = reference one.counter then word w.For then g.several tally_clause (lookahead begins_tallied) one.tallied
 
 -- tal: TALLYING {d FOR {CHARACTERS bd|{ALL|LEADING} {x bd}...}...}...
-abbrev pub tallying : List Tallying → Part
-tallying all = word w.Tallying then g.several counting (tested begins_name) all
+abbrev pub tallying_phrase : List Tallying → Part
+tallying_phrase all = word w.Tallying then g.several counter_clause (lookahead begins_name) all
 
 -- ---- REPLACING
 
 -- x BY x bd
 abbrev pub replaced_text : ReplacedText → Part
-replaced_text one = text one.text then word w.By then text one.by then limited one.limits
+replaced_text one = text one.text then word w.By then text one.by then limit_phrases one.limits
 
 -- CHARACTERS BY x bd|{ALL|LEADING|FIRST} {x BY x bd}...
-abbrev pub replaced : Replacing → Part
-replaced (replacing_as.Characters by limits) = word w.Characters then word w.By then text by then limited limits
-replaced (replacing_as.Texts occurrences texts) = telling replaced_in occurrences then g.several replaced_text (tested begins_text) texts
+abbrev pub replacement_clause : Replacing → Part
+replacement_clause (replacing_as.Characters by limits) = word w.Characters then word w.By then text by then limit_phrases limits
+replacement_clause (replacing_as.Texts occurrences texts) = token_with replaced_in occurrences then g.several replaced_text (lookahead begins_text) texts
 
 abbrev pub begins_replaced : List Token → Bool
 begins_replaced i = begins_word w.Characters i || begins_telling replaced_in i
 
 -- rep: REPLACING {CHARACTERS BY x bd|{ALL|LEADING|FIRST} {x BY x bd}...}...
-abbrev pub replacing : List Replacing → Part
-replacing all = word w.Replacing then g.several replaced (tested begins_replaced) all
+abbrev pub replacing_phrase : List Replacing → Part
+replacing_phrase all = word w.Replacing then g.several replacement_clause (lookahead begins_replaced) all
 
 -- ---- the statement
 
 -- [rep]
 abbrev pub perhaps_replacing : List Replacing → Part
-perhaps_replacing [] = without (word w.Replacing)
-perhaps_replacing (one ∷ more) = replacing (one ∷ more)
+perhaps_replacing [] = absence_of (word w.Replacing)
+perhaps_replacing (one ∷ more) = replacing_phrase (one ∷ more)
 
 -- tal [rep]|rep
 abbrev pub phrases : List Tallying → List Replacing → Part
-phrases [] all = replacing all
-phrases (one ∷ more) all = tallying (one ∷ more) then perhaps_replacing all
+phrases [] all = replacing_phrase all
+phrases (one ∷ more) all = tallying_phrase (one ∷ more) then perhaps_replacing all
 
 -- INSPECT d {tal [rep]|rep} (COBOL-85, Nucleus, "The INSPECT statement")
-abbrev pub inspecting : Inspecting → Part
-inspecting one = word w.Inspect then reference one.subject then phrases one.tallying one.replacing
+abbrev pub inspect_statement : InspectStatement → Part
+inspect_statement one = word w.Inspect then reference one.subject then phrases one.tallying one.replacing
 
 -- ---- reading TALLYING
 
@@ -206,8 +206,8 @@ uncounted_reader = do
 unfoldable pub phrases_reader : Parser (List Tallying × List Replacing)
 phrases_reader i = if begins_word w.Tallying i then counted_reader i else uncounted_reader i
 
-unfoldable pub inspecting_reader : Parser (Verb Statement)
-inspecting_reader = do
+unfoldable pub inspect_reader : Parser (Verb Statement)
+inspect_reader = do
   expect w.Inspect
   subject ← reference_reader
   both ← phrases_reader

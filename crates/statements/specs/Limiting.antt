@@ -4,8 +4,8 @@ use Rattle.tokens.specs.declared.reserved.Reserved.{Reserved}
 use Rattle.tokens.specs.declared.reserved.Reserved.TheVariants as w
 use Rattle.tokens.specs.declared.token.Token.{Token}
 use Rattle.source_tree.specs.declared.expression.Operand.{Operand}
-use Rattle.source_tree.specs.declared.inspecting.Limits.{Limits}
-use Rattle.grammar.specs.Parts.{Part, ◌then◌, ◌but◌, optional, without, nowhere, word}
+use Rattle.source_tree.specs.declared.inspect_statement.Limits.{Limits}
+use Rattle.grammar.specs.Parts.{Part, ◌then◌, ◌but◌, optional, absence_of, nowhere, word}
 use Rattle.grammar.specs.Reading.{Parser, ◌>>=◌, ◌>>◌, pure, refuse, after_word, begins_word, skip}
 use Rattle.expressions.specs.Operands.{operand, begins_operand, operand_reader}
 
@@ -25,20 +25,20 @@ abbrev pub limit : Reserved → Operand → Part
 limit which one = word which then bound one
 
 -- [{BEFORE|AFTER} [INITIAL] x]
-abbrev pub limiting : Reserved → Option Operand → Part
-limiting which None = without (word which)
-limiting which (Some one) = limit which one
+abbrev pub limit_phrase : Reserved → Option Operand → Part
+limit_phrase which None = absence_of (word which)
+limit_phrase which (Some one) = limit which one
 
 -- The two in either order, each at most once. With AFTER alone, BEFORE stands neither in front of it nor behind it.
-abbrev pub ordered : Option Operand → Option Operand → Bool → Part
-ordered None (Some after) false = limit w.After after then without (word w.Before)
-ordered (Some before) (Some after) true = limit w.After after then limit w.Before before
-ordered before after false = limiting w.Before before then limiting w.After after
-ordered before after true = nowhere
+abbrev pub ordered_limits : Option Operand → Option Operand → Bool → Part
+ordered_limits None (Some after) false = limit w.After after then absence_of (word w.Before)
+ordered_limits (Some before) (Some after) true = limit w.After after then limit w.Before before
+ordered_limits before after false = limit_phrase w.Before before then limit_phrase w.After after
+ordered_limits before after true = nowhere
 
 -- [BEFORE [INITIAL] x] [AFTER [INITIAL] x], in either order
-abbrev pub limited : Limits → Part
-limited one = ordered one.before one.after one.after_first
+abbrev pub limit_phrases : Limits → Part
+limit_phrases one = ordered_limits one.before one.after one.after_first
 
 -- ---- reading
 

@@ -11,17 +11,17 @@ use Rattle.statements.specs.declared.receivers.Target.TheVariants.{Receivers, Gi
 use Rattle.statements.specs.Receivers.{target, target_reader}
 
 -- MULTIPLY num BY {rd... | num GIVING rd...} (COBOL-85, Nucleus, "The MULTIPLY statement")
-abbrev pub multiplying : Operand → Target → Part
-multiplying factor by = word w.Multiply then number_operand factor then word w.By then target by
+abbrev pub multiply_statement : Operand → Target → Part
+multiply_statement factor by = word w.Multiply then number_operand factor then word w.By then target by
 
-abbrev pub multiplied : Operand → Target → Operation
-multiplied factor (Receivers all) = Multiply factor all
-multiplied factor (Giving by all) = MultiplyGiving factor by all
+abbrev pub multiply_operation : Operand → Target → Operation
+multiply_operation factor (Receivers all) = Multiply factor all
+multiply_operation factor (Giving by all) = MultiplyGiving factor by all
 
-unfoldable pub multiplying_reader : Parser Operation
-multiplying_reader = do
+unfoldable pub multiply_reader : Parser Operation
+multiply_reader = do
   expect w.Multiply
   factor ← number_operand_reader
   expect w.By
   by ← target_reader
-  pure (multiplied factor by)
+  pure (multiply_operation factor by)

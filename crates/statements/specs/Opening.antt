@@ -8,11 +8,11 @@ use Rattle.tokens.specs.declared.token.Token.{Token}
 use Rattle.records.specs.declared.verb.OpenMode.{OpenMode}
 use Rattle.records.specs.declared.verb.OpenMode.TheVariants as mode
 use Rattle.source_tree.specs.declared.name.Name.{Name}
-use Rattle.source_tree.specs.declared.filing.Opening.{Opening}
-use Rattle.source_tree.specs.declared.filing.Filing.{Filing}
-use Rattle.source_tree.specs.declared.filing.Filing.TheVariants.{Open, Close}
+use Rattle.source_tree.specs.declared.file_statement.Opening.{Opening}
+use Rattle.source_tree.specs.declared.file_statement.FileStatement.{FileStatement}
+use Rattle.source_tree.specs.declared.file_statement.FileStatement.TheVariants.{Open, Close}
 use Rattle.source_tree.specs.declared.statement.Statement.{Statement}
-use Rattle.grammar.specs.Parts.{Part, ◌then◌, several, tested, telling, begins_telling, word, name, begins_name}
+use Rattle.grammar.specs.Parts.{Part, ◌then◌, several, lookahead, token_with, begins_telling, word, name, begins_name}
 use Rattle.grammar.specs.Reading as r
 use Rattle.grammar.specs.Reading.{Parser, ◌>>=◌, ◌>>◌, pure, refuse, expect, one_token}
 
@@ -37,21 +37,21 @@ abbrev pub begins_mode : List Token → Bool
 begins_mode = begins_telling mode_in
 
 -- a file that is opened so
-abbrev pub opening : OpenMode → Opening → Part
-opening mode one = λ from rest. (one.mode ≡ mode) × name one.file from rest
+abbrev pub opened_file : OpenMode → Opening → Part
+opened_file mode one = λ from rest. (one.mode ≡ mode) × name one.file from rest
 
 -- {INPUT|OUTPUT|I-O|EXTEND} f...
-abbrev pub opened : List Opening → Part
-opened files = λ from rest. (mode : OpenMode) × (telling mode_in mode then several (opening mode) (tested begins_name) files) from rest
+abbrev pub mode_phrase : List Opening → Part
+mode_phrase files = λ from rest. (mode : OpenMode) × (token_with mode_in mode then several (opened_file mode) (lookahead begins_name) files) from rest
 
 -- lists one behind another
-abbrev pub joined : List (List Opening) → List Opening
-joined [] = []
-joined (one ∷ more) = one ++ joined more
+abbrev pub all_openings : List (List Opening) → List Opening
+all_openings [] = []
+all_openings (one ∷ more) = one ++ all_openings more
 
 -- OPEN {{INPUT|OUTPUT|I-O|EXTEND} f...}... (COBOL-85, Sequential I-O, "The OPEN statement"): each file with what stands before it
 abbrev pub openings : List Opening → Part
-openings files = λ from rest. (groups : List (List Opening)) × (files ≡ joined groups) × (word w.Open then several opened (tested begins_mode) groups) from rest
+openings files = λ from rest. (groups : List (List Opening)) × (files ≡ all_openings groups) × (word w.Open then several mode_phrase (lookahead begins_mode) groups) from rest
 
 unfoldable pub opening_reader : OpenMode → Parser Opening
 opening_reader mode = do
@@ -72,7 +72,7 @@ opened_turns (suc turns) found =
 unfoldable pub all_opened_reader : Parser (List Opening)
 all_opened_reader i = opened_turns (length i) [] i
 
-unfoldable pub openings_reader : Parser (Filing Statement)
+unfoldable pub openings_reader : Parser (FileStatement Statement)
 openings_reader = do
   expect w.Open
   files ← all_opened_reader
@@ -81,11 +81,11 @@ openings_reader = do
 -- ---- CLOSE
 
 -- CLOSE f... (COBOL-85, Sequential I-O, "The CLOSE statement")
-abbrev pub closing : List Name → Part
-closing files = word w.Close then several name (tested begins_name) files
+abbrev pub close_statement : List Name → Part
+close_statement files = word w.Close then several name (lookahead begins_name) files
 
-unfoldable pub closing_reader : Parser (Filing Statement)
-closing_reader = do
+unfoldable pub close_reader : Parser (FileStatement Statement)
+close_reader = do
   expect w.Close
   files ← r.several r.name begins_name
   pure (Close files)

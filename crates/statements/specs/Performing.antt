@@ -4,14 +4,14 @@ use Rattle.tokens.specs.declared.reserved.Reserved.{Reserved}
 use Rattle.tokens.specs.declared.reserved.Reserved.TheVariants as w
 use Rattle.tokens.specs.declared.token.Token.{Token}
 use Rattle.source_tree.specs.declared.name.Name.{Name}
-use Rattle.source_tree.specs.declared.performing.Performed.{Performed}
-use Rattle.source_tree.specs.declared.performing.Performed.TheVariants.{Procedures, Statements}
-use Rattle.source_tree.specs.declared.performing.Turns.{Turns}
-use Rattle.source_tree.specs.declared.performing.Performing.{Performing}
+use Rattle.source_tree.specs.declared.perform_statement.Performed.{Performed}
+use Rattle.source_tree.specs.declared.perform_statement.Performed.TheVariants.{Procedures, Statements}
+use Rattle.source_tree.specs.declared.perform_statement.Repetition.{Repetition}
+use Rattle.source_tree.specs.declared.perform_statement.PerformStatement.{PerformStatement}
 use Rattle.source_tree.specs.declared.statement.Verb.{Verb}
 use Rattle.source_tree.specs.declared.statement.Verb.TheVariants as verb
 use Rattle.source_tree.specs.declared.statement.Statement.{Statement}
-use Rattle.grammar.specs.Parts.{Part, ◌then◌, ◌or◌, ◌but◌, without, word, name, begins_name}
+use Rattle.grammar.specs.Parts.{Part, ◌then◌, ◌or◌, ◌but◌, absence_of, word, name, begins_name}
 use Rattle.grammar.specs.Reading as read
 use Rattle.grammar.specs.Reading.{Parser, ◌>>=◌, ◌>>◌, pure, expect, begins_word}
 use Rattle.expressions.specs.Looking.{reference_before, after_reference_before}
@@ -22,7 +22,7 @@ thru = word w.Thru or word w.Through
 
 -- [{THRU|THROUGH} n]
 abbrev pub last_named : Option Name → Part
-last_named None = without thru
+last_named None = absence_of thru
 last_named (Some last) = thru then name last
 
 -- n, where no count stands: a reference before TIMES is one, and no procedure
@@ -30,20 +30,20 @@ abbrev pub first_named : Name → Part
 first_named first = name first but reference_before w.Times
 
 -- n [{THRU|THROUGH} n] [lp], where lp is how often
-abbrev pub procedures : ℕ → Name → Option Name → Turns → Part
+abbrev pub procedures : ℕ → Name → Option Name → Repetition → Part
 procedures depth first last often = first_named first then last_named last then turns depth often
 
 -- [lp] s END-PERFORM
-abbrev pub in_line : ℕ → (List Statement → Part) → List Statement → Turns → Part
+abbrev pub in_line : ℕ → (List Statement → Part) → List Statement → Repetition → Part
 in_line depth statements inside often = turns depth often then statements inside then word w.EndPerform
 
-abbrev pub performed : ℕ → (List Statement → Part) → Performed Statement → Turns → Part
-performed depth statements (Procedures first last) often = procedures depth first last often
-performed depth statements (Statements inside) often = in_line depth statements inside often
+abbrev pub perform_body : ℕ → (List Statement → Part) → Performed Statement → Repetition → Part
+perform_body depth statements (Procedures first last) often = procedures depth first last often
+perform_body depth statements (Statements inside) often = in_line depth statements inside often
 
 -- PERFORM procedures or statements (COBOL-85, Nucleus, "The PERFORM statement"). `depth` is how deep a condition may nest.
-abbrev pub performing : ℕ → (List Statement → Part) → Performing Statement → Part
-performing depth statements one = word w.Perform then performed depth statements one.performed one.turns
+abbrev pub perform_statement : ℕ → (List Statement → Part) → PerformStatement Statement → Part
+perform_statement depth statements one = word w.Perform then perform_body depth statements one.performed one.turns
 
 -- ---- reading
 
@@ -60,22 +60,22 @@ through_by thru = do
 unfoldable pub through_reader : Parser (Option Name)
 through_reader i = if begins_word w.Thru i then through_by w.Thru i else through_by w.Through i
 
-unfoldable pub last_reader : Parser (Option Name)
-last_reader i = if begins_thru i then through_reader i else Ok (None, i)
+unfoldable pub through_name_reader : Parser (Option Name)
+through_name_reader i = if begins_thru i then through_reader i else Ok (None, i)
 
 unfoldable pub procedures_reader : ℕ → Parser (Verb Statement)
 procedures_reader depth = do
   first ← read.name
-  last ← last_reader
+  last ← through_name_reader
   often ← turns_reader depth
-  pure (verb.Performing (record { performed = Procedures first last; turns = often }))
+  pure (verb.PerformStatement (record { performed = Procedures first last; turns = often }))
 
 unfoldable pub in_line_reader : ℕ → Parser (List Statement) → Parser (Verb Statement)
 in_line_reader depth statements = do
   often ← turns_reader depth
   inside ← statements
   expect w.EndPerform
-  pure (verb.Performing (record { performed = Statements inside; turns = often }))
+  pure (verb.PerformStatement (record { performed = Statements inside; turns = often }))
 
 -- a name that isn't of a count before TIMES
 abbrev pub begins_procedures : List Token → Bool
@@ -84,7 +84,7 @@ begins_procedures i = begins_name i && not (is_some (after_reference_before w.Ti
 abbrev pub performed_reader : ℕ → Parser (List Statement) → Parser (Verb Statement)
 performed_reader depth statements i = if begins_procedures i then procedures_reader depth i else in_line_reader depth statements i
 
-unfoldable pub performing_reader : ℕ → Parser (List Statement) → Parser (Verb Statement)
-performing_reader depth statements = do
+unfoldable pub perform_reader : ℕ → Parser (List Statement) → Parser (Verb Statement)
+perform_reader depth statements = do
   expect w.Perform
   performed_reader depth statements

@@ -8,21 +8,21 @@ use Rattle.grammar.specs.Reading.{Parser, ◌>>=◌, ◌>>◌, pure, refuse, her
 use Rattle.statements.specs.declared.verb.VerbWord.{VerbWord}
 use Rattle.statements.specs.declared.verb.VerbWord.TheVariants as v
 use Rattle.statements.specs.Verbs.{verb_at, begins_statement}
-use Rattle.statements.specs.Accepting.{accepting_reader}
+use Rattle.statements.specs.Accepting.{accept_reader}
 use Rattle.statements.specs.Arithmetic.{arithmetic_reader}
-use Rattle.statements.specs.Branching.{branching_reader}
-use Rattle.statements.specs.Continuing.{continuing_reader}
+use Rattle.statements.specs.Branching.{conditional_reader}
+use Rattle.statements.specs.Continuing.{continue_reader}
 use Rattle.statements.specs.Display.{display_reader}
-use Rattle.statements.specs.Evaluate.{evaluating_reader}
-use Rattle.statements.specs.Exiting.{exiting_reader}
-use Rattle.statements.specs.Filing.{filing_reader}
-use Rattle.statements.specs.Initializing.{initializing_reader}
-use Rattle.statements.specs.Inspecting.{inspecting_reader}
-use Rattle.statements.specs.Moving.{moving_reader}
-use Rattle.statements.specs.Performing.{performing_reader}
-use Rattle.statements.specs.Setting.{setting_reader}
+use Rattle.statements.specs.Evaluate.{evaluate_reader}
+use Rattle.statements.specs.Exiting.{exit_reader}
+use Rattle.statements.specs.Filing.{file_reader}
+use Rattle.statements.specs.Initializing.{initialize_reader}
+use Rattle.statements.specs.Inspecting.{inspect_reader}
+use Rattle.statements.specs.Moving.{move_reader}
+use Rattle.statements.specs.Performing.{perform_reader}
+use Rattle.statements.specs.Setting.{set_reader}
 use Rattle.statements.specs.StopRun.{stop_run_reader}
-use Rattle.statements.specs.Stringing.{stringing_reader}
+use Rattle.statements.specs.Stringing.{string_reader}
 
 unfoldable pub statements : Parser Statement → Parser (List Statement)
 statements statement = several statement begins_statement
@@ -31,21 +31,21 @@ statements statement = several statement begins_statement
 module _ (depth : ℕ) (statement : Parser Statement) where
   abbrev pub by_verb : Option VerbWord → Parser (Verb Statement)
   by_verb None = refuse
-  by_verb (Some v.Accept) = accepting_reader
+  by_verb (Some v.Accept) = accept_reader
   by_verb (Some (v.Arithmetic one)) = arithmetic_reader depth (statements statement) one
-  by_verb (Some v.Continue) = continuing_reader
+  by_verb (Some v.Continue) = continue_reader
   by_verb (Some v.Display) = display_reader
-  by_verb (Some v.Evaluate) = evaluating_reader depth (statements statement)
-  by_verb (Some v.Exit) = exiting_reader
-  by_verb (Some (v.Filing one)) = filing_reader (statements statement) one
-  by_verb (Some v.If) = branching_reader depth (statements statement)
-  by_verb (Some v.Initialize) = initializing_reader
-  by_verb (Some v.Inspect) = inspecting_reader
-  by_verb (Some v.Move) = moving_reader
-  by_verb (Some v.Perform) = performing_reader depth (statements statement)
-  by_verb (Some v.Set) = setting_reader
+  by_verb (Some v.Evaluate) = evaluate_reader depth (statements statement)
+  by_verb (Some v.Exit) = exit_reader
+  by_verb (Some (v.Filing one)) = file_reader (statements statement) one
+  by_verb (Some v.If) = conditional_reader depth (statements statement)
+  by_verb (Some v.Initialize) = initialize_reader
+  by_verb (Some v.Inspect) = inspect_reader
+  by_verb (Some v.Move) = move_reader
+  by_verb (Some v.Perform) = perform_reader depth (statements statement)
+  by_verb (Some v.Set) = set_reader
   by_verb (Some v.Stop) = stop_run_reader
-  by_verb (Some v.String) = stringing_reader (statements statement)
+  by_verb (Some v.String) = string_reader (statements statement)
 
   -- the verb decides
   unfoldable pub verb : Parser (Verb Statement)

@@ -5,7 +5,7 @@ use Rattle.tokens.specs.declared.token.Token.{Token}
 use Rattle.source_tree.specs.declared.expression.Operand.{Operand}
 use Rattle.source_tree.specs.declared.arithmetic.Receiver.{Receiver}
 use Rattle.grammar.specs.Parts as g
-use Rattle.grammar.specs.Parts.{Part, ◌then◌, ◌but◌, stands, tested, word, begins_name}
+use Rattle.grammar.specs.Parts.{Part, ◌then◌, ◌but◌, optional_part, lookahead, word, begins_name}
 use Rattle.grammar.specs.Reading as r
 use Rattle.grammar.specs.Reading.{Parser, ◌>>=◌, ◌>>◌, pure, after_word, expect}
 use Rattle.expressions.specs.References.{reference, reference_reader}
@@ -16,15 +16,15 @@ use Rattle.statements.specs.declared.receivers.Target.TheVariants.{Receivers, Gi
 
 -- num...
 abbrev pub numbers : List Operand → Part
-numbers operands = g.several number_operand (tested begins_number_operand) operands
+numbers operands = g.several number_operand (lookahead begins_number_operand) operands
 
 -- d [ROUNDED] (COBOL-85, Nucleus, "The ROUNDED phrase")
 abbrev pub receiver : Receiver → Part
-receiver one = reference one.item then stands (word w.Rounded) one.rounded
+receiver one = reference one.item then optional_part (word w.Rounded) one.rounded
 
 -- rd...
 abbrev pub receivers : List Receiver → Part
-receivers all = g.several receiver (tested begins_name) all
+receivers all = g.several receiver (lookahead begins_name) all
 
 -- rd... | num GIVING rd...: a reference with GIVING behind it is an operand (COBOL-85, Nucleus, "The GIVING phrase")
 abbrev pub target : Target → Part
@@ -37,7 +37,7 @@ numbers_reader = r.several number_operand_reader begins_number_operand
 unfoldable pub receiver_reader : Parser Receiver
 receiver_reader = do
   item ← reference_reader
-  rounded ← r.stands (after_word w.Rounded)
+  rounded ← r.presence_reader (after_word w.Rounded)
   pure (record { item = item; rounded = rounded })
 
 unfoldable pub receivers_reader : Parser (List Receiver)

@@ -1,6 +1,6 @@
 -- STOP RUN: its rule, and how it is read.
 use Rattle.tokens.specs.declared.reserved.Reserved.TheVariants as w
-use Rattle.source_tree.specs.declared.ending.Ending.TheVariants as ending
+use Rattle.source_tree.specs.declared.control_statement.ControlStatement.TheVariants as ending
 use Rattle.source_tree.specs.declared.statement.Verb.{Verb}
 use Rattle.source_tree.specs.declared.statement.Verb.TheVariants as verb
 use Rattle.source_tree.specs.declared.statement.Statement.{Statement}
@@ -15,4 +15,4 @@ unfoldable pub stop_run_reader : Parser (Verb Statement)
 stop_run_reader = do
   expect w.Stop
   expect w.Run
-  pure (verb.Ending ending.StopRun)
+  pure (verb.ControlStatement ending.StopRun)

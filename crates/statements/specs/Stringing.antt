@@ -4,14 +4,14 @@ use Rattle.tokens.specs.declared.reserved.Reserved.TheVariants as w
 use Rattle.tokens.specs.declared.token.Token.{Token}
 use Rattle.source_tree.specs.declared.expression.Operand.{Operand}
 use Rattle.source_tree.specs.declared.reference.Reference.{Reference}
-use Rattle.source_tree.specs.declared.stringing.Sending.{Sending}
-use Rattle.source_tree.specs.declared.stringing.Stringing.{Stringing}
+use Rattle.source_tree.specs.declared.string_statement.Sending.{Sending}
+use Rattle.source_tree.specs.declared.string_statement.StringStatement.{StringStatement}
 use Rattle.source_tree.specs.declared.statement.Verb.{Verb}
 use Rattle.source_tree.specs.declared.statement.Verb.TheVariants as verb
 use Rattle.source_tree.specs.declared.statement.Statement.{Statement}
 use Rattle.grammar.specs.declared.phrase.Phrase.TheVariants.{Overflow}
 use Rattle.grammar.specs.Parts as g
-use Rattle.grammar.specs.Parts.{Part, ◌then◌, optional, without, tested, word}
+use Rattle.grammar.specs.Parts.{Part, ◌then◌, optional, absence_of, lookahead, word}
 use Rattle.grammar.specs.Reading as r
 use Rattle.grammar.specs.Reading.{Parser, Words, ◌>>=◌, ◌>>◌, pure, after_word, past_word, expect, skip}
 use Rattle.grammar.specs.Phrases.{two_sided, two_sided_reader}
@@ -26,8 +26,8 @@ delimiter None = word w.Size
 delimiter (Some one) = operand one
 
 -- x... DELIMITED [BY] {x|SIZE}
-abbrev pub sending : Sending → Part
-sending one = g.several operand (tested begins_operand) one.senders then word w.Delimited then optional (word w.By) then delimiter one.delimiter
+abbrev pub delimited_senders : Sending → Part
+delimited_senders one = g.several operand (lookahead begins_operand) one.senders then word w.Delimited then optional (word w.By) then delimiter one.delimiter
 
 -- ---- POINTER
 
@@ -36,16 +36,16 @@ abbrev pub with_pointer : Part
 with_pointer = optional (word w.With) then word w.Pointer
 
 -- [[WITH] POINTER d]
-abbrev pub pointing : Option Reference → Part
-pointing None = without with_pointer
-pointing (Some one) = with_pointer then reference one
+abbrev pub pointer_phrase : Option Reference → Part
+pointer_phrase None = absence_of with_pointer
+pointer_phrase (Some one) = with_pointer then reference one
 
 -- STRING {x... DELIMITED [BY] {x|SIZE}}... INTO d [[WITH] POINTER d] [[ON] OVERFLOW s] [NOT [ON] OVERFLOW s] [END-STRING]
 -- (COBOL-85, Nucleus, "The STRING statement"). Behind a delimiter INTO stands, or the senders of another.
-abbrev pub stringing : (List Statement → Part) → Stringing Statement → Part
-stringing statements one =
-    word w.String then g.several sending (tested begins_operand) one.sendings then word w.Into then reference one.receiver
-    then pointing one.pointer then two_sided statements Overflow one.phrases then optional (word w.EndString)
+abbrev pub string_statement : (List Statement → Part) → StringStatement Statement → Part
+string_statement statements one =
+    word w.String then g.several delimited_senders (lookahead begins_operand) one.sendings then word w.Into then reference one.receiver
+    then pointer_phrase one.pointer then two_sided statements Overflow one.phrases then optional (word w.EndString)
 
 -- ---- reading
 
@@ -84,11 +84,11 @@ strung_reader = do
   receiver ← reference_reader
   pure (sendings, receiver)
 
-unfoldable pub stringing_reader : Parser (List Statement) → Parser (Verb Statement)
-stringing_reader statements = do
+unfoldable pub string_reader : Parser (List Statement) → Parser (Verb Statement)
+string_reader statements = do
   expect w.String
   strung ← strung_reader
   pointer ← pointer_reader
   both ← two_sided_reader statements Overflow
   skip w.EndString
-  pure (verb.Stringing (record { sendings = strung.0; receiver = strung.1; pointer = pointer; phrases = both }))
+  pure (verb.StringStatement (record { sendings = strung.0; receiver = strung.1; pointer = pointer; phrases = both }))

@@ -11,17 +11,17 @@ use Rattle.statements.specs.declared.receivers.Target.TheVariants.{Receivers, Gi
 use Rattle.statements.specs.Receivers.{numbers, target, numbers_reader, target_reader}
 
 -- SUBTRACT num... FROM {rd... | num GIVING rd...} (COBOL-85, Nucleus, "The SUBTRACT statement")
-abbrev pub subtracting : List Operand → Target → Part
-subtracting operands from = word w.Subtract then numbers operands then word w.From then target from
+abbrev pub subtract_statement : List Operand → Target → Part
+subtract_statement operands from = word w.Subtract then numbers operands then word w.From then target from
 
-abbrev pub subtracted : List Operand → Target → Operation
-subtracted operands (Receivers all) = Subtract operands all
-subtracted operands (Giving minuend all) = SubtractGiving operands minuend all
+abbrev pub subtract_operation : List Operand → Target → Operation
+subtract_operation operands (Receivers all) = Subtract operands all
+subtract_operation operands (Giving minuend all) = SubtractGiving operands minuend all
 
-unfoldable pub subtracting_reader : Parser Operation
-subtracting_reader = do
+unfoldable pub subtract_reader : Parser Operation
+subtract_reader = do
   expect w.Subtract
   operands ← numbers_reader
   expect w.From
   from ← target_reader
-  pure (subtracted operands from)
+  pure (subtract_operation operands from)

@@ -5,13 +5,13 @@ use Rattle.tokens.specs.declared.reserved.Reserved.TheVariants as w
 use Rattle.tokens.specs.declared.token.Kind.{Kind}
 use Rattle.tokens.specs.declared.token.Kind.TheVariants as k
 use Rattle.tokens.specs.declared.token.Token.{Token}
-use Rattle.source_tree.specs.declared.performing.Turns.{Turns}
-use Rattle.source_tree.specs.declared.performing.Turns.TheVariants as turns_as
+use Rattle.source_tree.specs.declared.perform_statement.Repetition.{Repetition}
+use Rattle.source_tree.specs.declared.perform_statement.Repetition.TheVariants as turns_as
 use Rattle.source_tree.specs.declared.until.TestTime.{TestTime}
 use Rattle.source_tree.specs.declared.until.TestTime.TheVariants.{Before, After}
 use Rattle.source_tree.specs.declared.until.Varying.{Varying}
 use Rattle.source_tree.specs.declared.until.Until.{Until}
-use Rattle.grammar.specs.Parts.{Part, ◌then◌, ◌or◌, optional, without, tested, telling, word, begins_name}
+use Rattle.grammar.specs.Parts.{Part, ◌then◌, ◌or◌, optional, absence_of, lookahead, token_with, word, begins_name}
 use Rattle.grammar.specs.Reading.{Parser, Words, ◌>>=◌, ◌>>◌, pure, after_word, past_word, begins_word, expect, one_token}
 use Rattle.expressions.specs.References.{reference, reference_reader}
 use Rattle.expressions.specs.Operands.{number_operand, number_operand_reader}
@@ -39,23 +39,23 @@ with_test = optional (word w.With) then word w.Test
 
 -- [[WITH] TEST {BEFORE|AFTER}]: where it is left out, the test comes before
 abbrev pub test : TestTime → Part
-test one = (with_test then telling time_in one) or (λ from rest. (one ≡ Before) × without with_test from rest)
+test one = (with_test then token_with time_in one) or (λ from rest. (one ≡ Before) × absence_of with_test from rest)
 
 -- ---- VARYING
 
 -- VARYING d FROM num BY num
-abbrev pub varied : Varying → Part
-varied one = word w.Varying then reference one.item then word w.From then number_operand one.from then word w.By then number_operand one.by
+abbrev pub varying_phrase : Varying → Part
+varying_phrase one = word w.Varying then reference one.item then word w.From then number_operand one.from then word w.By then number_operand one.by
 
-abbrev pub varying : Option Varying → Part
-varying None = without (word w.Varying)
-varying (Some one) = varied one
+abbrev pub optional_varying : Option Varying → Part
+optional_varying None = absence_of (word w.Varying)
+optional_varying (Some one) = varying_phrase one
 
 -- ---- the phrase
 
 -- [[WITH] TEST {BEFORE|AFTER}] [VARYING d FROM num BY num] UNTIL c
 abbrev pub until : ℕ → Until → Part
-until depth one = test one.test then varying one.varying then word w.Until then condition depth one.condition
+until depth one = test one.test then optional_varying one.varying then word w.Until then condition depth one.condition
 
 abbrev pub begins_until : List Token → Bool
 begins_until i = begins_word w.With i || begins_word w.Test i || begins_word w.Varying i || begins_word w.Until i
@@ -65,8 +65,8 @@ begins_turns i = begins_integer i || begins_name i || begins_until i
 
 -- {d|int} TIMES, or UNTIL: the phrase is left out only where none begins (COBOL-85, Nucleus, "The PERFORM statement"). No statement
 -- begins with a name, so a name where the phrase may stand is of a count.
-abbrev pub turns : ℕ → Turns → Part
-turns depth turns_as.Once = without (tested begins_turns)
+abbrev pub turns : ℕ → Repetition → Part
+turns depth turns_as.Once = absence_of (lookahead begins_turns)
 turns depth (turns_as.Times count) = integer count then word w.Times
 turns depth (turns_as.CountedBy one) = reference one then word w.Times
 turns depth (turns_as.Until one) = until depth one
@@ -102,7 +102,7 @@ some_varied_reader = do
 unfoldable pub varying_reader : Parser (Option Varying)
 varying_reader i = if begins_word w.Varying i then some_varied_reader i else Ok (None, i)
 
-unfoldable pub until_reader : ℕ → Parser Turns
+unfoldable pub until_reader : ℕ → Parser Repetition
 until_reader depth = do
   when ← test_reader
   what ← varying_reader
@@ -110,18 +110,18 @@ until_reader depth = do
   asked ← condition_reader depth
   pure (turns_as.Until (record { test = when; varying = what; condition = asked }))
 
-unfoldable pub times_reader : Parser Turns
+unfoldable pub times_reader : Parser Repetition
 times_reader = do
   count ← integer_reader
   expect w.Times
   pure (turns_as.Times count)
 
-unfoldable pub counted_reader : Parser Turns
+unfoldable pub counted_reader : Parser Repetition
 counted_reader = do
   one ← reference_reader
   expect w.Times
   pure (turns_as.CountedBy one)
 
-unfoldable pub turns_reader : ℕ → Parser Turns
+unfoldable pub turns_reader : ℕ → Parser Repetition
 turns_reader depth i =
     if begins_integer i then times_reader i else if begins_name i then counted_reader i else if begins_until i then until_reader depth i else Ok (turns_as.Once, i)

@@ -6,12 +6,12 @@ ghost use Rattle.statements.specs.Arithmetic as rule;
 ghost use Rattle.statements.specs.Nests.{Nests};
 ghost use Rattle.statements.specs.Reading as spec;
 
-use crate::adding::adding;
-use crate::computing::computing;
-use crate::dividing::dividing;
-use crate::multiplying::multiplying;
+use crate::add_statement::adding;
+use crate::compute_statement::computing;
+use crate::divide_statement::dividing;
+use crate::multiply_statement::multiplying;
 use crate::nesting::Nesting;
-use crate::subtracting::subtracting;
+use crate::subtract_statement::subtracting;
 use crate::verb::ArithmeticVerb;
 use grammar::{Phrase, ReadFault, Tokens, beside, two_sided};
 use source_tree::{Arithmetic, Operation, Statement, Verb};

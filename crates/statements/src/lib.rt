@@ -2,33 +2,33 @@
 //! the tokens.
 #![tactic(auto)]
 
-mod accepting;
-mod adding;
+mod accept_statement;
+mod add_statement;
 mod arithmetic;
-mod branching;
-mod computing;
-mod continuing;
-mod display;
-mod dividing;
-mod evaluate;
-mod exiting;
+mod compute_statement;
+mod conditional_statement;
+mod continue_statement;
+mod display_statement;
+mod divide_statement;
+mod evaluate_statement;
+mod exit_statement;
 mod file_phrases;
-mod filing;
-mod initializing;
-mod inspecting;
-mod limiting;
-mod moving;
-mod multiplying;
+mod file_statement;
+mod initialize_statement;
+mod inspect_statement;
+mod limit_phrases;
+mod move_statement;
+mod multiply_statement;
 mod nesting;
-mod opening;
-mod performing;
+mod open_statement;
+mod perform_statement;
 mod receivers;
+mod repetition;
 mod sentences;
-mod setting;
-mod stop_run;
-mod stringing;
-mod subtracting;
-mod turning;
+mod set_statement;
+mod stop_statement;
+mod string_statement;
+mod subtract_statement;
 mod verb;
 
 pub use sentences::sentence;

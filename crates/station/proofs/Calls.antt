@@ -2,7 +2,7 @@
 use Rattle.std.proofs.Common.{◌≡◌, ◌↔◌, ◌⊎◌, inl, inr, ⊎_elim, ℕ, refl, ◌∙◌, ap, arith}
 use Rattle.std.specs.Prelude.{Result, OnOk, OnErr, IsErr}
 use Rattle.station.specs.Disk.{Sector}
-use Rattle.station.specs.State.{State, synced, MayHaveWritten}
+use Rattle.station.specs.State.{State, state_after_sync, MayHaveWritten}
 use Rattle.station.specs.Failures.{Blames, CountsFailure}
 use Rattle.station.specs.Calls.{OnlyReads, OnlyWrites}
 use Rattle.station.specs.declared.device.Device.{Ghosts as Devices}
@@ -48,7 +48,7 @@ module _ {D : Type 0} (device : Devices D) where
   }
 
   pub syncs : {T E : Type 0} (result : Result T E) (a b : D) → (device.is_honest a ↔ device.is_honest b) → device.sectors b ≡ device.sectors a → CountsFailure result (device.failures a) (device.failures b)
-      → (device.is_honest a → OnOk result (device.state b ≡ synced (device.state a))) → (device.is_honest a → OnErr result (device.state b ≡ device.state a)) → OnlyWrites device (IsErr result) a b
+      → (device.is_honest a → OnOk result (device.state b ≡ state_after_sync (device.state a))) → (device.is_honest a → OnErr result (device.state b ≡ device.state a)) → OnlyWrites device (IsErr result) a b
   syncs result a b honest sectors failures ok err = record {
     honest = honest;
     sectors = sectors;

@@ -3,19 +3,19 @@ use Rattle.std.proofs.Common.{◌≡◌, ◌≢◌, ◌⊎◌, inl, inr, ⊎_eli
 use Rattle.std.specs.List.{Contains}
 use Rattle.std.proofs.lemmas.Bool.{cases_eq}
 use Rattle.std.proofs.lemmas.List.Elements.{Contains-push_cases}
-use Rattle.station.specs.Disk.{Sector, settled, sector_at, IsCrashImage}
+use Rattle.station.specs.Disk.{Sector, idle_disk, sector_at, IsCrashImage}
 use Rattle.station.specs.State.{State, MayHaveWritten, Nothing, Kept, Wrote}
-use Rattle.station.specs.Choice.{chosen, crashed}
+use Rattle.station.specs.Choice.{chosen_sectors, state_after_crash}
 use Rattle.station.specs.Changes.{ChangesOnly}
 use Rattle.station.proofs.Crash.{settled_image}
 
 -- the settled sectors are possible
-pub settled_possible : (base image : List Sector) → image ≡ base → IsCrashImage (settled base) image
-settled_possible base image same = subst (IsCrashImage (settled base)) (sym same) (record { count = refl; each = λ i lt. inl refl })
+pub settled_possible : (base image : List Sector) → image ≡ base → IsCrashImage (idle_disk base) image
+settled_possible base image same = subst (IsCrashImage (idle_disk base)) (sym same) (record { count = refl; each = λ i lt. inl refl })
 
 -- a disk after a crash has the image alone that was left
-pub crashed_image : (s : State) (choose : List ℕ) (image : List Sector) → IsCrashImage (crashed s choose).disk image → image ≡ chosen s.disk choose
-crashed_image s choose image crash = settled_image (chosen s.disk choose) image crash
+pub crashed_image : (s : State) (choose : List ℕ) (image : List Sector) → IsCrashImage (state_after_crash s choose).disk image → image ≡ chosen_sectors s.disk choose
+crashed_image s choose image crash = settled_image (chosen_sectors s.disk choose) image crash
 
 write_stable : (old : State) (i : ℕ) (b : Sector) (new : State) → MayHaveWritten old i b new → new.disk.stable ≡ old.disk.stable
 write_stable old i b new (Nothing same) = ap (λ (s : State). s.disk.stable) same

@@ -4,11 +4,11 @@ use Rattle.std.specs.Prelude.{Result, Ok, Err, OnOk, OnErr}
 use Rattle.std.proofs.lemmas.List.{ext_get_or}
 use Rattle.std.proofs.lemmas.List.Elements.{Contains-push_cases}
 use Rattle.std.proofs.lemmas.Bool.{cases_eq, cases_lt}
-use Rattle.station.specs.Disk.{Disk, Sector, settled, sector_at, IsCrashImage, OnlyWrote}
-use Rattle.station.specs.State.{State, SameConsole, synced, MayHaveWritten, Nothing, Kept, Wrote}
+use Rattle.station.specs.Disk.{Disk, Sector, idle_disk, sector_at, IsCrashImage, OnlyWrote}
+use Rattle.station.specs.State.{State, SameConsole, state_after_sync, MayHaveWritten, Nothing, Kept, Wrote}
 
 -- nothing waits on a settled disk
-pub settled_wrote : (base : List Sector) (Q : ℕ → Sector → Type 0) → OnlyWrote base Q (settled base)
+pub settled_wrote : (base : List Sector) (Q : ℕ → Sector → Type 0) → OnlyWrote base Q (idle_disk base)
 settled_wrote base Q = record { stable = refl; each = λ i bytes has. absurd (omega (arith, has.1)) }
 
 module _ (base : List Sector) (Q : ℕ → Sector → Type 0) where
@@ -33,7 +33,7 @@ module _ (base : List Sector) (Q : ℕ → Sector → Type 0) where
       ⊎_elim (λ old. inl (old ∙ ap (λ (l : List Sector). sector_at l i) only.stable)) (λ has. inr (only.each i (sector_at image i) has)) (crash.each i lt)
 
 -- a crash leaves a settled disk as it is
-pub settled_image : (base image : List Sector) → IsCrashImage (settled base) image → image ≡ base
+pub settled_image : (base image : List Sector) → IsCrashImage (idle_disk base) image → image ≡ base
 settled_image base image crash = ext_get_or [] image base crash.count
     (λ i lt. ⊎_elim (λ old. old) (λ has. absurd (omega (arith, has.1))) (crash.each i lt))
 
@@ -79,6 +79,6 @@ write_console old i b new (Wrote same) = record { events = ap (λ (s : State). s
 pub console_then : (a b c : State) → SameConsole a b → SameConsole b c → SameConsole a c
 console_then a b c first second = record { events = second.events ∙ first.events; lines = second.lines ∙ first.lines }
 
-pub sync_console : {T E : Type 0} (old new : State) (r : Result T E) → OnOk r (new ≡ synced old) → OnErr r (new ≡ old) → SameConsole old new
+pub sync_console : {T E : Type 0} (old new : State) (r : Result T E) → OnOk r (new ≡ state_after_sync old) → OnErr r (new ≡ old) → SameConsole old new
 sync_console old new (Ok x) ok err = record { events = ap (λ (s : State). s.events) ok; lines = ap (λ (s : State). s.lines) ok }
 sync_console old new (Err e) ok err = record { events = ap (λ (s : State). s.events) err; lines = ap (λ (s : State). s.lines) err }

@@ -4,15 +4,15 @@ use Rattle.std.specs.declared.alloc.Global.{Global}
 use Rattle.std.specs.List.{filter, Contains}
 use Rattle.std.proofs.lemmas.List.Elements.{Contains-append_left, Contains-append_right, Contains-append_cases}
 use Rattle.std.proofs.lemmas.Bool.Decides.{eqb_tells}
-use Rattle.station.specs.Disk.{Disk, Sector, settled, sector_at, IsCrashImage}
+use Rattle.station.specs.Disk.{Disk, Sector, idle_disk, sector_at, IsCrashImage}
 use Rattle.station.specs.State.{State}
-use Rattle.station.specs.Choice.{values, pick, used_after, chosen_from, chosen, crashed}
-use Rattle.station.specs.Replay.{after, next, is_of_console, made_of}
+use Rattle.station.specs.Choice.{values, pick, used_after, chosen_from, chosen_sectors, state_after_crash}
+use Rattle.station.specs.Replay.{state_after_calls, next, is_of_console, made_of}
 use Rattle.station.specs.declared.call.Call.{Call}
 use Rattle.station.specs.declared.call.Call.TheVariants.{Show, Hear, Take, Write, Keep, Sync}
 
 -- the calls that changed no sector, over another disk
-pub console_replay : (s : State) (d : Disk) (calls : List Call) → after (record s { disk = d }) (filter is_of_console calls) ≡ record (after s calls) { disk = d }
+pub console_replay : (s : State) (d : Disk) (calls : List Call) → state_after_calls (record s { disk = d }) (filter is_of_console calls) ≡ record (state_after_calls s calls) { disk = d }
 console_replay s d [] = refl
 console_replay s d (Show bytes ∷ calls) = console_replay (next s (Show bytes)) d calls
 console_replay s d (Hear note ∷ calls) = console_replay (next s (Hear note)) d calls
@@ -54,25 +54,25 @@ module _ (ws : List (ℕ × Sector)) (choose : List ℕ) where
       (more.0, more.1 ∙ ap (λ n. pick (sector_at ss i) (values ws n) more.0) place)
 
 -- a crash may leave it
-pub chosen_image : (d : Disk) (choose : List ℕ) → IsCrashImage d (chosen d choose)
+pub chosen_image : (d : Disk) (choose : List ℕ) → IsCrashImage d (chosen_sectors d choose)
 chosen_image d choose = record {
   count = chosen_count d.written choose 0 0 d.stable;
   each = λ i lt.
       let at = chosen_at d.written choose 0 0 d.stable i (subst (λ n. i < n) (chosen_count d.written choose 0 0 d.stable) lt) in
-      let is : sector_at (chosen d choose) i ≡ pick (sector_at d.stable i) (values d.written i) at.0 = at.1 ∙ ap (λ n. pick (sector_at d.stable i) (values d.written n) at.0) (omega arith) in
+      let is : sector_at (chosen_sectors d choose) i ≡ pick (sector_at d.stable i) (values d.written i) at.0 = at.1 ∙ ap (λ n. pick (sector_at d.stable i) (values d.written n) at.0) (omega arith) in
       subst (λ (v : Sector). (v ≡ sector_at d.stable i) ⊎ Contains d.written (i, v)) (sym is)
       (⊎_elim (λ old. inl old) (λ has. inr (values_from d.written i (pick (sector_at d.stable i) (values d.written i) at.0) has)) (pick_cases (sector_at d.stable i) (values d.written i) at.0));
 }
 
 pub crash_state : (start image found : List Sector) (lines : List (Vec ℕ Global)) (calls kept : List Call) (choose : List ℕ) → found ≡ image → kept ≡ filter is_of_console calls
-    → image ≡ chosen (after (made_of start lines) calls).disk choose → after (made_of found lines) kept ≡ crashed (after (made_of start lines) calls) choose
+    → image ≡ chosen_sectors (state_after_calls (made_of start lines) calls).disk choose → state_after_calls (made_of found lines) kept ≡ state_after_crash (state_after_calls (made_of start lines) calls) choose
 crash_state start image found lines calls kept choose here same is =
-    ap (λ (l : List Sector). after (made_of l lines) kept) here
-    ∙ ap (after (made_of image lines)) same
-    ∙ console_replay (made_of start lines) (settled image) calls
-    ∙ ap (λ (l : List Sector). record (after (made_of start lines) calls) { disk = settled l }) is
+    ap (λ (l : List Sector). state_after_calls (made_of l lines) kept) here
+    ∙ ap (state_after_calls (made_of image lines)) same
+    ∙ console_replay (made_of start lines) (idle_disk image) calls
+    ∙ ap (λ (l : List Sector). record (state_after_calls (made_of start lines) calls) { disk = idle_disk l }) is
 
 -- they change no sector
-pub console_keeps : (found : List Sector) (lines : List (Vec ℕ Global)) (calls kept : List Call) → kept ≡ filter is_of_console calls → (after (made_of found lines) kept).disk.present ≡ found
+pub console_keeps : (found : List Sector) (lines : List (Vec ℕ Global)) (calls kept : List Call) → kept ≡ filter is_of_console calls → (state_after_calls (made_of found lines) kept).disk.present ≡ found
 console_keeps found lines calls kept same =
-    ap (λ (l : List Call). (after (made_of found lines) l).disk.present) same ∙ ap (λ (s : State). s.disk.present) (console_replay (made_of found lines) (settled found) calls)
+    ap (λ (l : List Call). (state_after_calls (made_of found lines) l).disk.present) same ∙ ap (λ (s : State). s.disk.present) (console_replay (made_of found lines) (idle_disk found) calls)

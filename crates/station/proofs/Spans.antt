@@ -3,8 +3,8 @@ use Rattle.std.proofs.Common.{◌≡◌, ◌≤◌, refl, ℕ, suc, List, [], �
 use Rattle.std.proofs.lemmas.List.{append-nil, take-take, take_all, map-append, take-append-drop}
 use Rattle.std.specs.Prelude.{Result, Ok, Err, OnOk, OnErr}
 use Rattle.std.specs.List.{AllByRecursion}
-use Rattle.station.specs.State.{State, Event, Shown, Begins, shown, showing}
-use Rattle.station.specs.History.{Moves, Stays, Goes, Shows, Spans, Through, Telling, EndsIn}
+use Rattle.station.specs.State.{State, Event, Shown, Begins, state_after_show, states_while_showing}
+use Rattle.station.specs.History.{Moves, Stays, Goes, Shows, Spans, Through, HasShownSome, EndsIn}
 
 both : (P : State → Type 0) (xs ys : List State) → AllByRecursion P xs → AllByRecursion P ys → AllByRecursion P (xs ++ ys)
 both P [] ys first second = second
@@ -32,17 +32,17 @@ pub either : {T E A B : Type 0} (r : Result T E) (G : Type 0) → OnOk r A → O
 either (Ok x) G ok err at_ok at_err = at_ok ok
 either (Err x) G ok err at_ok at_err = at_err err
 
-showing_each : (s : State) (bytes : List ℕ) (P : State → Type 0) → ((n : ℕ) → n ≤ length bytes → P (shown s (take n bytes))) → AllByRecursion P (showing s bytes)
+showing_each : (s : State) (bytes : List ℕ) (P : State → Type 0) → ((n : ℕ) → n ≤ length bytes → P (state_after_show s (take n bytes))) → AllByRecursion P (states_while_showing s bytes)
 showing_each s [] P each = tt
-showing_each s (b ∷ bytes) P each = (each 1 (omega arith), showing_each (shown s (b ∷ [])) bytes P (λ n le. subst P (sym (shown_more s b (take n bytes))) (each (suc n) (omega arith))))
+showing_each s (b ∷ bytes) P each = (each 1 (omega arith), showing_each (state_after_show s (b ∷ [])) bytes P (λ n le. subst P (sym (shown_more s b (take n bytes))) (each (suc n) (omega arith))))
   where
-    shown_more : (s : State) (b : ℕ) (more : List ℕ) → shown (shown s (b ∷ [])) more ≡ shown s (b ∷ more)
+    shown_more : (s : State) (b : ℕ) (more : List ℕ) → state_after_show (state_after_show s (b ∷ [])) more ≡ state_after_show s (b ∷ more)
     shown_more s b more = ap (λ (l : List Event). record s { events = l }) (append_assoc s.events (Shown b ∷ []) (map Shown more))
 
 -- a show, where the state has P after any number of its bytes
 pub showed : (past : List State) (old : State) (bytes : List ℕ) (later : List State) (new : State) (P : State → Type 0) → Shows past old bytes later new
-    → ((n : ℕ) → n ≤ length bytes → P (shown old (take n bytes))) → Spans past later P
-showed past old bytes later new P shows each = record { during = showing old bytes; adds = shows.history; each = showing_each old bytes P each }
+    → ((n : ℕ) → n ≤ length bytes → P (state_after_show old (take n bytes))) → Spans past later P
+showed past old bytes later new P shows each = record { during = states_while_showing old bytes; adds = shows.history; each = showing_each old bytes P each }
 
 -- what is weaker holds too
 pub weaker : (past later : List State) (P Q : State → Type 0) → ((s : State) → P s → Q s) → Spans past later P → Spans past later Q
@@ -68,9 +68,9 @@ pub moves_on : (a b c : List State) (mid new : State) (P : State → Type 0) →
 moves_on a b c mid new P first moves here = record { spans = then a b c P first.spans (moved b mid c new P moves here); now = here }
 
 -- a show, cut anywhere
-pub tells : (past : List State) (old : State) (bytes : List ℕ) (later : List State) (new : State) → (n : ℕ) × Shows past old (take n bytes) later new → Through past later new (Telling old bytes)
+pub tells : (past : List State) (old : State) (bytes : List ℕ) (later : List State) (new : State) → (n : ℕ) × Shows past old (take n bytes) later new → Through past later new (HasShownSome old bytes)
 tells past old bytes later new (n, shows) = record {
-  spans = showed past old (take n bytes) later new (Telling old bytes) shows (λ m le. (m, ap (shown old) (take_cut m le)));
+  spans = showed past old (take n bytes) later new (HasShownSome old bytes) shows (λ m le. (m, ap (state_after_show old) (take_cut m le)));
   now = (n, shows.state);
 }
   where
@@ -78,7 +78,7 @@ tells past old bytes later new (n, shows) = record {
     take_cut m le = take-take m n bytes (omega (arith, length-take n bytes))
 
 -- what was shown so far is a beginning
-pub told_begins : (old : State) (bytes : List ℕ) (s : State) → Telling old bytes s → Begins s.events (shown old bytes).events
+pub told_begins : (old : State) (bytes : List ℕ) (s : State) → HasShownSome old bytes s → Begins s.events (state_after_show old bytes).events
 told_begins old bytes s (n, is) = record {
   rest = map Shown (drop n bytes);
   whole_is = sym
@@ -88,7 +88,7 @@ told_begins old bytes s (n, is) = record {
 }
 
 -- a show that works, or does nothing
-pub shows_or_not : {T E : Type 0} (r : Result T E) (past : List State) (old : State) (bytes : List ℕ) (later : List State) (new : State) → OnOk r (new ≡ shown old bytes) → OnOk r (later ≡ past ++ showing old bytes)
+pub shows_or_not : {T E : Type 0} (r : Result T E) (past : List State) (old : State) (bytes : List ℕ) (later : List State) (new : State) → OnOk r (new ≡ state_after_show old bytes) → OnOk r (later ≡ past ++ states_while_showing old bytes)
     → OnErr r (new ≡ old) → OnErr r (later ≡ past) → (n : ℕ) × Shows past old (take n bytes) later new
 shows_or_not (Ok x) past old bytes later new state history same_state same_history =
     (length bytes, subst (λ (l : List ℕ). Shows past old l later new) (sym (take_all (length bytes) bytes (omega arith))) (record { history = history; state = state }))

@@ -3,14 +3,14 @@ use Rattle.std.proofs.Common.{◌≡◌, ◌⊎◌, inl, inr, ⊎_elim, ℕ, Lis
 use Rattle.std.specs.Prelude.{Contains, Result, Ok, Err, OnOk}
 use Rattle.std.proofs.lemmas.Bool.{cases_eq}
 use Rattle.std.proofs.lemmas.List.Elements.{Contains-append_right}
-use Rattle.station.specs.Disk.{Disk, Sector, settled, IsSettled, sector_at, IsCrashImage, OnlyWrote}
+use Rattle.station.specs.Disk.{Disk, Sector, idle_disk, IsSettled, sector_at, IsCrashImage, OnlyWrote}
 use Rattle.station.specs.State.{State, Event, MayHaveWritten}
 use Rattle.station.proofs.Crash.{settled_wrote, write_only, write_events, image_count, image_each, one_image, settled_image, IsWriteOf}
 use Rattle.station.specs.declared.blocks.Block.{Block}
-use Rattle.station.specs.Blocks.{IsAt, Writing, SameOutside, WithOrWithout, OldOrNew, Old, New, CrashLeaves, with_all, wrote_all}
+use Rattle.station.specs.Blocks.{IsAt, IsWriting, SameOutside, WithOrWithout, OldOrNew, Old, New, CrashLeaves, with_all, wrote_all}
 
 -- while they are written
-pub same_outside : (seen : List Event) (base : List Sector) (blocks : List Block) (s : State) → Writing seen base blocks s → CrashLeaves seen (SameOutside base blocks) s
+pub same_outside : (seen : List Event) (base : List Sector) (blocks : List Block) (s : State) → IsWriting seen base blocks s → CrashLeaves seen (SameOutside base blocks) s
 same_outside seen base blocks s writing = record {
   events = writing.events;
   images = λ image crash. record { count = image_count base (IsAt blocks) s.disk image writing.only crash; each = image_each base (IsAt blocks) s.disk image writing.only crash };
@@ -31,7 +31,7 @@ pub all_same_outside : (base : List Sector) (blocks : List Block) → SameOutsid
 all_same_outside base blocks = record { count = with_all_count base blocks; each = λ i lt. with_all_each base blocks i }
 
 -- once they are durable
-pub synced_same_outside : (seen : List Event) (base : List Sector) (blocks : List Block) (s : State) → s.events ≡ seen → s.disk ≡ settled (with_all base blocks) → CrashLeaves seen (SameOutside base blocks) s
+pub synced_same_outside : (seen : List Event) (base : List Sector) (blocks : List Block) (s : State) → s.events ≡ seen → s.disk ≡ idle_disk (with_all base blocks) → CrashLeaves seen (SameOutside base blocks) s
 synced_same_outside seen base blocks s events disk = record {
   events = events;
   images = λ image crash. subst (SameOutside base blocks) (sym (settled_image (with_all base blocks) image (subst (λ (d : Disk). IsCrashImage d image) disk crash))) (all_same_outside base blocks);
@@ -54,8 +54,8 @@ wrote_all_present s [] = refl
 wrote_all_present s (b ∷ blocks) = wrote_all_present _ blocks
 
 -- after they were written and synced
-pub synced_disk : (s mid new : State) (blocks : List Block) → mid ≡ wrote_all s blocks → new.disk ≡ settled mid.disk.present → new.disk ≡ settled (with_all s.disk.present blocks)
-synced_disk s mid new blocks wrote synced = synced ∙ ap settled (ap (λ (m : State). m.disk.present) wrote ∙ wrote_all_present s blocks)
+pub synced_disk : (s mid new : State) (blocks : List Block) → mid ≡ wrote_all s blocks → new.disk ≡ idle_disk mid.disk.present → new.disk ≡ idle_disk (with_all s.disk.present blocks)
+synced_disk s mid new blocks wrote synced = synced ∙ ap idle_disk (ap (λ (m : State). m.disk.present) wrote ∙ wrote_all_present s blocks)
 
 wrote_all_events : (s : State) (blocks : List Block) → (wrote_all s blocks).events ≡ s.events
 wrote_all_events s [] = refl
@@ -73,7 +73,7 @@ pub one_begins : (old : State) (root : ℕ) (bytes : Sector) (new : State) → I
 one_begins old root bytes new disk may = one_waits old.events old.disk.present root bytes new (write_events old root bytes new may)
     (write_only old.disk.present (IsWriteOf root bytes) old root bytes new (subst (OnlyWrote old.disk.present (IsWriteOf root bytes)) (sym disk) (settled_wrote old.disk.present (IsWriteOf root bytes))) (refl, refl) may)
 
-pub one_saved : (seen : List Event) (base : List Sector) (root : ℕ) (bytes : Sector) (s : State) → s.events ≡ seen → s.disk ≡ settled (set base root bytes)
+pub one_saved : (seen : List Event) (base : List Sector) (root : ℕ) (bytes : Sector) (s : State) → s.events ≡ seen → s.disk ≡ idle_disk (set base root bytes)
     → CrashLeaves seen (WithOrWithout base root bytes) s
 one_saved seen base root bytes s events disk = record { events = events; images = λ image crash. inr (settled_image (set base root bytes) image (subst (λ (d : Disk). IsCrashImage d image) disk crash)) }
 

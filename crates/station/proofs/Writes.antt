@@ -3,11 +3,11 @@ use Rattle.std.proofs.Common.{◌≡◌, ◌<◌, ◌+◌, ℕ, List, [], ◌∷
 use Rattle.std.specs.Prelude.{Contains}
 use Rattle.std.proofs.lemmas.List.{take_more, get_or-map, length-map}
 use Rattle.std.proofs.lemmas.List.Elements.{Contains-get_or}
-use Rattle.station.specs.Disk.{Sector, settled, OnlyWrote}
+use Rattle.station.specs.Disk.{Sector, idle_disk, OnlyWrote}
 use Rattle.station.specs.State.{State, Event, wrote, MayHaveWritten, SameConsole}
 use Rattle.station.proofs.Crash.{settled_wrote, write_only, write_events, write_console, console_then}
 use Rattle.station.specs.declared.blocks.Block.{Block}
-use Rattle.station.specs.Blocks.{IsAt, Writing, wrote_all}
+use Rattle.station.specs.Blocks.{IsAt, IsWriting, wrote_all}
 
 wrote_more : (s : State) (xs : List Block) (b : Block) → wrote_all s (xs ++ b ∷ []) ≡ wrote (wrote_all s xs) b.sector b.bytes
 wrote_more s [] b = refl
@@ -24,11 +24,11 @@ wrote_on start blocks i d old new lt so_far one = one ∙ ap (λ (s : State). wr
 pub is_at : (blocks : List Block) (i : ℕ) (d : Block) → i < length blocks → Contains (map (λ (b : Block). b.sector) blocks) (get_or blocks i d).sector
 is_at blocks i d lt = subst (Contains (map (λ (b : Block). b.sector) blocks)) (get_or-map (λ (b : Block). b.sector) blocks i d 0 lt) (Contains-get_or (map (λ (b : Block). b.sector) blocks) i 0 (rw (length-map blocks (λ (b : Block). b.sector)) lt))
 
-pub start_writing : (s : State) (base : List Sector) (blocks : List Block) → s.disk ≡ settled base → Writing s.events base blocks s
+pub start_writing : (s : State) (base : List Sector) (blocks : List Block) → s.disk ≡ idle_disk base → IsWriting s.events base blocks s
 start_writing s base blocks same = record { events = refl; only = subst (OnlyWrote base (IsAt blocks)) (sym same) (settled_wrote base (IsAt blocks)) }
 
-pub writing_on : (seen : List Event) (base : List Sector) (blocks : List Block) (old : State) (k : ℕ) (d : Block) (new : State) → k < length blocks → Writing seen base blocks old
-    → MayHaveWritten old (get_or blocks k d).sector (get_or blocks k d).bytes new → Writing seen base blocks new
+pub writing_on : (seen : List Event) (base : List Sector) (blocks : List Block) (old : State) (k : ℕ) (d : Block) (new : State) → k < length blocks → IsWriting seen base blocks old
+    → MayHaveWritten old (get_or blocks k d).sector (get_or blocks k d).bytes new → IsWriting seen base blocks new
 writing_on seen base blocks old k d new lt so_far may = record {
   events = write_events old (get_or blocks k d).sector (get_or blocks k d).bytes new may ∙ so_far.events;
   only = write_only base (IsAt blocks) old (get_or blocks k d).sector (get_or blocks k d).bytes new so_far.only (is_at blocks k d lt) may;

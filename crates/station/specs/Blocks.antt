@@ -25,7 +25,7 @@ abbrev pub IsAt : List Block → ℕ → Sector → Type 0
 IsAt blocks i bytes = Contains (map (λ b. b.sector) blocks) i
 
 -- nothing was told, and all that waits is writes to sectors of these blocks
-pub record Writing (seen : List Event) (base : List Sector) (blocks : List Block) (state : State) : Type 0 where
+pub record IsWriting (seen : List Event) (base : List Sector) (blocks : List Block) (state : State) : Type 0 where
   pub events : state.events ≡ seen
   pub only : OnlyWrote base (IsAt blocks) state.disk
 

@@ -14,12 +14,12 @@ pub record Disk : Type 0 where
   pub written : List (ℕ × Sector)
 
 -- a disk on which nothing waits for a sync
-abbrev pub settled : List Sector → Disk
-settled sectors = record { present = sectors; stable = sectors; written = [] }
+abbrev pub idle_disk : List Sector → Disk
+idle_disk sectors = record { present = sectors; stable = sectors; written = [] }
 
 -- nothing waits on this disk
 abbrev pub IsSettled : Disk → Type 0
-IsSettled disk = disk ≡ settled disk.present
+IsSettled disk = disk ≡ idle_disk disk.present
 
 abbrev pub sector_at : List Sector → ℕ → Sector
 sector_at sectors i = slice_index_or sectors i []

@@ -2,7 +2,7 @@
 use Rattle.std.specs.Prelude.{◌≡◌, ℕ, List, [], ◌∷◌, ◌++◌, take}
 use Rattle.std.specs.List.{AllByRecursion}
 use Rattle.station.specs.Disk.{Sector, IsCrashImage}
-use Rattle.station.specs.State.{State, shown, showing}
+use Rattle.station.specs.State.{State, state_after_show, states_while_showing}
 
 -- The newest of the states is this one.
 pub record EndsIn (history : List State) (state : State) : Type 0 where
@@ -16,8 +16,8 @@ pub data Moves (past : List State) (old : State) (later : List State) (new : Sta
 
 -- A call shows these bytes.
 pub record Shows (past : List State) (old : State) (bytes : List ℕ) (later : List State) (new : State) : Type 0 where
-  pub history : later ≡ past ++ showing old bytes
-  pub state : new ≡ shown old bytes
+  pub history : later ≡ past ++ states_while_showing old bytes
+  pub state : new ≡ state_after_show old bytes
 
 -- Each state between two histories of a station has P.
 pub record Spans (past later : List State) (P : State → Type 0) : Type 0 where
@@ -35,5 +35,5 @@ abbrev pub EachImage : (List Sector → Type 0) → State → Type 0
 EachImage P state = (image : List Sector) → IsCrashImage state.disk image → P image
 
 -- some of these bytes were shown since
-abbrev pub Telling : State → List ℕ → State → Type 0
-Telling old bytes state = (n : ℕ) × (state ≡ shown old (take n bytes))
+abbrev pub HasShownSome : State → List ℕ → State → Type 0
+HasShownSome old bytes state = (n : ℕ) × (state ≡ state_after_show old (take n bytes))

@@ -1,8 +1,8 @@
 -- What a station in memory shows of itself, and what its calls do to that.
 use Rattle.std.specs.Prelude.{◌≡◌, ℕ, List, [], ◌∷◌, ◌++◌, Result, IsOk, IsErr}
-use Rattle.station.specs.State.{State, shown, showing, took_line, taking}
+use Rattle.station.specs.State.{State, state_after_show, states_while_showing, took_line, states_after_line}
 use Rattle.station.specs.Journal.{journal_state, journal_history, journal_sectors}
-use Rattle.station.specs.Plan.{fate_of, plan_after, risen, counted}
+use Rattle.station.specs.Plan.{fate_of, plan_after, saturated_successor, count_after_call}
 use Rattle.station.specs.declared.memory.MemoryStation.{MemoryStation}
 use Rattle.station.specs.declared.device.DeviceError.{DeviceError}
 use Rattle.station.specs.declared.plan.Plan.{Plan}
@@ -39,44 +39,44 @@ memory m = record {
 }
 
 -- a call of each kind has begun: one of the plan is used up, and the call is counted
-abbrev pub calling : Memory → Memory
-calling m = record m { plan = plan_after m.plan }
+abbrev pub memory_after_call : Memory → Memory
+memory_after_call m = record m { plan = plan_after m.plan }
 
-abbrev pub reading : Memory → Memory
-reading m = record m { plan = plan_after m.plan; reads = counted (fate_of m.plan) m.reads }
+abbrev pub memory_after_read : Memory → Memory
+memory_after_read m = record m { plan = plan_after m.plan; reads = count_after_call (fate_of m.plan) m.reads }
 
-abbrev pub writing : Memory → Memory
-writing m = record m { plan = plan_after m.plan; writes = counted (fate_of m.plan) m.writes }
+abbrev pub memory_after_write : Memory → Memory
+memory_after_write m = record m { plan = plan_after m.plan; writes = count_after_call (fate_of m.plan) m.writes }
 
-abbrev pub syncing : Memory → Memory
-syncing m = record m { plan = plan_after m.plan; syncs = counted (fate_of m.plan) m.syncs }
+abbrev pub memory_after_sync : Memory → Memory
+memory_after_sync m = record m { plan = plan_after m.plan; syncs = count_after_call (fate_of m.plan) m.syncs }
 
 -- it went to this state
 abbrev pub went : Memory → State → Memory
 went m s = record m { state = s; history = m.history ++ s ∷ [] }
 
 -- it showed these bytes
-abbrev pub told : Memory → List ℕ → Memory
-told m bytes = record m { state = shown m.state bytes; history = m.history ++ showing m.state bytes }
+abbrev pub memory_after_show : Memory → List ℕ → Memory
+memory_after_show m bytes = record m { state = state_after_show m.state bytes; history = m.history ++ states_while_showing m.state bytes }
 
 -- it took a line, if any was left
-abbrev pub lined : Memory → Memory
-lined m = record m { state = took_line m.state; history = m.history ++ taking m.state }
+abbrev pub memory_after_line : Memory → Memory
+memory_after_line m = record m { state = took_line m.state; history = m.history ++ states_after_line m.state }
 
 -- it failed
-abbrev pub broken : Memory → Memory
-broken m = record m { failures = risen m.failures }
+abbrev pub memory_after_failure : Memory → Memory
+memory_after_failure m = record m { failures = saturated_successor m.failures }
 
 -- What a call answers, and how it leaves the station. By its fate it works, or fails and leaves `failed`, or does nothing.
 -- Where the record couldn't grow it fails and does nothing too, which is counted.
 pub data Follows {T : Type 0} (fate : Fate) (begun worked failed : Memory) (result : Result T DeviceError) (new : Memory) : Type 0 where
   Works : fate ≡ fates.Works → IsOk result → new ≡ worked → Follows fate begun worked failed result new
-  Fails : fate ≡ fates.Fails → IsErr result → new ≡ broken failed → Follows fate begun worked failed result new
-  Stopped : fate ≡ fates.Stopped → IsErr result → new ≡ broken begun → Follows fate begun worked failed result new
-  Refused : IsErr result → new ≡ broken (record begun { refused = risen begun.refused }) → Follows fate begun worked failed result new
+  Fails : fate ≡ fates.Fails → IsErr result → new ≡ memory_after_failure failed → Follows fate begun worked failed result new
+  Stopped : fate ≡ fates.Stopped → IsErr result → new ≡ memory_after_failure begun → Follows fate begun worked failed result new
+  Refused : IsErr result → new ≡ memory_after_failure (record begun { refused = saturated_successor begun.refused }) → Follows fate begun worked failed result new
 
 -- What a call answers that takes no memory.
 pub data Obeys {T : Type 0} (fate : Fate) (begun : Memory) (result : Result T DeviceError) (new : Memory) : Type 0 where
   Worked : fate ≡ fates.Works → IsOk result → new ≡ begun → Obeys fate begun result new
-  Failed : fate ≡ fates.Fails → IsErr result → new ≡ broken begun → Obeys fate begun result new
-  Ended : fate ≡ fates.Stopped → IsErr result → new ≡ broken begun → Obeys fate begun result new
+  Failed : fate ≡ fates.Fails → IsErr result → new ≡ memory_after_failure begun → Obeys fate begun result new
+  Ended : fate ≡ fates.Stopped → IsErr result → new ≡ memory_after_failure begun → Obeys fate begun result new

@@ -5,6 +5,6 @@ use Rattle.station.specs.State.{State}
 use Rattle.station.specs.History.{EachImage}
 
 -- nothing was told yet, and whatever a crash leaves was possible in `old`
-pub record Opening (old state : State) : Type 0 where
+pub record IsOpening (old state : State) : Type 0 where
   pub events : state.events ≡ old.events
   pub images : EachImage (IsCrashImage old.disk) state

@@ -20,11 +20,11 @@ plan_after (StopsAt n) = cond (nat_lt 1 n) (StopsAt (n - 1)) Stopped
 plan_after Stopped = Stopped
 
 -- one more, in a `u64`
-abbrev pub risen : ℕ → ℕ
-risen n = min (n + 1) (2 ^ 64 - 1)
+abbrev pub saturated_successor : ℕ → ℕ
+saturated_successor n = min (n + 1) (2 ^ 64 - 1)
 
 -- a counter after a call with this fate, which counts failed calls and none after a stop
-abbrev pub counted : Fate → ℕ → ℕ
-counted fate.Works n = risen n
-counted fate.Fails n = risen n
-counted fate.Stopped n = n
+abbrev pub count_after_call : Fate → ℕ → ℕ
+count_after_call fate.Works n = saturated_successor n
+count_after_call fate.Fails n = saturated_successor n
+count_after_call fate.Stopped n = n

@@ -6,7 +6,7 @@ use Rattle.std.proofs.lemmas.Bool.{cases_eq}
 use Rattle.std.proofs.lemmas.List.Elements.{Contains-push, Contains-append_left}
 use Rattle.station.specs.Disk.{Sector, sector_at, IsCrashImage}
 use Rattle.station.specs.State.{State}
-use Rattle.station.specs.Replay.{after, next, made_of}
+use Rattle.station.specs.Replay.{state_after_calls, next, made_of}
 use Rattle.station.specs.declared.call.Call.{Call}
 use Rattle.station.specs.declared.call.Call.TheVariants.{Show, Hear, Take, Write, Keep, Sync}
 
@@ -33,9 +33,9 @@ next_possible s (Keep i b) is = record {
 }
 next_possible s Sync is = record { count = refl; each = λ j lt. inl refl }
 
-after_possible : (s : State) (calls : List Call) → IsCrashImage s.disk s.disk.present → IsCrashImage (after s calls).disk (after s calls).disk.present
+after_possible : (s : State) (calls : List Call) → IsCrashImage s.disk s.disk.present → IsCrashImage (state_after_calls s calls).disk (state_after_calls s calls).disk.present
 after_possible s [] is = is
 after_possible s (call ∷ calls) is = after_possible (next s call) calls (next_possible s call is)
 
-pub all_possible_after : (start : List Sector) (lines : List (Vec ℕ Global)) (calls : List Call) → IsCrashImage (after (made_of start lines) calls).disk (after (made_of start lines) calls).disk.present
+pub all_possible_after : (start : List Sector) (lines : List (Vec ℕ Global)) (calls : List Call) → IsCrashImage (state_after_calls (made_of start lines) calls).disk (state_after_calls (made_of start lines) calls).disk.present
 all_possible_after start lines calls = after_possible (made_of start lines) calls (record { count = refl; each = λ j lt. inl refl })

@@ -1,6 +1,6 @@
 -- What there is of a station at a moment, and what its calls do to that.
 use Rattle.std.specs.Prelude.{◌≡◌, ℕ, List, [], ◌∷◌, ◌++◌, length, map, take, drop, slice_set, slice_get, slice_index_or, min, Option, option_map}
-use Rattle.station.specs.Disk.{Disk, Sector, settled}
+use Rattle.station.specs.Disk.{Disk, Sector, idle_disk}
 use Rattle.station.specs.declared.note.Note.{Note}
 
 -- a byte that was shown, or a status that a program received
@@ -20,15 +20,15 @@ abbrev pub wrote : State → ℕ → Sector → State
 wrote s i b = record s { disk = record { present = slice_set s.disk.present i b; stable = s.disk.stable; written = s.disk.written ++ (i, b) ∷ [] } }
 
 -- after a write that failed, where the sector keeps its value and a crash may yet leave the new one
-abbrev pub kept : State → ℕ → Sector → State
-kept s i b = record s { disk = record { present = s.disk.present; stable = s.disk.stable; written = s.disk.written ++ (i, b) ∷ [] } }
+abbrev pub state_after_failed_write : State → ℕ → Sector → State
+state_after_failed_write s i b = record s { disk = record { present = s.disk.present; stable = s.disk.stable; written = s.disk.written ++ (i, b) ∷ [] } }
 
 -- after a sync
-abbrev pub synced : State → State
-synced s = record s { disk = settled s.disk.present }
+abbrev pub state_after_sync : State → State
+state_after_sync s = record s { disk = idle_disk s.disk.present }
 
-abbrev pub noted : State → Note → State
-noted s note = record s { events = s.events ++ Noted note ∷ [] }
+abbrev pub state_after_note : State → Note → State
+state_after_note s note = record s { events = s.events ++ Noted note ∷ [] }
 
 abbrev pub took_line : State → State
 took_line s = record s { lines = drop 1 s.lines }
@@ -39,17 +39,17 @@ if_any [] s = []
 if_any (line ∷ lines) s = s ∷ []
 
 -- the state after a line was taken, where one was left
-abbrev pub taking : State → List State
-taking s = if_any s.lines (took_line s)
+abbrev pub states_after_line : State → List State
+states_after_line s = if_any s.lines (took_line s)
 
 -- after these bytes were shown
-abbrev pub shown : State → List ℕ → State
-shown s bytes = record s { events = s.events ++ map Shown bytes }
+abbrev pub state_after_show : State → List ℕ → State
+state_after_show s bytes = record s { events = s.events ++ map Shown bytes }
 
 -- each state while they are shown, one after each byte
-abbrev pub showing : State → List ℕ → List State
-showing s [] = []
-showing s (byte ∷ bytes) = shown s (byte ∷ []) ∷ showing (shown s (byte ∷ [])) bytes
+abbrev pub states_while_showing : State → List ℕ → List State
+states_while_showing s [] = []
+states_while_showing s (byte ∷ bytes) = state_after_show s (byte ∷ []) ∷ states_while_showing (state_after_show s (byte ∷ [])) bytes
 
 -- Nothing was told, and no line was taken.
 pub record SameConsole (old new : State) : Type 0 where
@@ -64,7 +64,7 @@ pub record Begins (first whole : List Event) : Type 0 where
 -- What a write that failed may have done.
 pub data MayHaveWritten (old : State) (i : ℕ) (b : Sector) (new : State) : Type 0 where
   Nothing : new ≡ old → MayHaveWritten old i b new
-  Kept : new ≡ kept old i b → MayHaveWritten old i b new
+  Kept : new ≡ state_after_failed_write old i b → MayHaveWritten old i b new
   Wrote : new ≡ wrote old i b → MayHaveWritten old i b new
 
 -- a buffer after the front of a line was put in, as much as fits

@@ -3,7 +3,7 @@ ghost use Rattle.std.specs.Prelude.{◌≡◌, ◌<◌, OnOk, IsErr};
 ghost use Rattle.station.specs.Disk.{IsSettled};
 ghost use Rattle.station.specs.History.{Through};
 ghost use Rattle.station.specs.Calls.{OnlyWrites};
-ghost use Rattle.station.specs.Blocks.{SectorsAre, Writing, wrote_all};
+ghost use Rattle.station.specs.Blocks.{SectorsAre, IsWriting, wrote_all};
 
 use crate::sector_bytes::SectorBytes;
 use crate::{Device, DeviceError};
@@ -24,7 +24,7 @@ pub fn write_blocks<D: Device>(device: &mut D, blocks: &[Block]) -> Result<(), D
     // At each moment all that waits is writes to the blocks' sectors.
     ensures moments { D.is_honest device.old → IsSettled (D.state device.old).disk →
         Through (D.history device.old) (D.history device.new) (D.state device.new)
-        (Writing (D.state device.old).events (D.state device.old).disk.present blocks.now) }
+        (IsWriting (D.state device.old).events (D.state device.old).disk.present blocks.now) }
 {
     for block in blocks {
         device.write(block.sector, block.bytes.view())?;

@@ -3,7 +3,7 @@
 //! On a device that isn't honest each call still returns, and says nothing more than that it counts its failures.
 ghost use Rattle.std.specs.Prelude.{◌≡◌, ◌<◌, ◌≤◌, ◌↔◌, ℕ, List, length, take, OnOk, OnErr, IfOk, IfSome};
 ghost use Rattle.station.specs.Disk.{sector_at, IsCrashImage};
-ghost use Rattle.station.specs.State.{State, wrote, synced, noted, MayHaveWritten, TakesLine};
+ghost use Rattle.station.specs.State.{State, wrote, state_after_sync, state_after_note, MayHaveWritten, TakesLine};
 ghost use Rattle.station.specs.History.{Moves, Shows, EndsIn};
 ghost use Rattle.station.specs.Failures.{CountsFailure};
 
@@ -74,7 +74,7 @@ pub trait Device {
         ensures honest { is_honest self.old ↔ is_honest self.new }
         ensures sectors { sectors self.new ≡ sectors self.old }
         ensures failures { CountsFailure result (failures self.old) (failures self.new) }
-        ensures synced { is_honest self.old → OnOk result (state self.new ≡ synced (state self.old)) }
+        ensures synced { is_honest self.old → OnOk result (state self.new ≡ state_after_sync (state self.old)) }
         ensures unsynced { is_honest self.old → OnErr result (state self.new ≡ state self.old) }
         ensures moves { is_honest self.old → Moves (history self.old) (state self.old) (history self.new) (state self.new) };
 
@@ -115,7 +115,7 @@ pub trait Station: Device {
         ensures honest { Self.is_honest self.old ↔ Self.is_honest self.new }
         ensures sectors { Self.sectors self.new ≡ Self.sectors self.old }
         ensures failures { CountsFailure result (Self.failures self.old) (Self.failures self.new) }
-        ensures noted { Self.is_honest self.old → OnOk result (Self.state self.new ≡ noted (Self.state self.old) note) }
+        ensures noted { Self.is_honest self.old → OnOk result (Self.state self.new ≡ state_after_note (Self.state self.old) note) }
         ensures unheard { Self.is_honest self.old → OnErr result (Self.state self.new ≡ Self.state self.old) }
         ensures moves { Self.is_honest self.old → Moves (Self.history self.old) (Self.state self.old) (Self.history self.new) (Self.state self.new) };
 }

@@ -1,9 +1,9 @@
 //! The record of the calls on a station in memory.
 ghost use Rattle.std.specs.Prelude.{◌≡◌, ◌≤◌, ◌<◌, ◌^◌, length, IsFalse, IfOk, IfSome, OnOk, OnErr, ◌++◌, ◌∷◌, []};
-ghost use Rattle.station.specs.Replay.{made_of, after, next, passes, is_write};
+ghost use Rattle.station.specs.Replay.{made_of, state_after_calls, next, passes, is_write};
 ghost use Rattle.station.specs.Disk.{sector_at};
-ghost use Rattle.station.specs.Choice.{crashed};
-ghost use Rattle.station.specs.State.{wrote, kept, shown, showing, taking, TakesLine, bytes_of, notes_of};
+ghost use Rattle.station.specs.Choice.{state_after_crash};
+ghost use Rattle.station.specs.State.{wrote, state_after_failed_write, state_after_show, states_while_showing, states_after_line, TakesLine, bytes_of, notes_of};
 
 use crate::Note;
 use crate::call::Call;
@@ -23,7 +23,7 @@ pub struct Journal {
     /// How many of the calls came before the last crash.
     before: usize,
     ghost few_sectors: { length start.items < 2 ^ 32 },
-    ghost current: { present.items ≡ (after (made_of start.items lines.items) calls.items).disk.present },
+    ghost current: { present.items ≡ (state_after_calls (made_of start.items lines.items) calls.items).disk.present },
     ghost before_within: { before ≤ length calls.items },
 }
 
@@ -100,8 +100,8 @@ impl Journal {
     /// Adds a write that failed.
     pub fn keep(&mut self, sector: u32, bytes: &[u8; 4096]) -> Result<(), AllocError>
         ensures sectors { journal_sectors self.new ≡ journal_sectors self.old }
-        ensures state { OnOk result (journal_state self.new ≡ kept (journal_state self.old) sector bytes.now) }
-        ensures history { OnOk result (journal_history self.new ≡ journal_history self.old ++ kept (journal_state self.old) sector bytes.now ∷ []) }
+        ensures state { OnOk result (journal_state self.new ≡ state_after_failed_write (journal_state self.old) sector bytes.now) }
+        ensures history { OnOk result (journal_history self.new ≡ journal_history self.old ++ state_after_failed_write (journal_state self.old) sector bytes.now ∷ []) }
         ensures same_state { OnErr result (journal_state self.new ≡ journal_state self.old) }
         ensures same_history { OnErr result (journal_history self.new ≡ journal_history self.old) }
     {
@@ -112,8 +112,8 @@ impl Journal {
     /// Adds bytes that were shown.
     pub fn show(&mut self, bytes: &[u8]) -> Result<(), AllocError>
         ensures sectors { journal_sectors self.new ≡ journal_sectors self.old }
-        ensures state { OnOk result (journal_state self.new ≡ shown (journal_state self.old) bytes.now) }
-        ensures history { OnOk result (journal_history self.new ≡ journal_history self.old ++ showing (journal_state self.old) bytes.now) }
+        ensures state { OnOk result (journal_state self.new ≡ state_after_show (journal_state self.old) bytes.now) }
+        ensures history { OnOk result (journal_history self.new ≡ journal_history self.old ++ states_while_showing (journal_state self.old) bytes.now) }
         ensures same_state { OnErr result (journal_state self.new ≡ journal_state self.old) }
         ensures same_history { OnErr result (journal_history self.new ≡ journal_history self.old) }
     {
@@ -126,7 +126,7 @@ impl Journal {
         ensures sectors { journal_sectors self.new ≡ journal_sectors self.old }
         ensures bound { IfOk result (λ taken. IfSome taken (λ n. n ≤ length into.old)) }
         ensures taken { IfOk result (λ taken. TakesLine (journal_state self.old) into.old taken into.new (journal_state self.new)) }
-        ensures history { OnOk result (journal_history self.new ≡ journal_history self.old ++ taking (journal_state self.old)) }
+        ensures history { OnOk result (journal_history self.new ≡ journal_history self.old ++ states_after_line (journal_state self.old)) }
         ensures same_state { OnErr result (journal_state self.new ≡ journal_state self.old) }
         ensures same_history { OnErr result (journal_history self.new ≡ journal_history self.old) }
     {
@@ -141,8 +141,8 @@ impl Journal {
     /// Leaves an image of a crash, and begins anew with it. Console calls stay.
     pub fn crash(&mut self, choose: &[u32])
         ensures sectors { journal_sectors self.new ≡ journal_sectors self.old }
-        ensures state { journal_state self.new ≡ crashed (journal_state self.old) choose.now }
-        ensures history { journal_history self.new ≡ crashed (journal_state self.old) choose.now ∷ [] }
+        ensures state { journal_state self.new ≡ state_after_crash (journal_state self.old) choose.now }
+        ensures history { journal_history self.new ≡ state_after_crash (journal_state self.old) choose.now ∷ [] }
     {
         leave_image(&mut self.start, &self.calls, choose);
         self.calls.retain(|call| call.is_of_console());

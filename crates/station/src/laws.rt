@@ -1,22 +1,22 @@
 //! What the crates above build on: laws of crashes, and of the moments of calls.
 ghost use Rattle.std.specs.Prelude.{◌≡◌, ◌↔◌, ℕ, List, Bool, IsTrue};
-ghost use Rattle.station.specs.Disk.{Sector, settled, IsCrashImage};
-ghost use Rattle.station.specs.State.{State, MayHaveWritten, Begins, shown};
-ghost use Rattle.station.specs.History.{Spans, EndsIn, EachImage, Telling};
-ghost use Rattle.station.specs.Choice.{chosen, crashed};
+ghost use Rattle.station.specs.Disk.{Sector, idle_disk, IsCrashImage};
+ghost use Rattle.station.specs.State.{State, MayHaveWritten, Begins, state_after_show};
+ghost use Rattle.station.specs.History.{Spans, EndsIn, EachImage, HasShownSome};
+ghost use Rattle.station.specs.Choice.{chosen_sectors, state_after_crash};
 ghost use Rattle.station.specs.Changes.{ChangesOnly};
 
 /// Of what a crash may leave.
 pub fn crash_laws()
     // After a successful sync exactly one image is possible.
-    ensures synced { (base image : List Sector) → IsCrashImage (settled base) image ↔ (image ≡ base) }
+    ensures synced { (base image : List Sector) → IsCrashImage (idle_disk base) image ↔ (image ≡ base) }
 
     // A write, failed or not, changes only its sector in every image.
     ensures write { (old : State) (i : ℕ) (bytes : Sector) (new : State) → MayHaveWritten old i bytes new → ChangesOnly i old new }
 
     // A crash leaves, by any choice, an image that was possible, and then that image alone is.
-    ensures chosen { (s : State) (choose : List ℕ) → IsCrashImage s.disk (chosen s.disk choose) }
-    ensures crashed { (s : State) (choose : List ℕ) → EachImage (λ image. image ≡ chosen s.disk choose) (crashed s choose) }
+    ensures chosen { (s : State) (choose : List ℕ) → IsCrashImage s.disk (chosen_sectors s.disk choose) }
+    ensures crashed { (s : State) (choose : List ℕ) → EachImage (λ image. image ≡ chosen_sectors s.disk choose) (state_after_crash s choose) }
 {}
 
 /// Of each state that calls pass through.
@@ -28,5 +28,5 @@ pub fn moment_laws()
     ensures arrives { (a b : List State) (old new : State) (p : State → Bool) → EndsIn a old → EndsIn b new → IsTrue (p old) → Spans a b (λ s. IsTrue (p s)) → IsTrue (p new) }
 
     // Whatever a failed show has told is a beginning of what it would have told.
-    ensures told { (old : State) (bytes : List ℕ) (s : State) → Telling old bytes s → Begins s.events (shown old bytes).events }
+    ensures told { (old : State) (bytes : List ℕ) (s : State) → HasShownSome old bytes s → Begins s.events (state_after_show old bytes).events }
 {}

@@ -1,12 +1,12 @@
 //! A station in memory, which can be made to fail, to stop and to crash.
 ghost use Rattle.std.specs.Prelude.{◌≡◌, ◌<◌, ◌≤◌, ◌^◌, [], ◌∷◌, length, IfOk, IfSome, IsOk, IsErr, OnOk, OnErr, ℕ, take};
-ghost use Rattle.station.specs.Replay.{made_of, after, since};
+ghost use Rattle.station.specs.Replay.{made_of, state_after_calls, since};
 ghost use Rattle.station.specs.Disk.{IsCrashImage, sector_at};
-ghost use Rattle.station.specs.State.{wrote, kept, synced, noted, MayHaveWritten, TakesLine, bytes_of, notes_of};
+ghost use Rattle.station.specs.State.{wrote, state_after_failed_write, state_after_sync, state_after_note, MayHaveWritten, TakesLine, bytes_of, notes_of};
 ghost use Rattle.station.specs.History.{EachImage, Moves, Shows};
 ghost use Rattle.station.specs.Failures.{CountsFailure};
-ghost use Rattle.station.specs.Choice.{crashed};
-ghost use Rattle.station.specs.Plan.{fate_of, risen};
+ghost use Rattle.station.specs.Choice.{state_after_crash};
+ghost use Rattle.station.specs.Plan.{fate_of, saturated_successor};
 ghost use Rattle.station.specs.Sectors.{all_present_after, all_stable_after};
 ghost use Rattle.station.specs.Possible.{all_possible_after};
 ghost use Rattle.station.specs.Newest.{since_ends};
@@ -30,7 +30,7 @@ pub struct MemoryStation {
 }
 
 impl MemoryStation {
-    ghost use Rattle.station.specs.Memory.{Memory, memory, broken};
+    ghost use Rattle.station.specs.Memory.{Memory, memory, memory_after_failure};
 
     /// A station with these sectors, all of them durable, and these console lines.
     pub fn new(
@@ -70,7 +70,7 @@ impl MemoryStation {
     /// Ends a stop. The i-th sector with writes since the last sync, in order of number, is left at its stable value
     /// where the i-th choice is 0, and else at the value of that write. A missing choice is 0, a greater one the last.
     pub fn crash(&mut self, choose: &[u32])
-        ensures memory { let left = crashed (memory self.old).state choose.now in
+        ensures memory { let left = state_after_crash (memory self.old).state choose.now in
             memory self.new ≡ record (memory self.old) { state = left; history = left ∷ []; plan = Plan.Works } }
         ensures image { IsCrashImage (memory self.old).state.disk (memory self.new).state.disk.present }
         ensures alone { EachImage (λ image. image ≡ (memory self.new).state.disk.present) (memory self.new).state }
@@ -125,7 +125,7 @@ impl MemoryStation {
     fn fail<T>(&mut self) -> Result<T, DeviceError>
         ensures err { result ≡ Err DeviceError.Failed }
         ensures failures { CountsFailure result self.old.failures self.new.failures }
-        ensures memory { memory self.new ≡ broken (memory self.old) }
+        ensures memory { memory self.new ≡ memory_after_failure (memory self.old) }
         ensures journal { self.new.journal ≡ self.old.journal }
     {
         self.failures = self.failures.saturating_add(1);
@@ -138,7 +138,7 @@ impl MemoryStation {
         ensures err { (e : _) → grown ≡ Err e → result ≡ Err DeviceError.Failed }
         ensures failures { CountsFailure result self.old.failures self.new.failures }
         ensures same { IsOk grown → memory self.new ≡ memory self.old }
-        ensures refused { IsErr grown → memory self.new ≡ broken (record (memory self.old) { refused = risen (memory self.old).refused }) }
+        ensures refused { IsErr grown → memory self.new ≡ memory_after_failure (record (memory self.old) { refused = saturated_successor (memory self.old).refused }) }
         ensures journal { self.new.journal ≡ self.old.journal }
     {
         match grown {
@@ -153,7 +153,7 @@ impl MemoryStation {
 
 impl Device for MemoryStation {
     ghost use Rattle.station.specs.Journal.{journal_state, journal_history, journal_sectors};
-    ghost use Rattle.station.specs.Memory.{memory, reading, writing, syncing, went, Obeys, Follows};
+    ghost use Rattle.station.specs.Memory.{memory, memory_after_read, memory_after_write, memory_after_sync, went, Obeys, Follows};
 
     ghost is_honest = { λ _. Unit {0} };
 
@@ -183,7 +183,7 @@ impl Device for MemoryStation {
         ensures failures { CountsFailure result (memory self.old).failures (memory self.new).failures }
         ensures state { (memory self.new).state ≡ (memory self.old).state }
         ensures history { (memory self.new).history ≡ (memory self.old).history }
-        ensures memory { Obeys (fate_of (memory self.old).plan) (reading (memory self.old)) result (memory self.new) }
+        ensures memory { Obeys (fate_of (memory self.old).plan) (memory_after_read (memory self.old)) result (memory self.new) }
         ensures bytes { OnOk result (bytes.new ≡ sector_at (memory self.old).state.disk.present sector) }
     {
         let fate = self.plan.step();
@@ -202,8 +202,8 @@ impl Device for MemoryStation {
         ensures wrote { OnOk result ((memory self.new).state ≡ wrote (memory self.old).state sector bytes.now) }
         ensures perhaps { MayHaveWritten (memory self.old).state sector bytes.now (memory self.new).state }
         ensures moves { Moves (memory self.old).history (memory self.old).state (memory self.new).history (memory self.new).state }
-        ensures memory { let m = memory self.old in let begun = writing m in
-            Follows (fate_of m.plan) begun (went begun (wrote m.state sector bytes.now)) (went begun (kept m.state sector bytes.now)) result (memory self.new) }
+        ensures memory { let m = memory self.old in let begun = memory_after_write m in
+            Follows (fate_of m.plan) begun (went begun (wrote m.state sector bytes.now)) (went begun (state_after_failed_write m.state sector bytes.now)) result (memory self.new) }
     {
         let fate = self.plan.step();
         fate.count(&mut self.writes);
@@ -224,11 +224,11 @@ impl Device for MemoryStation {
     fn sync(&mut self) -> Result<(), DeviceError>
         ensures sectors { (memory self.new).sectors ≡ (memory self.old).sectors }
         ensures failures { CountsFailure result (memory self.old).failures (memory self.new).failures }
-        ensures synced { OnOk result ((memory self.new).state ≡ synced (memory self.old).state) }
+        ensures synced { OnOk result ((memory self.new).state ≡ state_after_sync (memory self.old).state) }
         ensures unsynced { OnErr result ((memory self.new).state ≡ (memory self.old).state) }
         ensures moves { Moves (memory self.old).history (memory self.old).state (memory self.new).history (memory self.new).state }
-        ensures memory { let m = memory self.old in let begun = syncing m in
-            Follows (fate_of m.plan) begun (went begun (synced m.state)) begun result (memory self.new) }
+        ensures memory { let m = memory self.old in let begun = memory_after_sync m in
+            Follows (fate_of m.plan) begun (went begun (state_after_sync m.state)) begun result (memory self.new) }
     {
         let fate = self.plan.step();
         fate.count(&mut self.syncs);
@@ -241,7 +241,7 @@ impl Device for MemoryStation {
 }
 
 impl Station for MemoryStation {
-    ghost use Rattle.station.specs.Memory.{memory, calling, went, told, lined, Follows};
+    ghost use Rattle.station.specs.Memory.{memory, memory_after_call, went, memory_after_show, memory_after_line, Follows};
 
     fn line(&mut self, into: &mut [u8]) -> Result<Option<usize>, DeviceError>
         ensures sectors { (memory self.new).sectors ≡ (memory self.old).sectors }
@@ -250,8 +250,8 @@ impl Station for MemoryStation {
         ensures moves { Moves (memory self.old).history (memory self.old).state (memory self.new).history (memory self.new).state }
         ensures bound { IfOk result (λ taken. IfSome taken (λ n. n ≤ length into.old)) }
         ensures taken { IfOk result (λ taken. TakesLine (memory self.old).state into.old taken into.new (memory self.new).state) }
-        ensures memory { let m = memory self.old in let begun = calling m in
-            Follows (fate_of m.plan) begun (lined begun) begun result (memory self.new) }
+        ensures memory { let m = memory self.old in let begun = memory_after_call m in
+            Follows (fate_of m.plan) begun (memory_after_line begun) begun result (memory self.new) }
     {
         let takes = self.plan.step() == Fate::Works;
         if !takes {
@@ -266,8 +266,8 @@ impl Station for MemoryStation {
         ensures failures { CountsFailure result (memory self.old).failures (memory self.new).failures }
         ensures shown { OnOk result (Shows (memory self.old).history (memory self.old).state bytes.now (memory self.new).history (memory self.new).state) }
         ensures cut { (n : ℕ) × Shows (memory self.old).history (memory self.old).state (take n bytes.now) (memory self.new).history (memory self.new).state }
-        ensures memory { let m = memory self.old in let begun = calling m in
-            Follows (fate_of m.plan) begun (told begun bytes.now) begun result (memory self.new) }
+        ensures memory { let m = memory self.old in let begun = memory_after_call m in
+            Follows (fate_of m.plan) begun (memory_after_show begun bytes.now) begun result (memory self.new) }
     {
         let shows = self.plan.step() == Fate::Works;
         if !shows {
@@ -280,11 +280,11 @@ impl Station for MemoryStation {
     fn note(&mut self, note: Note) -> Result<(), DeviceError>
         ensures sectors { (memory self.new).sectors ≡ (memory self.old).sectors }
         ensures failures { CountsFailure result (memory self.old).failures (memory self.new).failures }
-        ensures noted { OnOk result ((memory self.new).state ≡ noted (memory self.old).state note) }
+        ensures noted { OnOk result ((memory self.new).state ≡ state_after_note (memory self.old).state note) }
         ensures unheard { OnErr result ((memory self.new).state ≡ (memory self.old).state) }
         ensures moves { Moves (memory self.old).history (memory self.old).state (memory self.new).history (memory self.new).state }
-        ensures memory { let m = memory self.old in let begun = calling m in
-            Follows (fate_of m.plan) begun (went begun (noted m.state note)) begun result (memory self.new) }
+        ensures memory { let m = memory self.old in let begun = memory_after_call m in
+            Follows (fate_of m.plan) begun (went begun (state_after_note m.state note)) begun result (memory self.new) }
     {
         let hears = self.plan.step() == Fate::Works;
         if !hears {

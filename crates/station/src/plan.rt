@@ -23,11 +23,11 @@ pub enum Fate {
 }
 
 impl Fate {
-    ghost use Rattle.station.specs.Plan.{counted};
+    ghost use Rattle.station.specs.Plan.{count_after_call};
 
     /// Counts a call with this fate: none after a stop is.
     pub fn count(self, counter: &mut u64)
-        ensures { counter.new ≡ counted self counter.old }
+        ensures { counter.new ≡ count_after_call self counter.old }
     {
         if self != Fate::Stopped {
             *counter = counter.saturating_add(1);

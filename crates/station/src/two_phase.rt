@@ -1,6 +1,6 @@
 //! Blocks and a root that names them, put on the disk so that a crash leaves the old root or all of them.
 ghost use Rattle.std.specs.Prelude.{◌≡◌, ◌<◌, slice_set, OnOk, IsErr};
-ghost use Rattle.station.specs.Disk.{settled, IsSettled};
+ghost use Rattle.station.specs.Disk.{idle_disk, IsSettled};
 ghost use Rattle.station.specs.History.{Through, EachImage};
 ghost use Rattle.station.specs.Calls.{OnlyWrites};
 ghost use Rattle.station.specs.Blocks.{SectorsAre, SameOutside, WithOrWithout, OldOrNew, CrashLeaves, with_all};
@@ -12,7 +12,7 @@ use crate::{Device, DeviceError};
 pub fn write_blocks_through<D: Device>(device: &mut D, blocks: &[Block]) -> Result<(), DeviceError>
     requires { SectorsAre (λ s. s < D.sectors device.old) blocks.now }
     ensures only { OnlyWrites D.Device (IsErr result) device.old device.new }
-    ensures durable { D.is_honest device.old → OnOk result ((D.state device.new).disk ≡ settled (with_all (D.state device.old).disk.present blocks.now)) }
+    ensures durable { D.is_honest device.old → OnOk result ((D.state device.new).disk ≡ idle_disk (with_all (D.state device.old).disk.present blocks.now)) }
 
     // At each moment a crash leaves all other sectors as they were.
     ensures moments { D.is_honest device.old → IsSettled (D.state device.old).disk →
@@ -31,7 +31,7 @@ pub fn write_through<D: Device>(
 ) -> Result<(), DeviceError>
     requires { sector < D.sectors device.old }
     ensures only { OnlyWrites D.Device (IsErr result) device.old device.new }
-    ensures durable { D.is_honest device.old → OnOk result ((D.state device.new).disk ≡ settled (slice_set (D.state device.old).disk.present sector bytes.now)) }
+    ensures durable { D.is_honest device.old → OnOk result ((D.state device.new).disk ≡ idle_disk (slice_set (D.state device.old).disk.present sector bytes.now)) }
 
     // At each moment a crash leaves all as it was, or with that sector written.
     ensures moments { D.is_honest device.old → IsSettled (D.state device.old).disk →
@@ -52,7 +52,7 @@ pub fn two_phase_write<D: Device>(
     requires blocks { SectorsAre (λ s. s < D.sectors device.old) blocks.now }
     requires root { root < D.sectors device.old }
     ensures only { OnlyWrites D.Device (IsErr result) device.old device.new }
-    ensures durable { D.is_honest device.old → OnOk result ((D.state device.new).disk ≡ settled (slice_set (with_all (D.state device.old).disk.present blocks.now) root bytes.now)) }
+    ensures durable { D.is_honest device.old → OnOk result ((D.state device.new).disk ≡ idle_disk (slice_set (with_all (D.state device.old).disk.present blocks.now) root bytes.now)) }
 
     // At each moment a crash leaves the old root and all sectors but the blocks', or the new root and all blocks.
     ensures moments { D.is_honest device.old → IsSettled (D.state device.old).disk →

@@ -26,12 +26,22 @@ pub const MAP_COUNT: usize = 24;
 pub const FIRST_MAP: usize = 28;
 
 pub const SECOND_MAP: usize = 32;
+
 /// The place behind the two maps.
 pub const BEHIND: usize = 36;
 
 /// The first and the last four bytes of another format's mark.
 
 pub const FOREIGN_MARK: (u32, u32) = (0x434F_4248, 0x414C_4631);
+
+/// A change to an image.
+#[derive(Clone, Copy)]
+pub enum Edit {
+    /// Zeros in a sector.
+    Blank(usize),
+    /// A number in a sector, at a place.
+    Word(usize, usize, u32),
+}
 
 /// The number at a place of a sector, 0 where it doesn't fit there.
 pub fn word_at(bytes: &[u8; 4096], place: usize) -> u32 {
@@ -89,30 +99,6 @@ pub fn changed(
     sectors
 }
 
-/// A change to an image.
-#[derive(Clone, Copy)]
-pub enum Edit {
-    /// Zeros in a sector.
-    Blank(usize),
-    /// A number in a sector, at a place.
-    Word(usize, usize, u32),
-}
-
-fn change(image: &mut Vec<[u8; 4096]>, edit: Edit) {
-    match edit {
-        Edit::Blank(sector) => {
-            if sector < image.len() {
-                image[sector] = filled(0);
-            }
-        }
-        Edit::Word(sector, place, word) => {
-            if sector < image.len() {
-                put_word(&mut image[sector], place, word);
-            }
-        }
-    }
-}
-
 /// A root sector of a volume: its generation, its sectors, the page of the catalog's root, and its map sectors.
 pub fn root(generation: u64, sectors: u32, catalog: u32, maps: &[u32]) -> [u8; 4096] {
     let mut bytes = filled(0);
@@ -158,6 +144,34 @@ pub fn image_with(alloc: Global, generation: u64) -> Result<Vec<[u8; 4096]>, All
     Ok(image)
 }
 
+/// A station with the volume of `image_with` after these changes.
+pub fn station_with(
+    rt: &impl Abort,
+    alloc: Global,
+    generation: u64,
+    edits: &[Edit],
+) -> MemoryStation {
+    match changed_image(alloc, generation, edits) {
+        Ok(station) => station,
+        Err(_) => panic!(rt; "no memory"),
+    }
+}
+
+fn change(image: &mut Vec<[u8; 4096]>, edit: Edit) {
+    match edit {
+        Edit::Blank(sector) => {
+            if sector < image.len() {
+                image[sector] = filled(0);
+            }
+        }
+        Edit::Word(sector, place, word) => {
+            if sector < image.len() {
+                put_word(&mut image[sector], place, word);
+            }
+        }
+    }
+}
+
 fn changed_image(
     alloc: Global,
     generation: u64,
@@ -171,17 +185,4 @@ fn changed_image(
         return Err(AllocError);
     }
     MemoryStation::new(alloc, image, Vec::new(alloc))
-}
-
-/// A station with the volume of `image_with` after these changes.
-pub fn station_with(
-    rt: &impl Abort,
-    alloc: Global,
-    generation: u64,
-    edits: &[Edit],
-) -> MemoryStation {
-    match changed_image(alloc, generation, edits) {
-        Ok(station) => station,
-        Err(_) => panic!(rt; "no memory"),
-    }
 }

@@ -9,76 +9,12 @@ use std::alloc::{AllocError, Global};
 use std::marker::Model;
 use std::process::Abort;
 
-/// Asserts that a call wasn't refused.
-pub fn works(rt: &impl Abort, answer: Result<(), PagesError>) {
-    assert_eq!(rt; answer, Ok(()));
-}
-
-/// Why the volume of a station can't be opened, if it can't.
-pub fn refusal(alloc: Global, station: &mut MemoryStation) -> Option<PagesError> {
-    match PageMap::open(alloc, station, 2) {
-        Ok(_) => None,
-        Err(error) => Some(error),
-    }
-}
-
-/// The bytes of a page or of a sector, all alike.
-pub fn filled(byte: u8) -> [u8; 4096] {
-    [byte; 4096]
-}
-
-fn station_of_zeros(alloc: Global, sectors: u32) -> Result<MemoryStation, AllocError> {
-    let bytes = vec![in alloc; filled(0); sectors as usize]?;
-    MemoryStation::new(alloc, bytes, Vec::new(alloc))
-}
-
-/// A station of so many sectors of zeros.
-pub fn blank_station(rt: &impl Abort, alloc: Global, sectors: u32) -> MemoryStation {
-    match station_of_zeros(alloc, sectors) {
-        Ok(station) => station,
-        Err(_) => panic!(rt; "no memory"),
-    }
-}
-
-/// Makes an empty volume on a station of 1,024 to 921,600 sectors.
-pub fn make_volume(rt: &impl Abort, station: &mut MemoryStation) {
-    assert!(rt; 1024 <= station.count());
-    assert!(rt; station.count() <= 921_600);
-    assert!(rt; format(station).is_ok());
-}
-
-/// A station with an empty volume of so many sectors.
-pub fn new_volume(rt: &impl Abort, alloc: Global, sectors: u32) -> MemoryStation {
-    let mut station = blank_station(rt, alloc, sectors);
-    make_volume(rt, &mut station);
-    station
-}
-
-/// The byte that a page is filled with, 255 where its bytes aren't alike.
-fn alike(bytes: &[u8; 4096]) -> u8 {
-    let first = bytes[0];
-    if bytes.iter().all(|byte| *byte == first) {
-        first
-    } else {
-        255
-    }
-}
-
 /// How often a station's sectors were to be read and written, and syncs were asked for.
 #[derive(Clone, Copy, Debug, PartialEq, Eq)]
 pub struct Counts {
     pub reads: u64,
     pub writes: u64,
     pub syncs: u64,
-}
-
-/// The counts up to now.
-pub fn counts_of(station: &MemoryStation) -> Counts {
-    Counts {
-        reads: station.reads(),
-        writes: station.writes(),
-        syncs: station.syncs(),
-    }
 }
 
 /// An opened volume on its station.
@@ -315,5 +251,69 @@ impl Volume {
     /// The sectors that are not as they were, in ascending order.
     pub fn changed(&mut self, rt: &impl Abort, alloc: Global, before: &[[u8; 4096]]) -> Vec<u32> {
         changed(rt, alloc, &mut self.station, before)
+    }
+}
+
+/// Asserts that a call wasn't refused.
+pub fn works(rt: &impl Abort, answer: Result<(), PagesError>) {
+    assert_eq!(rt; answer, Ok(()));
+}
+
+/// Why the volume of a station can't be opened, if it can't.
+pub fn refusal(alloc: Global, station: &mut MemoryStation) -> Option<PagesError> {
+    match PageMap::open(alloc, station, 2) {
+        Ok(_) => None,
+        Err(error) => Some(error),
+    }
+}
+
+/// The bytes of a page or of a sector, all alike.
+pub fn filled(byte: u8) -> [u8; 4096] {
+    [byte; 4096]
+}
+
+/// A station of so many sectors of zeros.
+pub fn blank_station(rt: &impl Abort, alloc: Global, sectors: u32) -> MemoryStation {
+    match station_of_zeros(alloc, sectors) {
+        Ok(station) => station,
+        Err(_) => panic!(rt; "no memory"),
+    }
+}
+
+/// Makes an empty volume on a station of 1,024 to 921,600 sectors.
+pub fn make_volume(rt: &impl Abort, station: &mut MemoryStation) {
+    assert!(rt; 1024 <= station.count());
+    assert!(rt; station.count() <= 921_600);
+    assert!(rt; format(station).is_ok());
+}
+
+/// A station with an empty volume of so many sectors.
+pub fn new_volume(rt: &impl Abort, alloc: Global, sectors: u32) -> MemoryStation {
+    let mut station = blank_station(rt, alloc, sectors);
+    make_volume(rt, &mut station);
+    station
+}
+
+/// The counts up to now.
+pub fn counts_of(station: &MemoryStation) -> Counts {
+    Counts {
+        reads: station.reads(),
+        writes: station.writes(),
+        syncs: station.syncs(),
+    }
+}
+
+fn station_of_zeros(alloc: Global, sectors: u32) -> Result<MemoryStation, AllocError> {
+    let bytes = vec![in alloc; filled(0); sectors as usize]?;
+    MemoryStation::new(alloc, bytes, Vec::new(alloc))
+}
+
+/// The byte that a page is filled with, 255 where its bytes aren't alike.
+fn alike(bytes: &[u8; 4096]) -> u8 {
+    let first = bytes[0];
+    if bytes.iter().all(|byte| *byte == first) {
+        first
+    } else {
+        255
     }
 }

@@ -13,6 +13,12 @@ const SECTORS: u32 = 16_384;
 /// Rounds of look-ups, one for each row, of which the quickest counts.
 const ROUNDS: u32 = 5;
 
+/// Look-ups of prime keys far from one another, after rows that came in each order: nanoseconds of the processor for one.
+pub fn measure(rt: &HostRuntime) -> Result<()> {
+    measure_in(rt, Order::Ascending)?;
+    measure_in(rt, Order::Scattered)
+}
+
 /// Seeks each of the keys. The sum of the last bytes of what is found, so that the look-ups aren't left out.
 fn seek_each(sales: &mut Sales<MemoryDevice>, keys: &[[u8; KEY]]) -> Result<u64> {
     let mut sum = 0u64;
@@ -41,10 +47,4 @@ fn measure_in(rt: &HostRuntime, order: Order) -> Result<()> {
     let name = order.name();
     println!(rt; "seek-{name} {each} {sum}")?;
     Ok(())
-}
-
-/// Look-ups of prime keys far from one another, after rows that came in each order: nanoseconds of the processor for one.
-pub fn measure(rt: &HostRuntime) -> Result<()> {
-    measure_in(rt, Order::Ascending)?;
-    measure_in(rt, Order::Scattered)
 }

@@ -18,14 +18,6 @@ const ROWS_A_SECTOR: u32 = 8;
 /// What is written to the raw file.
 const BYTES: [u8; 4096] = [7; 4096];
 
-/// Inserts, what was done again, and how many writes and syncs that was.
-#[derive(Drop)]
-struct Beside {
-    inserts: Vec<u64>,
-    raw: Vec<u64>,
-    steps: u64,
-}
-
 /// Makes a volume in a host file with so many rows. The last of them needn't have reached the disk.
 pub fn make(rt: &HostRuntime, path: &str, rows: u32) -> Result<()> {
     let sectors = SPARE + rows / ROWS_A_SECTOR;
@@ -34,6 +26,31 @@ pub fn make(rt: &HostRuntime, path: &str, rows: u32) -> Result<()> {
     let mut sales = Sales::make(rt.alloc(), device, Order::Scattered)?;
     ensure!(sales.fill(0, rows)?, "a row of that key was there");
     Ok(())
+}
+
+/// Inserts so many rows behind those that are there.
+pub fn measure(rt: &HostRuntime, path: &str, rows: u32, count: u32, raw_path: &str) -> Result<()> {
+    let volume = HostVolume::open(rt, path, Access::ReadWrite)?;
+    let device = NotedDevice::new(rt.alloc(), volume, true);
+    let raw = open_file(rt, raw_path)?;
+    let mut sales = Sales::open(rt.alloc(), device, Order::Scattered)?;
+    let mut beside = Beside {
+        inserts: Vec::new(rt.alloc()),
+        raw: Vec::new(rt.alloc()),
+        steps: 0,
+    };
+    for n in rows..rows.saturating_add(count) {
+        insert_beside(rt, &mut sales, &raw, n, &mut beside)?;
+    }
+    print(rt, beside)
+}
+
+/// Inserts, what was done again, and how many writes and syncs that was.
+#[derive(Drop)]
+struct Beside {
+    inserts: Vec<u64>,
+    raw: Vec<u64>,
+    steps: u64,
 }
 
 /// Inserts the n-th row, and does what reached the disk again in the raw file.
@@ -66,21 +83,4 @@ fn print(rt: &HostRuntime, mut beside: Beside) -> Result<()> {
     let hundredths = beside.steps.saturating_mul(100) / count.max(1);
     println!(rt; "steps {hundredths}")?;
     Ok(())
-}
-
-/// Inserts so many rows behind those that are there.
-pub fn measure(rt: &HostRuntime, path: &str, rows: u32, count: u32, raw_path: &str) -> Result<()> {
-    let volume = HostVolume::open(rt, path, Access::ReadWrite)?;
-    let device = NotedDevice::new(rt.alloc(), volume, true);
-    let raw = open_file(rt, raw_path)?;
-    let mut sales = Sales::open(rt.alloc(), device, Order::Scattered)?;
-    let mut beside = Beside {
-        inserts: Vec::new(rt.alloc()),
-        raw: Vec::new(rt.alloc()),
-        steps: 0,
-    };
-    for n in rows..rows.saturating_add(count) {
-        insert_beside(rt, &mut sales, &raw, n, &mut beside)?;
-    }
-    print(rt, beside)
 }

@@ -18,6 +18,20 @@ const ROUNDS: u32 = 5;
 
 const SECTORS: u32 = 65_536;
 
+/// Some thousand inserts into a new small file, and as many into the large one, in turn.
+pub fn measure(rt: &HostRuntime) -> Result<()> {
+    let mut from = MANY - ROUNDS * TIMED / 2;
+    let mut large = filled(rt, from)?;
+    for _ in 0..ROUNDS {
+        let mut small = filled(rt, FEW - TIMED / 2)?;
+        let few = insert_some(rt, &mut small, FEW - TIMED / 2)?;
+        let many = insert_some(rt, &mut large, from)?;
+        from = from.saturating_add(TIMED);
+        println!(rt; "growth {few} {many}")?;
+    }
+    Ok(())
+}
+
 /// A file with the rows before those that are timed.
 fn filled(rt: &HostRuntime, rows: u32) -> Result<Sales<MemoryDevice>> {
     let device = MemoryDevice::new(rt.alloc(), SECTORS)?;
@@ -34,18 +48,4 @@ fn insert_some(rt: &HostRuntime, sales: &mut Sales<MemoryDevice>, from: u32) -> 
         "a row of that key was there"
     );
     Ok(processor_time(rt)?.saturating_sub(start) / u64::from(TIMED))
-}
-
-/// Some thousand inserts into a new small file, and as many into the large one, in turn.
-pub fn measure(rt: &HostRuntime) -> Result<()> {
-    let mut from = MANY - ROUNDS * TIMED / 2;
-    let mut large = filled(rt, from)?;
-    for _ in 0..ROUNDS {
-        let mut small = filled(rt, FEW - TIMED / 2)?;
-        let few = insert_some(rt, &mut small, FEW - TIMED / 2)?;
-        let many = insert_some(rt, &mut large, from)?;
-        from = from.saturating_add(TIMED);
-        println!(rt; "growth {few} {many}")?;
-    }
-    Ok(())
 }

@@ -25,15 +25,6 @@ const ALTERNATE: AlternateKey = AlternateKey {
     duplicates: true,
 };
 
-fn file_of(alloc: Global) -> Result<Option<FileSpec>, AllocError> {
-    Ok(FileSpec::new(
-        Vec::from_slice(alloc, b"SALES")?,
-        Organization::Indexed(PRIME),
-        RECORD as u16,
-        Vec::from_slice(alloc, &[ALTERNATE])?,
-    ))
-}
-
 /// A store, its device and its file.
 #[derive(Drop)]
 pub struct Sales<D: Device + Drop> {
@@ -121,4 +112,13 @@ impl<D: Device + Drop> Sales<D> {
     pub fn free_sectors(&self) -> u32 {
         self.store.free_sectors()
     }
+}
+
+fn file_of(alloc: Global) -> Result<Option<FileSpec>, AllocError> {
+    Ok(FileSpec::new(
+        Vec::from_slice(alloc, b"SALES")?,
+        Organization::Indexed(PRIME),
+        RECORD as u16,
+        Vec::from_slice(alloc, &[ALTERNATE])?,
+    ))
 }

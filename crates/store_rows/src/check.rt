@@ -8,6 +8,34 @@ use row_scripts::{Difference, Fault, Row, Tally};
 use std::alloc::{AllocError, Global};
 use std::io;
 
+/// Runs a case over each of its volumes, and prints the first row that differs over each.
+pub fn check_case<R: Print + AllocGlobal>(
+    rt: &R,
+    script: &str,
+    rows: row_scripts::Case,
+    tally: &mut Tally,
+) -> io::Result<()> {
+    let alloc = rt.alloc();
+    if let Some(line) = rows.wrong {
+        let wrong = Difference::at(alloc, line, Fault::Spelling("this is no row"))?;
+        tally.fail(rt, script, "any volume", &wrong)?;
+    }
+    let case = match Case::of(alloc, rows.into_rows()) {
+        Ok(case) => case,
+        Err(fault) => {
+            let wrong = Difference::at(alloc, 0, fault)?;
+            return tally.fail(rt, script, "any volume", &wrong);
+        }
+    };
+    for kind in case.kinds().iter() {
+        if let Some(difference) = do_rows(alloc, &case, *kind, tally)? {
+            let over = name_of(alloc, *kind)?;
+            tally.fail(rt, script, over.as_str(), &difference)?;
+        }
+    }
+    Ok(())
+}
+
 /// Does the row at a place, disturbed at each of its calls if it is behind the row `disturbed`, whose place is told.
 fn do_row(
     run: &mut Run<'_>,
@@ -68,32 +96,4 @@ fn name_of(alloc: Global, kind: Kind) -> Result<String, AllocError> {
         Kind::Halves => "halves".to_string(alloc),
         Kind::Trees(cached) => format!(in alloc; "trees {cached}"),
     }
-}
-
-/// Runs a case over each of its volumes, and prints the first row that differs over each.
-pub fn check_case<R: Print + AllocGlobal>(
-    rt: &R,
-    script: &str,
-    rows: row_scripts::Case,
-    tally: &mut Tally,
-) -> io::Result<()> {
-    let alloc = rt.alloc();
-    if let Some(line) = rows.wrong {
-        let wrong = Difference::at(alloc, line, Fault::Spelling("this is no row"))?;
-        tally.fail(rt, script, "any volume", &wrong)?;
-    }
-    let case = match Case::of(alloc, rows.into_rows()) {
-        Ok(case) => case,
-        Err(fault) => {
-            let wrong = Difference::at(alloc, 0, fault)?;
-            return tally.fail(rt, script, "any volume", &wrong);
-        }
-    };
-    for kind in case.kinds().iter() {
-        if let Some(difference) = do_rows(alloc, &case, *kind, tally)? {
-            let over = name_of(alloc, *kind)?;
-            tally.fail(rt, script, over.as_str(), &difference)?;
-        }
-    }
-    Ok(())
 }

@@ -8,14 +8,6 @@ const FEW: u32 = 6;
 
 const DRAWN: u32 = 32;
 
-/// A sector with its two values.
-#[derive(Drop)]
-struct Waiting {
-    number: u32,
-    stable: [u8; 4096],
-    last: [u8; 4096],
-}
-
 /// The sectors that waited for a sync at a stop.
 #[derive(Drop)]
 pub struct Images {
@@ -88,4 +80,12 @@ impl Images {
         }
         Ok(())
     }
+}
+
+/// A sector with its two values.
+#[derive(Drop)]
+struct Waiting {
+    number: u32,
+    stable: [u8; 4096],
+    last: [u8; 4096],
 }

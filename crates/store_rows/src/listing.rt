@@ -7,6 +7,24 @@ use records::Organization;
 use row_scripts::escape;
 use std::alloc::{AllocError, Global};
 
+/// These files as text.
+pub fn list(alloc: Global, files: &[StoredFile]) -> Result<Vec<u8>, AllocError> {
+    let mut text = Vec::new(alloc);
+    for file in files.iter() {
+        put_file(alloc, &mut text, file)?;
+    }
+    Ok(text)
+}
+
+/// The sum of a text: FNV-1a of 64 bits.
+pub fn sum_of(text: &[u8]) -> u64 {
+    let mut sum = 0xcbf2_9ce4_8422_2325u64;
+    for byte in text.iter() {
+        sum = (sum ^ u64::from(*byte)).wrapping_mul(0x0000_0100_0000_01b3);
+    }
+    sum
+}
+
 fn kind(organization: Organization) -> &'static str {
     match organization {
         Organization::Sequential => "sequential",
@@ -66,22 +84,4 @@ fn put_file(alloc: Global, text: &mut Vec<u8>, file: &StoredFile) -> Result<(), 
         put_row(alloc, text, has_keys, row)?;
     }
     Ok(())
-}
-
-/// These files as text.
-pub fn list(alloc: Global, files: &[StoredFile]) -> Result<Vec<u8>, AllocError> {
-    let mut text = Vec::new(alloc);
-    for file in files.iter() {
-        put_file(alloc, &mut text, file)?;
-    }
-    Ok(text)
-}
-
-/// The sum of a text: FNV-1a of 64 bits.
-pub fn sum_of(text: &[u8]) -> u64 {
-    let mut sum = 0xcbf2_9ce4_8422_2325u64;
-    for byte in text.iter() {
-        sum = (sum ^ u64::from(*byte)).wrapping_mul(0x0000_0100_0000_01b3);
-    }
-    sum
 }

@@ -4,6 +4,44 @@ use records::{Access, AlternateKey, FileSpec, KeyPlace, Organization, Select};
 use row_scripts::{Fault, Words, quoted};
 use std::alloc::Global;
 
+/// The name by which rows call a SELECT.
+pub fn name_of(row: &[u8]) -> Option<&[u8]> {
+    Words::of(row).word()
+}
+
+/// The SELECT of a row, without its first word.
+pub fn read_select(alloc: Global, row: &[u8]) -> Result<Select, Fault> {
+    let mut words = Words::of(row);
+    words.word();
+    let name = quoted(alloc, wrong(words.word())?)?;
+    let organization = wrong(organization(wrong(words.word())?))?;
+    let length = wrong(words.number())?;
+    let access = wrong(access(wrong(words.word())?))?;
+    let mut clauses = Clauses {
+        organization,
+        alternates: Vec::new(alloc),
+        optional: false,
+        key_digits: None,
+    };
+    for _ in 0..row.len() {
+        let Some(word) = words.word() else { break };
+        clauses.clause(&mut words, word)?;
+    }
+    let record_length = wrong(u16::try_from(length).ok())?;
+    let file = FileSpec::new(
+        name,
+        clauses.organization,
+        record_length,
+        clauses.alternates,
+    );
+    Ok(Select {
+        file: wrong(file)?,
+        access,
+        optional: clauses.optional,
+        key_digits: clauses.key_digits,
+    })
+}
+
 fn wrong<T: Drop>(found: Option<T>) -> Result<T, Fault> {
     match found {
         Some(found) => Ok(found),
@@ -68,42 +106,4 @@ impl Clauses {
         }
         Ok(())
     }
-}
-
-/// The name by which rows call a SELECT.
-pub fn name_of(row: &[u8]) -> Option<&[u8]> {
-    Words::of(row).word()
-}
-
-/// The SELECT of a row, without its first word.
-pub fn read_select(alloc: Global, row: &[u8]) -> Result<Select, Fault> {
-    let mut words = Words::of(row);
-    words.word();
-    let name = quoted(alloc, wrong(words.word())?)?;
-    let organization = wrong(organization(wrong(words.word())?))?;
-    let length = wrong(words.number())?;
-    let access = wrong(access(wrong(words.word())?))?;
-    let mut clauses = Clauses {
-        organization,
-        alternates: Vec::new(alloc),
-        optional: false,
-        key_digits: None,
-    };
-    for _ in 0..row.len() {
-        let Some(word) = words.word() else { break };
-        clauses.clause(&mut words, word)?;
-    }
-    let record_length = wrong(u16::try_from(length).ok())?;
-    let file = FileSpec::new(
-        name,
-        clauses.organization,
-        record_length,
-        clauses.alternates,
-    );
-    Ok(Select {
-        file: wrong(file)?,
-        access,
-        optional: clauses.optional,
-        key_digits: clauses.key_digits,
-    })
 }

@@ -12,7 +12,7 @@ use Rattle.text_ops.specs.declared.entry.Span.{Span}
 use Rattle.text_ops.specs.declared.entry.Entry.{Entry}
 use Rattle.text_ops.specs.declared.entry.Fit.{Fit}
 use Rattle.text_ops.specs.declared.entry.Fit.TheVariants as f
-use Rattle.text_ops.specs.Walk.{stands, fits, later, first_fit}
+use Rattle.text_ops.specs.Walk.{fits_at, fits, later, first_fit}
 use Rattle.text_ops.specs.Beginnings.{text_of, Skips, AreMarked, entries_on}
 use Rattle.text_ops.specs.declared.progress.Progress.{Progress}
 use Rattle.text_ops.specs.declared.progress.Fitted.{Fitted}
@@ -82,7 +82,7 @@ differs [] rest some more not = absurd (omega arith)
 differs (c ∷ text) [] some more not = absurd (omega arith)
 differs (c ∷ text) (r ∷ rest) some more not = ap (λ (b : Bool). b && starts_with nat_eq rest text) (ne_eqb c r (λ is. not (sym is)))
 
-stands_not : (texts : List ℕ) (p : Progress) (what : Fit) (at : ℕ) (rest : List ℕ) (text : Span) → text_of what ≡ Some text → starts_with nat_eq rest (bytes_in texts text) ≡ false → stands texts p what at rest ≡ false
+stands_not : (texts : List ℕ) (p : Progress) (what : Fit) (at : ℕ) (rest : List ℕ) (text : Span) → text_of what ≡ Some text → starts_with nat_eq rest (bytes_in texts text) ≡ false → fits_at texts p what at rest ≡ false
 stands_not texts p f.Characters at rest text is not = absurd (cc)
 stands_not texts p (f.All span) at rest text is not =
     let same : span ≡ text = cc in

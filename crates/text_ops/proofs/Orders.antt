@@ -8,7 +8,7 @@ use Rattle.std.proofs.lemmas.Cmp.{nat_list_cmp_total}
 use Rattle.std.specs.List.{repeat}
 use Rattle.std.proofs.lemmas.List.{take-append-le, take-append-drop, append-nil, length-take-le, take_all, length-replicate}
 use Rattle.std.proofs.Math.Seq.{take-append-add, take-length}
-use Rattle.items.specs.Texts.{padded, repeated}
+use Rattle.items.specs.Texts.{padded_text, repeated_text}
 use Rattle.text_ops.specs.Compare.{order_of_texts}
 
 abbrev pub order : List ℕ → List ℕ → Ordering
@@ -59,34 +59,34 @@ repeat_alike (suc m) zero j l some mk mj = absurd (omega arith)
 repeat_alike (suc m) (suc k) zero l some mk mj = absurd (omega arith)
 repeat_alike (suc m) (suc k) (suc j) l some mk mj = alike_by (suc m) k j l (le_or_more (suc m) (length l)) (λ n e. repeat_alike n k j l some (omega arith) (omega arith))
 
-pub last_repeated : (m : ℕ) (l : List ℕ) → m ≤ length l → take m l ≡ repeated m l
+pub last_repeated : (m : ℕ) (l : List ℕ) → m ≤ length l → take m l ≡ repeated_text m l
 last_repeated zero l h = refl
 last_repeated (suc m) l h = sym (take-append-le (suc m) l (repeat m l) h)
 
-pub next_repeated : (m : ℕ) (l : List ℕ) → 1 ≤ length l → repeated (length l + m) l ≡ l ++ repeated m l
+pub next_repeated : (m : ℕ) (l : List ℕ) → 1 ≤ length l → repeated_text (length l + m) l ≡ l ++ repeated_text m l
 next_repeated m l some =
     let size : length l + m ≡ suc (length l + m - 1) = omega arith in
     let e : repeat (length l + m) l ≡ l ++ repeat (length l + m - 1) l = ap (λ n. repeat n l) size in
     ap (take (length l + m)) e ∙ take-append-add l (repeat (length l + m - 1) l) m ∙ ap (λ x. l ++ x) (repeat_alike m (length l + m - 1) m l some (omega arith) (omega arith))
 
-pub front_repeated : (text literal : List ℕ) → 1 ≤ length literal → length literal ≤ length text → order text (repeated (length text) literal) ≡ ordering_then (order (take (length literal) text) literal) (order (drop (length literal) text) (repeated (length (drop (length literal) text)) literal))
+pub front_repeated : (text literal : List ℕ) → 1 ≤ length literal → length literal ≤ length text → order text (repeated_text (length text) literal) ≡ ordering_then (order (take (length literal) text) literal) (order (drop (length literal) text) (repeated_text (length (drop (length literal) text)) literal))
 front_repeated text literal some h =
     let size : length text ≡ length literal + length (drop (length literal) text) = omega (arith, length-drop (length literal) text) in
     let whole : text ≡ take (length literal) text ++ drop (length literal) text = sym (take-append-drop (length literal) text) in
-    let beside : repeated (length text) literal ≡ literal ++ repeated (length (drop (length literal) text)) literal = ap (λ n. repeated n literal) size ∙ next_repeated (length (drop (length literal) text)) literal some in
-    ap (λ x. order text x) beside ∙ ap (λ x. order x (literal ++ repeated (length (drop (length literal) text)) literal)) whole ∙ parts (take (length literal) text) literal (drop (length literal) text) (repeated (length (drop (length literal) text)) literal) (length-take-le (length literal) text h)
+    let beside : repeated_text (length text) literal ≡ literal ++ repeated_text (length (drop (length literal) text)) literal = ap (λ n. repeated_text n literal) size ∙ next_repeated (length (drop (length literal) text)) literal some in
+    ap (λ x. order text x) beside ∙ ap (λ x. order x (literal ++ repeated_text (length (drop (length literal) text)) literal)) whole ∙ parts (take (length literal) text) literal (drop (length literal) text) (repeated_text (length (drop (length literal) text)) literal) (length-take-le (length literal) text h)
 
-pub front_decides : (text literal front back : List ℕ) (o : Ordering) → 1 ≤ length literal → length literal ≤ length text → front ≡ take (length literal) text → o ≡ order front literal → o ≢ Equal → o ≡ order text (repeated (length text) literal)
+pub front_decides : (text literal front back : List ℕ) (o : Ordering) → 1 ≤ length literal → length literal ≤ length text → front ≡ take (length literal) text → o ≡ order front literal → o ≢ Equal → o ≡ order text (repeated_text (length text) literal)
 front_decides text literal front back o some h is e ne =
     let o-is : o ≡ order (take (length literal) text) literal = e ∙ ap (λ x. order x literal) is in
-    let rest = order (drop (length literal) text) (repeated (length (drop (length literal) text)) literal) in
+    let rest = order (drop (length literal) text) (repeated_text (length (drop (length literal) text)) literal) in
     sym (front_repeated text literal some h ∙ ap (λ x. ordering_then x rest) (sym o-is) ∙ then_decided o rest ne)
 
-pub front_agrees : (text literal front back : List ℕ) (o : Ordering) → 1 ≤ length literal → length literal ≤ length text → front ≡ take (length literal) text → back ≡ drop (length literal) text → o ≡ order front literal → o ≡ Equal → order text (repeated (length text) literal) ≡ order back (repeated (length back) literal)
+pub front_agrees : (text literal front back : List ℕ) (o : Ordering) → 1 ≤ length literal → length literal ≤ length text → front ≡ take (length literal) text → back ≡ drop (length literal) text → o ≡ order front literal → o ≡ Equal → order text (repeated_text (length text) literal) ≡ order back (repeated_text (length back) literal)
 front_agrees text literal front back o some h is after e equal =
     let o-is : order (take (length literal) text) literal ≡ Equal = ap (λ x. order x literal) (sym is) ∙ sym e ∙ equal in
-    let rest = order (drop (length literal) text) (repeated (length (drop (length literal) text)) literal) in
-    front_repeated text literal some h ∙ ap (λ x. ordering_then x rest) o-is ∙ ap (λ x. order x (repeated (length x) literal)) (sym after)
+    let rest = order (drop (length literal) text) (repeated_text (length (drop (length literal) text)) literal) in
+    front_repeated text literal some h ∙ ap (λ x. ordering_then x rest) o-is ∙ ap (λ x. order x (repeated_text (length x) literal)) (sym after)
 
 -- ---- padded
 
@@ -100,12 +100,12 @@ pub texts_reversed : (one other : List ℕ) → order_of_texts one other ≡ ord
 unfolding order_of_texts
 texts_reversed one other =
     let size = max (length other) (length one) in
-    rw (max_swaps (length one) (length other)) (reversed (padded size one) (padded size other))
+    rw (max_swaps (length one) (length other)) (reversed (padded_text size one) (padded_text size other))
 
-padded_longer : (text : List ℕ) → padded (length text) text ≡ text
+padded_longer : (text : List ℕ) → padded_text (length text) text ≡ text
 padded_longer text = let e : length text - length text ≡ 0 = omega arith in rw (e, take-length text) (append-nil text)
 
-padded_shorter : (size : ℕ) (text : List ℕ) → length text ≤ size → padded size text ≡ text ++ replicate (size - length text) 32
+padded_shorter : (size : ℕ) (text : List ℕ) → length text ≤ size → padded_text size text ≡ text ++ replicate (size - length text) 32
 padded_shorter size text h = ap (λ x. x ++ replicate (size - length text) 32) (take_all size text h)
 
 pub padded_order : (shorter front back : List ℕ) → length shorter ≡ length front → order_of_texts shorter (front ++ back) ≡ ordering_then (order shorter front) (ordering_reverse (order back (replicate (length back) 32)))
@@ -115,9 +115,9 @@ padded_order shorter front back e =
     let sizes : length longer ≡ length front + length back = length-append front back in
     let size : max (length shorter) (length longer) ≡ length longer = omega arith in
     let room : length longer - length shorter ≡ length back = omega arith in
-    let one : padded (length longer) shorter ≡ shorter ++ replicate (length back) 32 = padded_shorter (length longer) shorter (omega arith) ∙ ap (λ n. shorter ++ replicate n 32) room in
-    let whole : padded (length longer) longer ≡ front ++ back = padded_longer longer in
-    ap (λ n. order (padded n shorter) (padded n longer)) size ∙ ap (λ x. order x (padded (length longer) longer)) one ∙ ap (λ x. order (shorter ++ replicate (length back) 32) x) whole ∙ parts shorter front (replicate (length back) 32) back e ∙ ap (λ o. ordering_then (order shorter front) o) (reversed (replicate (length back) 32) back)
+    let one : padded_text (length longer) shorter ≡ shorter ++ replicate (length back) 32 = padded_shorter (length longer) shorter (omega arith) ∙ ap (λ n. shorter ++ replicate n 32) room in
+    let whole : padded_text (length longer) longer ≡ front ++ back = padded_longer longer in
+    ap (λ n. order (padded_text n shorter) (padded_text n longer)) size ∙ ap (λ x. order x (padded_text (length longer) longer)) one ∙ ap (λ x. order (shorter ++ replicate (length back) 32) x) whole ∙ parts shorter front (replicate (length back) 32) back e ∙ ap (λ o. ordering_then (order shorter front) o) (reversed (replicate (length back) 32) back)
 
 pub split_order : (shorter longer front back : List ℕ) → length shorter ≤ length longer → front ≡ take (length shorter) longer → back ≡ drop (length shorter) longer → order_of_texts shorter longer ≡ ordering_then (order shorter front) (ordering_reverse (order back (replicate (length back) 32)))
 split_order shorter longer front back h is after =
@@ -130,7 +130,7 @@ pub same_size : (one other : List ℕ) → length one ≡ length other → order
 unfolding order_of_texts
 same_size one other e =
     let size : max (length one) (length other) ≡ length one = omega arith in
-    ap (λ n. order (padded n one) (padded n other)) size ∙ ap (λ x. order x (padded (length one) other)) (padded_longer one) ∙ ap (λ n. order one (padded n other)) e ∙ ap (λ x. order one x) (padded_longer other)
+    ap (λ n. order (padded_text n one) (padded_text n other)) size ∙ ap (λ x. order x (padded_text (length one) other)) (padded_longer one) ∙ ap (λ n. order one (padded_text n other)) e ∙ ap (λ x. order one x) (padded_longer other)
 
 pub beside_character : (text : List ℕ) (c : ℕ) → order_of_texts text (replicate (length text) c) ≡ order text (replicate (length text) c)
 beside_character text c = same_size text (replicate (length text) c) (sym (length-replicate (length text) c))
@@ -139,6 +139,6 @@ length_repeat : (n : ℕ) (l : List ℕ) → 1 ≤ length l → n ≤ length (re
 length_repeat zero l some = omega arith
 length_repeat (suc n) l some = omega (arith, length-append l (repeat n l), length_repeat n l some)
 
-pub beside_repeated : (text literal : List ℕ) → 1 ≤ length literal → order_of_texts text (repeated (length text) literal) ≡ order text (repeated (length text) literal)
+pub beside_repeated : (text literal : List ℕ) → 1 ≤ length literal → order_of_texts text (repeated_text (length text) literal) ≡ order text (repeated_text (length text) literal)
 beside_repeated text literal some =
-    same_size text (repeated (length text) literal) (sym (length-take-le (length text) (repeat (length text) literal) (length_repeat (length text) literal some)))
+    same_size text (repeated_text (length text) literal) (sym (length-take-le (length text) (repeat (length text) literal) (length_repeat (length text) literal some)))

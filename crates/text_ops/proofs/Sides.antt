@@ -10,7 +10,7 @@ use Rattle.items.specs.declared.item.Item.{Item}
 use Rattle.items.specs.declared.taken.Taken.{Taken}
 use Rattle.items.specs.declared.taken.Taken.TheVariants as t
 use Rattle.items.specs.Texts.{characters, characters_in, plain_bytes}
-use Rattle.text_ops.specs.Compare.{order_of_texts, is_number_kind, is_number, is_numeric_item, both, size_of, size_in}
+use Rattle.text_ops.specs.Compare.{order_of_texts, is_number_kind, is_number_operand, is_numeric_item, both, size_of, size_in}
 use Rattle.text_ops.proofs.Orders.{texts_reversed}
 
 plain_kind : (kind : Kind) (bytes : List ℕ) → is_number_kind kind ≡ false → characters_in kind bytes ≡ Some bytes
@@ -48,7 +48,7 @@ item_second one ones item others e =
     ap (λ o. both order_of_texts o (characters_in item.kind others)) (plain one ones size e) ∙ both_left (characters_in item.kind others) (plain_bytes one ones size)
 
 -- not both are numbers
-number_item : (one : Taken) → is_numeric_item one ≡ true → is_number one ≡ true
+number_item : (one : Taken) → is_numeric_item one ≡ true → is_number_operand one ≡ true
 number_item (t.Item item) e = e
 number_item (t.Figurative constant) e = cc
 number_item t.All e = cc
@@ -58,12 +58,12 @@ both_false true true p q e = cc
 both_false true false p q e = cc
 both_false false c p q e = cc
 
-pub no_item : (one other : Taken) (b : Bool) → is_numeric_item one ≡ b → (is_number one && is_number other) ≡ false → is_numeric_item other ≡ true → is_numeric_item one ≡ false
+pub no_item : (one other : Taken) (b : Bool) → is_numeric_item one ≡ b → (is_number_operand one && is_number_operand other) ≡ false → is_numeric_item other ≡ true → is_numeric_item one ≡ false
 no_item one other false is e number = is
 no_item one other true is e number =
     let first-is = number_item one is in
     let second-is = number_item other number in
-    absurd (both_false (is_number one) (is_number other) first-is second-is e)
+    absurd (both_false (is_number_operand one) (is_number_operand other) first-is second-is e)
 
 pub both_reversed : (one other : Option (List ℕ)) → both order_of_texts one other ≡ option_map ordering_reverse (both order_of_texts other one)
 both_reversed None None = refl

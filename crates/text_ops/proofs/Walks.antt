@@ -11,7 +11,7 @@ use Rattle.text_ops.specs.declared.entry.Span.{Span}
 use Rattle.text_ops.specs.declared.entry.Entry.{Entry}
 use Rattle.text_ops.specs.declared.entry.Fit.{Fit}
 use Rattle.text_ops.specs.declared.entry.Fit.TheVariants as f
-use Rattle.text_ops.specs.Walk.{begun, stands, fits, passed, later, first_fit, after, size_of, walk_on, walk, AreActive, IsFitted}
+use Rattle.text_ops.specs.Walk.{initial_progress, fits_at, fits, progress_after, later, first_fit, walk_after, size_of, walk_on, walk, AreActive, IsFitted}
 use Rattle.text_ops.specs.declared.progress.Progress.{Progress}
 use Rattle.text_ops.specs.declared.progress.Fitted.{Fitted}
 
@@ -62,7 +62,7 @@ right_true false c e = cc
 -- what fits ends within the limit
 pub room_left : (texts : List ℕ) (p : Progress) (at : ℕ) (rest : List ℕ) → fits texts p at rest ≡ true → at + fit_length p.entry.fit ≤ p.limit
 room_left texts p at rest e =
-    leb-true (at + fit_length p.entry.fit) p.limit (left_true (leb (at + fit_length p.entry.fit) p.limit) (stands texts p p.entry.fit at rest) e)
+    leb-true (at + fit_length p.entry.fit) p.limit (left_true (leb (at + fit_length p.entry.fit) p.limit) (fits_at texts p p.entry.fit at rest) e)
 
 -- ---- the size of what fits
 
@@ -75,7 +75,7 @@ stands_within texts span rest is stands =
     let alike = pointwise_long nat_eq (bytes_in texts span) (take (length (bytes_in texts span)) rest) stands in
     omega (arith, alike, span_size texts span is, length-take (length (bytes_in texts span)) rest)
 
-sizes : (texts : List ℕ) (p : Progress) (what : Fit) (at : ℕ) (rest : List ℕ) → IsFit (length texts) what → 1 ≤ length rest → stands texts p what at rest ≡ true → (1 ≤ fit_length what) × (fit_length what ≤ length rest)
+sizes : (texts : List ℕ) (p : Progress) (what : Fit) (at : ℕ) (rest : List ℕ) → IsFit (length texts) what → 1 ≤ length rest → fits_at texts p what at rest ≡ true → (1 ≤ fit_length what) × (fit_length what ≤ length rest)
 sizes texts p f.Characters at rest is some e = (omega arith, some)
 sizes texts p (f.All text) at rest is some e = (is.some, stands_within texts text rest is (right_true (leb p.first at) (starts_with nat_eq rest (bytes_in texts text)) e))
 sizes texts p (f.Leading text) at rest is some e = (is.some, stands_within texts text rest is (right_true (eqb p.first at) (starts_with nat_eq rest (bytes_in texts text)) e))
@@ -86,22 +86,22 @@ fitted_is texts active at rest fitted are some e =
     let one = found texts active at rest fitted e in
     let entry : IsEntry (length texts) fitted.progress.entry = rw (one.progress fitted.progress) at (are fitted.number fitted.progress one.number) in
     let p = fitted.progress in
-    let fit = sizes texts p p.entry.fit at rest entry.fit some (right_true (leb (at + fit_length p.entry.fit) p.limit) (stands texts p p.entry.fit at rest) one.fits) in
+    let fit = sizes texts p p.entry.fit at rest entry.fit some (right_true (leb (at + fit_length p.entry.fit) p.limit) (fits_at texts p p.entry.fit at rest) one.fits) in
     record { number = one.number; entry = entry; at = one.place; some = fit.0; within = fit.1 }
 
-pub entry_stays : (p : Progress) (what : Fit) (at : ℕ) → (passed p what at).entry ≡ p.entry
+pub entry_stays : (p : Progress) (what : Fit) (at : ℕ) → (progress_after p what at).entry ≡ p.entry
 entry_stays p f.Characters at = refl
 entry_stays p (f.All text) at = refl
 entry_stays p (f.Leading text) at = refl
 entry_stays p (f.First text) at = refl
 
-pub still_active : (texts : List ℕ) (active : List Progress) (fitted : Fitted) → AreActive active (length texts) → IsEntry (length texts) fitted.progress.entry → AreActive (after active (Some fitted)) (length texts)
+pub still_active : (texts : List ℕ) (active : List Progress) (fitted : Fitted) → AreActive active (length texts) → IsEntry (length texts) fitted.progress.entry → AreActive (walk_after active (Some fitted)) (length texts)
 still_active texts active fitted are is =
     let p = fitted.progress in
-    let same : IsEntry (length texts) (passed p p.entry.fit fitted.at).entry = rw (entry_stays p p.entry.fit fitted.at) is in
-    All-set (λ x. IsEntry (length texts) x.entry) active fitted.number (passed p p.entry.fit fitted.at) same are
+    let same : IsEntry (length texts) (progress_after p p.entry.fit fitted.at).entry = rw (entry_stays p p.entry.fit fitted.at) is in
+    All-set (λ x. IsEntry (length texts) x.entry) active fitted.number (progress_after p p.entry.fit fitted.at) same are
 
-pub active_begun : (texts subject : List ℕ) (entries : List Entry) (size : ℕ) → AreWithin entries size → AreActive (map (begun texts subject) entries) size
+pub active_begun : (texts subject : List ℕ) (entries : List Entry) (size : ℕ) → AreWithin entries size → AreActive (map (initial_progress texts subject) entries) size
 active_begun texts subject [] size are k d h = absurd (omega arith)
 active_begun texts subject (entry ∷ more) size are zero d h = are zero entry (omega arith)
 active_begun texts subject (entry ∷ more) size are (suc k) d h =
@@ -130,17 +130,17 @@ none_at (suc depth) texts active at (c ∷ rest) all enough is some e = record {
 pub goes_on : (texts : List ℕ) (active : List Progress) (at : ℕ) (rest : List ℕ) (all : List Fitted) → Goes texts active at rest all → 1 ≤ length rest → first_fit texts active at rest ≡ None → Goes texts active (at + 1) (drop 1 rest) all
 goes_on texts active at rest all goes some e = none_at goes.depth texts active at rest all goes.enough goes.walk some e
 
-some_at : (depth : ℕ) (texts : List ℕ) (active : List Progress) (at : ℕ) (rest : List ℕ) (all : List Fitted) (fitted : Fitted) → length rest ≤ depth → all ≡ walk depth texts active at rest → 1 ≤ length rest → 1 ≤ size_of fitted → first_fit texts active at rest ≡ Some fitted → (more : List Fitted) × (all ≡ fitted ∷ more) × Goes texts (after active (Some fitted)) (at + size_of fitted) (drop (size_of fitted) rest) more
+some_at : (depth : ℕ) (texts : List ℕ) (active : List Progress) (at : ℕ) (rest : List ℕ) (all : List Fitted) (fitted : Fitted) → length rest ≤ depth → all ≡ walk depth texts active at rest → 1 ≤ length rest → 1 ≤ size_of fitted → first_fit texts active at rest ≡ Some fitted → (more : List Fitted) × (all ≡ fitted ∷ more) × Goes texts (walk_after active (Some fitted)) (at + size_of fitted) (drop (size_of fitted) rest) more
 unfolding walk
 some_at depth texts active at [] all fitted enough is some size e = absurd (omega arith)
 some_at zero texts active at (c ∷ rest) all fitted enough is some size e = absurd (omega arith)
 some_at (suc depth) texts active at (c ∷ rest) all fitted enough is some size e =
     let left = drop (size_of fitted) (c ∷ rest) in
-    let more = walk depth texts (after active (Some fitted)) (at + size_of fitted) left in
+    let more = walk depth texts (walk_after active (Some fitted)) (at + size_of fitted) left in
     let room : length left ≤ depth = omega (arith, length-drop (size_of fitted) (c ∷ rest)) in
     (more, is ∙ ap (walk_on (walk depth texts) active at (c ∷ rest)) e, record { depth = depth; enough = room; walk = refl })
 
-pub goes_past : (texts : List ℕ) (active : List Progress) (at : ℕ) (rest : List ℕ) (all : List Fitted) (fitted : Fitted) → Goes texts active at rest all → 1 ≤ length rest → 1 ≤ size_of fitted → first_fit texts active at rest ≡ Some fitted → (more : List Fitted) × (all ≡ fitted ∷ more) × Goes texts (after active (Some fitted)) (at + size_of fitted) (drop (size_of fitted) rest) more
+pub goes_past : (texts : List ℕ) (active : List Progress) (at : ℕ) (rest : List ℕ) (all : List Fitted) (fitted : Fitted) → Goes texts active at rest all → 1 ≤ length rest → 1 ≤ size_of fitted → first_fit texts active at rest ≡ Some fitted → (more : List Fitted) × (all ≡ fitted ∷ more) × Goes texts (walk_after active (Some fitted)) (at + size_of fitted) (drop (size_of fitted) rest) more
 goes_past texts active at rest all fitted goes some size e = some_at goes.depth texts active at rest all fitted goes.enough goes.walk some size e
 
 ended_at : (depth : ℕ) (texts : List ℕ) (active : List Progress) (at : ℕ) → walk depth texts active at [] ≡ []
@@ -153,7 +153,7 @@ goes_out texts active at rest all goes e = goes.walk ∙ ap (walk goes.depth tex
 
 -- ---- a turn of a loop, which stands at a place of its subject
 
-pub past_fit : (texts : List ℕ) (active new : List Progress) (at size : ℕ) (subject rest : List ℕ) (all : List Fitted) (fitted : Fitted) → Goes texts active at (drop at subject) all → at < length subject → rest ≡ drop at subject → Some fitted ≡ first_fit texts active at rest → 1 ≤ size_of fitted → new ≡ after active (Some fitted) → size ≡ size_of fitted → (more : List Fitted) × (all ≡ fitted ∷ more) × Goes texts new (at + size) (drop (at + size) subject) more
+pub past_fit : (texts : List ℕ) (active new : List Progress) (at size : ℕ) (subject rest : List ℕ) (all : List Fitted) (fitted : Fitted) → Goes texts active at (drop at subject) all → at < length subject → rest ≡ drop at subject → Some fitted ≡ first_fit texts active at rest → 1 ≤ size_of fitted → new ≡ walk_after active (Some fitted) → size ≡ size_of fitted → (more : List Fitted) × (all ≡ fitted ∷ more) × Goes texts new (at + size) (drop (at + size) subject) more
 past_fit texts active new at size subject rest all fitted goes h rest-is first some new-is size-is =
     let left = drop at subject in
     let some-left : 1 ≤ length left = omega (arith, length-drop at subject) in
@@ -161,11 +161,11 @@ past_fit texts active new at size subject rest all fitted goes h rest-is first s
     let past = goes_past texts active at left all fitted goes some-left some is-first in
     let further : drop (size_of fitted) left ≡ drop (at + size) subject = drop-drop (size_of fitted) at subject ∙ ap (λ n. drop (at + n) subject) (sym size-is) in
     let P : List Progress → Type 0 = λ xs. Goes texts xs (at + size) (drop (at + size) subject) past.0 in
-    let Q : ℕ → Type 0 = λ n. Goes texts (after active (Some fitted)) (at + n) (drop (at + size) subject) past.0 in
-    let R : List ℕ → Type 0 = λ xs. Goes texts (after active (Some fitted)) (at + size_of fitted) xs past.0 in
+    let Q : ℕ → Type 0 = λ n. Goes texts (walk_after active (Some fitted)) (at + n) (drop (at + size) subject) past.0 in
+    let R : List ℕ → Type 0 = λ xs. Goes texts (walk_after active (Some fitted)) (at + size_of fitted) xs past.0 in
     (past.0, past.1, subst P (sym new-is) (subst Q (sym size-is) (subst R further past.2)))
 
-pub past_place : (texts : List ℕ) (active new : List Progress) (at : ℕ) (subject rest : List ℕ) (all : List Fitted) → Goes texts active at (drop at subject) all → at < length subject → rest ≡ drop at subject → None ≡ first_fit texts active at rest → new ≡ after active None → Goes texts new (at + 1) (drop (at + 1) subject) all
+pub past_place : (texts : List ℕ) (active new : List Progress) (at : ℕ) (subject rest : List ℕ) (all : List Fitted) → Goes texts active at (drop at subject) all → at < length subject → rest ≡ drop at subject → None ≡ first_fit texts active at rest → new ≡ walk_after active None → Goes texts new (at + 1) (drop (at + 1) subject) all
 past_place texts active new at subject rest all goes h rest-is first new-is =
     let left = drop at subject in
     let some-left : 1 ≤ length left = omega (arith, length-drop at subject) in

@@ -5,7 +5,7 @@ ghost use Rattle.std.specs.Option.{ok_or};
 ghost use Rattle.std.specs.Ordering.{ordering_reverse};
 ghost use Rattle.decimal18.specs.Order.{order};
 ghost use Rattle.items.specs.Faults.{data_fault};
-ghost use Rattle.items.specs.Items.{IsOf, IsTaken};
+ghost use Rattle.items.specs.Items.{HasLengthOf, IsTaken};
 ghost use Rattle.items.specs.Texts.{characters, characters_in, plain_bytes};
 ghost use Rattle.text_ops.specs.Compare as spec;
 
@@ -14,6 +14,22 @@ use crate::text_order::{order_beside_character, order_beside_repeated, order_of_
 use decimal18::Dec;
 use items::{DataFault, Figurative, Item, Kind, Numeric, Taken, number, numbers_are_held};
 use std::cmp::Ordering;
+
+/// The order of two operands (COBOL-85, Nucleus, relation conditions): of two numbers by their values, of others by their
+/// characters. Bytes of a numeric item that are no number are a fault.
+#[tactic(auto, unfolding(crate::specs::Compare::comparison_of))]
+pub fn compare(one: Taken, ones: &[u8], other: Taken, others: &[u8]) -> Result<Ordering, DataFault>
+    requires one { IsTaken one ones.now }
+    requires other { IsTaken other others.now }
+    ensures { result ≡ ok_or (spec.comparison_of one ones.now other others.now) data_fault }
+{
+    let order = if is_number(one) && is_number(other) {
+        order_of_numbers(one, ones, other, others)
+    } else {
+        order_of_characters(one, ones, other, others)
+    };
+    order.ok_or(DataFault)
+}
 
 fn is_numeric_item(taken: Taken) -> bool
     ensures { result ≡ spec.is_numeric_item taken }
@@ -26,7 +42,7 @@ fn is_numeric_item(taken: Taken) -> bool
 
 /// The operand is a number. ZERO is one beside a number.
 fn is_number(taken: Taken) -> bool
-    ensures { result ≡ spec.is_number taken }
+    ensures { result ≡ spec.is_number_operand taken }
 {
     match taken {
         Taken::Item(item) => matches!(item.kind, Kind::Numeric(_)),
@@ -38,7 +54,7 @@ fn is_number(taken: Taken) -> bool
 /// The number of an operand; of a constant zero.
 fn number_of(taken: Taken, bytes: &[u8]) -> Option<Dec>
     requires { IsTaken taken bytes.now }
-    ensures { result ≡ spec.number taken bytes.now }
+    ensures { result ≡ spec.operand_number taken bytes.now }
 {
     match taken {
         Taken::Item(item) => match item.kind {
@@ -53,7 +69,7 @@ fn number_of(taken: Taken, bytes: &[u8]) -> Option<Dec>
 fn order_of_numbers(one: Taken, ones: &[u8], other: Taken, others: &[u8]) -> Option<Ordering>
     requires one { IsTaken one ones.now }
     requires other { IsTaken other others.now }
-    ensures { result ≡ spec.both order (spec.number one ones.now) (spec.number other others.now) }
+    ensures { result ≡ spec.both order (spec.operand_number one ones.now) (spec.operand_number other others.now) }
 {
     let left = number_of(one, ones)?;
     let right = number_of(other, others)?;
@@ -74,7 +90,7 @@ fn order_beside(text: &[u8], beside: Taken, bytes: &[u8]) -> Ordering
 
 /// The order of an item's characters, a number's digits, beside an operand by its bytes.
 fn order_of_item(item: Item, ones: &[u8], beside: Taken, others: &[u8]) -> Option<Ordering>
-    requires item { IsOf item ones.now }
+    requires item { HasLengthOf item ones.now }
     requires beside { IsTaken beside others.now }
     ensures { result ≡ option_map
         (λ text. spec.order_of_texts text (plain_bytes beside others.now (spec.size_in item.kind item.length)))
@@ -94,7 +110,7 @@ fn order_of_item(item: Item, ones: &[u8], beside: Taken, others: &[u8]) -> Optio
 /// The order of an operand by its bytes before an item's characters.
 fn order_behind(one: Taken, ones: &[u8], item: Item, others: &[u8]) -> Option<Ordering>
     requires one { IsTaken one ones.now }
-    requires item { IsOf item others.now }
+    requires item { HasLengthOf item others.now }
     ensures { result ≡ option_map ordering_reverse (option_map
         (λ text. spec.order_of_texts text (plain_bytes one ones.now (spec.size_in item.kind item.length)))
         (characters_in item.kind others.now)) }
@@ -125,7 +141,7 @@ fn order_of_plain(plain: Taken, bytes: &[u8], other: Taken, others: &[u8]) -> Op
 fn order_of_characters(one: Taken, ones: &[u8], other: Taken, others: &[u8]) -> Option<Ordering>
     requires one { IsTaken one ones.now }
     requires other { IsTaken other others.now }
-    requires kinds { (spec.is_number one && spec.is_number other) ≡ false }
+    requires kinds { (spec.is_number_operand one && spec.is_number_operand other) ≡ false }
     ensures { result ≡ spec.both spec.order_of_texts
         (characters one ones.now (spec.size_of other others.now))
         (characters other others.now (spec.size_of one ones.now)) }
@@ -135,20 +151,4 @@ fn order_of_characters(one: Taken, ones: &[u8], other: Taken, others: &[u8]) -> 
     }
     let order = order_of_plain(other, others, one, ones)?;
     Some(order.reverse())
-}
-
-/// The order of two operands (COBOL-85, Nucleus, relation conditions): of two numbers by their values, of others by their
-/// characters. Bytes of a numeric item that are no number are a fault.
-#[tactic(auto, unfolding(crate::specs::Compare::compared))]
-pub fn compare(one: Taken, ones: &[u8], other: Taken, others: &[u8]) -> Result<Ordering, DataFault>
-    requires one { IsTaken one ones.now }
-    requires other { IsTaken other others.now }
-    ensures { result ≡ ok_or (spec.compared one ones.now other others.now) data_fault }
-{
-    let order = if is_number(one) && is_number(other) {
-        order_of_numbers(one, ones, other, others)
-    } else {
-        order_of_characters(one, ones, other, others)
-    };
-    order.ok_or(DataFault)
 }

@@ -3,14 +3,6 @@
 ghost use Rattle.std.specs.Prelude.{◌≡◌, ◌≤◌, ◌+◌, length, IfSome, IsTrue};
 ghost use Rattle.text_ops.specs.Places as spec;
 
-/// The text stands in front of the other. The empty text stands nowhere.
-fn stands_in_front(sought: &[u8], text: &[u8]) -> bool
-    ensures value { result ≡ spec.stands_in_front sought.now text.now }
-    ensures within { IsTrue result → length sought.now ≤ length text.now }
-{
-    !sought.is_empty() && text.starts_with(sought)
-}
-
 /// The first place of a text in another, counted from 0.
 pub fn first_place(sought: &[u8], text: &[u8]) -> Option<usize>
     ensures value { result ≡ spec.first_place sought.now text.now }
@@ -22,4 +14,12 @@ pub fn first_place(sought: &[u8], text: &[u8]) -> Option<usize>
         }
     }
     None
+}
+
+/// The text stands in front of the other. The empty text stands nowhere.
+fn stands_in_front(sought: &[u8], text: &[u8]) -> bool
+    ensures value { result ≡ spec.stands_in_front sought.now text.now }
+    ensures within { IsTrue result → length sought.now ≤ length text.now }
+{
+    !sought.is_empty() && text.starts_with(sought)
 }

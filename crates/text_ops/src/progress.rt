@@ -28,7 +28,7 @@ pub struct Fitted {
 /// The first place behind AFTER's text; all places without AFTER, none where the text isn't there.
 fn first_after(texts: &[u8], after: Option<Span>, subject: &[u8]) -> usize
     requires { IfSpan (length texts.now) after }
-    ensures { result ≡ spec.first_after texts.now after subject.now }
+    ensures { result ≡ spec.first_place_after texts.now after subject.now }
 {
     let Some(span) = after else {
         return 0;
@@ -52,7 +52,7 @@ fn end_before(texts: &[u8], before: Option<Span>, subject: &[u8]) -> usize
 
 fn begun(texts: &[u8], subject: &[u8], entry: Entry) -> Progress
     requires { IsEntry (length texts.now) entry }
-    ensures { result ≡ spec.begun texts.now subject.now entry }
+    ensures { result ≡ spec.initial_progress texts.now subject.now entry }
 {
     Progress {
         entry,
@@ -65,7 +65,7 @@ fn begun(texts: &[u8], subject: &[u8], entry: Entry) -> Progress
 pub fn begin(texts: &[u8], entries: &[Entry], subject: &[u8], active: &mut [Progress])
     requires within { AreWithin entries.now (length texts.now) }
     requires room { length active.old ≡ length entries.now }
-    ensures { active.new ≡ map (spec.begun texts.now subject.now) entries.now }
+    ensures { active.new ≡ map (spec.initial_progress texts.now subject.now) entries.now }
 {
     for number in 0..entries.len() {
         active[number] = begun(texts, subject, entries[number]);
@@ -99,7 +99,7 @@ impl Progress {
     /// The same behind a fit at this place.
     fn passed(self, at: usize) -> Progress
         requires { at + fit_length self.entry.fit ≤ self.limit }
-        ensures { result ≡ spec.passed self self.entry.fit at }
+        ensures { result ≡ spec.progress_after self self.entry.fit at }
     {
         match self.entry.fit {
             Fit::Leading(text) => Progress {
@@ -135,7 +135,7 @@ pub fn step(texts: &[u8], active: &mut [Progress], at: usize, rest: &[u8]) -> Op
     requires within { AreActive active.old (length texts.now) }
     requires rest { 1 ≤ length rest.now }
     ensures fit { result ≡ spec.first_fit texts.now active.old at rest.now }
-    ensures after { active.new ≡ spec.after active.old result }
+    ensures after { active.new ≡ spec.walk_after active.old result }
     ensures entries { entries_on active.new ≡ entries_on active.old }
     ensures within { AreActive active.new (length texts.now) }
     ensures fitted { IfSome result (IsFitted (length texts.now) (length active.old) at (length rest.now)) }

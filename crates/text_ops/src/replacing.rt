@@ -9,11 +9,24 @@ use crate::beginnings::{beginnings, unmarked};
 use crate::entry::Entry;
 use crate::progress::{Progress, begin, step};
 
+/// Replaces each fit of an entry by its text (COBOL-85, Nucleus, the INSPECT statement with REPLACING). The entries' texts are
+/// spans of `texts`; `room` is used up.
+#[tactic(auto, unfolding(crate::specs::Inspect::replaced_subject))]
+pub fn replace(texts: &[u8], entries: &[Entry], room: &mut [Progress], subject: &mut [u8])
+    requires within { AreWithin entries.now (length texts.now) }
+    requires room { length entries.now ≤ length room.old }
+    ensures { subject.new ≡ spec.replaced_subject texts.now entries.now subject.old }
+{
+    let (active, _) = room.split_at_mut(entries.len());
+    begin(texts, entries, subject, active);
+    replace_fits(texts, active, subject);
+}
+
 /// Writes an entry's replacing text at the place where it fits.
 fn put_replacement(texts: &[u8], entry: Entry, at: usize, subject: &mut [u8])
     requires entry { IsEntry (length texts.now) entry }
     requires within { at + fit_length entry.fit ≤ length subject.old }
-    ensures { subject.new ≡ spec.written at (spec.replacement texts.now entry.by) subject.old }
+    ensures { subject.new ≡ spec.text_written_at at (spec.replacement texts.now entry.by) subject.old }
 {
     if let Some(by) = entry.by {
         let text = by.of(texts);
@@ -45,17 +58,4 @@ fn replace_fits(texts: &[u8], active: &mut [Progress], subject: &mut [u8])
             None => at += 1,
         }
     }
-}
-
-/// Replaces each fit of an entry by its text (COBOL-85, Nucleus, the INSPECT statement with REPLACING). The entries' texts are
-/// spans of `texts`; `room` is used up.
-#[tactic(auto, unfolding(crate::specs::Inspect::replaced))]
-pub fn replace(texts: &[u8], entries: &[Entry], room: &mut [Progress], subject: &mut [u8])
-    requires within { AreWithin entries.now (length texts.now) }
-    requires room { length entries.now ≤ length room.old }
-    ensures { subject.new ≡ spec.replaced texts.now entries.now subject.old }
-{
-    let (active, _) = room.split_at_mut(entries.len());
-    begin(texts, entries, subject, active);
-    replace_fits(texts, active, subject);
 }

@@ -9,6 +9,28 @@ use crate::beginnings::{beginnings, unmarked};
 use crate::entry::Entry;
 use crate::progress::{Progress, begin, step};
 
+/// Writes how often each entry fits (COBOL-85, Nucleus, the INSPECT statement with TALLYING). The entries' texts are spans of
+/// `texts`; `room` is used up.
+#[tactic(auto, unfolding(crate::specs::Inspect::tally))]
+pub fn tally(
+    texts: &[u8],
+    entries: &[Entry],
+    room: &mut [Progress],
+    subject: &[u8],
+    counts: &mut [u64],
+)
+    requires within { AreWithin entries.now (length texts.now) }
+    requires room { length entries.now ≤ length room.old }
+    requires counts { length counts.old ≡ length entries.now }
+    ensures { (k : ℕ) → k < length entries.now
+        → slice_index counts.new k ≡ spec.tally texts.now entries.now subject.now k }
+{
+    counts.fill(0);
+    let (active, _) = room.split_at_mut(entries.len());
+    begin(texts, entries, subject, active);
+    count_fits(texts, active, subject, counts);
+}
+
 /// Adds one to its entry's count at each fit.
 fn count_fits(texts: &[u8], active: &mut [Progress], subject: &[u8], counts: &mut [u64])
     requires within { AreActive active.old (length texts.now) }
@@ -35,26 +57,4 @@ fn count_fits(texts: &[u8], active: &mut [Progress], subject: &[u8], counts: &mu
             None => at += 1,
         }
     }
-}
-
-/// Writes how often each entry fits (COBOL-85, Nucleus, the INSPECT statement with TALLYING). The entries' texts are spans of
-/// `texts`; `room` is used up.
-#[tactic(auto, unfolding(crate::specs::Inspect::tally))]
-pub fn tally(
-    texts: &[u8],
-    entries: &[Entry],
-    room: &mut [Progress],
-    subject: &[u8],
-    counts: &mut [u64],
-)
-    requires within { AreWithin entries.now (length texts.now) }
-    requires room { length entries.now ≤ length room.old }
-    requires counts { length counts.old ≡ length entries.now }
-    ensures { (k : ℕ) → k < length entries.now
-        → slice_index counts.new k ≡ spec.tally texts.now entries.now subject.now k }
-{
-    counts.fill(0);
-    let (active, _) = room.split_at_mut(entries.len());
-    begin(texts, entries, subject, active);
-    count_fits(texts, active, subject, counts);
 }

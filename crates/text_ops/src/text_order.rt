@@ -3,7 +3,7 @@
 ghost use Rattle.std.specs.Prelude.{◌≡◌, ◌≤◌, length, replicate};
 ghost use Rattle.std.specs.Cmp.Lexicographic.{slice_cmp};
 ghost use Rattle.std.specs.Ordering.{nat_cmp};
-ghost use Rattle.items.specs.Texts.{repeated};
+ghost use Rattle.items.specs.Texts.{repeated_text};
 ghost use Rattle.text_ops.specs.Compare as spec;
 
 use std::cmp::Ordering;
@@ -23,7 +23,7 @@ pub fn order_beside_character(text: &[u8], character: u8) -> Ordering
 /// The order of a text beside a literal that is repeated to its size.
 pub fn order_beside_repeated(text: &[u8], literal: &[u8]) -> Ordering
     requires { 1 ≤ length literal.now }
-    ensures { result ≡ slice_cmp nat_cmp text.now (repeated (length text.now) literal.now) }
+    ensures { result ≡ slice_cmp nat_cmp text.now (repeated_text (length text.now) literal.now) }
 {
     let mut rest = text;
     while rest.len() > literal.len() {

@@ -16,20 +16,20 @@ use Rattle.tokens.specs.declared.token.Operator.{Operator}
 use Rattle.tokens.specs.declared.token.Operator.TheVariants as o
 use Rattle.lexical.specs.declared.number.Sign.{Sign}
 use Rattle.lexical.specs.declared.number.Sign.TheVariants.{Unsigned, Plus, Minus}
-use Rattle.tokens.specs.Characters.{is_in, bytes, bytes_in_upper_case, run, begins, ends, is_last, has}
+use Rattle.tokens.specs.Characters.{is_in, bytes, bytes_in_upper_case, run_size, begins_with_class, ends_with_class, is_last, has_class}
 use Rattle.tokens.specs.Contexts.{awaits_picture, is_joined, may_be_is}
 use Rattle.tokens.specs.Kinds.{IsWord, IsNumericLiteral, IsNonnumericLiteral, begins_with, has_more_digits, IsPicture, IsFront, has_more}
-use Rattle.tokens.specs.Lexemes.{lexeme, plain, punctuation, comparison, is_equal_sign, begins_word, word_or_number, signed, sign_here}
-use Rattle.tokens.specs.Literals.{numeric, nonnumeric, quoted, closed, after_point, begins_number, sign_size, point_size}
+use Rattle.tokens.specs.Lexemes.{lexeme, plain_lexeme, punctuation, comparison, is_equal_sign, begins_word, word_or_number, signed_lexeme, sign_here}
+use Rattle.tokens.specs.Literals.{numeric, nonnumeric, quoted_characters, closed_literal, after_point, begins_number, sign_size, point_size}
 use Rattle.tokens.specs.Pictures.{picture, picture_size, lone_mark, is_is, separator}
-use Rattle.tokens.specs.Spelled.{All, decimals_text, doubled, operator_text}
+use Rattle.tokens.specs.Spelled.{All, decimals_text, doubled_marks, operator_text}
 use Rattle.tokens.specs.Words.{Outcome, token, word, word_or_reserved, kind_of_word}
 use Rattle.tokens.proofs.Literals.{take_text, eqb_self}
 use Rattle.tokens.proofs.Sizes.{no_run}
 
 -- ---- runs
 
-run_is : (one : Class) (text rest : List Character) → All one (bytes text) → begins one rest ≡ false → run one (text ++ rest) ≡ length text
+run_is : (one : Class) (text rest : List Character) → All one (bytes text) → begins_with_class one rest ≡ false → run_size one (text ++ rest) ≡ length text
 run_is one [] rest all stop = no_run one rest stop
 run_is one (c ∷ text) rest all stop = rw (all.0, run_is one text rest all.1 stop) (one-add (length text))
 
@@ -42,7 +42,7 @@ no_separator b e = go (eqb b 32) refl (eqb b 44) refl (eqb b 59) refl
     go false f false g true h = let t = subst (λ n. is_in class.LetterOrDigit n ≡ true) (eqb-true b 59 h) e in cc
     go false f false g false h = refl
 
-lexeme_plain : (before : Context) (c : Character) (more : List Character) → awaits_picture before ≡ false → lexeme before c more ≡ plain before c more
+lexeme_plain : (before : Context) (c : Character) (more : List Character) → awaits_picture before ≡ false → lexeme before c more ≡ plain_lexeme before c more
 unfolding lexeme
 lexeme_plain before c more na = rw na refl
 
@@ -53,24 +53,24 @@ choose false false a b c e f = cc
 
 -- ---- words
 
-word_of : (place : Place) (cs text : List Character) (n : ℕ) → run class.InWord cs ≡ n → take n cs ≡ text → has class.Letter text ≡ true → nat_lt 30 n ≡ false → ends class.Hyphen text ≡ false
+word_of : (place : Place) (cs text : List Character) (n : ℕ) → run_size class.InWord cs ≡ n → take n cs ≡ text → has_class class.Letter text ≡ true → nat_lt 30 n ≡ false → ends_with_class class.Hyphen text ≡ false
     → word_or_number place cs ≡ Ok (token (kind_of_word (bytes_in_upper_case text)) n)
 unfolding word
 word_of place cs text n r front letter few hyphen = rw (r, front, letter, few, hyphen) refl
 
 word_is : (before : Context) (c : Character) (text rest : List Character) → awaits_picture before ≡ false → IsWord (c ∷ text) rest
     → lexeme before c (text ++ rest) ≡ Ok (token (kind_of_word (bytes_in_upper_case (c ∷ text))) (suc (length text)))
-unfolding plain
+unfolding plain_lexeme
 word_is before c text rest na is = lexeme_plain before c (text ++ rest) na ∙ by_plain
   where
     found : word_or_number c.place (c ∷ (text ++ rest)) ≡ Ok (token (kind_of_word (bytes_in_upper_case (c ∷ text))) (suc (length text)))
     found = word_of c.place (c ∷ (text ++ rest)) (c ∷ text) (suc (length text)) (run_is class.InWord (c ∷ text) rest is.0.0 is.0.1) (take_text (c ∷ text) rest) is.2 (le-ltb 30 (suc (length text)) is.3) is.4
 
-    by_plain : plain before c (text ++ rest) ≡ Ok (token (kind_of_word (bytes_in_upper_case (c ∷ text))) (suc (length text)))
+    by_plain : plain_lexeme before c (text ++ rest) ≡ Ok (token (kind_of_word (bytes_in_upper_case (c ∷ text))) (suc (length text)))
     by_plain =
         choose (is_in class.Separator c.byte) (is_in class.LetterOrDigit c.byte) (Ok separator) (word_or_number c.place (c ∷ (text ++ rest)))
         (cond (begins_number (c ∷ (text ++ rest))) (numeric c.place Unsigned (c ∷ (text ++ rest)))
-        (cond (is_in class.Mark c.byte) (nonnumeric c.place c.byte (text ++ rest)) (signed (sign_here before c.byte (text ++ rest)) c.place c.byte (text ++ rest))))
+        (cond (is_in class.Mark c.byte) (nonnumeric c.place c.byte (text ++ rest)) (signed_lexeme (sign_here before c.byte (text ++ rest)) c.place c.byte (text ++ rest))))
         (no_separator c.byte is.1) is.1
         ∙ found
 
@@ -78,7 +78,7 @@ word_is before c text rest na is = lexeme_plain before c (text ++ rest) na ∙ b
 
 abbrev Digits : List ℕ → List ℕ → List Character → Type 0
 Digits whole decimals cs =
-    (run class.Digit cs ≡ length whole) × (bytes (take (length whole) cs) ≡ whole) × (run class.Digit (after_point (drop (length whole) cs)) ≡ length decimals)
+    (run_size class.Digit cs ≡ length whole) × (bytes (take (length whole) cs) ≡ whole) × (run_size class.Digit (after_point (drop (length whole) cs)) ≡ length decimals)
     × (bytes (take (length decimals) (after_point (drop (length whole) cs))) ≡ decimals)
 
 left_false : (a b : Bool) → (a || b) ≡ false → (a ≡ false) × (b ≡ false)
@@ -92,7 +92,7 @@ length_bytes (c ∷ cs) = ap suc (length_bytes cs)
 digits_of : (whole decimals : List ℕ) (text rest : List Character) → bytes text ≡ whole ++ decimals_text decimals → All class.Digit whole → All class.Digit decimals → has_more_digits decimals rest ≡ false
     → Digits whole decimals (text ++ rest)
 digits_of [] [] [] rest is all more_all stop =
-    let both = left_false (begins class.Digit rest) (begins class.Digit (after_point rest)) stop in
+    let both = left_false (begins_with_class class.Digit rest) (begins_with_class class.Digit (after_point rest)) stop in
     (no_run class.Digit rest both.0, refl, no_run class.Digit (after_point rest) both.1, refl)
 digits_of [] [] (p ∷ text) rest is all more_all stop = cc
 digits_of [] (d ∷ decimals) [] rest is all more_all stop = cc
@@ -100,7 +100,7 @@ digits_of [] (d ∷ decimals) (p ∷ text) rest is all more_all stop =
     let point : p.byte ≡ 46 = cc in
     let others : bytes text ≡ d ∷ decimals = cc in
     let count : length text ≡ suc (length decimals) = sym (length_bytes text) ∙ ap length others in
-    let digits : run class.Digit (text ++ rest) ≡ suc (length decimals) = run_is class.Digit text rest (subst (λ l. All class.Digit l) (sym others) more_all) stop ∙ count in
+    let digits : run_size class.Digit (text ++ rest) ≡ suc (length decimals) = run_is class.Digit text rest (subst (λ l. All class.Digit l) (sym others) more_all) stop ∙ count in
     let front : bytes (take (suc (length decimals)) (text ++ rest)) ≡ d ∷ decimals = ap (λ n. bytes (take n (text ++ rest))) (sym count) ∙ ap bytes (take_text text rest) ∙ others in
     (rw point refl, refl, rw point digits, rw point front)
 digits_of (d ∷ whole) decimals [] rest is all more_all stop = cc
@@ -148,27 +148,27 @@ or_true false b e = cc
 number_no_separator : (c : Character) (more : List Character) → begins_number (c ∷ more) ≡ true → is_in class.Separator c.byte ≡ false
 number_no_separator c more e = go (is_in class.Digit c.byte) refl (eqb c.byte 46) refl e
   where
-    go : (x : Bool) → is_in class.Digit c.byte ≡ x → (y : Bool) → eqb c.byte 46 ≡ y → (x || begins class.Digit (cond y more [])) ≡ true → is_in class.Separator c.byte ≡ false
+    go : (x : Bool) → is_in class.Digit c.byte ≡ x → (y : Bool) → eqb c.byte 46 ≡ y → (x || begins_with_class class.Digit (cond y more [])) ≡ true → is_in class.Separator c.byte ≡ false
     go true f y g e = no_separator c.byte (rw f refl)
     go false f true g e = rw (eqb-true c.byte 46 g) refl
     go false f false g e = cc
 
-unsigned_plain : (before : Context) (c : Character) (more : List Character) → begins_number (c ∷ more) ≡ true → begins_word (c ∷ more) ≡ false → plain before c more ≡ numeric c.place Unsigned (c ∷ more)
-unfolding plain
+unsigned_plain : (before : Context) (c : Character) (more : List Character) → begins_number (c ∷ more) ≡ true → begins_word (c ∷ more) ≡ false → plain_lexeme before c more ≡ numeric c.place Unsigned (c ∷ more)
+unfolding plain_lexeme
 unsigned_plain before c more number wordless = go (is_in class.LetterOrDigit c.byte) (number_no_separator c more number)
   where
     go : (b : Bool) → is_in class.Separator c.byte ≡ false
         → cond (is_in class.Separator c.byte) (Ok separator) (cond b (word_or_number c.place (c ∷ more)) (cond (begins_number (c ∷ more)) (numeric c.place Unsigned (c ∷ more))
-        (cond (is_in class.Mark c.byte) (nonnumeric c.place c.byte more) (signed (sign_here before c.byte more) c.place c.byte more)))) ≡ numeric c.place Unsigned (c ∷ more)
+        (cond (is_in class.Mark c.byte) (nonnumeric c.place c.byte more) (signed_lexeme (sign_here before c.byte more) c.place c.byte more)))) ≡ numeric c.place Unsigned (c ∷ more)
     go true e = rw (e, wordless) refl
     go false e = rw (e, number) refl
 
-plus_plain : (before : Context) (place : Place) (more : List Character) → begins_number more ≡ true → is_joined before ≡ false → plain before (record { byte = 43; place = place }) more ≡ numeric place Plus more
-unfolding plain
+plus_plain : (before : Context) (place : Place) (more : List Character) → begins_number more ≡ true → is_joined before ≡ false → plain_lexeme before (record { byte = 43; place = place }) more ≡ numeric place Plus more
+unfolding plain_lexeme
 plus_plain before place more number joined = rw (number, joined) refl
 
-minus_plain : (before : Context) (place : Place) (more : List Character) → begins_number more ≡ true → is_joined before ≡ false → plain before (record { byte = 45; place = place }) more ≡ numeric place Minus more
-unfolding plain
+minus_plain : (before : Context) (place : Place) (more : List Character) → begins_number more ≡ true → is_joined before ≡ false → plain_lexeme before (record { byte = 45; place = place }) more ≡ numeric place Minus more
+unfolding plain_lexeme
 minus_plain before place more number joined = rw (number, joined) refl
 
 numeric_is : (before : Context) (c : Character) (text rest : List Character) (sign : Sign) (whole decimals : List ℕ) → awaits_picture before ≡ false
@@ -185,7 +185,7 @@ numeric_is before c text rest Plus whole decimals na is =
     let others : bytes text ≡ whole ++ decimals_text decimals = cc in
     let size : ((1 + length whole) + point_size (length decimals)) + length decimals ≡ suc (length text) = let l = counted whole decimals text others in omega arith in
     lexeme_plain before c (text ++ rest) na
-    ∙ subst (λ b. plain before (record { byte = b; place = c.place }) (text ++ rest) ≡ numeric c.place Plus (text ++ rest)) (sym sign)
+    ∙ subst (λ b. plain_lexeme before (record { byte = b; place = c.place }) (text ++ rest) ≡ numeric c.place Plus (text ++ rest)) (sym sign)
     (plus_plain before c.place (text ++ rest) (number_begins whole decimals text rest others is.0.1 is.0.2 is.1) is.4)
     ∙ numeric_of c.place Plus whole decimals (text ++ rest) (digits_of whole decimals text rest others is.0.1 is.0.2 is.3) is.2
     ∙ ap (λ n. Ok (token (k.Numeric (record { sign = Plus; whole = whole; decimals = decimals })) n)) size
@@ -194,19 +194,19 @@ numeric_is before c text rest Minus whole decimals na is =
     let others : bytes text ≡ whole ++ decimals_text decimals = cc in
     let size : ((1 + length whole) + point_size (length decimals)) + length decimals ≡ suc (length text) = let l = counted whole decimals text others in omega arith in
     lexeme_plain before c (text ++ rest) na
-    ∙ subst (λ b. plain before (record { byte = b; place = c.place }) (text ++ rest) ≡ numeric c.place Minus (text ++ rest)) (sym sign)
+    ∙ subst (λ b. plain_lexeme before (record { byte = b; place = c.place }) (text ++ rest) ≡ numeric c.place Minus (text ++ rest)) (sym sign)
     (minus_plain before c.place (text ++ rest) (number_begins whole decimals text rest others is.0.1 is.0.2 is.1) is.4)
     ∙ numeric_of c.place Minus whole decimals (text ++ rest) (digits_of whole decimals text rest others is.0.1 is.0.2 is.3) is.2
     ∙ ap (λ n. Ok (token (k.Numeric (record { sign = Minus; whole = whole; decimals = decimals })) n)) size
 
 -- ---- nonnumeric literals
 
-closed_here : (mark : ℕ) (there : List ℕ) (size : ℕ) (rest : List Character) → begins_with mark rest ≡ false → quoted mark true there size rest ≡ Some (there, size)
+closed_here : (mark : ℕ) (there : List ℕ) (size : ℕ) (rest : List Character) → begins_with mark rest ≡ false → quoted_characters mark true there size rest ≡ Some (there, size)
 closed_here mark there size [] stop = refl
 closed_here mark there size (c ∷ rest) stop = rw stop refl
 
-quoted_is : (mark : ℕ) (literal there : List ℕ) (size : ℕ) (text rest : List Character) → bytes text ≡ doubled mark literal ++ (mark ∷ []) → begins_with mark rest ≡ false
-    → quoted mark false there size (text ++ rest) ≡ Some (there ++ literal, size + length text)
+quoted_is : (mark : ℕ) (literal there : List ℕ) (size : ℕ) (text rest : List Character) → bytes text ≡ doubled_marks mark literal ++ (mark ∷ []) → begins_with mark rest ≡ false
+    → quoted_characters mark false there size (text ++ rest) ≡ Some (there ++ literal, size + length text)
 quoted_is mark [] there size [] rest is stop = cc
 quoted_is mark [] there size (c ∷ []) rest is stop =
     let same : c.byte ≡ mark = cc in
@@ -215,15 +215,15 @@ quoted_is mark [] there size (c ∷ []) rest is stop =
 quoted_is mark [] there size (c ∷ d ∷ text) rest is stop = cc
 quoted_is mark (b ∷ literal) there size text rest is stop = go (eqb b mark) refl text is (λ there size text is. quoted_is mark literal there size text rest is stop)
   where
-    go : (x : Bool) → eqb b mark ≡ x → (text : List Character) → bytes text ≡ cond x (mark ∷ mark ∷ doubled mark literal) (b ∷ doubled mark literal) ++ (mark ∷ [])
-        → ((there : List ℕ) (size : ℕ) (text : List Character) → bytes text ≡ doubled mark literal ++ (mark ∷ []) → quoted mark false there size (text ++ rest) ≡ Some (there ++ literal, size + length text))
-        → quoted mark false there size (text ++ rest) ≡ Some (there ++ (b ∷ literal), size + length text)
+    go : (x : Bool) → eqb b mark ≡ x → (text : List Character) → bytes text ≡ cond x (mark ∷ mark ∷ doubled_marks mark literal) (b ∷ doubled_marks mark literal) ++ (mark ∷ [])
+        → ((there : List ℕ) (size : ℕ) (text : List Character) → bytes text ≡ doubled_marks mark literal ++ (mark ∷ []) → quoted_characters mark false there size (text ++ rest) ≡ Some (there ++ literal, size + length text))
+        → quoted_characters mark false there size (text ++ rest) ≡ Some (there ++ (b ∷ literal), size + length text)
     go true e [] is again = cc
     go true e (c ∷ []) is again = cc
     go true e (c ∷ d ∷ text) is again =
         let same : c.byte ≡ mark = cc in
         let also : d.byte ≡ mark = cc in
-        let others : bytes text ≡ doubled mark literal ++ (mark ∷ []) = cc in
+        let others : bytes text ≡ doubled_marks mark literal ++ (mark ∷ []) = cc in
         let one : eqb c.byte mark ≡ true = ap (λ b. eqb b mark) same ∙ eqb_self mark in
         let two : eqb d.byte mark ≡ true = ap (λ b. eqb b mark) also ∙ eqb_self mark in
         let count : ((size + 1) + 1) + length text ≡ size + suc (suc (length text)) = omega arith in
@@ -232,7 +232,7 @@ quoted_is mark (b ∷ literal) there size text rest is stop = go (eqb b mark) re
     go false e [] is again = cc
     go false e (c ∷ text) is again =
         let same : c.byte ≡ b = cc in
-        let others : bytes text ≡ doubled mark literal ++ (mark ∷ []) = cc in
+        let others : bytes text ≡ doubled_marks mark literal ++ (mark ∷ []) = cc in
         let one : eqb c.byte mark ≡ false = ap (λ b. eqb b mark) same ∙ e in
         let count : (size + 1) + length text ≡ size + suc (length text) = omega arith in
         let joined : (there ++ (c.byte ∷ [])) ++ literal ≡ there ++ (b ∷ literal) = append_assoc there (c.byte ∷ []) literal ∙ ap (λ m. there ++ (m ∷ literal)) same in
@@ -242,25 +242,25 @@ not_zero : (n : ℕ) → 1 ≤ n → eqb n 0 ≡ false
 not_zero zero h = absurd (omega arith)
 not_zero (suc n) h = eqb-suc-zero n
 
-mark_plain : (before : Context) (c : Character) (more : List Character) → is_in class.Mark c.byte ≡ true → plain before c more ≡ nonnumeric c.place c.byte more
-unfolding plain
+mark_plain : (before : Context) (c : Character) (more : List Character) → is_in class.Mark c.byte ≡ true → plain_lexeme before c more ≡ nonnumeric c.place c.byte more
+unfolding plain_lexeme
 mark_plain before c more m = go (eqb c.byte 34) refl (eqb c.byte 39) refl m
   where
-    at : (b : ℕ) → plain before (record { byte = b; place = c.place }) more ≡ nonnumeric c.place b more → c.byte ≡ b → plain before c more ≡ nonnumeric c.place c.byte more
-    at b e f = subst (λ b. plain before (record { byte = b; place = c.place }) more ≡ nonnumeric c.place b more) (sym f) e
+    at : (b : ℕ) → plain_lexeme before (record { byte = b; place = c.place }) more ≡ nonnumeric c.place b more → c.byte ≡ b → plain_lexeme before c more ≡ nonnumeric c.place c.byte more
+    at b e f = subst (λ b. plain_lexeme before (record { byte = b; place = c.place }) more ≡ nonnumeric c.place b more) (sym f) e
 
-    quotation : plain before (record { byte = 34; place = c.place }) more ≡ nonnumeric c.place 34 more
+    quotation : plain_lexeme before (record { byte = 34; place = c.place }) more ≡ nonnumeric c.place 34 more
     quotation = refl
 
-    apostrophe : plain before (record { byte = 39; place = c.place }) more ≡ nonnumeric c.place 39 more
+    apostrophe : plain_lexeme before (record { byte = 39; place = c.place }) more ≡ nonnumeric c.place 39 more
     apostrophe = refl
 
-    go : (x : Bool) → eqb c.byte 34 ≡ x → (y : Bool) → eqb c.byte 39 ≡ y → (x || y) ≡ true → plain before c more ≡ nonnumeric c.place c.byte more
+    go : (x : Bool) → eqb c.byte 34 ≡ x → (y : Bool) → eqb c.byte 39 ≡ y → (x || y) ≡ true → plain_lexeme before c more ≡ nonnumeric c.place c.byte more
     go true f y g e = at 34 quotation (eqb-true c.byte 34 f)
     go false f true g e = at 39 apostrophe (eqb-true c.byte 39 g)
     go false f false g e = cc
 
-closed_is : (place : Place) (literal : List ℕ) (size : ℕ) → 1 ≤ length literal → length literal ≤ 160 → closed place (Some (literal, size)) ≡ Ok (token (k.Nonnumeric literal) size)
+closed_is : (place : Place) (literal : List ℕ) (size : ℕ) → 1 ≤ length literal → length literal ≤ 160 → closed_literal place (Some (literal, size)) ≡ Ok (token (k.Nonnumeric literal) size)
 closed_is place literal size h l = rw (not_zero (length literal) h, le-ltb 160 (length literal) l) refl
 
 nonnumeric_is : (before : Context) (c : Character) (text rest : List Character) (mark : ℕ) (literal : List ℕ) → awaits_picture before ≡ false → IsNonnumericLiteral mark literal (c ∷ text) rest
@@ -272,14 +272,14 @@ nonnumeric_is before c text rest mark literal na is =
     first : c.byte ≡ mark
     first = let e = is.0.1 in cc
 
-    others : bytes text ≡ doubled mark literal ++ (mark ∷ [])
+    others : bytes text ≡ doubled_marks mark literal ++ (mark ∷ [])
     others = let e = is.0.1 in cc
 
     by_quotes : nonnumeric c.place c.byte (text ++ rest) ≡ Ok (token (k.Nonnumeric literal) (suc (length text)))
     by_quotes =
-        ap (λ m. closed c.place (quoted m false [] 1 (text ++ rest))) first
-        ∙ ap (closed c.place) (quoted_is mark literal [] 1 text rest others is.3)
-        ∙ ap (λ n. closed c.place (Some (literal, n))) (one-add (length text))
+        ap (λ m. closed_literal c.place (quoted_characters m false [] 1 (text ++ rest))) first
+        ∙ ap (closed_literal c.place) (quoted_is mark literal [] 1 text rest others is.3)
+        ∙ ap (λ n. closed_literal c.place (Some (literal, n))) (one-add (length text))
         ∙ closed_is c.place literal (suc (length text)) is.1 is.2
 
 -- ---- pictures
@@ -299,10 +299,10 @@ picture_lone : (before : Context) (first : ℕ) (cs : List Character) → pictur
 unfolding picture
 picture_lone before first cs h = rw h refl
 
-lone_size : (c : Character) (rest : List Character) → is_in class.Nonblank c.byte ≡ true → is_in class.Ending c.byte ≡ true → begins class.Nonblank rest ≡ false → picture_size (c ∷ rest) ≡ 0
+lone_size : (c : Character) (rest : List Character) → is_in class.Nonblank c.byte ≡ true → is_in class.Ending c.byte ≡ true → begins_with_class class.Nonblank rest ≡ false → picture_size (c ∷ rest) ≡ 0
 lone_size c rest nonblank ending blank = rw (nonblank, no_run class.Nonblank rest blank) (rw ending refl)
 
-size_of : (cs text : List Character) (n : ℕ) → run class.Nonblank cs ≡ n → take n cs ≡ text → picture_size cs ≡ cond (ends class.Ending text) (n - 1) n
+size_of : (cs text : List Character) (n : ℕ) → run_size class.Nonblank cs ≡ n → take n cs ≡ text → picture_size cs ≡ cond (ends_with_class class.Ending text) (n - 1) n
 size_of cs text n r front = rw (r, front) refl
 
 all_more : (one : Class) (text : List Character) (m : Character) → All one (bytes text) → is_in one m.byte ≡ true → All one (bytes (text ++ (m ∷ [])))
@@ -316,17 +316,17 @@ last_is (c ∷ text) m = last_is text m
 picture_size_is : (text rest : List Character) → IsPicture text rest → picture_size (text ++ rest) ≡ length text
 picture_size_is text rest is = go rest is.2
   where
-    cut : (m : Character) (rest : List Character) → is_in class.Ending m.byte ≡ true → begins class.Nonblank rest ≡ false → picture_size (text ++ (m ∷ rest)) ≡ length text
+    cut : (m : Character) (rest : List Character) → is_in class.Ending m.byte ≡ true → begins_with_class class.Nonblank rest ≡ false → picture_size (text ++ (m ∷ rest)) ≡ length text
     cut m rest ending blank =
         let count : length (text ++ (m ∷ [])) ≡ suc (length text) = let l = length-append text (m ∷ []) in omega arith in
         let less : length (text ++ (m ∷ [])) - 1 ≡ length text = omega arith in
-        let ended : ends class.Ending (text ++ (m ∷ [])) ≡ true = ap (λ n. is_last class.Ending (slice_get (text ++ (m ∷ [])) n)) less ∙ ap (is_last class.Ending) (last_is text m) ∙ ending in
+        let ended : ends_with_class class.Ending (text ++ (m ∷ [])) ≡ true = ap (λ n. is_last class.Ending (slice_get (text ++ (m ∷ [])) n)) less ∙ ap (is_last class.Ending) (last_is text m) ∙ ending in
         let all = all_more class.Nonblank text m is.1 (ending_nonblank m.byte ending) in
         ap picture_size (sym (append_assoc text (m ∷ []) rest))
         ∙ size_of ((text ++ (m ∷ [])) ++ rest) (text ++ (m ∷ [])) (length (text ++ (m ∷ []))) (run_is class.Nonblank (text ++ (m ∷ [])) rest all blank) (take_text (text ++ (m ∷ [])) rest)
         ∙ ap (λ b. cond b (length (text ++ (m ∷ [])) - 1) (length (text ++ (m ∷ [])))) ended ∙ less
 
-    go : (rest : List Character) → ((ends class.Ending text ≡ false) × (begins class.Nonblank rest ≡ false)) ⊎ ((begins class.Ending rest ≡ true) × (begins class.Nonblank (drop 1 rest) ≡ false))
+    go : (rest : List Character) → ((ends_with_class class.Ending text ≡ false) × (begins_with_class class.Nonblank rest ≡ false)) ⊎ ((begins_with_class class.Ending rest ≡ true) × (begins_with_class class.Nonblank (drop 1 rest) ≡ false))
         → picture_size (text ++ rest) ≡ length text
     go rest (inl e) = size_of (text ++ rest) text (length text) (run_is class.Nonblank text rest is.1 e.1) (take_text text rest) ∙ ap (λ b. cond b (length text - 1) (length text)) e.0
     go [] (inr e) = let f = e.0 in cc
@@ -371,7 +371,7 @@ no_sign before first more p m = go (not (is_joined before) && begins_number more
 no_sign_here : (before : Context) (first : ℕ) (more : List Character) → (not (is_joined before) && begins_number more) ≡ false → sign_here before first more ≡ None
 no_sign_here before first more e = rw e refl
 
-blank_no_digit : (more : List Character) → begins class.Nonblank more ≡ false → begins class.Digit more ≡ false
+blank_no_digit : (more : List Character) → begins_with_class class.Nonblank more ≡ false → begins_with_class class.Digit more ≡ false
 blank_no_digit [] e = refl
 blank_no_digit (c ∷ more) e = go (eqb c.byte 32) refl e
   where
@@ -381,17 +381,17 @@ blank_no_digit (c ∷ more) e = go (eqb c.byte 32) refl e
 
 -- a character that begins no word, number or text
 punctuated : (before : Context) (c : Character) (more : List Character) → is_in class.Separator c.byte ≡ false → is_in class.LetterOrDigit c.byte ≡ false → begins_number (c ∷ more) ≡ false
-    → is_in class.Mark c.byte ≡ false → sign_here before c.byte more ≡ None → plain before c more ≡ punctuation c.place c.byte more
-unfolding plain
+    → is_in class.Mark c.byte ≡ false → sign_here before c.byte more ≡ None → plain_lexeme before c more ≡ punctuation c.place c.byte more
+unfolding plain_lexeme
 punctuated before c more a b n m s = rw (a, b, n, m, s) refl
 
 at_byte : (before : Context) (c : Character) (b : ℕ) (more : List Character) (x : Outcome) → c.byte ≡ b
     → is_in class.Separator b ≡ false → is_in class.LetterOrDigit b ≡ false → begins_number (record { byte = b; place = c.place } ∷ more) ≡ false → is_in class.Mark b ≡ false → sign_here before b more ≡ None
-    → punctuation c.place b more ≡ x → plain before c more ≡ x
+    → punctuation c.place b more ≡ x → plain_lexeme before c more ≡ x
 at_byte before c b more x same a l n m s is =
-    subst (λ y. plain before (record { byte = y; place = c.place }) more ≡ x) (sym same) (punctuated before (record { byte = b; place = c.place }) more a l n m s ∙ is)
+    subst (λ y. plain_lexeme before (record { byte = y; place = c.place }) more ≡ x) (sym same) (punctuated before (record { byte = b; place = c.place }) more a l n m s ∙ is)
 
-period_of : (place : Place) (rest : List Character) → begins class.Nonblank rest ≡ false → punctuation place 46 rest ≡ Ok (token k.Period 1)
+period_of : (place : Place) (rest : List Character) → begins_with_class class.Nonblank rest ≡ false → punctuation place 46 rest ≡ Ok (token k.Period 1)
 unfolding punctuation
 period_of place rest blank = rw blank refl
 
@@ -470,7 +470,7 @@ operator_is before c text rest o.LessOrEqual na is stop =
     both_is before c text rest 60 o.LessOrEqual na is refl refl (λ more. refl) refl (λ more. no_sign before 60 more refl refl) (λ more e. less_of c.place more true e)
 
 -- a period, whether a picture is awaited or not
-period_is : (before : Context) (c : Character) (rest : List Character) (b : Bool) → awaits_picture before ≡ b → c.byte ≡ 46 → begins class.Nonblank rest ≡ false → lexeme before c rest ≡ Ok (token k.Period 1)
+period_is : (before : Context) (c : Character) (rest : List Character) (b : Bool) → awaits_picture before ≡ b → c.byte ≡ 46 → begins_with_class class.Nonblank rest ≡ false → lexeme before c rest ≡ Ok (token k.Period 1)
 period_is before c rest true awaits same blank =
     let nonblank : is_in class.Nonblank c.byte ≡ true = rw same refl in
     let ending : is_in class.Ending c.byte ≡ true = rw same refl in
@@ -480,11 +480,11 @@ period_is before c rest false na same blank =
 
 -- ---- separators
 
-plain_separator : (before : Context) (c : Character) (more : List Character) → is_in class.Separator c.byte ≡ true → plain before c more ≡ Ok separator
-unfolding plain
+plain_separator : (before : Context) (c : Character) (more : List Character) → is_in class.Separator c.byte ≡ true → plain_lexeme before c more ≡ Ok separator
+unfolding plain_lexeme
 plain_separator before c more e = rw e refl
 
-separator_is : (before : Context) (c : Character) (rest : List Character) → is_in class.Separator c.byte ≡ true → (awaits_picture before && (is_in class.Nonblank c.byte && begins class.Nonblank rest)) ≡ false
+separator_is : (before : Context) (c : Character) (rest : List Character) → is_in class.Separator c.byte ≡ true → (awaits_picture before && (is_in class.Nonblank c.byte && begins_with_class class.Nonblank rest)) ≡ false
     → lexeme before c rest ≡ Ok separator
 unfolding lexeme
 separator_is before c rest e stop = go (awaits_picture before) refl (is_in class.Nonblank c.byte) refl stop
@@ -510,7 +510,7 @@ separator_is before c rest e stop = go (awaits_picture before) refl (is_in class
     lone_separator : eqb c.byte 46 ≡ false → lone_mark c.byte ≡ separator
     lone_separator f = rw f refl
 
-    go : (a : Bool) → awaits_picture before ≡ a → (n : Bool) → is_in class.Nonblank c.byte ≡ n → (a && (n && begins class.Nonblank rest)) ≡ false → lexeme before c rest ≡ Ok separator
+    go : (a : Bool) → awaits_picture before ≡ a → (n : Bool) → is_in class.Nonblank c.byte ≡ n → (a && (n && begins_with_class class.Nonblank rest)) ≡ false → lexeme before c rest ≡ Ok separator
     go false f n g stop = not_awaited (rw f refl)
     go true f false g stop = not_awaited (rw (f, g) refl)
     go true f true g stop =

@@ -19,14 +19,14 @@ use Rattle.tokens.specs.declared.token.Operator.{Operator}
 use Rattle.tokens.specs.declared.token.Operator.TheVariants as o
 use Rattle.lexical.specs.declared.number.Sign.{Sign}
 use Rattle.lexical.specs.declared.number.Sign.TheVariants.{Unsigned, Plus, Minus}
-use Rattle.tokens.specs.Characters.{is_in, bytes, bytes_in_upper_case, run, begins, ends, is_last}
+use Rattle.tokens.specs.Characters.{is_in, bytes, bytes_in_upper_case, run_size, begins_with_class, ends_with_class, is_last}
 use Rattle.tokens.specs.Contexts.{awaits_picture, is_joined, may_be_is}
 use Rattle.tokens.specs.Kinds.{IsWord, MayBegin, IsPicture, IsToken, IsFront, has_more}
-use Rattle.tokens.specs.Lexemes.{lexeme, plain, punctuation, comparison, is_equal_sign, begins_word, word_or_number, signed, sign_here}
-use Rattle.tokens.specs.Literals.{numeric, nonnumeric, quoted, closed, after_point, begins_number, sign_size, point_size}
+use Rattle.tokens.specs.Lexemes.{lexeme, plain_lexeme, punctuation, comparison, is_equal_sign, begins_word, word_or_number, signed_lexeme, sign_here}
+use Rattle.tokens.specs.Literals.{numeric, nonnumeric, quoted_characters, closed_literal, after_point, begins_number, sign_size, point_size}
 use Rattle.tokens.specs.Pictures.{picture, picture_size, is_is}
 use Rattle.tokens.specs.Spelled.{All, sign_text, operator_text}
-use Rattle.tokens.specs.Spelling.{reserved}
+use Rattle.tokens.specs.Spelling.{reserved_word}
 use Rattle.tokens.specs.Words.{Outcome, word, word_or_reserved, kind_of_word}
 use Rattle.tokens.proofs.Literals.{take_text, drop_text, run_all, run_stops, number_text, number_stops, Closes, quoted_closes, quoted_text, quoted_stops}
 use Rattle.tokens.proofs.Sizes.{run_le, run_begins, in_word, digit_first, some_digit}
@@ -48,20 +48,20 @@ neither : (a b : Bool) → (a || b) ≡ false → (a ≡ false) × (b ≡ false)
 neither true b e = cc
 neither false b e = (refl, e)
 
-run_length : (one : Class) (cs : List Character) → length (take (run one cs) cs) ≡ run one cs
+run_length : (one : Class) (cs : List Character) → length (take (run_size one cs) cs) ≡ run_size one cs
 run_length one cs = length-prefix_len (λ c. is_in one c.byte) cs
 
 length_bytes : (cs : List Character) → length (bytes cs) ≡ length cs
 length_bytes [] = refl
 length_bytes (c ∷ cs) = ap suc (length_bytes cs)
 
-begins_take : (one : Class) (c : Character) (more : List Character) (n : ℕ) → 1 ≤ n → is_in one c.byte ≡ true → begins one (take n (c ∷ more)) ≡ true
+begins_take : (one : Class) (c : Character) (more : List Character) (n : ℕ) → 1 ≤ n → is_in one c.byte ≡ true → begins_with_class one (take n (c ∷ more)) ≡ true
 begins_take one c more zero h e = absurd (omega arith)
 begins_take one c more (suc n) h e = e
 
 -- ---- words
 
-word_kind : (before : Context) (text rest : List Character) (r : Option Reserved) → awaits_picture before ≡ false → IsWord text rest → reserved (bytes_in_upper_case text) ≡ r
+word_kind : (before : Context) (text rest : List Character) (r : Option Reserved) → awaits_picture before ≡ false → IsWord text rest → reserved_word (bytes_in_upper_case text) ≡ r
     → IsToken before (word_or_reserved (bytes_in_upper_case text) r) text rest
 word_kind before text rest None na is e = (na, is, e, refl)
 word_kind before text rest (Some one) na is e = inl (na, is, e)
@@ -70,20 +70,20 @@ word_right : (before : Context) (place : Place) (c : Character) (more : List Cha
     → Right before (c ∷ more) (word place (c ∷ more))
 unfolding word
 word_right before place c more na first_in letter =
-    let text = take (run class.InWord (c ∷ more)) (c ∷ more) in
-    right_by (nat_lt 30 (run class.InWord (c ∷ more)) || ends class.Hyphen text) (λ _. none)
+    let text = take (run_size class.InWord (c ∷ more)) (c ∷ more) in
+    right_by (nat_lt 30 (run_size class.InWord (c ∷ more)) || ends_with_class class.Hyphen text) (λ _. none)
     (λ e. let both = neither _ _ e in
-    let short : length text ≤ 30 = let l = ltb-false 30 (run class.InWord (c ∷ more)) both.0 in let m = run_length class.InWord (c ∷ more) in omega arith in
-    let begun : begins class.LetterOrDigit text ≡ true =
-    begins_take class.LetterOrDigit c more (run class.InWord (c ∷ more)) (run_begins class.InWord (c ∷ more) (in_word c.byte first_in)) first_in in
-    some (Some (kind_of_word (bytes_in_upper_case text))) (run class.InWord (c ∷ more))
-    (word_kind before text (drop (run class.InWord (c ∷ more)) (c ∷ more)) (reserved (bytes_in_upper_case text)) na
+    let short : length text ≤ 30 = let l = ltb-false 30 (run_size class.InWord (c ∷ more)) both.0 in let m = run_length class.InWord (c ∷ more) in omega arith in
+    let begun : begins_with_class class.LetterOrDigit text ≡ true =
+    begins_take class.LetterOrDigit c more (run_size class.InWord (c ∷ more)) (run_begins class.InWord (c ∷ more) (in_word c.byte first_in)) first_in in
+    some (Some (kind_of_word (bytes_in_upper_case text))) (run_size class.InWord (c ∷ more))
+    (word_kind before text (drop (run_size class.InWord (c ∷ more)) (c ∷ more)) (reserved_word (bytes_in_upper_case text)) na
     ((run_all class.InWord (c ∷ more), run_stops class.InWord (c ∷ more)), begun, letter, short, both.1) refl))
 
 -- ---- literals
 
 abbrev whole : List Character → ℕ
-whole cs = run class.Digit cs
+whole cs = run_size class.Digit cs
 
 abbrev fraction : List Character → List Character
 fraction cs = after_point (drop (whole cs) cs)
@@ -118,9 +118,9 @@ positive (suc n) e = omega arith
 
 nonnumeric_right : (before : Context) (c : Character) (more : List Character) → awaits_picture before ≡ false → is_in class.Mark c.byte ≡ true → Right before (c ∷ more) (nonnumeric c.place c.byte more)
 unfolding nonnumeric
-nonnumeric_right before c more na m = go (quoted c.byte false [] 1 more) (quoted_closes c.byte false [] 1 more)
+nonnumeric_right before c more na m = go (quoted_characters c.byte false [] 1 more) (quoted_closes c.byte false [] 1 more)
   where
-    go : (x : Option (List ℕ × ℕ)) → Closes c.byte [] [] 1 more x → Right before (c ∷ more) (closed c.place x)
+    go : (x : Option (List ℕ × ℕ)) → Closes c.byte [] [] 1 more x → Right before (c ∷ more) (closed_literal c.place x)
     go None r = none
     go (Some (text, size)) r =
         right_by (eqb (length text) 0 || nat_lt 160 (length text)) (λ _. none)
@@ -129,7 +129,7 @@ nonnumeric_right before c more na m = go (quoted c.byte false [] 1 more) (quoted
 
 -- ---- pictures
 
-last_begins : (one : Class) (cs : List Character) (m : ℕ) → suc m ≤ length cs → is_last one (slice_get (take (suc m) cs) m) ≡ begins one (drop m cs)
+last_begins : (one : Class) (cs : List Character) (m : ℕ) → suc m ≤ length cs → is_last one (slice_get (take (suc m) cs) m) ≡ begins_with_class one (drop m cs)
 last_begins one [] m h = absurd (omega arith)
 last_begins one (c ∷ cs) zero h = refl
 last_begins one (c ∷ cs) (suc m) h = last_begins one cs m (omega arith)
@@ -148,39 +148,39 @@ length_take (c ∷ cs) zero h = refl
 length_take (c ∷ cs) (suc m) h = ap suc (length_take cs m (omega arith))
 
 picture_is : (cs : List Character) → 1 ≤ picture_size cs → IsPicture (take (picture_size cs) cs) (drop (picture_size cs) cs)
-picture_is cs h = go (run class.Nonblank cs) (ends class.Ending (take (run class.Nonblank cs) cs)) refl refl h
+picture_is cs h = go (run_size class.Nonblank cs) (ends_with_class class.Ending (take (run_size class.Nonblank cs) cs)) refl refl h
   where
-    go : (n : ℕ) (b : Bool) → run class.Nonblank cs ≡ n → ends class.Ending (take (run class.Nonblank cs) cs) ≡ b → 1 ≤ cond b (n - 1) n → IsPicture (take (cond b (n - 1) n) cs) (drop (cond b (n - 1) n) cs)
+    go : (n : ℕ) (b : Bool) → run_size class.Nonblank cs ≡ n → ends_with_class class.Ending (take (run_size class.Nonblank cs) cs) ≡ b → 1 ≤ cond b (n - 1) n → IsPicture (take (cond b (n - 1) n) cs) (drop (cond b (n - 1) n) cs)
     go n false r e h =
         let all = subst (λ n. All class.Nonblank (bytes (take n cs))) r (run_all class.Nonblank cs) in
-        let stop = subst (λ n. begins class.Nonblank (drop n cs) ≡ false) r (run_stops class.Nonblank cs) in
+        let stop = subst (λ n. begins_with_class class.Nonblank (drop n cs) ≡ false) r (run_stops class.Nonblank cs) in
         let count : length (take n cs) ≡ n = ap (λ n. length (take n cs)) (sym r) ∙ run_length class.Nonblank cs ∙ r in
-        (rw count h, all, inl (subst (λ n. ends class.Ending (take n cs) ≡ false) r e, stop))
+        (rw count h, all, inl (subst (λ n. ends_with_class class.Ending (take n cs) ≡ false) r e, stop))
     go zero true r e h = absurd (omega arith)
     go (suc m) true r e h =
         let all = subst (λ n. All class.Nonblank (bytes (take n cs))) r (run_all class.Nonblank cs) in
-        let stop = subst (λ n. begins class.Nonblank (drop n cs) ≡ false) r (run_stops class.Nonblank cs) in
+        let stop = subst (λ n. begins_with_class class.Nonblank (drop n cs) ≡ false) r (run_stops class.Nonblank cs) in
         let within : suc m ≤ length cs = let l = run_le class.Nonblank cs in omega arith in
         let less : suc m - 1 ≡ m = omega arith in
         let more : m + 1 ≡ suc m = omega arith in
-        let last = subst (λ n. ends class.Ending (take n cs) ≡ true) r e in
+        let last = subst (λ n. ends_with_class class.Ending (take n cs) ≡ true) r e in
         let seen : is_last class.Ending (slice_get (take (suc m) cs) m) ≡ true = ap (λ n. is_last class.Ending (slice_get (take (suc m) cs) n)) (sym (ap (λ n. n - 1) (length_take cs (suc m) within) ∙ less)) ∙ last in
         let one : 1 ≤ m = omega arith in
         let count : length (take m cs) ≡ m = length_take cs m (omega arith) in
-        let after : begins class.Nonblank (drop 1 (drop m cs)) ≡ false = ap (begins class.Nonblank) (drop-drop 1 m cs ∙ ap (λ n. drop n cs) more) ∙ stop in
+        let after : begins_with_class class.Nonblank (drop 1 (drop m cs)) ≡ false = ap (begins_with_class class.Nonblank) (drop-drop 1 m cs ∙ ap (λ n. drop n cs) more) ∙ stop in
         subst (λ n. IsPicture (take n cs) (drop n cs)) (sym less) (rw count one, all_take class.Nonblank cs m (suc m) (omega arith) all, inr (sym (last_begins class.Ending cs m within) ∙ seen, after))
 
 -- after a mark that stands alone there is a space or the end
-alone : (c : Character) (more : List Character) → is_in class.Nonblank c.byte ≡ true → picture_size (c ∷ more) ≡ 0 → begins class.Nonblank more ≡ false
-alone c more nonblank e = go (run class.Nonblank more) refl (rw nonblank at e)
+alone : (c : Character) (more : List Character) → is_in class.Nonblank c.byte ≡ true → picture_size (c ∷ more) ≡ 0 → begins_with_class class.Nonblank more ≡ false
+alone c more nonblank e = go (run_size class.Nonblank more) refl (rw nonblank at e)
   where
-    several : (n : ℕ) (b : Bool) → cond b (suc (suc n) - 1) (suc (suc n)) ≡ 0 → begins class.Nonblank more ≡ false
+    several : (n : ℕ) (b : Bool) → cond b (suc (suc n) - 1) (suc (suc n)) ≡ 0 → begins_with_class class.Nonblank more ≡ false
     several n true e = absurd (omega arith)
     several n false e = absurd (omega arith)
 
-    go : (n : ℕ) → run class.Nonblank more ≡ n → cond (ends class.Ending (take (1 + n) (c ∷ more))) ((1 + n) - 1) (1 + n) ≡ 0 → begins class.Nonblank more ≡ false
-    go zero r e = subst (λ n. begins class.Nonblank (drop n more) ≡ false) r (run_stops class.Nonblank more)
-    go (suc n) r e = several n (ends class.Ending (take (suc (suc n)) (c ∷ more))) (rw one-add at e)
+    go : (n : ℕ) → run_size class.Nonblank more ≡ n → cond (ends_with_class class.Ending (take (1 + n) (c ∷ more))) ((1 + n) - 1) (1 + n) ≡ 0 → begins_with_class class.Nonblank more ≡ false
+    go zero r e = subst (λ n. begins_with_class class.Nonblank (drop n more) ≡ false) r (run_stops class.Nonblank more)
+    go (suc n) r e = several n (ends_with_class class.Ending (take (suc (suc n)) (c ∷ more))) (rw one-add at e)
 
 third_false : (a b c : Bool) → c ≡ false → (a && (b && c)) ≡ false
 third_false true true c e = e
@@ -196,7 +196,7 @@ picture_right before c more awaits nonblank =
     (λ e. some None 1 (
       refl,
       other_mark (eqb c.byte 46) (eqb c.byte 44) (eqb c.byte 59) (eqb c.byte 32) (lone c more nonblank (zero_is _ empty)) e,
-      third_false (awaits_picture before) (is_in class.Nonblank c.byte) (begins class.Nonblank more) blank,
+      third_false (awaits_picture before) (is_in class.Nonblank c.byte) (begins_with_class class.Nonblank more) blank,
     )))
     (λ some_text. let is = picture_is (c ∷ more) (positive (picture_size (c ∷ more)) some_text) in
     right_one _ _ (may_be_is before && is_is (bytes (take (picture_size (c ∷ more)) (c ∷ more))))
@@ -219,7 +219,7 @@ punctuation_right : (before : Context) (c : Character) (more : List Character) �
     → Right before (c ∷ more) (punctuation c.place c.byte more)
 unfolding punctuation
 punctuation_right before c more na plus minus =
-    right_by (eqb c.byte 46) (λ e. right_by (begins class.Nonblank more) (λ _. none) (λ blank. some (Some k.Period) 1 (first_is e, blank)))
+    right_by (eqb c.byte 46) (λ e. right_by (begins_with_class class.Nonblank more) (λ _. none) (λ blank. some (Some k.Period) 1 (first_is e, blank)))
     (λ _. right_by (eqb c.byte 40) (λ e. some (Some k.LeftParenthesis) 1 (na, first_is e))
     (λ _. right_by (eqb c.byte 41) (λ e. some (Some k.RightParenthesis) 1 (na, first_is e))
     (λ _. right_by (eqb c.byte 43) (λ e. some (Some (k.Operator o.Plus)) 1 (na, first_is e, plus e))
@@ -240,7 +240,7 @@ is_no true e = cc
 is_no false e = refl
 
 -- a plus or minus directly before a number
-sign_right : (before : Context) (c : Character) (more : List Character) → awaits_picture before ≡ false → Right before (c ∷ more) (signed (sign_here before c.byte more) c.place c.byte more)
+sign_right : (before : Context) (c : Character) (more : List Character) → awaits_picture before ≡ false → Right before (c ∷ more) (signed_lexeme (sign_here before c.byte more) c.place c.byte more)
 sign_right before c more na = go (not (is_joined before) && begins_number more) refl
   where
     number : (not (is_joined before) && begins_number more) ≡ true → begins_number more ≡ true
@@ -249,15 +249,15 @@ sign_right before c more na = go (not (is_joined before) && begins_number more) 
     joined : (not (is_joined before) && begins_number more) ≡ true → is_joined before ≡ false
     joined e = is_no (is_joined before) (both_true (not (is_joined before)) (begins_number more) e).0
 
-    minus : (not (is_joined before) && begins_number more) ≡ true → eqb c.byte 43 ≡ false → (b : Bool) → eqb c.byte 45 ≡ b → Right before (c ∷ more) (signed (cond b (Some Minus) None) c.place c.byte more)
+    minus : (not (is_joined before) && begins_number more) ≡ true → eqb c.byte 43 ≡ false → (b : Bool) → eqb c.byte 45 ≡ b → Right before (c ∷ more) (signed_lexeme (cond b (Some Minus) None) c.place c.byte more)
     minus s p true e = numeric_right before c.place Minus (c ∷ []) more na (first_is e) refl (number s) (joined s)
     minus s p false e = punctuation_right before c more na (λ t. cc) (λ t. cc)
 
-    plus : (not (is_joined before) && begins_number more) ≡ true → (b : Bool) → eqb c.byte 43 ≡ b → Right before (c ∷ more) (signed (cond b (Some Plus) (cond (eqb c.byte 45) (Some Minus) None)) c.place c.byte more)
+    plus : (not (is_joined before) && begins_number more) ≡ true → (b : Bool) → eqb c.byte 43 ≡ b → Right before (c ∷ more) (signed_lexeme (cond b (Some Plus) (cond (eqb c.byte 45) (Some Minus) None)) c.place c.byte more)
     plus s true e = numeric_right before c.place Plus (c ∷ []) more na (first_is e) refl (number s) (joined s)
     plus s false e = minus s e (eqb c.byte 45) refl
 
-    go : (b : Bool) → (not (is_joined before) && begins_number more) ≡ b → Right before (c ∷ more) (signed (cond b (cond (eqb c.byte 43) (Some Plus) (cond (eqb c.byte 45) (Some Minus) None)) None) c.place c.byte more)
+    go : (b : Bool) → (not (is_joined before) && begins_number more) ≡ b → Right before (c ∷ more) (signed_lexeme (cond b (cond (eqb c.byte 43) (Some Plus) (cond (eqb c.byte 45) (Some Minus) None)) None) c.place c.byte more)
     go false s = punctuation_right before c more na (λ _. s) (λ _. s)
     go true s = plus s (eqb c.byte 43) refl
 
@@ -287,15 +287,15 @@ no_word c more e number = go (eqb c.byte 45) refl
         let a = hyphen_first _ _ _ e n in cc
     go false f = rw (e, f) refl
 
-plain_right : (before : Context) (c : Character) (more : List Character) → (awaits_picture before && is_in class.Nonblank c.byte) ≡ false → Right before (c ∷ more) (plain before c more)
-unfolding plain
+plain_right : (before : Context) (c : Character) (more : List Character) → (awaits_picture before && is_in class.Nonblank c.byte) ≡ false → Right before (c ∷ more) (plain_lexeme before c more)
+unfolding plain_lexeme
 plain_right before c more awaits =
-    right_by (is_in class.Separator c.byte) (λ e. some None 1 (refl, e, first_false (awaits_picture before) (is_in class.Nonblank c.byte) (begins class.Nonblank more) awaits))
+    right_by (is_in class.Separator c.byte) (λ e. some None 1 (refl, e, first_false (awaits_picture before) (is_in class.Nonblank c.byte) (begins_with_class class.Nonblank more) awaits))
     (λ e. go (no_picture (awaits_picture before) (eqb c.byte 32) (eqb c.byte 44) (eqb c.byte 59) awaits e))
   where
     go : awaits_picture before ≡ false
         → Right before (c ∷ more) (cond (is_in class.LetterOrDigit c.byte) (word_or_number c.place (c ∷ more)) (cond (begins_number (c ∷ more)) (numeric c.place Unsigned (c ∷ more))
-        (cond (is_in class.Mark c.byte) (nonnumeric c.place c.byte more) (signed (sign_here before c.byte more) c.place c.byte more))))
+        (cond (is_in class.Mark c.byte) (nonnumeric c.place c.byte more) (signed_lexeme (sign_here before c.byte more) c.place c.byte more))))
     go na =
         right_by (is_in class.LetterOrDigit c.byte)
         (λ e. right_by (begins_word (c ∷ more)) (λ letter. word_right before c.place c more na e letter)

@@ -8,30 +8,30 @@ use Rattle.source_lines.specs.declared.lines.Character.{Character}
 use Rattle.tokens.specs.declared.character.Class.{Class}
 use Rattle.tokens.specs.declared.character.Class.TheVariants as class
 use Rattle.lexical.specs.declared.number.Sign.{Sign}
-use Rattle.tokens.specs.Characters.{is_in, bytes, run, begins}
+use Rattle.tokens.specs.Characters.{is_in, bytes, run_size, begins_with_class}
 use Rattle.tokens.specs.Kinds.{begins_with, has_more_digits}
-use Rattle.tokens.specs.Literals.{quoted, after_point, point_size, sign_size}
-use Rattle.tokens.specs.Spelled.{All, sign_text, decimals_text, doubled, IsQuoted}
+use Rattle.tokens.specs.Literals.{quoted_characters, after_point, point_size, sign_size}
+use Rattle.tokens.specs.Spelled.{All, sign_text, decimals_text, doubled_marks, IsQuoted}
 
 pub take_text : (text rest : List Character) → take (length text) (text ++ rest) ≡ text
 take_text [] rest = refl
 take_text (c ∷ text) rest = ap (λ l. c ∷ l) (take_text text rest)
 
 -- the characters of a run are of its class
-pub run_all : (one : Class) (cs : List Character) → All one (bytes (take (run one cs) cs))
+pub run_all : (one : Class) (cs : List Character) → All one (bytes (take (run_size one cs) cs))
 run_all one [] = tt
 run_all one (c ∷ more) = go (is_in one c.byte) refl (run_all one more)
   where
-    go : (b : Bool) → is_in one c.byte ≡ b → All one (bytes (take (run one more) more)) → All one (bytes (take (cond b (1 + run one more) 0) (c ∷ more)))
+    go : (b : Bool) → is_in one c.byte ≡ b → All one (bytes (take (run_size one more) more)) → All one (bytes (take (cond b (1 + run_size one more) 0) (c ∷ more)))
     go true e r = rw one-add (e, r)
     go false e r = tt
 
 -- and none of its class follows
-pub run_stops : (one : Class) (cs : List Character) → begins one (drop (run one cs) cs) ≡ false
+pub run_stops : (one : Class) (cs : List Character) → begins_with_class one (drop (run_size one cs) cs) ≡ false
 run_stops one [] = refl
 run_stops one (c ∷ more) = go (is_in one c.byte) refl (run_stops one more)
   where
-    go : (b : Bool) → is_in one c.byte ≡ b → begins one (drop (run one more) more) ≡ false → begins one (drop (cond b (1 + run one more) 0) (c ∷ more)) ≡ false
+    go : (b : Bool) → is_in one c.byte ≡ b → begins_with_class one (drop (run_size one more) more) ≡ false → begins_with_class one (drop (cond b (1 + run_size one more) 0) (c ∷ more)) ≡ false
     go true e r = rw one-add r
     go false e r = e
 
@@ -69,25 +69,25 @@ drop_text (c ∷ text) rest = drop_text text rest
 abbrev Stops : List Character → List Character → ℕ → Type 0
 Stops y fraction d = has_more_digits (bytes (take d fraction)) (drop (point_size d + d) y) ≡ false
 
-by_decimals : (p : Character) (z : List Character) (d : ℕ) → is_in class.Digit p.byte ≡ false → eqb p.byte 46 ≡ true → run class.Digit z ≡ d → Stops (p ∷ z) z d
-by_decimals p z zero e f r = let stop : begins class.Digit z ≡ false = subst (λ n. begins class.Digit (drop n z) ≡ false) r (run_stops class.Digit z) in rw (e, f) stop
+by_decimals : (p : Character) (z : List Character) (d : ℕ) → is_in class.Digit p.byte ≡ false → eqb p.byte 46 ≡ true → run_size class.Digit z ≡ d → Stops (p ∷ z) z d
+by_decimals p z zero e f r = let stop : begins_with_class class.Digit z ≡ false = subst (λ n. begins_with_class class.Digit (drop n z) ≡ false) r (run_stops class.Digit z) in rw (e, f) stop
 by_decimals p [] (suc d) e f r = cc
-by_decimals p (q ∷ z) (suc d) e f r = rw (eqb-suc-zero, one-add) (subst (λ n. begins class.Digit (drop n (q ∷ z)) ≡ false) r (run_stops class.Digit (q ∷ z)))
+by_decimals p (q ∷ z) (suc d) e f r = rw (eqb-suc-zero, one-add) (subst (λ n. begins_with_class class.Digit (drop n (q ∷ z)) ≡ false) r (run_stops class.Digit (q ∷ z)))
 
 -- no more digits follow a number
-fraction_stops : (y : List Character) → begins class.Digit y ≡ false → Stops y (after_point y) (run class.Digit (after_point y))
+fraction_stops : (y : List Character) → begins_with_class class.Digit y ≡ false → Stops y (after_point y) (run_size class.Digit (after_point y))
 fraction_stops [] e = refl
 fraction_stops (p ∷ z) e = go (eqb p.byte 46) refl
   where
-    go : (b : Bool) → eqb p.byte 46 ≡ b → Stops (p ∷ z) (cond b z []) (run class.Digit (cond b z []))
+    go : (b : Bool) → eqb p.byte 46 ≡ b → Stops (p ∷ z) (cond b z []) (run_size class.Digit (cond b z []))
     go false f = rw (e, f) refl
-    go true f = by_decimals p z (run class.Digit z) e f refl
+    go true f = by_decimals p z (run_size class.Digit z) e f refl
 
 pub number_stops : (sign : Sign) (pre cs : List Character) → sign_size sign ≡ length pre
-    → has_more_digits (bytes (take (run class.Digit (after_point (drop (run class.Digit cs) cs))) (after_point (drop (run class.Digit cs) cs))))
-    (drop (((sign_size sign + run class.Digit cs) + point_size (run class.Digit (after_point (drop (run class.Digit cs) cs)))) + run class.Digit (after_point (drop (run class.Digit cs) cs))) (pre ++ cs)) ≡ false
+    → has_more_digits (bytes (take (run_size class.Digit (after_point (drop (run_size class.Digit cs) cs))) (after_point (drop (run_size class.Digit cs) cs))))
+    (drop (((sign_size sign + run_size class.Digit cs) + point_size (run_size class.Digit (after_point (drop (run_size class.Digit cs) cs)))) + run_size class.Digit (after_point (drop (run_size class.Digit cs) cs))) (pre ++ cs)) ≡ false
 number_stops sign pre cs size =
-    rw (left (run class.Digit cs) (run class.Digit (after_point (drop (run class.Digit cs) cs)))) (fraction_stops (drop (run class.Digit cs) cs) (run_stops class.Digit cs))
+    rw (left (run_size class.Digit cs) (run_size class.Digit (after_point (drop (run_size class.Digit cs) cs)))) (fraction_stops (drop (run_size class.Digit cs) cs) (run_stops class.Digit cs))
   where
     left : (whole d : ℕ) → drop (((sign_size sign + whole) + point_size d) + d) (pre ++ cs) ≡ drop (point_size d + d) (drop whole cs)
     left whole d =
@@ -100,7 +100,7 @@ number_stops sign pre cs size =
 -- that was just passed stands before them.
 pub data Closes (mark : ℕ) (passed there : List ℕ) (size : ℕ) (cs : List Character) : Option (List ℕ × ℕ) → Type 0 where
   open_text : Closes mark passed there size cs None
-  closes : {text : List ℕ} {count : ℕ} (literal : List ℕ) (inner rest : List Character) → cs ≡ inner ++ rest → passed ++ bytes inner ≡ doubled mark literal ++ (mark ∷ [])
+  closes : {text : List ℕ} {count : ℕ} (literal : List ℕ) (inner rest : List Character) → cs ≡ inner ++ rest → passed ++ bytes inner ≡ doubled_marks mark literal ++ (mark ∷ [])
       → text ≡ there ++ literal → count ≡ size + length inner → begins_with mark rest ≡ false → Closes mark passed there size cs (Some (text, count))
 
 pub eqb_self : (n : ℕ) → eqb n n ≡ true
@@ -125,20 +125,20 @@ other c more e open_text = open_text
 other {mark} {size} {there} c more e (closes literal inner rest is text_is t n stop) =
     closes (c.byte ∷ literal) (c ∷ inner) rest (ap (λ l. c ∷ l) is) (rw e (ap (λ l. c.byte ∷ l) text_is)) (t ∙ append_assoc there (c.byte ∷ []) literal) (omega arith) stop
 
-pub quoted_closes : (mark : ℕ) (after : Bool) (there : List ℕ) (size : ℕ) (cs : List Character) → Closes mark (cond after (mark ∷ []) []) there size cs (quoted mark after there size cs)
+pub quoted_closes : (mark : ℕ) (after : Bool) (there : List ℕ) (size : ℕ) (cs : List Character) → Closes mark (cond after (mark ∷ []) []) there size cs (quoted_characters mark after there size cs)
 quoted_closes mark true there size [] = closes [] [] [] refl refl (sym (append-nil there)) (sym (add-zero size)) refl
 quoted_closes mark false there size [] = open_text
 quoted_closes mark true there size (c ∷ more) = go (eqb c.byte mark) refl (quoted_closes mark false (there ++ mark ∷ []) (size + 1) more)
   where
-    go : (b : Bool) → eqb c.byte mark ≡ b → Closes mark [] (there ++ mark ∷ []) (size + 1) more (quoted mark false (there ++ mark ∷ []) (size + 1) more)
-        → Closes mark (mark ∷ []) there size (c ∷ more) (cond b (quoted mark false (there ++ mark ∷ []) (size + 1) more) (Some (there, size)))
+    go : (b : Bool) → eqb c.byte mark ≡ b → Closes mark [] (there ++ mark ∷ []) (size + 1) more (quoted_characters mark false (there ++ mark ∷ []) (size + 1) more)
+        → Closes mark (mark ∷ []) there size (c ∷ more) (cond b (quoted_characters mark false (there ++ mark ∷ []) (size + 1) more) (Some (there, size)))
     go true e r = second c more e r
     go false e r = closes [] [] (c ∷ more) refl refl (sym (append-nil there)) (sym (add-zero size)) e
 quoted_closes mark false there size (c ∷ more) = go (eqb c.byte mark) refl (quoted_closes mark true there (size + 1) more) (quoted_closes mark false (there ++ c.byte ∷ []) (size + 1) more)
   where
-    go : (b : Bool) → eqb c.byte mark ≡ b → Closes mark (mark ∷ []) there (size + 1) more (quoted mark true there (size + 1) more)
-        → Closes mark [] (there ++ c.byte ∷ []) (size + 1) more (quoted mark false (there ++ c.byte ∷ []) (size + 1) more)
-        → Closes mark [] there size (c ∷ more) (cond b (quoted mark true there (size + 1) more) (quoted mark false (there ++ c.byte ∷ []) (size + 1) more))
+    go : (b : Bool) → eqb c.byte mark ≡ b → Closes mark (mark ∷ []) there (size + 1) more (quoted_characters mark true there (size + 1) more)
+        → Closes mark [] (there ++ c.byte ∷ []) (size + 1) more (quoted_characters mark false (there ++ c.byte ∷ []) (size + 1) more)
+        → Closes mark [] there size (c ∷ more) (cond b (quoted_characters mark true there (size + 1) more) (quoted_characters mark false (there ++ c.byte ∷ []) (size + 1) more))
     go true e r s = first c more e r
     go false e r s = other c more e s
 
@@ -148,7 +148,7 @@ pub quoted_text : {text : List ℕ} {size : ℕ} (c : Character) (more : List Ch
 quoted_text {text} {size} c more m (closes literal inner rest is text_is t n stop) =
     let count : size ≡ suc (length inner) = omega arith in
     let front : take size (c ∷ more) ≡ c ∷ inner = ap (λ l. take size (c ∷ l)) is ∙ ap (λ n. take n (c ∷ (inner ++ rest))) count ∙ ap (λ l. c ∷ l) (take_text inner rest) in
-    (m, ap bytes front ∙ ap (λ l. c.byte ∷ l) text_is ∙ ap (λ l. c.byte ∷ (doubled c.byte l ++ (c.byte ∷ []))) (sym t))
+    (m, ap bytes front ∙ ap (λ l. c.byte ∷ l) text_is ∙ ap (λ l. c.byte ∷ (doubled_marks c.byte l ++ (c.byte ∷ []))) (sym t))
 
 pub quoted_stops : {text : List ℕ} {size : ℕ} (c : Character) (more : List Character) → Closes c.byte [] [] 1 more (Some (text, size)) → begins_with c.byte (drop size (c ∷ more)) ≡ false
 quoted_stops {text} {size} c more (closes literal inner rest is text_is t n stop) =

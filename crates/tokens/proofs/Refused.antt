@@ -13,11 +13,11 @@ use Rattle.tokens.specs.declared.fault.TokenFault.{TokenFault}
 use Rattle.tokens.specs.declared.lexeme.Lexeme.{Lexeme}
 use Rattle.tokens.specs.declared.token.Kind.{Kind}
 use Rattle.tokens.specs.declared.token.Operator.{Operator}
-use Rattle.tokens.specs.Characters.{is_in, run, begins, ends}
-use Rattle.tokens.specs.Contexts.{after, awaits_picture, is_joined}
+use Rattle.tokens.specs.Characters.{is_in, run_size, begins_with_class, ends_with_class}
+use Rattle.tokens.specs.Contexts.{context_after, awaits_picture, is_joined}
 use Rattle.tokens.specs.Kinds.{IsFront}
-use Rattle.tokens.specs.Lexemes.{lexeme, plain, punctuation, comparison, is_equal_sign, begins_word, signed, sign_here}
-use Rattle.tokens.specs.Literals.{numeric, nonnumeric, quoted, closed, begins_number, after_point}
+use Rattle.tokens.specs.Lexemes.{lexeme, plain_lexeme, punctuation, comparison, is_equal_sign, begins_word, signed_lexeme, sign_here}
+use Rattle.tokens.specs.Literals.{numeric, nonnumeric, quoted_characters, closed_literal, begins_number, after_point}
 use Rattle.tokens.specs.Refusals.{NoFront, wrong, IsRefused, here, further}
 use Rattle.tokens.specs.Scanning.{Tokens, tokens_from, before_others, token_of, span_of}
 use Rattle.tokens.specs.Words.{Outcome, word}
@@ -38,17 +38,17 @@ blames_by false s t = t refl
 
 word_blames : (place : Place) (cs : List Character) → Blames WrongWord place (word place cs)
 unfolding word
-word_blames place cs = blames_by (nat_lt 30 (run class.InWord cs) || ends class.Hyphen (take (run class.InWord cs) cs)) (λ _. fault) (λ _. none)
+word_blames place cs = blames_by (nat_lt 30 (run_size class.InWord cs) || ends_with_class class.Hyphen (take (run_size class.InWord cs) cs)) (λ _. fault) (λ _. none)
 
 numeric_blames : (place : Place) (sign : Sign) (cs : List Character) → Blames WrongNumericLiteral place (numeric place sign cs)
 unfolding numeric
-numeric_blames place sign cs = blames_by (nat_lt 18 (run class.Digit cs + run class.Digit (after_point (drop (run class.Digit cs) cs)))) (λ _. fault) (λ _. none)
+numeric_blames place sign cs = blames_by (nat_lt 18 (run_size class.Digit cs + run_size class.Digit (after_point (drop (run_size class.Digit cs) cs)))) (λ _. fault) (λ _. none)
 
 nonnumeric_blames : (place : Place) (mark : ℕ) (cs : List Character) → Blames WrongNonnumericLiteral place (nonnumeric place mark cs)
 unfolding nonnumeric
-nonnumeric_blames place mark cs = go (quoted mark false [] 1 cs)
+nonnumeric_blames place mark cs = go (quoted_characters mark false [] 1 cs)
   where
-    go : (x : Option (List ℕ × ℕ)) → Blames WrongNonnumericLiteral place (closed place x)
+    go : (x : Option (List ℕ × ℕ)) → Blames WrongNonnumericLiteral place (closed_literal place x)
     go None = fault
     go (Some (text, size)) = blames_by (eqb (length text) 0 || nat_lt 160 (length text)) (λ _. fault) (λ _. none)
 
@@ -59,7 +59,7 @@ comparison_blames place alone both more = blames_by (is_equal_sign more) (λ _. 
 punctuation_blames : (place : Place) (first : ℕ) (more : List Character) → Blames StrayCharacter place (punctuation place first more)
 unfolding punctuation
 punctuation_blames place first more =
-    blames_by (eqb first 46) (λ _. blames_by (begins class.Nonblank more) (λ _. fault) (λ _. none))
+    blames_by (eqb first 46) (λ _. blames_by (begins_with_class class.Nonblank more) (λ _. fault) (λ _. none))
     (λ _. blames_by (eqb first 40) (λ _. none)
     (λ _. blames_by (eqb first 41) (λ _. none)
     (λ _. blames_by (eqb first 43) (λ _. none)
@@ -75,18 +75,18 @@ abbrev signed_kind : Bool → ℕ → FaultKind
 signed_kind number first = cond (number && (eqb first 43 || eqb first 45)) WrongNumericLiteral StrayCharacter
 
 sign_blames : (before : Context) (c : Character) (more : List Character)
-    → Blames (signed_kind (not (is_joined before) && begins_number more) c.byte) c.place (signed (sign_here before c.byte more) c.place c.byte more)
+    → Blames (signed_kind (not (is_joined before) && begins_number more) c.byte) c.place (signed_lexeme (sign_here before c.byte more) c.place c.byte more)
 sign_blames before c more = go (not (is_joined before) && begins_number more)
   where
-    minus : (b : Bool) → Blames (cond (false || b) WrongNumericLiteral StrayCharacter) c.place (signed (cond b (Some Minus) None) c.place c.byte more)
+    minus : (b : Bool) → Blames (cond (false || b) WrongNumericLiteral StrayCharacter) c.place (signed_lexeme (cond b (Some Minus) None) c.place c.byte more)
     minus true = numeric_blames c.place Minus more
     minus false = punctuation_blames c.place c.byte more
 
-    plus : (b : Bool) → Blames (cond (b || eqb c.byte 45) WrongNumericLiteral StrayCharacter) c.place (signed (cond b (Some Plus) (cond (eqb c.byte 45) (Some Minus) None)) c.place c.byte more)
+    plus : (b : Bool) → Blames (cond (b || eqb c.byte 45) WrongNumericLiteral StrayCharacter) c.place (signed_lexeme (cond b (Some Plus) (cond (eqb c.byte 45) (Some Minus) None)) c.place c.byte more)
     plus true = numeric_blames c.place Plus more
     plus false = minus (eqb c.byte 45)
 
-    go : (b : Bool) → Blames (signed_kind b c.byte) c.place (signed (cond b (cond (eqb c.byte 43) (Some Plus) (cond (eqb c.byte 45) (Some Minus) None)) None) c.place c.byte more)
+    go : (b : Bool) → Blames (signed_kind b c.byte) c.place (signed_lexeme (cond b (cond (eqb c.byte 43) (Some Plus) (cond (eqb c.byte 45) (Some Minus) None)) None) c.place c.byte more)
     go true = plus (eqb c.byte 43)
     go false = punctuation_blames c.place c.byte more
 
@@ -98,17 +98,17 @@ other_kind before c more = signed_kind (not (is_joined before) && begins_number 
 abbrev kind_by : Bool → Bool → Bool → FaultKind → FaultKind
 kind_by a_word a_number a_mark other = cond a_word WrongWord (cond a_number WrongNumericLiteral (cond a_mark WrongNonnumericLiteral other))
 
-plain_blames : (before : Context) (c : Character) (more : List Character) → Blames (wrong before (c ∷ more)) c.place (plain before c more)
-unfolding plain
+plain_blames : (before : Context) (c : Character) (more : List Character) → Blames (wrong before (c ∷ more)) c.place (plain_lexeme before c more)
+unfolding plain_lexeme
 plain_blames before c more =
     blames_by (is_in class.Separator c.byte) (λ _. none) (λ _. in_word (is_in class.LetterOrDigit c.byte) refl)
   where
-    marked : (b : Bool) → Blames (kind_by false false b (other_kind before c more)) c.place (cond b (nonnumeric c.place c.byte more) (signed (sign_here before c.byte more) c.place c.byte more))
+    marked : (b : Bool) → Blames (kind_by false false b (other_kind before c more)) c.place (cond b (nonnumeric c.place c.byte more) (signed_lexeme (sign_here before c.byte more) c.place c.byte more))
     marked true = nonnumeric_blames c.place c.byte more
     marked false = sign_blames before c more
 
     numbered : (b : Bool) → Blames (kind_by false b (is_in class.Mark c.byte) (other_kind before c more)) c.place
-        (cond b (numeric c.place Unsigned (c ∷ more)) (cond (is_in class.Mark c.byte) (nonnumeric c.place c.byte more) (signed (sign_here before c.byte more) c.place c.byte more)))
+        (cond b (numeric c.place Unsigned (c ∷ more)) (cond (is_in class.Mark c.byte) (nonnumeric c.place c.byte more) (signed_lexeme (sign_here before c.byte more) c.place c.byte more)))
     numbered true = numeric_blames c.place Unsigned (c ∷ more)
     numbered false = marked (is_in class.Mark c.byte)
 
@@ -122,7 +122,7 @@ plain_blames before c more =
     in_word : (b : Bool) → is_in class.LetterOrDigit c.byte ≡ b
         → Blames (kind_by (b && begins_word (c ∷ more)) (begins_number (c ∷ more)) (is_in class.Mark c.byte) (other_kind before c more)) c.place
         (cond b (cond (begins_word (c ∷ more)) (word c.place (c ∷ more)) (numeric c.place Unsigned (c ∷ more)))
-        (cond (begins_number (c ∷ more)) (numeric c.place Unsigned (c ∷ more)) (cond (is_in class.Mark c.byte) (nonnumeric c.place c.byte more) (signed (sign_here before c.byte more) c.place c.byte more))))
+        (cond (begins_number (c ∷ more)) (numeric c.place Unsigned (c ∷ more)) (cond (is_in class.Mark c.byte) (nonnumeric c.place c.byte more) (signed_lexeme (sign_here before c.byte more) c.place c.byte more))))
     in_word true e = lettered e (begins_word (c ∷ more)) refl
     in_word false e = numbered (begins_number (c ∷ more))
 
@@ -169,7 +169,7 @@ pub refused_only : {before : Context} {characters : List Character} {found : Tok
 refused_only {before} start (here c more unbegun) = stops before start c more _ (refuses before c more unbegun)
 refused_only {before} start (further c text rest kind is more) =
     goes_on before start c (text ++ rest) (record { kind = kind; size = suc (length text) }) (omega arith) (fixed before c text rest kind is)
-    ∙ ap (λ l. before_others (token_of kind (span_of start (suc (length text))) c.place) (tokens_from 0 (after before kind) (start + suc (length text)) l)) (drop_text text rest)
+    ∙ ap (λ l. before_others (token_of kind (span_of start (suc (length text))) c.place) (tokens_from 0 (context_after before kind) (start + suc (length text)) l)) (drop_text text rest)
     ∙ ap (before_others (token_of kind (span_of start (suc (length text))) c.place)) (refused_only (start + suc (length text)) more)
 
 fault_is : {found other : TokenFault} → ◌≡◌ {A = Tokens} (Err found) (Err other) → found ≡ other
@@ -187,14 +187,14 @@ refused_within zero before start (c ∷ more) found h is = absurd (omega arith)
 refused_within (suc n) before start (c ∷ more) found h is = go (refused_within n) (lexeme before c more) refl
   where
     joined : Refused n → (one : Lexeme) → 1 ≤ one.size → lexeme before c more ≡ Ok one → (others : Tokens)
-        → tokens_from 0 (after before one.kind) (start + one.size) (drop (one.size - 1) more) ≡ others
+        → tokens_from 0 (context_after before one.kind) (start + one.size) (drop (one.size - 1) more) ≡ others
         → before_others (token_of one.kind (span_of start one.size) c.place) others ≡ Err found → IsRefused before (c ∷ more) found
     joined refused one l is_one (Ok others) rest_is all = cc
     joined refused one l is_one (Err other) rest_is all =
         let left : length (drop (one.size - 1) more) ≤ n = rw length-drop (omega arith) in
         subst (λ l. IsRefused before (c ∷ l) found) (take-append-drop (one.size - 1) more)
         (further c (take (one.size - 1) more) (drop (one.size - 1) more) one.kind (begun before c more one is_one)
-        (refused (after before one.kind) (start + one.size) (drop (one.size - 1) more) found left (rest_is ∙ all)))
+        (refused (context_after before one.kind) (start + one.size) (drop (one.size - 1) more) found left (rest_is ∙ all)))
 
     go : Refused n → (o : Outcome) → lexeme before c more ≡ o → IsRefused before (c ∷ more) found
     go refused (Err other) is_err =
@@ -203,6 +203,6 @@ refused_within (suc n) before start (c ∷ more) found h is = go (refused_within
         subst (λ f. IsRefused before (c ∷ more) f) (sym kind ∙ same) (here c more (nothing before c more other is_err))
     go refused (Ok one) is_one =
         let s = subst (λ o. Sized (suc (length more)) o) is_one (lexeme_sized before c more) in
-        joined refused one (low s) is_one (tokens_from 0 (after before one.kind) (start + one.size) (drop (one.size - 1) more)) refl
-        (ap (λ l. before_others (token_of one.kind (span_of start one.size) c.place) (tokens_from 0 (after before one.kind) (start + one.size) l)) (drop-more one.size c more (low s))
+        joined refused one (low s) is_one (tokens_from 0 (context_after before one.kind) (start + one.size) (drop (one.size - 1) more)) refl
+        (ap (λ l. before_others (token_of one.kind (span_of start one.size) c.place) (tokens_from 0 (context_after before one.kind) (start + one.size) l)) (drop-more one.size c more (low s))
         ∙ sym (goes_on before start c more one (low s) is_one) ∙ is)

@@ -5,11 +5,11 @@ use Rattle.tokens.specs.declared.context.Context.{Context}
 use Rattle.tokens.specs.declared.lexeme.Lexeme.{Lexeme}
 use Rattle.tokens.specs.declared.token.Kind.{Kind}
 use Rattle.tokens.specs.declared.token.Token.{Token}
-use Rattle.tokens.specs.Contexts.{after}
+use Rattle.tokens.specs.Contexts.{context_after}
 use Rattle.tokens.specs.Lexemes.{lexeme}
 use Rattle.tokens.specs.Scanning.{Tokens, tokens_from, before_others, token_of, span_of}
 use Rattle.tokens.specs.Kinds.{IsFront}
-use Rattle.tokens.specs.Tokens.{AreTokens, at_end, front, NoLonger, InOrder, place_at, Placed}
+use Rattle.tokens.specs.Tokens.{AreTokens, at_end, front, NoLonger, InOrder, place_at, ArePlacedBy}
 use Rattle.tokens.specs.Words.{Outcome}
 use Rattle.tokens.proofs.Fixed.{fixed}
 use Rattle.tokens.proofs.Fronts.{front_is}
@@ -25,19 +25,19 @@ pub only : {before : Context} {start : ℕ} {characters : List Character} {found
 only at_end = refl
 only {before} {start} (front {others = others} c text rest kind is more) =
     goes_on before start c (text ++ rest) (record { kind = kind; size = suc (length text) }) (omega arith) (fixed before c text rest kind is)
-    ∙ ap (λ l. before_others (token_of kind (span_of start (suc (length text))) c.place) (tokens_from 0 (after before kind) (start + suc (length text)) l)) (drop_text text rest)
+    ∙ ap (λ l. before_others (token_of kind (span_of start (suc (length text))) c.place) (tokens_from 0 (context_after before kind) (start + suc (length text)) l)) (drop_text text rest)
     ∙ ap (before_others (token_of kind (span_of start (suc (length text))) c.place)) (only more)
 
 -- a front that is taken off the characters
 taken : {before : Context} {start : ℕ} {others : List Token} (c : Character) (text rest more : List Character) (one : Lexeme) → text ++ rest ≡ more → one.size ≡ suc (length text)
-    → lexeme before c more ≡ Ok one → AreTokens (after before one.kind) (start + one.size) rest others
+    → lexeme before c more ≡ Ok one → AreTokens (context_after before one.kind) (start + one.size) rest others
     → AreTokens before start (c ∷ more) (token_of one.kind (span_of start one.size) c.place ++ others)
 taken {before} {start} {others} c text rest more one is_more is_size is others_are =
     let seen : lexeme before c (text ++ rest) ≡ Ok (record { kind = one.kind; size = suc (length text) }) =
     ap (lexeme before c) is_more ∙ is ∙ ap (λ n. Ok (record { kind = one.kind; size = n })) is_size in
     subst (λ l. AreTokens before start (c ∷ l) (token_of one.kind (span_of start one.size) c.place ++ others)) is_more
     (subst (λ n. AreTokens before start (c ∷ (text ++ rest)) (token_of one.kind (span_of start n) c.place ++ others)) (sym is_size)
-    (front c text rest one.kind (front_is before c text rest one.kind seen) (subst (λ n. AreTokens (after before one.kind) (start + n) rest others) is_size others_are)))
+    (front c text rest one.kind (front_is before c text rest one.kind seen) (subst (λ n. AreTokens (context_after before one.kind) (start + n) rest others) is_size others_are)))
 
 ok_is : {found others : List Token} → ◌≡◌ {A = Tokens} (Ok found) (Ok others) → found ≡ others
 ok_is e = cc
@@ -55,7 +55,7 @@ answered_within zero before start (c ∷ more) found h is = absurd (omega arith)
 answered_within (suc n) before start (c ∷ more) found h is = go (answered_within n) (lexeme before c more) refl
   where
     joined : Answered n → (one : Lexeme) → 1 ≤ one.size → one.size ≤ suc (length more) → lexeme before c more ≡ Ok one → (others : Tokens)
-        → tokens_from 0 (after before one.kind) (start + one.size) (drop (one.size - 1) more) ≡ others
+        → tokens_from 0 (context_after before one.kind) (start + one.size) (drop (one.size - 1) more) ≡ others
         → before_others (token_of one.kind (span_of start one.size) c.place) others ≡ Ok found → AreTokens before start (c ∷ more) found
     joined answered one l m is_one (Err fault) rest_is all = cc
     joined answered one l m is_one (Ok others) rest_is all =
@@ -63,14 +63,14 @@ answered_within (suc n) before start (c ∷ more) found h is = go (answered_with
         let size : one.size ≡ suc (length (take (one.size - 1) more)) = let t : length (take (one.size - 1) more) ≡ one.size - 1 = length-take-le (one.size - 1) more (omega arith) in omega arith in
         subst (λ l. AreTokens before start (c ∷ more) l) (ok_is all)
         (taken c (take (one.size - 1) more) (drop (one.size - 1) more) more one (take-append-drop (one.size - 1) more) size is_one
-        (answered (after before one.kind) (start + one.size) (drop (one.size - 1) more) others left rest_is))
+        (answered (context_after before one.kind) (start + one.size) (drop (one.size - 1) more) others left rest_is))
 
     go : Answered n → (o : Outcome) → lexeme before c more ≡ o → AreTokens before start (c ∷ more) found
     go answered (Err fault) is_err = let s = stops before start c more fault is_err in cc
     go answered (Ok one) is_one =
         let s = subst (λ o. Sized (suc (length more)) o) is_one (lexeme_sized before c more) in
-        joined answered one (low s) (high s) is_one (tokens_from 0 (after before one.kind) (start + one.size) (drop (one.size - 1) more)) refl
-        (ap (λ l. before_others (token_of one.kind (span_of start one.size) c.place) (tokens_from 0 (after before one.kind) (start + one.size) l)) (drop-more one.size c more (low s))
+        joined answered one (low s) (high s) is_one (tokens_from 0 (context_after before one.kind) (start + one.size) (drop (one.size - 1) more)) refl
+        (ap (λ l. before_others (token_of one.kind (span_of start one.size) c.place) (tokens_from 0 (context_after before one.kind) (start + one.size) l)) (drop-more one.size c more (low s))
         ∙ sym (goes_on before start c more one (low s) is_one) ∙ is)
 
 -- a front is the longest that can begin at its place
@@ -106,12 +106,12 @@ place_after : (passed : List Character) (c : Character) (more : List Character) 
 place_after [] c more = refl
 place_after (p ∷ passed) c more = place_after passed c more
 
-pub placed : {before : Context} {start : ℕ} {characters : List Character} {found : List Token} (passed : List Character) → start ≡ length passed → AreTokens before start characters found → Placed (passed ++ characters) found
+pub placed : {before : Context} {start : ℕ} {characters : List Character} {found : List Token} (passed : List Character) → start ≡ length passed → AreTokens before start characters found → ArePlacedBy (passed ++ characters) found
 placed passed h at_end = tt
 placed {start = start} passed h (front {others = others} c text rest kind is more) =
     let counts : start + suc (length text) ≡ length (passed ++ (c ∷ text)) = let l = length-append passed (c ∷ text) in omega arith in
-    go kind (subst (λ l. Placed l others) (append_assoc passed (c ∷ text) rest) (placed (passed ++ (c ∷ text)) counts more))
+    go kind (subst (λ l. ArePlacedBy l others) (append_assoc passed (c ∷ text) rest) (placed (passed ++ (c ∷ text)) counts more))
   where
-    go : (k : Option Kind) → Placed (passed ++ (c ∷ (text ++ rest))) others → Placed (passed ++ (c ∷ (text ++ rest))) (token_of k (span_of start (suc (length text))) c.place ++ others)
+    go : (k : Option Kind) → ArePlacedBy (passed ++ (c ∷ (text ++ rest))) others → ArePlacedBy (passed ++ (c ∷ (text ++ rest))) (token_of k (span_of start (suc (length text))) c.place ++ others)
     go None others_are = others_are
     go (Some one) others_are = (ap (place_at (passed ++ (c ∷ (text ++ rest)))) h ∙ place_after passed c (text ++ rest), others_are)

@@ -14,12 +14,12 @@ use Rattle.tokens.specs.declared.token.Operator.TheVariants as o
 use Rattle.tokens.specs.declared.fault.TokenError.{TokenError}
 use Rattle.lexical.specs.declared.number.Sign.{Sign}
 use Rattle.lexical.specs.declared.number.Sign.TheVariants.{Unsigned, Plus, Minus}
-use Rattle.tokens.specs.Characters.{is_in, run, begins}
+use Rattle.tokens.specs.Characters.{is_in, run_size, begins_with_class}
 use Rattle.tokens.specs.Contexts.{awaits_picture, is_joined}
 use Rattle.answers.specs.Answer.{Gives}
 use Rattle.tokens.specs.Faults.{fault_of}
-use Rattle.tokens.specs.Lexemes.{lexeme, plain, punctuation, comparison, is_equal_sign, begins_word, word_or_number, signed, sign_here}
-use Rattle.tokens.specs.Literals.{numeric, nonnumeric, quoted, closed, after_point, begins_number, point_size, sign_size}
+use Rattle.tokens.specs.Lexemes.{lexeme, plain_lexeme, punctuation, comparison, is_equal_sign, begins_word, word_or_number, signed_lexeme, sign_here}
+use Rattle.tokens.specs.Literals.{numeric, nonnumeric, quoted_characters, closed_literal, after_point, begins_number, point_size, sign_size}
 use Rattle.tokens.specs.Pictures.{picture, picture_size}
 use Rattle.tokens.specs.Words.{Outcome, word}
 
@@ -42,14 +42,14 @@ pub sized_by : {n : ℕ} {x y : Outcome} (b : Bool) → (b ≡ true → Sized n 
 sized_by true s t = s refl
 sized_by false s t = t refl
 
-pub run_le : (c : Class) (cs : List Character) → run c cs ≤ length cs
+pub run_le : (c : Class) (cs : List Character) → run_size c cs ≤ length cs
 run_le c cs = prefix_len-le-length (λ x. is_in c x.byte) cs
 
-pub run_begins : (c : Class) (cs : List Character) → begins c cs ≡ true → 1 ≤ run c cs
+pub run_begins : (c : Class) (cs : List Character) → begins_with_class c cs ≡ true → 1 ≤ run_size c cs
 run_begins c [] b = cc
 run_begins c (x ∷ more) b = rw b (omega arith)
 
-pub no_run : (c : Class) (cs : List Character) → begins c cs ≡ false → run c cs ≡ 0
+pub no_run : (c : Class) (cs : List Character) → begins_with_class c cs ≡ false → run_size c cs ≡ 0
 no_run c [] is = refl
 no_run c (x ∷ more) is = rw is refl
 
@@ -63,20 +63,20 @@ fraction_fits (c ∷ more) n h = go (eqb c.byte 46) h
     go true h = elim (eqb n 0) as (λ z. n + cond z 0 1 ≤ suc (length more)) [ true ↦ omega arith | false ↦ omega arith ]
     go false h = let z : n ≡ 0 = omega arith in rw z (omega arith)
 
-pub some_digit : (cs : List Character) → begins_number cs ≡ true → 1 ≤ run class.Digit cs + run class.Digit (after_point (drop (run class.Digit cs) cs))
-some_digit cs b = go (begins class.Digit cs) refl b
+pub some_digit : (cs : List Character) → begins_number cs ≡ true → 1 ≤ run_size class.Digit cs + run_size class.Digit (after_point (drop (run_size class.Digit cs) cs))
+some_digit cs b = go (begins_with_class class.Digit cs) refl b
   where
-    go : (x : Bool) → begins class.Digit cs ≡ x → (x || begins class.Digit (after_point cs)) ≡ true → 1 ≤ run class.Digit cs + run class.Digit (after_point (drop (run class.Digit cs) cs))
+    go : (x : Bool) → begins_with_class class.Digit cs ≡ x → (x || begins_with_class class.Digit (after_point cs)) ≡ true → 1 ≤ run_size class.Digit cs + run_size class.Digit (after_point (drop (run_size class.Digit cs) cs))
     go true is b = omega (arith, run_begins class.Digit cs is)
     go false is b = rw (no_run class.Digit cs is) (omega (arith, run_begins class.Digit (after_point cs) b))
 
 pub numeric_sized : (place : Place) (sign : Sign) (cs : List Character) (n : ℕ) → begins_number cs ≡ true → sign_size sign + length cs ≤ n → Sized n (numeric place sign cs)
 unfolding numeric
 numeric_sized place sign cs n b h =
-    let whole_fits : run class.Digit cs ≤ length cs = run_le class.Digit cs in
-    let part_fits : run class.Digit (after_point (drop (run class.Digit cs) cs)) + point_size (run class.Digit (after_point (drop (run class.Digit cs) cs))) ≤ length (drop (run class.Digit cs) cs) =
-    fraction_fits (drop (run class.Digit cs) cs) (run class.Digit (after_point (drop (run class.Digit cs) cs))) (run_le class.Digit (after_point (drop (run class.Digit cs) cs))) in
-    let left = length-drop (run class.Digit cs) cs in
+    let whole_fits : run_size class.Digit cs ≤ length cs = run_le class.Digit cs in
+    let part_fits : run_size class.Digit (after_point (drop (run_size class.Digit cs) cs)) + point_size (run_size class.Digit (after_point (drop (run_size class.Digit cs) cs))) ≤ length (drop (run_size class.Digit cs) cs) =
+    fraction_fits (drop (run_size class.Digit cs) cs) (run_size class.Digit (after_point (drop (run_size class.Digit cs) cs))) (run_le class.Digit (after_point (drop (run_size class.Digit cs) cs))) in
+    let left = length-drop (run_size class.Digit cs) cs in
     let least = some_digit cs b in
     sized_if _ none (some (omega arith) (omega arith))
 
@@ -93,31 +93,31 @@ passed_more : {size : ℕ} (more : ℕ) {x : Option (List ℕ × ℕ)} → Passe
 passed_more more open_text = open_text
 passed_more more (closed_text l h) = closed_text (omega arith) (omega arith)
 
-quoted_passed : (mark : ℕ) (after : Bool) (text : List ℕ) (size : ℕ) (cs : List Character) → Passed size (size + length cs) (quoted mark after text size cs)
+quoted_passed : (mark : ℕ) (after : Bool) (text : List ℕ) (size : ℕ) (cs : List Character) → Passed size (size + length cs) (quoted_characters mark after text size cs)
 quoted_passed mark true text size [] = closed_text (omega arith) (omega arith)
 quoted_passed mark false text size [] = open_text
 quoted_passed mark true text size (c ∷ more) = passed_if (eqb c.byte mark) (passed_more (length more) (quoted_passed mark false _ (size + 1) more)) (closed_text (omega arith) (omega arith))
 quoted_passed mark false text size (c ∷ more) =
     passed_if (eqb c.byte mark) (passed_more (length more) (quoted_passed mark true _ (size + 1) more)) (passed_more (length more) (quoted_passed mark false _ (size + 1) more))
 
-closed_sized : (place : Place) {n : ℕ} {x : Option (List ℕ × ℕ)} → Passed 1 n x → Sized n (closed place x)
+closed_sized : (place : Place) {n : ℕ} {x : Option (List ℕ × ℕ)} → Passed 1 n x → Sized n (closed_literal place x)
 closed_sized place open_text = none
 closed_sized place (closed_text l h) = sized_if _ none (some l h)
 
 nonnumeric_sized : (place : Place) (mark : ℕ) (cs : List Character) → Sized (suc (length cs)) (nonnumeric place mark cs)
 unfolding nonnumeric
-nonnumeric_sized place mark cs = closed_sized place (subst (λ n. Passed 1 n (quoted mark false [] 1 cs)) (one-add (length cs)) (quoted_passed mark false [] 1 cs))
+nonnumeric_sized place mark cs = closed_sized place (subst (λ n. Passed 1 n (quoted_characters mark false [] 1 cs)) (one-add (length cs)) (quoted_passed mark false [] 1 cs))
 
 -- ---- words and pictures
 
-word_sized : (place : Place) (cs : List Character) → 1 ≤ run class.InWord cs → Sized (length cs) (word place cs)
+word_sized : (place : Place) (cs : List Character) → 1 ≤ run_size class.InWord cs → Sized (length cs) (word place cs)
 unfolding word
 word_sized place cs h = sized_if _ none (some h (run_le class.InWord cs))
 
 picture_size_le : (cs : List Character) → picture_size cs ≤ length cs
 picture_size_le cs =
     let h = run_le class.Nonblank cs in
-    go (run class.Nonblank cs) _ h
+    go (run_size class.Nonblank cs) _ h
   where
     go : (n : ℕ) (b : Bool) → n ≤ length cs → cond b (n - 1) n ≤ length cs
     go n true h = omega arith
@@ -157,7 +157,7 @@ one_sized e = some (omega arith) (omega arith)
 punctuation_sized : (place : Place) (first : ℕ) (more : List Character) → Sized (suc (length more)) (punctuation place first more)
 unfolding punctuation
 punctuation_sized place first more =
-    sized_if (eqb first 46) (sized_if (begins class.Nonblank more) none (one_sized refl))
+    sized_if (eqb first 46) (sized_if (begins_with_class class.Nonblank more) none (one_sized refl))
     (sized_if (eqb first 40) (one_sized refl)
     (sized_if (eqb first 41) (one_sized refl)
     (sized_if (eqb first 43) (one_sized refl)
@@ -176,7 +176,7 @@ is_left true upper lower e f = refl
 is_left false upper lower e f = cc
 
 -- what begins with a letter or digit and is no word begins with a digit
-pub digit_first : (c : Character) (more : List Character) → is_in class.LetterOrDigit c.byte ≡ true → begins_word (c ∷ more) ≡ false → begins class.Digit (c ∷ more) ≡ true
+pub digit_first : (c : Character) (more : List Character) → is_in class.LetterOrDigit c.byte ≡ true → begins_word (c ∷ more) ≡ false → begins_with_class class.Digit (c ∷ more) ≡ true
 digit_first c more alphanumeric no_word = go (is_in class.Letter c.byte) refl
   where
     letter_is_word : is_in class.Letter c.byte ≡ true → begins_word (c ∷ more) ≡ true
@@ -192,24 +192,24 @@ word_or_number_sized place c more e =
     (λ is. word_sized place (c ∷ more) (run_begins class.InWord (c ∷ more) (in_word c.byte e)))
     (λ is. numeric_sized place Unsigned (c ∷ more) (suc (length more)) (rw (digit_first c more e is) refl) (omega arith))
 
-signed_sized : (before : Context) (place : Place) (first : ℕ) (more : List Character) → Sized (suc (length more)) (signed (sign_here before first more) place first more)
+signed_sized : (before : Context) (place : Place) (first : ℕ) (more : List Character) → Sized (suc (length more)) (signed_lexeme (sign_here before first more) place first more)
 signed_sized before place first more = go (not (is_joined before)) (begins_number more) refl
   where
-    by_sign : (sign : Option Sign) → begins_number more ≡ true → Sized (suc (length more)) (signed sign place first more)
+    by_sign : (sign : Option Sign) → begins_number more ≡ true → Sized (suc (length more)) (signed_lexeme sign place first more)
     by_sign None b = punctuation_sized place first more
     by_sign (Some Unsigned) b = numeric_sized place Unsigned more (suc (length more)) b (omega arith)
     by_sign (Some Plus) b = numeric_sized place Plus more (suc (length more)) b (omega arith)
     by_sign (Some Minus) b = numeric_sized place Minus more (suc (length more)) b (omega arith)
 
     go : (apart number : Bool) → begins_number more ≡ number
-        → Sized (suc (length more)) (signed (cond (apart && number) (cond (eqb first 43) (Some Plus) (cond (eqb first 45) (Some Minus) None)) None) place first more)
+        → Sized (suc (length more)) (signed_lexeme (cond (apart && number) (cond (eqb first 43) (Some Plus) (cond (eqb first 45) (Some Minus) None)) None) place first more)
     go true true b = by_sign _ b
     go true false b = punctuation_sized place first more
     go false true b = punctuation_sized place first more
     go false false b = punctuation_sized place first more
 
-pub plain_sized : (before : Context) (first : Character) (more : List Character) → Sized (suc (length more)) (plain before first more)
-unfolding plain
+pub plain_sized : (before : Context) (first : Character) (more : List Character) → Sized (suc (length more)) (plain_lexeme before first more)
+unfolding plain_lexeme
 plain_sized before first more =
     sized_if (is_in class.Separator first.byte) (one_sized refl)
     (sized_by (is_in class.LetterOrDigit first.byte) (word_or_number_sized first.place first more)

@@ -19,15 +19,15 @@ use Rattle.tokens.specs.declared.token.Operator.TheVariants as o
 use Rattle.lexical.specs.declared.number.Sign.{Sign}
 use Rattle.lexical.specs.declared.number.Sign.TheVariants.{Unsigned, Plus, Minus}
 use Rattle.tokens.specs.declared.token.Token.{Token}
-use Rattle.tokens.specs.Characters.{is_in, bytes, bytes_in_upper_case, run, begins, ends}
+use Rattle.tokens.specs.Characters.{is_in, bytes, bytes_in_upper_case, run_size, begins_with_class, ends_with_class}
 use Rattle.tokens.specs.Contexts.{awaits_picture, is_joined, may_be_is}
 use Rattle.tokens.specs.Kinds.{IsFront}
-use Rattle.tokens.specs.Lexemes.{lexeme, plain, punctuation, comparison, begins_word, signed, sign_here}
-use Rattle.tokens.specs.Literals.{numeric, nonnumeric, quoted, closed, after_point, begins_number, sign_size}
+use Rattle.tokens.specs.Lexemes.{lexeme, plain_lexeme, punctuation, comparison, begins_word, signed_lexeme, sign_here}
+use Rattle.tokens.specs.Literals.{numeric, nonnumeric, quoted_characters, closed_literal, after_point, begins_number, sign_size}
 use Rattle.tokens.specs.Pictures.{picture, picture_size, is_is}
 use Rattle.tokens.specs.Scanning.{token_of, span_of}
-use Rattle.tokens.specs.Spelled.{All, sign_text, Spells, Front, Spelled, Separated}
-use Rattle.tokens.specs.Spelling.{reserved, look_up, beginning_with}
+use Rattle.tokens.specs.Spelled.{All, sign_text, IsKindOf, Front, AreSpelledBy, AreSeparated}
+use Rattle.tokens.specs.Spelling.{reserved_word, look_up, beginning_with}
 use Rattle.tokens.specs.Tokens.{AreTokens, at_end, front}
 use Rattle.tokens.specs.Words.{Outcome, word, word_or_reserved, kind_of_word}
 use Rattle.tokens.proofs.Fixed.{fixed}
@@ -48,14 +48,14 @@ right_by false s t = t refl
 
 -- ---- words
 
-word_spells : (text : List Character) (o : Option Reserved) → reserved (bytes_in_upper_case text) ≡ o → Spells (word_or_reserved (bytes_in_upper_case text) o) text
+word_spells : (text : List Character) (o : Option Reserved) → reserved_word (bytes_in_upper_case text) ≡ o → IsKindOf (word_or_reserved (bytes_in_upper_case text) o) text
 word_spells text None e = (refl, e)
 word_spells text (Some r) e = e
 
 word_right : (place : Place) (cs : List Character) → Right cs (word place cs)
 unfolding word
 word_right place cs =
-    right_if _ none (some (Some (kind_of_word (bytes_in_upper_case (take (run class.InWord cs) cs)))) (run class.InWord cs) (word_spells (take (run class.InWord cs) cs) (reserved (bytes_in_upper_case (take (run class.InWord cs) cs))) refl))
+    right_if _ none (some (Some (kind_of_word (bytes_in_upper_case (take (run_size class.InWord cs) cs)))) (run_size class.InWord cs) (word_spells (take (run_size class.InWord cs) cs) (reserved_word (bytes_in_upper_case (take (run_size class.InWord cs) cs))) refl))
 
 -- ---- literals
 
@@ -63,16 +63,16 @@ numeric_right : (place : Place) (sign : Sign) (pre cs : List Character) → byte
 unfolding numeric
 numeric_right place sign pre cs signed size =
     right_if _ none (some (Some (k.Numeric _)) _ (
-      number_text sign pre cs (run class.Digit cs) (run class.Digit (after_point (drop (run class.Digit cs) cs))) signed size (run_le class.Digit (after_point (drop (run class.Digit cs) cs))),
+      number_text sign pre cs (run_size class.Digit cs) (run_size class.Digit (after_point (drop (run_size class.Digit cs) cs))) signed size (run_le class.Digit (after_point (drop (run_size class.Digit cs) cs))),
       run_all class.Digit cs,
-      run_all class.Digit (after_point (drop (run class.Digit cs) cs)),
+      run_all class.Digit (after_point (drop (run_size class.Digit cs) cs)),
     ))
 
 nonnumeric_right : (c : Character) (more : List Character) → is_in class.Mark c.byte ≡ true → Right (c ∷ more) (nonnumeric c.place c.byte more)
 unfolding nonnumeric
-nonnumeric_right c more m = go (quoted c.byte false [] 1 more) (quoted_closes c.byte false [] 1 more)
+nonnumeric_right c more m = go (quoted_characters c.byte false [] 1 more) (quoted_closes c.byte false [] 1 more)
   where
-    go : (x : Option (List ℕ × ℕ)) → Closes c.byte [] [] 1 more x → Right (c ∷ more) (closed c.place x)
+    go : (x : Option (List ℕ × ℕ)) → Closes c.byte [] [] 1 more x → Right (c ∷ more) (closed_literal c.place x)
     go None r = none
     go (Some (text, size)) r = right_if _ none (some (Some (k.Nonnumeric text)) size (c.byte, quoted_text c more m r))
 
@@ -86,14 +86,14 @@ upper_of_lower low up b e f g = go _ _ e
     go false true e = let is : b ≡ low - 32 = omega arith in ap to_ascii_uppercase is ∙ g
     go false false e = ap to_ascii_uppercase e ∙ f
 
-is_reserved : reserved (codes "IS") ≡ Some w.Is
-unfolding reserved look_up beginning_with
+is_reserved : reserved_word (codes "IS") ≡ Some w.Is
+unfolding reserved_word look_up beginning_with
 is_reserved = refl
 
-is_spells : (text : List Character) → is_is (bytes text) ≡ true → reserved (bytes_in_upper_case text) ≡ Some w.Is
+is_spells : (text : List Character) → is_is (bytes text) ≡ true → reserved_word (bytes_in_upper_case text) ≡ Some w.Is
 is_spells text e = go text ((bytes_eq-Decides (map to_ascii_lowercase (bytes text)) (map to_ascii_lowercase (codes "IS"))).0 e)
   where
-    go : (text : List Character) → map to_ascii_lowercase (bytes text) ≡ map to_ascii_lowercase (codes "IS") → reserved (bytes_in_upper_case text) ≡ Some w.Is
+    go : (text : List Character) → map to_ascii_lowercase (bytes text) ≡ map to_ascii_lowercase (codes "IS") → reserved_word (bytes_in_upper_case text) ≡ Some w.Is
     go [] e = cc
     go (a ∷ []) e = cc
     go (a ∷ b ∷ []) e =
@@ -116,7 +116,7 @@ other_mark false comma semicolon false e f = e
 
 -- a picture that is empty without its last mark is that mark
 pub lone : (c : Character) (more : List Character) → is_in class.Nonblank c.byte ≡ true → picture_size (c ∷ more) ≡ 0 → is_in class.Ending c.byte ≡ true
-lone c more nonblank e = go (run class.Nonblank more) (rw nonblank at e)
+lone c more nonblank e = go (run_size class.Nonblank more) (rw nonblank at e)
   where
     one : (b : Bool) → ◌≡◌ {A = ℕ} (cond b 0 1) 0 → b ≡ true
     one true e = refl
@@ -126,9 +126,9 @@ lone c more nonblank e = go (run class.Nonblank more) (rw nonblank at e)
     several n true e = absurd (omega arith)
     several n false e = absurd (omega arith)
 
-    go : (n : ℕ) → cond (ends class.Ending (take (1 + n) (c ∷ more))) ((1 + n) - 1) (1 + n) ≡ 0 → is_in class.Ending c.byte ≡ true
+    go : (n : ℕ) → cond (ends_with_class class.Ending (take (1 + n) (c ∷ more))) ((1 + n) - 1) (1 + n) ≡ 0 → is_in class.Ending c.byte ≡ true
     go zero e = one (is_in class.Ending c.byte) e
-    go (suc n) e = several n (ends class.Ending (take (suc (suc n)) (c ∷ more))) (rw one-add at e)
+    go (suc n) e = several n (ends_with_class class.Ending (take (suc (suc n)) (c ∷ more))) (rw one-add at e)
 
 pub zero_is : (n : ℕ) → eqb n 0 ≡ true → n ≡ 0
 zero_is n e = eqb-true n 0 e
@@ -149,7 +149,7 @@ picture_right before c more nonblank =
 
 -- ---- periods, parentheses and operators
 
-comparison_right : (alone both : Operator) (c : Character) (more : List Character) → Spells (k.Operator alone) (c ∷ []) → ((d : Character) → d.byte ≡ 61 → Spells (k.Operator both) (c ∷ d ∷ []))
+comparison_right : (alone both : Operator) (c : Character) (more : List Character) → IsKindOf (k.Operator alone) (c ∷ []) → ((d : Character) → d.byte ≡ 61 → IsKindOf (k.Operator both) (c ∷ d ∷ []))
     → Right (c ∷ more) (comparison alone both more)
 unfolding comparison
 comparison_right alone both c [] one two = some (Some (k.Operator alone)) 1 one
@@ -158,7 +158,7 @@ comparison_right alone both c (d ∷ more) one two = right_by (eqb d.byte 61) (�
 punctuation_right : (place : Place) (c : Character) (more : List Character) → Right (c ∷ more) (punctuation place c.byte more)
 unfolding punctuation
 punctuation_right place c more =
-    right_by (eqb c.byte 46) (λ e. right_if (begins class.Nonblank more) none (some (Some k.Period) 1 (first_is e)))
+    right_by (eqb c.byte 46) (λ e. right_if (begins_with_class class.Nonblank more) none (some (Some k.Period) 1 (first_is e)))
     (λ _. right_by (eqb c.byte 40) (λ e. some (Some k.LeftParenthesis) 1 (first_is e))
     (λ _. right_by (eqb c.byte 41) (λ e. some (Some k.RightParenthesis) 1 (first_is e))
     (λ _. right_by (eqb c.byte 43) (λ e. some (Some (k.Operator o.Plus)) 1 (first_is e))
@@ -171,23 +171,23 @@ punctuation_right place c more =
     (λ _. none))))))))))
 
 -- a plus or minus directly before a number
-sign_right : (before : Context) (c : Character) (more : List Character) → Right (c ∷ more) (signed (sign_here before c.byte more) c.place c.byte more)
+sign_right : (before : Context) (c : Character) (more : List Character) → Right (c ∷ more) (signed_lexeme (sign_here before c.byte more) c.place c.byte more)
 sign_right before c more = go (not (is_joined before) && begins_number more)
   where
-    go : (b : Bool) → Right (c ∷ more) (signed (cond b (cond (eqb c.byte 43) (Some Plus) (cond (eqb c.byte 45) (Some Minus) None)) None) c.place c.byte more)
+    go : (b : Bool) → Right (c ∷ more) (signed_lexeme (cond b (cond (eqb c.byte 43) (Some Plus) (cond (eqb c.byte 45) (Some Minus) None)) None) c.place c.byte more)
     go false = punctuation_right c.place c more
     go true = plus (eqb c.byte 43) refl
       where
-        minus : (b : Bool) → eqb c.byte 45 ≡ b → Right (c ∷ more) (signed (cond b (Some Minus) None) c.place c.byte more)
+        minus : (b : Bool) → eqb c.byte 45 ≡ b → Right (c ∷ more) (signed_lexeme (cond b (Some Minus) None) c.place c.byte more)
         minus true e = numeric_right c.place Minus (c ∷ []) more (first_is e) refl
         minus false e = punctuation_right c.place c more
 
-        plus : (b : Bool) → eqb c.byte 43 ≡ b → Right (c ∷ more) (signed (cond b (Some Plus) (cond (eqb c.byte 45) (Some Minus) None)) c.place c.byte more)
+        plus : (b : Bool) → eqb c.byte 43 ≡ b → Right (c ∷ more) (signed_lexeme (cond b (Some Plus) (cond (eqb c.byte 45) (Some Minus) None)) c.place c.byte more)
         plus true e = numeric_right c.place Plus (c ∷ []) more (first_is e) refl
         plus false e = minus (eqb c.byte 45) refl
 
-plain_right : (before : Context) (c : Character) (more : List Character) → Right (c ∷ more) (plain before c more)
-unfolding plain
+plain_right : (before : Context) (c : Character) (more : List Character) → Right (c ∷ more) (plain_lexeme before c more)
+unfolding plain_lexeme
 plain_right before c more =
     right_by (is_in class.Separator c.byte) (λ e. some None 1 (refl, e))
     (λ _. right_if (is_in class.LetterOrDigit c.byte) (right_if (begins_word (c ∷ more)) (word_right c.place (c ∷ more)) (numeric_right c.place Unsigned [] (c ∷ more) refl refl))
@@ -214,14 +214,14 @@ drop_passed : (passed more : List Character) → drop (length passed) (passed ++
 drop_passed [] more = refl
 drop_passed (c ∷ passed) more = drop_passed passed more
 
-pub spelled : {before : Context} {start : ℕ} {characters : List Character} {found : List Token} (passed : List Character) → start ≡ length passed → AreTokens before start characters found → Spelled (passed ++ characters) found
+pub spelled : {before : Context} {start : ℕ} {characters : List Character} {found : List Token} (passed : List Character) → start ≡ length passed → AreTokens before start characters found → AreSpelledBy (passed ++ characters) found
 spelled passed h at_end = tt
 spelled {start = start} passed h (front {before = before} {others = others} c text rest kind is more) =
     let counts : start + suc (length text) ≡ length (passed ++ (c ∷ text)) = let l = length-append passed (c ∷ text) in omega arith in
-    go kind is (subst (λ l. Spelled l others) (append_assoc passed (c ∷ text) rest) (spelled (passed ++ (c ∷ text)) counts more))
+    go kind is (subst (λ l. AreSpelledBy l others) (append_assoc passed (c ∷ text) rest) (spelled (passed ++ (c ∷ text)) counts more))
   where
-    go : (k : Option Kind) → IsFront before k (c ∷ text) rest → Spelled (passed ++ (c ∷ (text ++ rest))) others
-        → Spelled (passed ++ (c ∷ (text ++ rest))) (token_of k (span_of start (suc (length text))) c.place ++ others)
+    go : (k : Option Kind) → IsFront before k (c ∷ text) rest → AreSpelledBy (passed ++ (c ∷ (text ++ rest))) others
+        → AreSpelledBy (passed ++ (c ∷ (text ++ rest))) (token_of k (span_of start (suc (length text))) c.place ++ others)
     go None is others_are = others_are
     go (Some one) is others_are =
         let size : (start + suc (length text)) - start ≡ suc (length text) = omega arith in
@@ -236,12 +236,12 @@ gap_more (g ∷ gap) c all e = (all.0, gap_more gap c all.1 e)
 
 -- `gap` are the separators since the last span
 pub separated : {before : Context} {start : ℕ} {characters : List Character} {found : List Token} (passed gap : List Character) → start ≡ length passed + length gap
-    → All class.Separator (bytes gap) → AreTokens before start characters found → Separated (length passed) (passed ++ (gap ++ characters)) found
+    → All class.Separator (bytes gap) → AreTokens before start characters found → AreSeparated (length passed) (passed ++ (gap ++ characters)) found
 separated passed gap h all at_end = rw (drop_passed passed (gap ++ []), append-nil gap) all
 separated {start = start} passed gap h all (front {before = before} {others = others} c text rest None is more) =
     let fact = front_spelled before c (text ++ rest) (record { kind = None; size = suc (length text) }) (fixed before c text rest None is) in
     let counts : start + suc (length text) ≡ length passed + length (gap ++ (c ∷ [])) = let l = length-append gap (c ∷ []) in omega arith in
-    subst (λ l. Separated (length passed) (passed ++ l) others) (append_assoc gap (c ∷ []) rest ∙ alone text fact.0) (separated passed (gap ++ (c ∷ [])) counts (gap_more gap c all fact.1) more)
+    subst (λ l. AreSeparated (length passed) (passed ++ l) others) (append_assoc gap (c ∷ []) rest ∙ alone text fact.0) (separated passed (gap ++ (c ∷ [])) counts (gap_more gap c all fact.1) more)
   where
     alone : (text : List Character) → suc (length text) ≡ 1 → gap ++ (c ∷ rest) ≡ gap ++ (c ∷ (text ++ rest))
     alone [] e = refl
@@ -253,5 +253,5 @@ separated {start = start} passed gap h all (front {others = others} c text rest 
     let same : (passed ++ (gap ++ (c ∷ text))) ++ rest ≡ passed ++ (gap ++ (c ∷ (text ++ rest))) =
     append_assoc passed (gap ++ (c ∷ text)) rest ∙ ap (λ l. passed ++ l) (append_assoc gap (c ∷ text) rest) in (
       rw (drop_passed passed (gap ++ (c ∷ (text ++ rest))), size, take_text gap (c ∷ (text ++ rest))) all,
-      subst (λ l. Separated (start + suc (length text)) l others) same (subst (λ n. Separated n ((passed ++ (gap ++ (c ∷ text))) ++ rest) others) total (separated (passed ++ (gap ++ (c ∷ text))) [] counts tt more)),
+      subst (λ l. AreSeparated (start + suc (length text)) l others) same (subst (λ n. AreSeparated n ((passed ++ (gap ++ (c ∷ text))) ++ rest) others) total (separated (passed ++ (gap ++ (c ∷ text))) [] counts tt more)),
     )

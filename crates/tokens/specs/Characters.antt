@@ -24,20 +24,20 @@ abbrev pub bytes_in_upper_case : List Character → List ℕ
 bytes_in_upper_case characters = map (λ c. to_ascii_uppercase c.byte) characters
 
 -- how many characters the longest run of the class has that stands at the front
-abbrev pub run : Class → List Character → ℕ
-run class characters = prefix_len (λ c. is_in class c.byte) characters
+abbrev pub run_size : Class → List Character → ℕ
+run_size class characters = prefix_len (λ c. is_in class c.byte) characters
 
-abbrev pub begins : Class → List Character → Bool
-begins class [] = false
-begins class (c ∷ more) = is_in class c.byte
+abbrev pub begins_with_class : Class → List Character → Bool
+begins_with_class class [] = false
+begins_with_class class (c ∷ more) = is_in class c.byte
 
 abbrev pub is_last : Class → Option Character → Bool
 is_last class None = false
 is_last class (Some c) = is_in class c.byte
 
-abbrev pub ends : Class → List Character → Bool
-ends class characters = is_last class (slice_get characters (length characters - 1))
+abbrev pub ends_with_class : Class → List Character → Bool
+ends_with_class class characters = is_last class (slice_get characters (length characters - 1))
 
-abbrev pub has : Class → List Character → Bool
-has class [] = false
-has class (c ∷ more) = is_in class c.byte || has class more
+abbrev pub has_class : Class → List Character → Bool
+has_class class [] = false
+has_class class (c ∷ more) = is_in class c.byte || has_class class more

@@ -44,6 +44,6 @@ after_separator context.Apart = context.Apart
 after_separator context.AfterPicture = context.AfterPicture
 after_separator context.AfterPictureIs = context.AfterPictureIs
 
-unfoldable pub after : Context → Option Kind → Context
-after before None = after_separator before
-after before (Some kind) = after_token before kind
+unfoldable pub context_after : Context → Option Kind → Context
+context_after before None = after_separator before
+context_after before (Some kind) = after_token before kind

@@ -10,17 +10,17 @@ use Rattle.tokens.specs.declared.token.Operator.{Operator}
 use Rattle.tokens.specs.declared.token.Operator.TheVariants as o
 use Rattle.lexical.specs.declared.number.Sign.{Sign}
 use Rattle.lexical.specs.declared.number.Sign.TheVariants as sign
-use Rattle.tokens.specs.Characters.{is_in, run, begins, has}
+use Rattle.tokens.specs.Characters.{is_in, run_size, begins_with_class, has_class}
 use Rattle.tokens.specs.Literals.{begins_number, numeric, nonnumeric}
 use Rattle.tokens.specs.Contexts.{is_joined, awaits_picture}
 use Rattle.tokens.specs.Pictures.{separator, picture}
-use Rattle.tokens.specs.Words.{Outcome, refused, token, word}
+use Rattle.tokens.specs.Words.{Outcome, refusal_at, token, word}
 
 -- ---- periods, parentheses and operators (COBOL-85, Nucleus, "Separators", "Arithmetic expressions", "Relation conditions")
 
 -- A period ends a sentence before a space or at the end.
 abbrev pub period : Place → List Character → Outcome
-period place more = if begins class.Nonblank more then refused fault.StrayCharacter place else Ok (token k.Period 1)
+period place more = if begins_with_class class.Nonblank more then refusal_at fault.StrayCharacter place else Ok (token k.Period 1)
 
 abbrev pub is_equal_sign : List Character → Bool
 is_equal_sign [] = false
@@ -44,13 +44,13 @@ punctuation place first more =
     else (if first == 61 then operator o.Equal 1
     else (if first == 62 then comparison o.Greater o.GreaterOrEqual more
     else (if first == 60 then comparison o.Less o.LessOrEqual more
-    else refused fault.StrayCharacter place)))))))))
+    else refusal_at fault.StrayCharacter place)))))))))
 
 -- ---- words, literals and pictures
 
 -- The longest run of letters, digits and hyphens is a word if a letter is in it.
 abbrev pub begins_word : List Character → Bool
-begins_word characters = has class.Letter (take (run class.InWord characters) characters)
+begins_word characters = has_class class.Letter (take (run_size class.InWord characters) characters)
 
 abbrev pub word_or_number : Place → List Character → Outcome
 word_or_number place characters = if begins_word characters then word place characters else numeric place sign.Unsigned characters
@@ -60,18 +60,18 @@ abbrev pub sign_here : Context → ℕ → List Character → Option Sign
 sign_here before first more =
     if not (is_joined before) && begins_number more then (if first == 43 then Some sign.Plus else (if first == 45 then Some sign.Minus else None)) else None
 
-abbrev pub signed : Option Sign → Place → ℕ → List Character → Outcome
-signed None place first more = punctuation place first more
-signed (Some one) place first more = numeric place one more
+abbrev pub signed_lexeme : Option Sign → Place → ℕ → List Character → Outcome
+signed_lexeme None place first more = punctuation place first more
+signed_lexeme (Some one) place first more = numeric place one more
 
-unfoldable pub plain : Context → Character → List Character → Outcome
-plain before first more =
+unfoldable pub plain_lexeme : Context → Character → List Character → Outcome
+plain_lexeme before first more =
     if is_in class.Separator first.byte then Ok separator
     else (if is_in class.LetterOrDigit first.byte then word_or_number first.place (first ∷ more)
     else (if begins_number (first ∷ more) then numeric first.place sign.Unsigned (first ∷ more)
     else (if is_in class.Mark first.byte then nonnumeric first.place first.byte more
-    else signed (sign_here before first.byte more) first.place first.byte more)))
+    else signed_lexeme (sign_here before first.byte more) first.place first.byte more)))
 
 unfoldable pub lexeme : Context → Character → List Character → Outcome
 lexeme before first more =
-    if awaits_picture before && is_in class.Nonblank first.byte then Ok (picture before first.byte (first ∷ more)) else plain before first more
+    if awaits_picture before && is_in class.Nonblank first.byte then Ok (picture before first.byte (first ∷ more)) else plain_lexeme before first more

@@ -9,7 +9,7 @@ use Rattle.tokens.specs.declared.context.Context.{Context}
 use Rattle.tokens.specs.declared.lexeme.Lexeme.{Lexeme}
 use Rattle.tokens.specs.declared.reserved.Reserved.TheVariants as w
 use Rattle.tokens.specs.declared.token.Kind.TheVariants as k
-use Rattle.tokens.specs.Characters.{bytes, run, ends}
+use Rattle.tokens.specs.Characters.{bytes, run_size, ends_with_class}
 use Rattle.tokens.specs.Contexts.{may_be_is}
 use Rattle.tokens.specs.Words.{token}
 
@@ -17,7 +17,7 @@ abbrev pub separator : Lexeme
 separator = record { kind = None; size = 1 }
 
 abbrev pub picture_size : List Character → ℕ
-picture_size characters = let size = run class.Nonblank characters in if ends class.Ending (take size characters) then size - 1 else size
+picture_size characters = let size = run_size class.Nonblank characters in if ends_with_class class.Ending (take size characters) then size - 1 else size
 
 -- A picture that is empty without its last mark is none: the mark stands for itself. The number is the byte at the front.
 abbrev pub lone_mark : ℕ → Lexeme

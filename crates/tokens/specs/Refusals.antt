@@ -8,8 +8,8 @@ use Rattle.tokens.specs.declared.fault.FaultKind.{FaultKind}
 use Rattle.tokens.specs.declared.fault.FaultKind.TheVariants.{StrayCharacter, WrongWord, WrongNumericLiteral, WrongNonnumericLiteral}
 use Rattle.tokens.specs.declared.fault.TokenFault.{TokenFault}
 use Rattle.tokens.specs.declared.token.Kind.{Kind}
-use Rattle.tokens.specs.Characters.{begins}
-use Rattle.tokens.specs.Contexts.{after, is_joined}
+use Rattle.tokens.specs.Characters.{begins_with_class}
+use Rattle.tokens.specs.Contexts.{context_after, is_joined}
 use Rattle.tokens.specs.Kinds.{IsFront}
 use Rattle.tokens.specs.Lexemes.{begins_word}
 use Rattle.tokens.specs.Literals.{begins_number}
@@ -26,9 +26,9 @@ begins_signed before (c ∷ more) = (not (is_joined before) && begins_number mor
 -- The fault by what begins there and is none: a word, a number, a nonnumeric literal; else the character is a stray one.
 abbrev pub wrong : Context → List Character → FaultKind
 wrong before characters =
-    if begins class.LetterOrDigit characters && begins_word characters then WrongWord
+    if begins_with_class class.LetterOrDigit characters && begins_word characters then WrongWord
     else (if begins_number characters then WrongNumericLiteral
-    else (if begins class.Mark characters then WrongNonnumericLiteral
+    else (if begins_with_class class.Mark characters then WrongNonnumericLiteral
     else (if begins_signed before characters then WrongNumericLiteral else StrayCharacter)))
 
 -- Tokens and separators cover the characters up to the fault's place, where none begins: the fault stands at the first such place.
@@ -37,9 +37,9 @@ pub data IsRefused : Context → List Character → TokenFault → Type 0 where
       → IsRefused before (c ∷ more) (record { kind = wrong before (c ∷ more); place = c.place })
   further : {before : Context} {fault : TokenFault} (c : Character) (text rest : List Character) (kind : Option Kind)
       → IsFront before kind (c ∷ text) rest
-      → IsRefused (after before kind) rest fault
+      → IsRefused (context_after before kind) rest fault
       → IsRefused before (c ∷ (text ++ rest)) fault
 
 -- the characters of a source text have no tokens, and this is their fault
-abbrev pub Refuses : List Character → TokenFault → Type 0
-Refuses characters fault = IsRefused context.Apart characters fault
+abbrev pub RefusesCharacters : List Character → TokenFault → Type 0
+RefusesCharacters characters fault = IsRefused context.Apart characters fault

@@ -325,6 +325,6 @@ look_up [] word = None
 look_up (one ∷ more) word = if bytes_eq one.0 word then Some one.1 else look_up more word
 
 -- what a word in upper case is, where it is reserved
-unfoldable pub reserved : List ℕ → Option Reserved
-reserved [] = None
-reserved (letter ∷ more) = look_up (beginning_with letter) (letter ∷ more)
+unfoldable pub reserved_word : List ℕ → Option Reserved
+reserved_word [] = None
+reserved_word (letter ∷ more) = look_up (beginning_with letter) (letter ∷ more)

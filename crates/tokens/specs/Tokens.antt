@@ -6,7 +6,7 @@ use Rattle.tokens.specs.declared.context.Context.{Context}
 use Rattle.tokens.specs.declared.context.Context.TheVariants as context
 use Rattle.tokens.specs.declared.token.Kind.{Kind}
 use Rattle.tokens.specs.declared.token.Token.{Token}
-use Rattle.tokens.specs.Contexts.{after}
+use Rattle.tokens.specs.Contexts.{context_after}
 use Rattle.tokens.specs.Kinds.{IsFront}
 use Rattle.tokens.specs.Scanning.{token_of, span_of}
 
@@ -17,7 +17,7 @@ pub data AreTokens : Context → ℕ → List Character → List Token → Type 
   at_end : {before : Context} {start : ℕ} → AreTokens before start [] []
   front : {before : Context} {start : ℕ} {others : List Token} (c : Character) (text rest : List Character) (kind : Option Kind)
       → IsFront before kind (c ∷ text) rest
-      → AreTokens (after before kind) (start + suc (length text)) rest others
+      → AreTokens (context_after before kind) (start + suc (length text)) rest others
       → AreTokens before start (c ∷ (text ++ rest)) (token_of kind (span_of start (suc (length text))) c.place ++ others)
 
 -- these are the tokens of all characters of a source text
@@ -39,6 +39,6 @@ place_at (c ∷ more) zero = Some c.place
 place_at (c ∷ more) (suc at) = place_at more at
 
 -- each token's place is that of the character at which its span starts
-abbrev pub Placed : List Character → List Token → Type 0
-Placed characters [] = Unit {0}
-Placed characters (t ∷ more) = (place_at characters t.span.start ≡ Some t.place) × Placed characters more
+abbrev pub ArePlacedBy : List Character → List Token → Type 0
+ArePlacedBy characters [] = Unit {0}
+ArePlacedBy characters (t ∷ more) = (place_at characters t.span.start ≡ Some t.place) × ArePlacedBy characters more

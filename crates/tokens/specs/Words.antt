@@ -11,15 +11,15 @@ use Rattle.tokens.specs.declared.lexeme.Lexeme.{Lexeme}
 use Rattle.tokens.specs.declared.reserved.Reserved.{Reserved}
 use Rattle.tokens.specs.declared.token.Kind.{Kind}
 use Rattle.tokens.specs.declared.token.Kind.TheVariants as k
-use Rattle.tokens.specs.Characters.{bytes_in_upper_case, run, ends}
-use Rattle.tokens.specs.Spelling.{reserved}
+use Rattle.tokens.specs.Characters.{bytes_in_upper_case, run_size, ends_with_class}
+use Rattle.tokens.specs.Spelling.{reserved_word}
 
 -- a token or a separator at the front of some characters, or why there is none
 abbrev pub Outcome : Type 0
 Outcome = Result Lexeme TokenFault
 
-abbrev pub refused : FaultKind → Place → Outcome
-refused kind place = Err (record { kind = kind; place = place })
+abbrev pub refusal_at : FaultKind → Place → Outcome
+refusal_at kind place = Err (record { kind = kind; place = place })
 
 abbrev pub token : Kind → ℕ → Lexeme
 token kind size = record { kind = Some kind; size = size }
@@ -30,10 +30,10 @@ word_or_reserved text (Some word) = k.Reserved word
 
 -- the kind of a word in upper case
 abbrev pub kind_of_word : List ℕ → Kind
-kind_of_word text = word_or_reserved text (reserved text)
+kind_of_word text = word_or_reserved text (reserved_word text)
 
 unfoldable pub word : Place → List Character → Outcome
 word place characters =
-    let size = run class.InWord characters in
-    if nat_lt 30 size || ends class.Hyphen (take size characters) then refused fault.WrongWord place
+    let size = run_size class.InWord characters in
+    if nat_lt 30 size || ends_with_class class.Hyphen (take size characters) then refusal_at fault.WrongWord place
     else Ok (token (kind_of_word (bytes_in_upper_case (take size characters))) size)

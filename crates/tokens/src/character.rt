@@ -46,7 +46,7 @@ pub fn is_in(class: Class, byte: u8) -> bool
 
 /// How many characters of the class stand at the front.
 pub fn run(class: Class, characters: &[Character]) -> usize
-    ensures value { result ≡ spec.run class characters.now }
+    ensures value { result ≡ spec.run_size class characters.now }
     ensures within { result ≤ length characters.now }
 {
     let mut size = 0;
@@ -57,7 +57,7 @@ pub fn run(class: Class, characters: &[Character]) -> usize
 }
 
 pub fn begins(class: Class, characters: &[Character]) -> bool
-    ensures { result ≡ spec.begins class characters.now }
+    ensures { result ≡ spec.begins_with_class class characters.now }
 {
     match characters {
         [first, ..] => is_in(class, first.byte),
@@ -66,7 +66,7 @@ pub fn begins(class: Class, characters: &[Character]) -> bool
 }
 
 pub fn ends(class: Class, characters: &[Character]) -> bool
-    ensures { result ≡ spec.ends class characters.now }
+    ensures { result ≡ spec.ends_with_class class characters.now }
 {
     match characters.last() {
         Some(last) => is_in(class, last.byte),
@@ -75,7 +75,7 @@ pub fn ends(class: Class, characters: &[Character]) -> bool
 }
 
 pub fn has(class: Class, mut characters: &[Character]) -> bool
-    ensures { result ≡ spec.has class characters.entry.now }
+    ensures { result ≡ spec.has_class class characters.entry.now }
 {
     while let [first, more @ ..] = characters {
         if is_in(class, first.byte) {

@@ -92,9 +92,9 @@ impl Context {
     }
 
     /// What stands before the token after this one, or after this separator.
-    #[tactic(auto, unfolding(crate::specs::Contexts::after))]
+    #[tactic(auto, unfolding(crate::specs::Contexts::context_after))]
     pub fn after(self, kind: Option<&Kind>) -> Context
-        ensures { result ≡ spec.after self (option_copied kind.entry) }
+        ensures { result ≡ spec.context_after self (option_copied kind.entry) }
     {
         match kind {
             Some(kind) => self.after_token(kind),

@@ -7,10 +7,10 @@ ghost use Rattle.tokens.specs.declared.token.Kind.{Kind};
 ghost use Rattle.tokens.specs.declared.fault.TokenFault.{TokenFault};
 ghost use Rattle.tokens.specs.declared.token.Token.{Token};
 ghost use Rattle.tokens.specs.Kinds.{IsFront};
-ghost use Rattle.tokens.specs.Refusals.{Refuses};
+ghost use Rattle.tokens.specs.Refusals.{RefusesCharacters};
 ghost use Rattle.tokens.specs.Scanning as spec;
-ghost use Rattle.tokens.specs.Tokens.{TokensOf, NoLonger, InOrder, Placed};
-ghost use Rattle.tokens.specs.Spelled.{Spelled, Separated};
+ghost use Rattle.tokens.specs.Tokens.{TokensOf, NoLonger, InOrder, ArePlacedBy};
+ghost use Rattle.tokens.specs.Spelled.{AreSpelledBy, AreSeparated};
 
 /// Characters have at most one list of tokens, the one that `scan` answers, and its spans and places are theirs.
 pub fn laws()
@@ -23,13 +23,13 @@ pub fn laws()
     // Spans are in order, not empty and apart.
     ensures spans { (characters : List Character) (found : List Token) → spec.tokens characters ≡ Ok found → InOrder 0 (length characters) found }
     // A token's place is that of its first character.
-    ensures places { (characters : List Character) (found : List Token) → spec.tokens characters ≡ Ok found → Placed characters found }
+    ensures places { (characters : List Character) (found : List Token) → spec.tokens characters ≡ Ok found → ArePlacedBy characters found }
     // Each token's kind is what the characters at its span spell.
-    ensures texts { (characters : List Character) (found : List Token) → spec.tokens characters ≡ Ok found → Spelled characters found }
+    ensures texts { (characters : List Character) (found : List Token) → spec.tokens characters ≡ Ok found → AreSpelledBy characters found }
     // What lies before, between and after the spans is separators.
-    ensures separators { (characters : List Character) (found : List Token) → spec.tokens characters ≡ Ok found → Separated 0 characters found }
+    ensures separators { (characters : List Character) (found : List Token) → spec.tokens characters ≡ Ok found → AreSeparated 0 characters found }
     // The fault that the function answers stands where no token and no separator begins, the first such place.
-    ensures refused { (characters : List Character) (fault : TokenFault) → spec.tokens characters ≡ Err fault → Refuses characters fault }
+    ensures refused { (characters : List Character) (fault : TokenFault) → spec.tokens characters ≡ Err fault → RefusesCharacters characters fault }
     // Where there is such a place, the function answers that fault.
-    ensures refused_only { (characters : List Character) (fault : TokenFault) → Refuses characters fault → spec.tokens characters ≡ Err fault }
+    ensures refused_only { (characters : List Character) (fault : TokenFault) → RefusesCharacters characters fault → spec.tokens characters ≡ Err fault }
 {}

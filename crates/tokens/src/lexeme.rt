@@ -122,7 +122,7 @@ fn sign_here(before: Context, first: u8, more: &[Character]) -> Option<Sign>
 }
 
 /// What stands at the front where no picture is awaited.
-#[tactic(auto, unfolding(crate::specs::Lexemes::plain))]
+#[tactic(auto, unfolding(crate::specs::Lexemes::plain_lexeme))]
 fn plain(
     alloc: Global,
     before: Context,
@@ -131,7 +131,7 @@ fn plain(
     more: &[Character],
 ) -> Result<Lexeme, TokenError>
     requires { characters.now ≡ first ∷ more.now }
-    ensures { Gives (λ lexeme. lexeme) fault_of result (spec.plain before first more.now) }
+    ensures { Gives (λ lexeme. lexeme) fault_of result (spec.plain_lexeme before first more.now) }
 {
     if is_in(Class::Separator, first.byte) {
         Ok(Lexeme {

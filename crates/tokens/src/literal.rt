@@ -19,37 +19,11 @@ const MAX_DIGITS: usize = 18;
 
 const MAX_TEXT: usize = 160;
 
-fn after_point(characters: &[Character]) -> &[Character]
-    ensures value { result.now ≡ spec.after_point characters.now }
-{
-    match characters {
-        [first, more @ ..] if first.byte == b'.' => more,
-        _ => &[],
-    }
-}
-
 /// Whether a digit stands at the front, or a point with a digit.
 pub fn begins_number(characters: &[Character]) -> bool
     ensures { result ≡ spec.begins_number characters.now }
 {
     begins(Class::Digit, characters) || begins(Class::Digit, after_point(characters))
-}
-
-fn sign_size(sign: Sign) -> usize
-    ensures value { result ≡ spec.sign_size sign }
-    ensures within { result ≤ 1 }
-{
-    match sign {
-        Sign::Unsigned => 0,
-        Sign::Plus | Sign::Minus => 1,
-    }
-}
-
-fn point_size(decimals: usize) -> usize
-    ensures value { result ≡ spec.point_size decimals }
-    ensures within { result ≤ 1 }
-{
-    if decimals == 0 { 0 } else { 1 }
 }
 
 /// The numeric literal with this sign, of which these are the characters after the sign.
@@ -77,6 +51,50 @@ pub fn numeric(
     Ok(token(Kind::Numeric(literal), size))
 }
 
+/// The nonnumeric literal with this mark, of which these are the characters after the opening mark.
+#[tactic(auto, unfolding(crate::specs::Literals::nonnumeric))]
+pub fn nonnumeric(
+    alloc: Global,
+    place: Place,
+    mark: u8,
+    characters: &[Character],
+) -> Result<Lexeme, TokenError>
+    ensures { Gives (λ lexeme. lexeme) fault_of result (spec.nonnumeric place mark characters.now) }
+{
+    match quoted(alloc, mark, characters)? {
+        Some((text, size)) if !text.is_empty() && text.len() <= MAX_TEXT => {
+            Ok(token(Kind::Nonnumeric(text), size))
+        }
+        _ => Err(refused(FaultKind::WrongNonnumericLiteral, place)),
+    }
+}
+
+fn after_point(characters: &[Character]) -> &[Character]
+    ensures value { result.now ≡ spec.after_point characters.now }
+{
+    match characters {
+        [first, more @ ..] if first.byte == b'.' => more,
+        _ => &[],
+    }
+}
+
+fn sign_size(sign: Sign) -> usize
+    ensures value { result ≡ spec.sign_size sign }
+    ensures within { result ≤ 1 }
+{
+    match sign {
+        Sign::Unsigned => 0,
+        Sign::Plus | Sign::Minus => 1,
+    }
+}
+
+fn point_size(decimals: usize) -> usize
+    ensures value { result ≡ spec.point_size decimals }
+    ensures within { result ≤ 1 }
+{
+    if decimals == 0 { 0 } else { 1 }
+}
+
 /// The text up to the mark that closes it, a doubled mark as one, and how many characters there are with both marks; none where
 /// no mark closes it.
 fn quoted(
@@ -84,7 +102,7 @@ fn quoted(
     mark: u8,
     characters: &[Character],
 ) -> Result<Option<(Items<u8>, usize)>, TokenError>
-    ensures { Gives (λ text. text) fault_of result (Ok (spec.quoted mark false [] 1 characters.now)) }
+    ensures { Gives (λ text. text) fault_of result (Ok (spec.quoted_characters mark false [] 1 characters.now)) }
 {
     let mut text = Vec::new(alloc);
     let mut is_after_mark = false;
@@ -104,23 +122,5 @@ fn quoted(
         Ok(Some((Items::from_vec(text), size)))
     } else {
         Ok(None)
-    }
-}
-
-/// The nonnumeric literal with this mark, of which these are the characters after the opening mark.
-#[tactic(auto, unfolding(crate::specs::Literals::nonnumeric))]
-pub fn nonnumeric(
-    alloc: Global,
-    place: Place,
-    mark: u8,
-    characters: &[Character],
-) -> Result<Lexeme, TokenError>
-    ensures { Gives (λ lexeme. lexeme) fault_of result (spec.nonnumeric place mark characters.now) }
-{
-    match quoted(alloc, mark, characters)? {
-        Some((text, size)) if !text.is_empty() && text.len() <= MAX_TEXT => {
-            Ok(token(Kind::Nonnumeric(text), size))
-        }
-        _ => Err(refused(FaultKind::WrongNonnumericLiteral, place)),
     }
 }

@@ -15,25 +15,6 @@ use source_lines::Character;
 use sqlite_items::Items;
 use std::alloc::Global;
 
-/// How many characters the picture at the front has.
-fn picture_size(characters: &[Character]) -> usize
-    ensures value { result ≡ spec.picture_size characters.now }
-    ensures within { result ≤ length characters.now }
-{
-    let size = run(Class::Nonblank, characters);
-    if ends(Class::Ending, &characters[..size]) {
-        size - 1
-    } else {
-        size
-    }
-}
-
-fn is_is(text: &[u8]) -> bool
-    ensures { result ≡ spec.is_is text.now }
-{
-    text.eq_ignore_ascii_case(b"IS")
-}
-
 /// The picture at the front, or IS before it.
 #[tactic(auto, unfolding(crate::specs::Pictures::picture))]
 pub fn picture(
@@ -54,6 +35,25 @@ pub fn picture(
     } else {
         Ok(token(Kind::Picture(Items::from_vec(text)), size))
     }
+}
+
+/// How many characters the picture at the front has.
+fn picture_size(characters: &[Character]) -> usize
+    ensures value { result ≡ spec.picture_size characters.now }
+    ensures within { result ≤ length characters.now }
+{
+    let size = run(Class::Nonblank, characters);
+    if ends(Class::Ending, &characters[..size]) {
+        size - 1
+    } else {
+        size
+    }
+}
+
+fn is_is(text: &[u8]) -> bool
+    ensures { result ≡ spec.is_is text.now }
+{
+    text.eq_ignore_ascii_case(b"IS")
 }
 
 /// A period, comma or semicolon where a picture is awaited.

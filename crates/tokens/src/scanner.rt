@@ -14,24 +14,6 @@ use source_lines::Lines;
 use sqlite_items::Items;
 use std::alloc::Global;
 
-/// Adds the token of this kind, if there is one.
-fn add(
-    tokens: &mut Items<Token>,
-    kind: Option<Kind>,
-    span: Span,
-    place: Place,
-) -> Result<(), TokenError>
-    ensures { Gives (λ _. tokens.new) fault_of result (Ok (tokens.old ++ spec.token_of kind span place)) }
-{
-    match kind {
-        Some(kind) => {
-            tokens.push(Token { kind, span, place })?;
-            Ok(())
-        }
-        None => Ok(()),
-    }
-}
-
 /// The tokens of a source text, in order.
 #[tactic(auto, unfolding(crate::specs::Scanning::tokens))]
 pub fn scan(alloc: Global, lines: &Lines) -> Result<Items<Token>, TokenError>
@@ -50,4 +32,22 @@ pub fn scan(alloc: Global, lines: &Lines) -> Result<Items<Token>, TokenError>
         start = end;
     }
     Ok(tokens)
+}
+
+/// Adds the token of this kind, if there is one.
+fn add(
+    tokens: &mut Items<Token>,
+    kind: Option<Kind>,
+    span: Span,
+    place: Place,
+) -> Result<(), TokenError>
+    ensures { Gives (λ _. tokens.new) fault_of result (Ok (tokens.old ++ spec.token_of kind span place)) }
+{
+    match kind {
+        Some(kind) => {
+            tokens.push(Token { kind, span, place })?;
+            Ok(())
+        }
+        None => Ok(()),
+    }
 }

@@ -258,6 +258,17 @@ const Z_WORDS: [(&[u8], Reserved); 3] = [
     (b"ZEROS", Reserved::Zeros),
 ];
 
+/// What a word in upper case is, where it is reserved.
+#[tactic(auto, unfolding(crate::specs::Spelling::reserved_word))]
+pub fn reserved(word: &[u8]) -> Option<Reserved>
+    ensures { result ≡ spec.reserved_word word.now }
+{
+    match word {
+        [letter, ..] => look_up_by_letter(*letter, word),
+        [] => None,
+    }
+}
+
 #[tactic(auto, unfolding(crate::specs::Spelling::look_up))]
 fn look_up(mut table: &[(&[u8], Reserved)], word: &[u8]) -> Option<Reserved>
     ensures { result ≡ spec.look_up (map (λ one. (one.0.now, one.1)) table.entry.now) word.now }
@@ -302,16 +313,5 @@ fn look_up_by_letter(letter: u8, word: &[u8]) -> Option<Reserved>
         b'W' => look_up(&W_WORDS, word),
         b'Z' => look_up(&Z_WORDS, word),
         _ => None,
-    }
-}
-
-/// What a word in upper case is, where it is reserved.
-#[tactic(auto, unfolding(crate::specs::Spelling::reserved))]
-pub fn reserved(word: &[u8]) -> Option<Reserved>
-    ensures { result ≡ spec.reserved word.now }
-{
-    match word {
-        [letter, ..] => look_up_by_letter(*letter, word),
-        [] => None,
     }
 }

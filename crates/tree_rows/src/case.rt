@@ -1,9 +1,26 @@
 //! A case over a tree. It begins with a row `tree KEY VALUE CACHED`: the bytes of its keys and values, and how many pages are in memory.
 use crate::rows::Run;
+use btree_pages::RowLayout;
 use row_scripts::{Case, Difference, Fault, Row, Tally, Words};
 use std::alloc::{AllocError, Global};
 use std::io;
-use tree_pages::RowLayout;
+
+/// Runs a case, and prints the first row that differs.
+pub fn check_case<R: Print + AllocGlobal>(
+    rt: &R,
+    script: &str,
+    case: &Case,
+    tally: &mut Tally,
+) -> io::Result<()> {
+    if let Some(line) = case.wrong {
+        let wrong = Difference::at(rt.alloc(), line, Fault::Spelling("this is no row"))?;
+        tally.fail(rt, script, "a tree", &wrong)?;
+    }
+    if let Some(difference) = do_rows(rt.alloc(), case, tally)? {
+        tally.fail(rt, script, "a tree", &difference)?;
+    }
+    Ok(())
+}
 
 /// The tree of a row `tree`, without entries.
 fn read_tree(alloc: Global, row: &Row) -> Result<Run, Fault> {
@@ -41,21 +58,4 @@ fn do_rows(
         tally.pass();
     }
     Ok(None)
-}
-
-/// Runs a case, and prints the first row that differs.
-pub fn check_case<R: Print + AllocGlobal>(
-    rt: &R,
-    script: &str,
-    case: &Case,
-    tally: &mut Tally,
-) -> io::Result<()> {
-    if let Some(line) = case.wrong {
-        let wrong = Difference::at(rt.alloc(), line, Fault::Spelling("this is no row"))?;
-        tally.fail(rt, script, "a tree", &wrong)?;
-    }
-    if let Some(difference) = do_rows(rt.alloc(), case, tally)? {
-        tally.fail(rt, script, "a tree", &difference)?;
-    }
-    Ok(())
 }

@@ -2,25 +2,9 @@
 //! `1213/22/2`. A number is the character so far behind 0, so that `D` is 20 and `W` 39. Their entries are 10, 20, 30 and so on.
 use crate::volume::{Volume, key_of, tree_of, value_of};
 use btree::Tree;
+use btree_pages::{Kind, RowLayout, TreePage};
 use row_scripts::Fault;
 use std::alloc::{AllocError, Global};
-use tree_pages::{Kind, RowLayout, TreePage};
-
-/// A page of a tree, and the number of the least key below it.
-#[derive(Clone, Copy)]
-struct Planted {
-    least: u32,
-    page: u32,
-}
-
-fn wrong() -> Fault {
-    Fault::Spelling("this is no drawing")
-}
-
-/// The rows of a page of a drawing.
-fn rows_in(byte: u8) -> usize {
-    byte.wrapping_sub(b'0') as usize
-}
 
 /// How many entries the tree of a drawing has.
 pub fn entries_in(drawing: &[u8]) -> u32 {
@@ -42,6 +26,63 @@ pub fn leaves_in(drawing: &[u8], least: usize) -> (usize, usize) {
         }
     }
     (leaves, thin)
+}
+
+/// Puts the tree of a drawing on pages.
+pub fn plant(
+    alloc: Global,
+    volume: &mut Volume,
+    layout: RowLayout,
+    drawing: &[u8],
+) -> Result<Tree, Fault> {
+    let mut below = Vec::new(alloc);
+    for level in drawing.split(|byte| *byte == b'/') {
+        below = plant_level(alloc, volume, layout, &below, level)?;
+    }
+    match below.first() {
+        Some(top) => tree_of(alloc, layout, top.page),
+        None => Err(wrong()),
+    }
+}
+
+/// The drawing of a tree: from the root on, and turned round.
+pub fn draw(alloc: Global, volume: &mut Volume, tree: &Tree) -> Result<Vec<u8>, Fault> {
+    let mut drawing = Vec::new(alloc);
+    let mut pages = Vec::new(alloc);
+    if tree.root() != 0 {
+        pages.push(tree.root())?;
+    }
+    let mut end = 1;
+    for place in 0..1024usize {
+        let Some(page) = pages.get(place).copied() else {
+            break;
+        };
+        if place == end {
+            drawing.push(b'/')?;
+            end = pages.len();
+        }
+        let page = volume.tree_page(tree.layout(), page)?;
+        drawing.push(b'0'.wrapping_add((page.count() % 256) as u8))?;
+        push_children(&mut pages, &page)?;
+    }
+    drawing.reverse();
+    Ok(drawing)
+}
+
+/// A page of a tree, and the number of the least key below it.
+#[derive(Clone, Copy)]
+struct Planted {
+    least: u32,
+    page: u32,
+}
+
+fn wrong() -> Fault {
+    Fault::Spelling("this is no drawing")
+}
+
+/// The rows of a page of a drawing.
+fn rows_in(byte: u8) -> usize {
+    byte.wrapping_sub(b'0') as usize
 }
 
 /// A page without rows.
@@ -146,23 +187,6 @@ fn plant_level(
     Ok(level)
 }
 
-/// Puts the tree of a drawing on pages.
-pub fn plant(
-    alloc: Global,
-    volume: &mut Volume,
-    layout: RowLayout,
-    drawing: &[u8],
-) -> Result<Tree, Fault> {
-    let mut below = Vec::new(alloc);
-    for level in drawing.split(|byte| *byte == b'/') {
-        below = plant_level(alloc, volume, layout, &below, level)?;
-    }
-    match below.first() {
-        Some(top) => tree_of(alloc, layout, top.page),
-        None => Err(wrong()),
-    }
-}
-
 /// The children of an inner page come behind others, from right to left.
 fn push_children(pages: &mut Vec<u32>, page: &TreePage) -> Result<(), AllocError> {
     if page.kind() == Kind::Inner {
@@ -171,28 +195,4 @@ fn push_children(pages: &mut Vec<u32>, page: &TreePage) -> Result<(), AllocError
         }
     }
     Ok(())
-}
-
-/// The drawing of a tree: from the root on, and turned round.
-pub fn draw(alloc: Global, volume: &mut Volume, tree: &Tree) -> Result<Vec<u8>, Fault> {
-    let mut drawing = Vec::new(alloc);
-    let mut pages = Vec::new(alloc);
-    if tree.root() != 0 {
-        pages.push(tree.root())?;
-    }
-    let mut end = 1;
-    for place in 0..1024usize {
-        let Some(page) = pages.get(place).copied() else {
-            break;
-        };
-        if place == end {
-            drawing.push(b'/')?;
-            end = pages.len();
-        }
-        let page = volume.tree_page(tree.layout(), page)?;
-        drawing.push(b'0'.wrapping_add((page.count() % 256) as u8))?;
-        push_children(&mut pages, &page)?;
-    }
-    drawing.reverse();
-    Ok(drawing)
 }

@@ -2,11 +2,11 @@
 use crate::drawings::{draw, entries_in, leaves_in, plant};
 use crate::volume::{Answered, Volume, key_of, tree_of, value_of};
 use btree::{Entry, Tree};
+use btree_pages::RowLayout;
 use pages::PagesError;
 use row_scripts::{Fault, Words, quoted};
 use std::alloc::{AllocError, Global};
 use std::mem;
-use tree_pages::RowLayout;
 
 /// A tree on its way.
 #[derive(Drop)]

@@ -3,13 +3,13 @@
 //! The key of an entry is sevens with its number in the last four bytes, or the last bytes of these, and each byte of its value is a tenth
 //! of its number.
 use btree::{Entry, Tree};
+use btree_check::check_tree;
+use btree_pages::{RowLayout, TreePage};
 use pages::{PageMap, PagesError, format};
 use row_scripts::Fault;
 use station::{Device, MemoryStation};
 use std::alloc::{AllocError, Global};
 use std::marker::Model;
-use tree_check::check_tree;
-use tree_pages::{RowLayout, TreePage};
 
 /// An opened volume on its station.
 #[derive(Drop)]

@@ -1,7 +1,7 @@
 //! The bytes of numbers, and the numbers of bytes.
 
 ghost use Rattle.std.specs.Prelude.{◌≡◌, ◌≤◌, IfOk, length};
-ghost use Rattle.items.specs.Numbers.{IsNumeric, Holds, length_of};
+ghost use Rattle.items.specs.Numbers.{IsNumeric, CanHold, length_of};
 
 use crate::decimals::{decimal, spelled};
 use crate::entry::numeric;
@@ -10,39 +10,6 @@ use decimal18::{Dec, Rounding};
 use items::{Numeric, number, store};
 use std::alloc::Global;
 use std::io;
-
-/// The number as the item holds it.
-fn held(item: Numeric, x: Dec) -> io::Result<Dec>
-    requires { IsNumeric item }
-    ensures { IfOk result (Holds item) }
-{
-    match x.fit(item.digits, item.scale, Rounding::Truncated) {
-        Ok(number) if item.is_signed() || !number.is_negative() => Ok(number),
-        _ => Err(unreadable()),
-    }
-}
-
-/// The bytes in which the item holds a number.
-fn stored(alloc: Global, item: Numeric, x: Dec) -> io::Result<Vec<u8>>
-    requires { IsNumeric item }
-    ensures { IfOk result (λ bytes. length bytes.items ≡ length_of item) }
-{
-    let held = held(item, x)?;
-    let mut bytes = vec![in alloc; 0u8; item.length()]?;
-    store(item, held, &mut bytes);
-    Ok(bytes)
-}
-
-/// The number in the bytes, where they are as many as the item has.
-fn number_of(item: Numeric, bytes: &[u8]) -> io::Result<Option<Dec>>
-    requires { IsNumeric item }
-{
-    if bytes.len() == item.length() {
-        Ok(number(item, bytes))
-    } else {
-        Err(unreadable())
-    }
-}
 
 /// `bytes NUMBER ENTRY`
 pub fn bytes_of(alloc: Global, words: &[String]) -> io::Result<String> {
@@ -74,6 +41,53 @@ pub fn bytes_at_each_scale(alloc: Global, words: &[String]) -> io::Result<String
     Ok(first)
 }
 
+/// `bytes_at BYTES PLACE ENTRY`: the bytes at that place, counted from 0, with which all are a number.
+pub fn bytes_at(alloc: Global, words: &[String]) -> io::Result<String> {
+    let item = numeric(alloc, words, 3)?;
+    let (mut text, place) = (bytes(alloc, words, 1)?, count(words, 2)?);
+    let mut found = Vec::new(alloc);
+    for byte in 0..=u8::MAX {
+        put_at(&mut text, place, byte);
+        if number_of(item, text.as_slice())?.is_some() {
+            found.push(byte)?;
+        }
+    }
+    told(alloc, found.as_slice())
+}
+
+/// The number as the item holds it.
+fn held(item: Numeric, x: Dec) -> io::Result<Dec>
+    requires { IsNumeric item }
+    ensures { IfOk result (CanHold item) }
+{
+    match x.fit(item.digits, item.scale, Rounding::Truncated) {
+        Ok(number) if item.is_signed() || !number.is_negative() => Ok(number),
+        _ => Err(unreadable()),
+    }
+}
+
+/// The bytes in which the item holds a number.
+fn stored(alloc: Global, item: Numeric, x: Dec) -> io::Result<Vec<u8>>
+    requires { IsNumeric item }
+    ensures { IfOk result (λ bytes. length bytes.items ≡ length_of item) }
+{
+    let held = held(item, x)?;
+    let mut bytes = vec![in alloc; 0u8; item.length()]?;
+    store(item, held, &mut bytes);
+    Ok(bytes)
+}
+
+/// The number in the bytes, where they are as many as the item has.
+fn number_of(item: Numeric, bytes: &[u8]) -> io::Result<Option<Dec>>
+    requires { IsNumeric item }
+{
+    if bytes.len() == item.length() {
+        Ok(number(item, bytes))
+    } else {
+        Err(unreadable())
+    }
+}
+
 /// The bytes of an integer that has so many decimals, where they are read as it again.
 fn there_and_back(alloc: Global, item: Numeric, scale: u8, integer: i64) -> io::Result<String>
     requires item { IsNumeric item }
@@ -87,20 +101,6 @@ fn there_and_back(alloc: Global, item: Numeric, scale: u8, integer: i64) -> io::
         }
         _ => Ok(format!(in alloc; "no way back")?),
     }
-}
-
-/// `bytes_at BYTES PLACE ENTRY`: the bytes at that place, counted from 0, with which all are a number.
-pub fn bytes_at(alloc: Global, words: &[String]) -> io::Result<String> {
-    let item = numeric(alloc, words, 3)?;
-    let (mut text, place) = (bytes(alloc, words, 1)?, count(words, 2)?);
-    let mut found = Vec::new(alloc);
-    for byte in 0..=u8::MAX {
-        put_at(&mut text, place, byte);
-        if number_of(item, text.as_slice())?.is_some() {
-            found.push(byte)?;
-        }
-    }
-    told(alloc, found.as_slice())
 }
 
 /// Puts a byte at a place, if it is there.

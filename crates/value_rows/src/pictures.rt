@@ -5,15 +5,6 @@ use picture::{Category, Picture, PictureError, PictureFault, Place, Run, Suppres
 use std::alloc::Global;
 use std::io;
 
-/// The picture, if it is one.
-fn if_any(answer: Result<Picture, PictureError>) -> io::Result<Option<Picture>> {
-    match answer {
-        Ok(picture) => Ok(Some(picture)),
-        Err(PictureError::Memory) => Err(io::Error::from(io::ErrorKind::OutOfMemory)),
-        Err(PictureError::Refused(PictureFault::NoForm)) => Ok(None),
-    }
-}
-
 /// `picture PICTURE`, and `places`, `region`, `spelling`; a picture can stand in quotation marks.
 pub fn told_of(alloc: Global, words: &[String]) -> io::Result<String> {
     let answer = match word(words, 1)? {
@@ -28,6 +19,34 @@ pub fn told_of(alloc: Global, words: &[String]) -> io::Result<String> {
         "region" => region(alloc, &picture),
         "spelling" => told(alloc, picture.spelling()?.as_slice()),
         _ => described(alloc, &picture),
+    }
+}
+
+/// `runs SYMBOL COUNT SYMBOL COUNT ..`: what the picture of these runs says.
+pub fn of_runs(alloc: Global, words: &[String]) -> io::Result<String> {
+    let mut runs = Vec::new(alloc);
+    for pair in 0..words.len() / 2 {
+        let symbol = match word(words, 2 * pair + 1)? {
+            "X" => Symbol::X,
+            "9" => Symbol::Nine,
+            "CR" => Symbol::Cr,
+            _ => return Err(unreadable()),
+        };
+        let count = count(words, 2 * pair + 2)?;
+        runs.push(Run { symbol, count })?;
+    }
+    match if_any(Picture::from_runs(alloc, runs.as_slice()))? {
+        Some(picture) => summary(alloc, &picture),
+        None => no_picture(alloc),
+    }
+}
+
+/// The picture, if it is one.
+fn if_any(answer: Result<Picture, PictureError>) -> io::Result<Option<Picture>> {
+    match answer {
+        Ok(picture) => Ok(Some(picture)),
+        Err(PictureError::Memory) => Err(io::Error::from(io::ErrorKind::OutOfMemory)),
+        Err(PictureError::Refused(PictureFault::NoForm)) => Ok(None),
     }
 }
 
@@ -112,23 +131,4 @@ fn region(alloc: Global, picture: &Picture) -> io::Result<String> {
     };
     let (begin, end) = (region.begin, region.end);
     Ok(format!(in alloc; "{by} from {begin} to {end}")?)
-}
-
-/// `runs SYMBOL COUNT SYMBOL COUNT ..`: what the picture of these runs says.
-pub fn of_runs(alloc: Global, words: &[String]) -> io::Result<String> {
-    let mut runs = Vec::new(alloc);
-    for pair in 0..words.len() / 2 {
-        let symbol = match word(words, 2 * pair + 1)? {
-            "X" => Symbol::X,
-            "9" => Symbol::Nine,
-            "CR" => Symbol::Cr,
-            _ => return Err(unreadable()),
-        };
-        let count = count(words, 2 * pair + 2)?;
-        runs.push(Run { symbol, count })?;
-    }
-    match if_any(Picture::from_runs(alloc, runs.as_slice()))? {
-        Some(picture) => summary(alloc, &picture),
-        None => no_picture(alloc),
-    }
 }

@@ -4,7 +4,7 @@ use Rattle.std.specs.Fmt.{digits}
 use Rattle.records.specs.declared.file_spec.Organization.TheVariants.{Indexed}
 use Rattle.records.specs.Spec.{Spec}
 use Rattle.records.specs.Rows.{Row}
-use Rattle.records.specs.Files.{Named}
+use Rattle.records.specs.Files.{NamedFile}
 use Rattle.volume_commands.specs.Text.{backslash, line_feed, bytes_text}
 use Rattle.volume_commands.specs.Listing.{listing}
 use Rattle.volume_commands.specs.Dump.{dump_text}
@@ -15,7 +15,7 @@ row bytes = record { number = 0; bytes = bytes; arrivals = [] }
 abbrev spec : Spec
 spec = record { organization = Indexed (record { offset = 0; length = 6 }); record_length = 80; alternates = [] }
 
-abbrev sales : Named
+abbrev sales : NamedFile
 sales = record {
   name = codes "SALES";
   file = record { spec = spec; rows = row (replicate 80 49) ∷ row (replicate 80 50) ∷ []; next_arrival = 3 };

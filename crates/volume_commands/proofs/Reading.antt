@@ -3,17 +3,17 @@ use Rattle.std.proofs.Common.{◌≡◌, ◌⊎◌, List, Result, Err, inl, inr,
 use Rattle.station.specs.Calls.{OnlyWrites}
 use Rattle.station.specs.Disk.{Sector}
 use Rattle.station.specs.History.{Through}
-use Rattle.station.specs.Opening.{Opening}
-use Rattle.station.specs.State.{synced}
+use Rattle.station.specs.Opening.{IsOpening}
+use Rattle.station.specs.State.{state_after_sync}
 use Rattle.station.specs.declared.device.Device.{Ghosts as Devices}
 use Rattle.records.specs.declared.fault.StoreFault.{StoreFault}
 use Rattle.records.specs.declared.fault.StoreFault.TheVariants as store
 use Rattle.records.specs.Files.{Files}
-use Rattle.file_recovery.specs.Recovered.{HoldsFiles, Refused, IsReadCause}
+use Rattle.file_recovery.specs.Recovered.{HoldsFiles, IsRecoveryRefusal, IsReadCause}
 use Rattle.volume_commands.specs.declared.volume_error.VolumeError.{VolumeError}
 use Rattle.volume_commands.specs.declared.volume_error.VolumeError.TheVariants.{Device, Damaged}
 use Rattle.volume_commands.specs.Faults.{error_of}
-use Rattle.volume_commands.specs.Calls.{ReadsVolume, IsRefusal}
+use Rattle.volume_commands.specs.Calls.{ReadsVolume, IsVolumeRefusal}
 
 abbrev refused : (T E : Type 0) → E → Result T E
 refused T E error = Err error
@@ -41,7 +41,7 @@ not_damage B fault (inr same) e =
     let k : refused B VolumeError (error_of store.Memory) ≡ refused B VolumeError Damaged =
     ap (λ (f : StoreFault). refused B VolumeError (error_of f)) (sym same) ∙ e in cc
 
-is_refusal : (image : List Sector) (fault : StoreFault) → Refused image fault → IsRefusal image (error_of fault)
+is_refusal : (image : List Sector) (fault : StoreFault) → IsRecoveryRefusal image fault → IsVolumeRefusal image (error_of fault)
 is_refusal image store.Device so = tt
 is_refusal image store.Full so = absurd so
 is_refusal image store.Damaged so = so
@@ -52,9 +52,9 @@ is_refusal image store.Layout so = absurd so
 module _ {D : Type 0} (d : Devices D) where
   pub reads_of_fault : (A B : Type 0) (fault : StoreFault) (error : VolumeError) (old new : D) → error ≡ error_of fault
       → OnlyWrites d (refused A StoreFault fault ≡ refused A StoreFault store.Device) old new
-      → (d.is_honest old → Through (d.history old) (d.history new) (d.state new) (Opening (d.state old)))
-      → (d.is_honest old → (d.state new ≡ d.state old) ⊎ (d.state new ≡ synced (d.state old)))
-      → (d.is_honest old → Refused (d.state old).disk.present fault)
+      → (d.is_honest old → Through (d.history old) (d.history new) (d.state new) (IsOpening (d.state old)))
+      → (d.is_honest old → (d.state new ≡ d.state old) ⊎ (d.state new ≡ state_after_sync (d.state old)))
+      → (d.is_honest old → IsRecoveryRefusal (d.state old).disk.present fault)
       → (d.is_honest old → (files : Files) → HoldsFiles (d.state old).disk.present files → IsReadCause fault)
       → ReadsVolume d (refused B VolumeError error) old new
   reads_of_fault A B fault error old new is only moments unwritten why opens =

@@ -3,7 +3,7 @@ use Rattle.std.specs.Prelude.{ℕ, List, [], ◌∷◌, ◌++◌, codes, decimal
 use Rattle.std.specs.List.{flat_map}
 use Rattle.records.specs.declared.file_spec.Organization.{Organization}
 use Rattle.records.specs.declared.file_spec.Organization.TheVariants.{Sequential, Relative, Indexed}
-use Rattle.records.specs.Files.{Named, Files}
+use Rattle.records.specs.Files.{NamedFile, Files}
 use Rattle.volume_commands.specs.Text.{bytes_text, line_feed}
 
 abbrev pub organization_word : Organization → List ℕ
@@ -15,7 +15,7 @@ abbrev pub space : ℕ
 space = 32
 
 -- its name, its organization, the bytes of a record, and how many rows it has
-abbrev pub file_line : Named → List ℕ
+abbrev pub file_line : NamedFile → List ℕ
 file_line one =
     bytes_text one.name
     ++ space ∷ organization_word one.file.spec.organization

@@ -9,11 +9,6 @@ use volume_commands::format_volume;
 /// So many pages are kept in memory.
 const CACHED: usize = 4;
 
-fn station_of_zeros(alloc: Global) -> Result<MemoryStation, AllocError> {
-    let sectors = vec![in alloc; [0; 4096]; 1024]?;
-    MemoryStation::new(alloc, sectors, Vec::new(alloc))
-}
-
 /// A station of 1,024 sectors of zeros.
 pub fn blank_station(rt: &impl Abort, alloc: Global) -> MemoryStation {
     match station_of_zeros(alloc) {
@@ -73,6 +68,11 @@ pub fn add_file(
     for (number, record) in (1..).zip(records) {
         add_row(rt, &mut store, station, file, number, record);
     }
+}
+
+fn station_of_zeros(alloc: Global) -> Result<MemoryStation, AllocError> {
+    let sectors = vec![in alloc; [0; 4096]; 1024]?;
+    MemoryStation::new(alloc, sectors, Vec::new(alloc))
 }
 
 fn add_row(

@@ -15,10 +15,6 @@ mod damage_tests;
 #[cfg(test)]
 mod drawing;
 #[cfg(test)]
-mod drawn_program;
-#[cfg(test)]
-mod drawn_tests;
-#[cfg(test)]
 mod later_run_tests;
 #[cfg(test)]
 mod met;
@@ -34,6 +30,10 @@ mod model_told;
 mod program_text;
 #[cfg(test)]
 mod programs;
+#[cfg(test)]
+mod random_program;
+#[cfg(test)]
+mod random_tests;
 #[cfg(test)]
 mod stop_tests;
 #[cfg(test)]

@@ -5,6 +5,15 @@ use crate::told::{push_bytes, push_number};
 use crate::words::{Key, Kind};
 use std::alloc::{AllocError, Global};
 
+/// The files of the volume, by ascending name.
+pub fn files_meant(alloc: Global, model: &Model) -> Result<String, AllocError> {
+    let mut text = String::new(alloc);
+    push_file(&mut text, alloc, &model.sequential, Kind::Sequential)?;
+    push_file(&mut text, alloc, &model.relative, Kind::Relative)?;
+    push_file(&mut text, alloc, &model.indexed, Kind::Indexed)?;
+    Ok(text)
+}
+
 // How many rows came to have their value of an alternate key before that moment.
 fn rank(rows: &[Row], key: Key, came: u64) -> u64 {
     let mut count = 0u64;
@@ -84,13 +93,4 @@ fn push_file(
         to.push_str(" ")?;
     }
     push_rows(to, alloc, file, kind)
-}
-
-/// The files of the volume, by ascending name.
-pub fn files_meant(alloc: Global, model: &Model) -> Result<String, AllocError> {
-    let mut text = String::new(alloc);
-    push_file(&mut text, alloc, &model.sequential, Kind::Sequential)?;
-    push_file(&mut text, alloc, &model.relative, Kind::Relative)?;
-    push_file(&mut text, alloc, &model.indexed, Kind::Indexed)?;
-    Ok(text)
 }

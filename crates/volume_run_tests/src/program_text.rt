@@ -7,7 +7,22 @@ const BEGINNING: &str = "       IDENTIFICATION DIVISION.
        ENVIRONMENT DIVISION.
        INPUT-OUTPUT SECTION.
        FILE-CONTROL.
+
 ";
+
+/// A program with these SELECTs and these file statements.
+pub fn source_text(
+    alloc: Global,
+    selects: &[Select; SELECTS],
+    steps: &[Step],
+) -> Result<String, AllocError> {
+    let mut text = String::from_str(alloc, BEGINNING)?;
+    push_selects(&mut text, selects)?;
+    push_records(&mut text, selects)?;
+    push_numbers(&mut text, selects)?;
+    push_steps(&mut text, selects, steps)?;
+    Ok(text)
+}
 
 fn volume_name(kind: Kind) -> &'static str {
     match kind {
@@ -292,18 +307,4 @@ fn push_steps(text: &mut String, selects: &[Select], steps: &[Step]) -> Result<(
         before = Some(step);
     }
     text.push_str(".\n           STOP RUN.\n")
-}
-
-/// A program with these SELECTs and these file statements.
-pub fn source_text(
-    alloc: Global,
-    selects: &[Select; SELECTS],
-    steps: &[Step],
-) -> Result<String, AllocError> {
-    let mut text = String::from_str(alloc, BEGINNING)?;
-    push_selects(&mut text, selects)?;
-    push_records(&mut text, selects)?;
-    push_numbers(&mut text, selects)?;
-    push_steps(&mut text, selects, steps)?;
-    Ok(text)
 }

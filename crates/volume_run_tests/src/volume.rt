@@ -11,20 +11,6 @@ const BUDGET: u64 = 1000;
 /// YYMMDD.
 pub const DAY: [u8; 6] = *b"000000";
 
-fn console(alloc: Global, lines: &[&[u8]]) -> Result<Vec<Vec<u8>>, AllocError> {
-    let mut all = Vec::new(alloc);
-    for line in lines {
-        all.push(Vec::from_slice(alloc, line)?)?;
-    }
-    Ok(all)
-}
-
-fn station_of_zeros(alloc: Global, lines: &[&[u8]]) -> Result<MemoryStation, AllocError> {
-    let console = console(alloc, lines)?;
-    let sectors = vec![in alloc; [0; 4096]; 1024]?;
-    MemoryStation::new(alloc, sectors, console)
-}
-
 /// Which store a volume is made for.
 #[derive(Clone, Copy, Debug, PartialEq, Eq)]
 pub enum Layout {
@@ -94,4 +80,18 @@ pub fn shown(rt: &impl Abort, station: &MemoryStation) -> Vec<u8> {
         Ok(shown) => shown,
         Err(_) => panic!(rt; "no memory"),
     }
+}
+
+fn console(alloc: Global, lines: &[&[u8]]) -> Result<Vec<Vec<u8>>, AllocError> {
+    let mut all = Vec::new(alloc);
+    for line in lines {
+        all.push(Vec::from_slice(alloc, line)?)?;
+    }
+    Ok(all)
+}
+
+fn station_of_zeros(alloc: Global, lines: &[&[u8]]) -> Result<MemoryStation, AllocError> {
+    let console = console(alloc, lines)?;
+    let sectors = vec![in alloc; [0; 4096]; 1024]?;
+    MemoryStation::new(alloc, sectors, console)
 }

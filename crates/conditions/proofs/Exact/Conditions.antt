@@ -9,14 +9,14 @@ use Rattle.tokens.specs.declared.token.Token.{Token}
 use Rattle.source_tree.specs.declared.condition.Condition.{Condition}
 use Rattle.grammar.specs.declared.fault.Halt.{Halt}
 use Rattle.grammar.specs.declared.fault.Halt.TheVariants.{TooDeep, Unexpected}
-use Rattle.grammar.specs.Parts.{Part, ◌then◌, ◌or◌, tested}
+use Rattle.grammar.specs.Parts.{Part, ◌then◌, ◌or◌, lookahead}
 use Rattle.grammar.specs.Reading.{Parser, is_kind, begins_word, expect, one_token}
 use Rattle.grammar.proofs.Outcomes.{Answers, Reached, Halts, Deeper, allow, one_deeper, step, unstep, value, last}
 use Rattle.grammar.proofs.Looking.{none_not, tests_tested, word_begins}
 use Rattle.grammar.proofs.Turns.{deeper}
 use Rattle.grammar.proofs.Lists.{Sound, Complete, Shrinks}
 use Rattle.grammar.proofs.Parts.{one_token_sound, one_token_complete, telling_shrinks, telling_starts, word_sound, word_complete, word_shrinks}
-use Rattle.expressions.specs.Marks.{left, right, left_of, left_in, right_in, begins_left}
+use Rattle.expressions.specs.Marks.{left_parenthesis, right_parenthesis, left_of, left_in, right_in, begins_left}
 use Rattle.expressions.specs.Looking.{past_parentheses}
 use Rattle.expressions.proofs.Exact.Balance.{Even, word_even, enclosed_even, without_even, parentheses_passed}
 use Rattle.conditions.specs.Conditions as g
@@ -38,14 +38,14 @@ left_no_word word k.LeftParenthesis u e = refl
 left_no_word word k.RightParenthesis u e = refl
 left_no_word word (k.Operator operator) u e = refl
 
-pub left_begins : (word : Reserved) (i rest : List Token) → left i rest → begins_word word i ≡ false
+pub left_begins : (word : Reserved) (i rest : List Token) → left_parenthesis i rest → begins_word word i ≡ false
 left_begins word i rest (first, is, tell) = ap (begins_word word) is ∙ left_no_word word first.kind tt tell
 
 module _ (simple : Condition → Part) (even : (x : Condition) → Even (simple x)) where
   negation_shrinks : Shrinks simple → Shrinks (g.negation simple)
   negation_shrinks fewer x i rest (inner, is, (i1, first, s)) = let a = word_shrinks w.Not i i1 first in let b = fewer inner i1 rest s in omega arith
 
-  enclosed_shrinks : Shrinks simple → Shrinks (g.enclosed simple)
+  enclosed_shrinks : Shrinks simple → Shrinks (g.parenthesized_condition simple)
   enclosed_shrinks fewer x i rest (i3, (i1, opens, (i2, s, closes)), stops) =
       let a = telling_shrinks left_in tt i i1 opens in
       let b = disjunction_shrinks simple fewer x i1 i2 s in
@@ -55,19 +55,19 @@ module _ (simple : Condition → Part) (even : (x : Condition) → Even (simple 
   negation_even : (x : Condition) → Even (g.negation simple x)
   negation_even x i rest (inner, is, (i1, first, s)) n = word_even w.Not i i1 first n ∙ even inner i1 rest s n
 
-  enclosed_even' : (x : Condition) → Even (g.enclosed simple x)
+  enclosed_even' : (x : Condition) → Even (g.parenthesized_condition simple x)
   enclosed_even' x i rest (i1, s, stops) n =
-      enclosed_even {p = g.disjunction simple x} (disjunction_even simple even x) i i1 s n ∙ without_even (tested goes_on) i1 rest stops n
+      enclosed_even {p = g.disjunction simple x} (disjunction_even simple even x) i i1 s n ∙ without_even (lookahead goes_on) i1 rest stops n
 
   -- what closes the parenthesis of a condition is found
-  pub closes : (x : Condition) (i rest : List Token) → (left then g.disjunction simple x then right) i rest → past_parentheses i ≡ Some rest
+  pub closes : (x : Condition) (i rest : List Token) → (left_parenthesis then g.disjunction simple x then right_parenthesis) i rest → past_parentheses i ≡ Some rest
   closes x i rest s = parentheses_passed {p = g.disjunction simple x} (disjunction_even simple even x) i rest s
 
-  enclosed_begins : (x : Condition) (i rest : List Token) → g.enclosed simple x i rest → g.begins_enclosed i ≡ true
+  enclosed_begins : (x : Condition) (i rest : List Token) → g.parenthesized_condition simple x i rest → g.begins_enclosed i ≡ true
   enclosed_begins x i rest (i1, s, stops) =
       rw (telling_starts left_in tt i s.0 s.1, ap goes_on_after (closes x i i1 s) ∙ (tests_tested goes_on).refuses i1 stops.1) refl
 
-  nested_begins : (x : Condition) (i rest : List Token) → (g.negation simple x or g.enclosed simple x) i rest → g.begins_nested i ≡ true
+  nested_begins : (x : Condition) (i rest : List Token) → (g.negation simple x or g.parenthesized_condition simple x) i rest → g.begins_nested i ≡ true
   nested_begins x i rest (inl (inner, is, (i1, first, s))) = ap (λ b. b || g.begins_enclosed i) (word_begins w.Not i i1 first)
   nested_begins x i rest (inr s) = go (begins_word w.Not i) (g.begins_enclosed i) (enclosed_begins x i rest s)
     where
@@ -84,23 +84,23 @@ module _ (simple : Condition → Part) (even : (x : Condition) → Even (simple 
         (inner, sym (value e2), (i1, word_sound w.Not u i i1 is1, each inner i1 rest (last is2 e2)))))
 
     parentheses_sound : Sound simple reader → (x : Condition) (i rest : List Token) → g.enclosed_reader reader i ≡ Ok (x, rest)
-        → (left then g.disjunction simple x then right) i rest
+        → (left_parenthesis then g.disjunction simple x then right_parenthesis) i rest
     unfolding g.enclosed_reader
     parentheses_sound each x i rest e =
         unstep (one_token left_in i) _ e (λ u i1 is1 e1.
         unstep (g.disjunction_reader reader i1) _ e1 (λ inner i2 is2 e2.
         unstep (one_token right_in i2) _ e2 (λ v i3 is3 e3.
-        subst (λ y. (left then g.disjunction simple y then right) i rest) (value e3)
+        subst (λ y. (left_parenthesis then g.disjunction simple y then right_parenthesis) i rest) (value e3)
         (i1, one_token_sound left_in u i i1 is1, (i2, disjunction_sound simple reader each inner i1 i2 is2, one_token_sound right_in v i2 rest (last is3 e3))))))
 
     enclosed_sound : Sound simple reader → (x : Condition) (i rest : List Token) → goes_on_after (past_parentheses i) ≡ false
-        → g.enclosed_reader reader i ≡ Ok (x, rest) → g.enclosed simple x i rest
+        → g.enclosed_reader reader i ≡ Ok (x, rest) → g.parenthesized_condition simple x i rest
     enclosed_sound each x i rest stops e =
         let s = parentheses_sound each x i rest e in
         (rest, s, (refl, (tests_tested goes_on).fails rest (sym (ap goes_on_after (closes x i rest s)) ∙ stops)))
 
     nested_sound : Sound simple reader → (x : Condition) (i rest : List Token) → g.begins_nested i ≡ true → g.nested_reader reader i ≡ Ok (x, rest)
-        → (g.negation simple x or g.enclosed simple x) i rest
+        → (g.negation simple x or g.parenthesized_condition simple x) i rest
     unfolding g.nested_reader
     nested_sound each x i rest begins e = go (begins_word w.Not i) begins e
       where
@@ -110,12 +110,12 @@ module _ (simple : Condition → Part) (even : (x : Condition) → Even (simple 
         stops false b e = cc
 
         go : (b : Bool) → (b || g.begins_enclosed i) ≡ true → (if b then g.negation_reader reader i else g.enclosed_reader reader i) ≡ Ok (x, rest)
-            → (g.negation simple x or g.enclosed simple x) i rest
+            → (g.negation simple x or g.parenthesized_condition simple x) i rest
         go true begins e = inl (negation_sound each x i rest e)
         go false begins e = inr (enclosed_sound each x i rest (stops (begins_left i) (goes_on_after (past_parentheses i)) begins) e)
 
     module _ (Allowed : Halt → Type 0) (each : Complete Allowed simple reader) (fewer : Shrinks simple) where
-      nested_complete : (x : Condition) (i rest : List Token) → (g.negation simple x or g.enclosed simple x) i rest → Answers Allowed (g.nested_reader reader i) x rest
+      nested_complete : (x : Condition) (i rest : List Token) → (g.negation simple x or g.parenthesized_condition simple x) i rest → Answers Allowed (g.nested_reader reader i) x rest
       unfolding g.nested_reader g.negation_reader g.enclosed_reader
       nested_complete x i rest (inl (inner, is, (i1, first, s))) =
           subst (λ y. Answers Allowed (g.nested_reader reader i) y rest) (sym is)
@@ -147,13 +147,13 @@ simple_sound : (depth : ℕ) → Sound (g.simple depth) (g.simple_reader depth)
 unfolding g.simple_reader
 simple_sound zero x i rest e = go (g.begins_nested i) e
   where
-    go : (b : Bool) → (if b then Err (TooDeep (length i)) else g.plain_reader zero i) ≡ Ok (x, rest) → g.plain zero x i rest
+    go : (b : Bool) → (if b then Err (TooDeep (length i)) else g.plain_reader zero i) ≡ Ok (x, rest) → g.simple_condition zero x i rest
     go true e = cc
     go false e = plain_sound zero x i rest e
 simple_sound (suc depth) x i rest e =
     go (λ begins inner. nested_sound (g.simple depth) (simple_even depth) (g.simple_reader depth) (simple_sound depth) x i rest begins inner) (g.begins_nested i) refl e
   where
-    go : (g.begins_nested i ≡ true → g.nested_reader (g.simple_reader depth) i ≡ Ok (x, rest) → (g.negation (g.simple depth) x or g.enclosed (g.simple depth) x) i rest)
+    go : (g.begins_nested i ≡ true → g.nested_reader (g.simple_reader depth) i ≡ Ok (x, rest) → (g.negation (g.simple depth) x or g.parenthesized_condition (g.simple depth) x) i rest)
         → (b : Bool) → g.begins_nested i ≡ b → (if b then g.nested_reader (g.simple_reader depth) i else g.plain_reader (suc depth) i) ≡ Ok (x, rest)
         → g.simple (suc depth) x i rest
     go nested true is e = inr (nested is e)

@@ -13,13 +13,13 @@ use Rattle.source_tree.specs.declared.condition.Side.TheVariants as side_as
 use Rattle.source_tree.specs.declared.condition.Condition.{Condition}
 use Rattle.grammar.specs.declared.fault.Halt.{Halt}
 use Rattle.grammar.specs.declared.fault.Halt.TheVariants.{TooDeep, Unexpected}
-use Rattle.grammar.specs.Parts.{◌then◌, stands, word, is_told, begins_telling, begins_name}
+use Rattle.grammar.specs.Parts.{◌then◌, optional_part, word, is_told, begins_telling, begins_name}
 use Rattle.grammar.specs.Reading as r
-use Rattle.grammar.specs.Reading.{Outcome, Parser, and_then, told, begins_word, after_word, needed, expect, one_token}
+use Rattle.grammar.specs.Reading.{Outcome, Parser, and_then, outcome_of_value, begins_word, after_word, outcome_of_rest, expect, one_token}
 use Rattle.grammar.proofs.Outcomes.{Answers, Reached, Halts, Deeper, unstep, after, last}
 use Rattle.grammar.proofs.Looking.{some_is, true_not_false, tests_tested, word_begins}
 use Rattle.grammar.proofs.Parts.{one_token_sound, telling_starts}
-use Rattle.expressions.specs.Marks.{left, left_in, right_in, begins_left, sum_in, product_in}
+use Rattle.expressions.specs.Marks.{left_parenthesis, left_in, right_in, begins_left, sum_in, product_in}
 use Rattle.expressions.specs.References.{reference}
 use Rattle.expressions.specs.Operands.{number_operand_reader, number_literal_reader}
 use Rattle.expressions.specs.Literals.{literal_reader, all_literal_reader, plain_in, bytes_in, number_literal_in}
@@ -67,7 +67,7 @@ unfolding one_token
 token_not_deep tells [] behind e = cc
 token_not_deep {A = A} tells (first ∷ more) behind e = go (tells first) e
   where
-    go : (o : Option A) → told o more (first ∷ more) ≡ Err (TooDeep behind) → ⊥
+    go : (o : Option A) → outcome_of_value o more (first ∷ more) ≡ Err (TooDeep behind) → ⊥
     go None e = cc
     go (Some a) e = cc
 
@@ -76,7 +76,7 @@ unfolding one_token
 token_refused tells [] e = refl
 token_refused {A = A} tells (first ∷ more) e = go (tells first) e
   where
-    go : (o : Option A) → is_told o ≡ false → told o more (first ∷ more) ≡ Err (Unexpected (length (first ∷ more)))
+    go : (o : Option A) → is_told o ≡ false → outcome_of_value o more (first ∷ more) ≡ Err (Unexpected (length (first ∷ more)))
     go None e = refl
     go (Some a) e = cc
 
@@ -84,7 +84,7 @@ expect_not_deep : (one : Reserved) (i : List Token) (behind : ℕ) → expect on
 unfolding expect
 expect_not_deep one i behind e = go (after_word one i) e
   where
-    go : (o : Option (List Token)) → needed o i ≡ Err (TooDeep behind) → ⊥
+    go : (o : Option (List Token)) → outcome_of_rest o i ≡ Err (TooDeep behind) → ⊥
     go None e = cc
     go (Some j) e = cc
 
@@ -131,11 +131,11 @@ sum_deep reader i behind {Q = Q} e now more =
     deep_step _ behind (arithmetic.product_reader reader i) e
     (λ deep.
     deep_step _ behind (reader i) deep now (λ x j is next.
-    deep_step _ behind (r.any (arithmetic.further_reader product_in reader) (begins_telling product_in) j) next (λ none. more x j is (by_product j (any_begins _ _ j behind none))) (λ all k is' end. cc)))
+    deep_step _ behind (r.any (arithmetic.further_operand_reader product_in reader) (begins_telling product_in) j) next (λ none. more x j is (by_product j (any_begins _ _ j behind none))) (λ all k is' end. cc)))
     (λ y k product next.
     unstep (reader i) _ product (λ x j is products.
-    unstep (r.any (arithmetic.further_reader product_in reader) (begins_telling product_in) j) _ products (λ all m is' end.
-    deep_step _ behind (r.any (arithmetic.further_reader sum_in (arithmetic.product_reader reader)) (begins_telling sum_in) k) next (λ none.
+    unstep (r.any (arithmetic.further_operand_reader product_in reader) (begins_telling product_in) j) _ products (λ all m is' end.
+    deep_step _ behind (r.any (arithmetic.further_operand_reader sum_in (arithmetic.product_reader reader)) (begins_telling sum_in) k) next (λ none.
     more x j is (followed j m k (any_goes _ _ j all m is') (after end) (any_begins _ _ k behind none)))
     (λ all' k' is'' end'. cc))))
   where
@@ -152,11 +152,11 @@ nested_is : (depth : ℕ) (i : List Token) → begins_left i ≡ true → arithm
 unfolding arithmetic.factor_reader arithmetic.nested_reader
 nested_is depth i opens = rw opens refl
 
-same_tail : (i j k : List Token) → left i j → left i k → j ≡ k
+same_tail : (i j k : List Token) → left_parenthesis i j → left_parenthesis i k → j ≡ k
 same_tail i j k (first, is, tell) (other, is', tell') = ap tail (sym is ∙ is')
 
 -- what is in the parentheses is too deep
-enclosed_deep : (depth : ℕ) (i i1 : List Token) (behind : ℕ) → left i i1 → arithmetic.enclosed_reader (arithmetic.factor_reader depth) i ≡ Err (TooDeep behind)
+enclosed_deep : (depth : ℕ) (i i1 : List Token) (behind : ℕ) → left_parenthesis i i1 → arithmetic.enclosed_reader (arithmetic.factor_reader depth) i ≡ Err (TooDeep behind)
     → expression_reader depth i1 ≡ Err (TooDeep behind)
 unfolding arithmetic.enclosed_reader expression_reader
 enclosed_deep depth i i1 behind opens e =
@@ -183,7 +183,7 @@ operator_goes_on : (i : List Token) → begins_operator i ≡ true → goes_on i
 operator_goes_on i e = ap (λ b. b || begins_test i) e
 
 -- It is too deep as an expression only if what is in the parentheses is.
-opened_deep : (depth : ℕ) (i i1 rest : List Token) (behind : ℕ) → left i i1 → begins_left i ≡ true → past_parentheses i ≡ Some rest → goes_on rest ≡ false
+opened_deep : (depth : ℕ) (i i1 rest : List Token) (behind : ℕ) → left_parenthesis i i1 → begins_left i ≡ true → past_parentheses i ≡ Some rest → goes_on rest ≡ false
     → expression_reader (suc depth) i ≡ Err (TooDeep behind) → expression_reader depth i1 ≡ Err (TooDeep behind)
 unfolding expression_reader
 opened_deep depth i i1 rest behind opens begins passed stops e =
@@ -251,7 +251,7 @@ class_no_operator i e = go (begins_operator i) (operator_no_class i)
     go true f = absurd (true_not_false (begins_class i) (f refl) e)
     go false f = refl
 
-plain_fits : (depth depth' : ℕ) (x : Condition) (i rest : List Token) → g.plain depth' x i rest → Fits depth depth' (expression_reader depth i)
+plain_fits : (depth depth' : ℕ) (x : Condition) (i rest : List Token) → g.simple_condition depth' x i rest → Fits depth depth' (expression_reader depth i)
 plain_fits depth depth' x i rest (inl (one, is, (i1, s, (same, nowhere)))) =
     item_fits depth depth' one i i1 s (both_not (begins_operator i1) (begins_test i1) ((tests_tested goes_on).refuses i1 nowhere)).0
 plain_fits depth depth' x i rest (inr (inl (item, negated, one, is, (i1, s, t)))) =
@@ -302,7 +302,7 @@ same_word_tail i j k (first, is, kind) (other, is', kind') = ap tail (sym is ∙
 negated_fits : (depth depth' : ℕ) (x : Condition) (i i1 rest : List Token) → word w.Not i i1 → g.simple depth' x i rest → Fits depth depth' (g.side_reader depth i1)
 negated_fits depth zero x i i1 rest first s = absurd (no_plain zero x i i1 rest first s)
   where
-    no_plain : (depth : ℕ) (x : Condition) (i i1 rest : List Token) → word w.Not i i1 → g.plain depth x i rest → ⊥
+    no_plain : (depth : ℕ) (x : Condition) (i i1 rest : List Token) → word w.Not i i1 → g.simple_condition depth x i rest → ⊥
     no_plain depth x i i1 rest first s =
         true_not_false (begins_word w.Not i) (both_not (begins_word w.Not i) (g.begins_enclosed i) (plain_begins depth x i rest s)).0 (word_begins w.Not i i1 first)
 negated_fits depth (suc n) x i i1 rest first (inl s) =
@@ -313,7 +313,7 @@ negated_fits depth (suc n) x i i1 rest first (inr (inr (i3, (j, opens, s), t))) 
     absurd (true_not_false (begins_word w.Not i) (left_begins w.Not i j opens) (word_begins w.Not i i1 first))
 
 -- behind NOT, where it stands
-pub condition_behind_not_fits : (depth depth' : ℕ) (x : Condition) (negated : Bool) (i i1 rest : List Token) → stands (word w.Not) negated i i1 → g.condition depth' x i rest
+pub condition_behind_not_fits : (depth depth' : ℕ) (x : Condition) (negated : Bool) (i i1 rest : List Token) → optional_part (word w.Not) negated i i1 → g.condition depth' x i rest
     → Fits depth depth' (g.side_reader depth i1)
 condition_behind_not_fits depth depth' x true i i1 rest first s = let one = first_simple depth' x i rest s in negated_fits depth depth' one.0 i i1 one.1 first one.2
 condition_behind_not_fits depth depth' x false i i1 rest (same, nowhere) s = λ behind e. condition_fits depth depth' x i rest s behind (ap (g.side_reader depth) same ∙ e)

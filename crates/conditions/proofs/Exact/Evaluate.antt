@@ -7,13 +7,13 @@ use Rattle.tokens.specs.declared.token.Token.{Token}
 use Rattle.tokens.specs.Reserved.{same_word}
 use Rattle.source_tree.specs.declared.condition.Side.{Side}
 use Rattle.source_tree.specs.declared.condition.Condition.{Condition}
-use Rattle.source_tree.specs.declared.evaluate.Subject.{Subject}
-use Rattle.source_tree.specs.declared.evaluate.Subject.TheVariants as subject_as
-use Rattle.source_tree.specs.declared.evaluate.Choice.{Choice}
-use Rattle.source_tree.specs.declared.evaluate.Choice.TheVariants as choice_as
+use Rattle.source_tree.specs.declared.evaluate_statement.Subject.{Subject}
+use Rattle.source_tree.specs.declared.evaluate_statement.Subject.TheVariants as subject_as
+use Rattle.source_tree.specs.declared.evaluate_statement.Choice.{Choice}
+use Rattle.source_tree.specs.declared.evaluate_statement.Choice.TheVariants as choice_as
 use Rattle.grammar.specs.declared.fault.Halt.{Halt}
 use Rattle.grammar.specs.declared.fault.Halt.TheVariants.{TooDeep, Unexpected}
-use Rattle.grammar.specs.Parts.{Part, without, stands, word}
+use Rattle.grammar.specs.Parts.{Part, absence_of, optional_part, word}
 use Rattle.grammar.specs.Reading as r
 use Rattle.grammar.specs.Reading.{Outcome, pure, begins_word, after_word, expect}
 use Rattle.grammar.proofs.Outcomes.{Answers, Reached, Halts, Deeper, step, unstep, value, after, last}
@@ -50,7 +50,7 @@ unfolding same_word
 any_begins_none = record { opens_none = record { no_constant = refl; no_all = refl }; no_not = refl }
 
 module _ (one : Reserved) (none : BeginsNone one) where
-  plain_no_word : (depth : ℕ) (x : Condition) (i rest : List Token) → c.plain depth x i rest → begins_word one i ≡ false
+  plain_no_word : (depth : ℕ) (x : Condition) (i rest : List Token) → c.simple_condition depth x i rest → begins_word one i ≡ false
   plain_no_word depth x i rest (inl (name, is, (i1, s, t))) = name_no_word one none.opens_none i (reference_starts name i i1 s)
   plain_no_word depth x i rest (inr (inl (item, negated, class, is, (i1, s, t)))) = name_no_word one none.opens_none i (reference_starts item i i1 s)
   plain_no_word depth x i rest (inr (inr (inl (first, relation, second, is, (i1, s, t))))) = side_no_word one none.opens_none depth first i i1 s
@@ -70,7 +70,7 @@ module _ (one : Reserved) (none : BeginsNone one) where
   alone_no_word depth x i rest (i1, s, t) = side_no_word one none.opens_none depth x i i1 s
 
   -- a value, with NOT or without
-  wanted_no_word : (negated : Bool) (depth : ℕ) (x : Side) (i i1 rest : List Token) → stands (word w.Not) negated i i1 → g.alone depth x i1 rest → begins_word one i ≡ false
+  wanted_no_word : (negated : Bool) (depth : ℕ) (x : Side) (i i1 rest : List Token) → optional_part (word w.Not) negated i i1 → g.alone depth x i1 rest → begins_word one i ≡ false
   wanted_no_word true depth x i i1 rest first s = begins_no_other w.Not one none.no_not i i1 first
   wanted_no_word false depth x i i1 rest (same, nowhere) s = ap (begins_word one) same ∙ alone_no_word depth x i1 rest s
 
@@ -82,7 +82,7 @@ no_truth i e f = rw (e, f) refl
 
 -- a value, or none to whatever depth
 abbrev Found : ℕ → Option Side → Part
-Found depth None = without g.some_alone
+Found depth None = absence_of g.some_alone
 Found depth (Some one) = g.alone depth one
 
 -- where reading a side to one depth is refused, none stands to whatever depth
@@ -154,25 +154,25 @@ false_no_true : same_word w.False w.True ≡ false
 unfolding same_word
 false_no_true = refl
 
-truth_sound : Sound g.truth g.truth_reader
+truth_sound : Sound g.truth_value g.truth_reader
 unfolding g.truth_reader
 truth_sound x i rest e = go (begins_word w.True i) e
   where
-    go : (b : Bool) → (if b then (r.and_then (expect w.True i) (λ u j. Ok (true, j))) else r.and_then (expect w.False i) (λ u j. Ok (false, j))) ≡ Ok (x, rest) → g.truth x i rest
-    go true e = unstep (expect w.True i) _ e (λ u i1 is1 e1. subst (λ y. g.truth y i rest) (value e1) (word_sound w.True u i rest (last is1 e1)))
-    go false e = unstep (expect w.False i) _ e (λ u i1 is1 e1. subst (λ y. g.truth y i rest) (value e1) (word_sound w.False u i rest (last is1 e1)))
+    go : (b : Bool) → (if b then (r.and_then (expect w.True i) (λ u j. Ok (true, j))) else r.and_then (expect w.False i) (λ u j. Ok (false, j))) ≡ Ok (x, rest) → g.truth_value x i rest
+    go true e = unstep (expect w.True i) _ e (λ u i1 is1 e1. subst (λ y. g.truth_value y i rest) (value e1) (word_sound w.True u i rest (last is1 e1)))
+    go false e = unstep (expect w.False i) _ e (λ u i1 is1 e1. subst (λ y. g.truth_value y i rest) (value e1) (word_sound w.False u i rest (last is1 e1)))
 
-truth_complete : {Allowed : Halt → Type 0} → Complete Allowed g.truth g.truth_reader
+truth_complete : {Allowed : Halt → Type 0} → Complete Allowed g.truth_value g.truth_reader
 unfolding g.truth_reader
 truth_complete true i rest s = rw (word_begins w.True i rest s) (step (expect w.True i) _ (word_complete w.True tt i rest s) (Reached refl))
 truth_complete false i rest s =
     rw (begins_no_other w.False w.True false_no_true i rest s) (step (expect w.False i) _ (word_complete w.False tt i rest s) (Reached refl))
 
-truth_begins : (x : Bool) (i rest : List Token) → g.truth x i rest → g.begins_truth i ≡ true
+truth_begins : (x : Bool) (i rest : List Token) → g.truth_value x i rest → g.begins_truth i ≡ true
 truth_begins true i rest s = ap (λ b. b || begins_word w.False i) (word_begins w.True i rest s)
 truth_begins false i rest s = rw (begins_no_other w.False w.True false_no_true i rest s) (word_begins w.False i rest s)
 
-truth_shrinks : Shrinks g.truth
+truth_shrinks : Shrinks g.truth_value
 truth_shrinks true i rest s = word_shrinks w.True i rest s
 truth_shrinks false i rest s = word_shrinks w.False i rest s
 
@@ -264,15 +264,15 @@ last_shrinks depth (Some side) i rest (i1, thru, s) = let a = thru_shrinks i i1 
 -- ---- objects
 
 -- NOT stands or not: in one way
-same_not : (a b : Bool) (i j k : List Token) → stands (word w.Not) a i j → stands (word w.Not) b i k → j ≡ k
+same_not : (a b : Bool) (i j k : List Token) → optional_part (word w.Not) a i j → optional_part (word w.Not) b i k → j ≡ k
 same_not a b i j k s t = go (stands_complete {Allowed = Never} (finds_word w.Not) a i j s) (stands_complete {Allowed = Never} (finds_word w.Not) b i k t)
   where
-    go : Answers Never (r.stands (after_word w.Not) i) a j → Answers Never (r.stands (after_word w.Not) i) b k → j ≡ k
+    go : Answers Never (r.presence_reader (after_word w.Not) i) a j → Answers Never (r.presence_reader (after_word w.Not) i) b k → j ≡ k
     go (Reached e) (Reached f) = after (sym e ∙ f)
     go (Halts halt none e) t = absurd none
     go (Reached e) (Halts halt none f) = absurd none
 
-choice_from_sound : (depth : ℕ) (x : Choice) (negated : Bool) (one : Option Side) (i i1 i2 rest : List Token) → stands (word w.Not) negated i i1 → Found depth one i1 i2
+choice_from_sound : (depth : ℕ) (x : Choice) (negated : Bool) (one : Option Side) (i i1 i2 rest : List Token) → optional_part (word w.Not) negated i i1 → Found depth one i1 i2
     → g.choice_from depth i negated one i2 ≡ Ok (x, rest) → g.choice depth x i rest
 unfolding g.choice_value_reader g.choice_condition_reader
 choice_from_sound depth x negated (Some one) i i1 i2 rest denied s e =
@@ -288,7 +288,7 @@ choice_from_sound depth x negated None i i1 i2 rest denied (same, nowhere) e =
 choice_asked_sound : (depth : ℕ) (x : Choice) (i rest : List Token) → g.choice_asked_reader depth i i ≡ Ok (x, rest) → g.choice depth x i rest
 unfolding g.choice_asked_reader
 choice_asked_sound depth x i rest e =
-    unstep (r.stands (after_word w.Not) i) _ e (λ negated i1 is1 e1.
+    unstep (r.presence_reader (after_word w.Not) i) _ e (λ negated i1 is1 e1.
     unstep (g.alone_reader depth i1) _ e1 (λ one i2 is2 e2.
     choice_from_sound depth x negated one i i1 i2 rest (stands_sound (finds_word w.Not) negated i i1 is1) (alone_sound depth one i1 i2 is2) e2))
 
@@ -310,7 +310,7 @@ false_no_any : same_word w.False w.Any ≡ false
 unfolding same_word
 false_no_any = refl
 
-truth_no_any : (x : Bool) (i rest : List Token) → g.truth x i rest → begins_word w.Any i ≡ false
+truth_no_any : (x : Bool) (i rest : List Token) → g.truth_value x i rest → begins_word w.Any i ≡ false
 truth_no_any true i rest s = begins_no_other w.True w.Any true_no_any i rest s
 truth_no_any false i rest s = begins_no_other w.False w.Any false_no_any i rest s
 
@@ -319,24 +319,24 @@ asked_read : (depth : ℕ) (i : List Token) → ((one : Reserved) → BeginsNone
 unfolding g.choice_reader
 asked_read depth i none = rw (none w.Any any_begins_none) (rw (no_truth i (none w.True true_begins_none) (none w.False false_begins_none)) refl)
 
-behind_not : (depth : ℕ) (i i1 : List Token) (negated : Bool) → ((rest : List Token) → g.some_wanted i rest → ⊥) → stands (word w.Not) negated i i1
+behind_not : (depth : ℕ) (i i1 : List Token) (negated : Bool) → ((rest : List Token) → g.some_wanted i rest → ⊥) → optional_part (word w.Not) negated i i1
     → (rest : List Token) → g.some_alone i1 rest → ⊥
 behind_not depth i i1 negated nowhere denied rest s = nowhere rest (negated, (i1, denied, s))
 
 condition_choice_complete : (depth depth' : ℕ) (one : Condition) (negated : Bool) (i i1 rest : List Token) → c.condition depth' one i rest → ((rest : List Token) → g.some_wanted i rest → ⊥)
-    → stands (word w.Not) negated i i1 → Answers (Deeper depth depth') (g.choice_asked_reader depth i i) (choice_as.Condition one) rest
+    → optional_part (word w.Not) negated i i1 → Answers (Deeper depth depth') (g.choice_asked_reader depth i i) (choice_as.Condition one) rest
 unfolding g.choice_asked_reader g.choice_condition_reader
 condition_choice_complete depth depth' one negated i i1 rest s nowhere denied =
-    step (r.stands (after_word w.Not) i) _ (stands_complete {Allowed = Deeper depth depth'} (finds_word w.Not) negated i i1 denied)
+    step (r.presence_reader (after_word w.Not) i) _ (stands_complete {Allowed = Deeper depth depth'} (finds_word w.Not) negated i i1 denied)
     (step (g.alone_reader depth i1) _ (none_complete depth depth' i1 (behind_not depth i i1 negated nowhere denied) (condition_behind_not_fits depth depth' one negated i i1 rest denied s))
     (step (c.condition_reader depth i) _ (condition_complete depth depth' one i rest s) (Reached refl)))
 
 -- NOT stands or not
-some_not : (i : List Token) → (negated : Bool) × (i1 : List Token) × stands (word w.Not) negated i i1
-unfolding r.stands
+some_not : (i : List Token) → (negated : Bool) × (i1 : List Token) × optional_part (word w.Not) negated i i1
+unfolding r.presence_reader
 some_not i = go (after_word w.Not i) refl
   where
-    go : (o : Option (List Token)) → after_word w.Not i ≡ o → (negated : Bool) × (i1 : List Token) × stands (word w.Not) negated i i1
+    go : (o : Option (List Token)) → after_word w.Not i ≡ o → (negated : Bool) × (i1 : List Token) × optional_part (word w.Not) negated i i1
     go None is = (false, i, stands_sound (finds_word w.Not) false i i (ap (λ o. r.stands_at o i) is))
     go (Some j) is = (true, j, stands_sound (finds_word w.Not) true i j (ap (λ o. r.stands_at o i) is))
 
@@ -344,7 +344,7 @@ value_choice_complete : (depth depth' : ℕ) (negated : Bool) (first : Side) (to
     → Answers (Deeper depth depth') (g.choice_asked_reader depth i i) (choice_as.Value negated first to) rest
 unfolding g.choice_asked_reader g.choice_value_reader
 value_choice_complete depth depth' negated first to i rest (i1, denied, (i2, s, t)) =
-    step (r.stands (after_word w.Not) i) _ (stands_complete {Allowed = Deeper depth depth'} (finds_word w.Not) negated i i1 denied)
+    step (r.presence_reader (after_word w.Not) i) _ (stands_complete {Allowed = Deeper depth depth'} (finds_word w.Not) negated i i1 denied)
     (step (g.alone_reader depth i1) _ (alone_complete depth depth' first i1 i2 s)
     (step (g.last_reader depth i2) _ (last_complete depth depth' to i2 rest t) (Reached refl)))
 
@@ -364,7 +364,7 @@ choice_complete depth depth' (choice_as.Truth one) i rest s =
     rw (truth_no_any one i rest s)
     (rw (truth_begins one i rest s) (step (g.truth_reader i) _ (truth_complete {Allowed = Deeper depth depth'} one i rest s) (Reached refl)))
 
-not_shrinks : (negated : Bool) (i rest : List Token) → stands (word w.Not) negated i rest → length rest ≤ length i
+not_shrinks : (negated : Bool) (i rest : List Token) → optional_part (word w.Not) negated i rest → length rest ≤ length i
 not_shrinks true i rest s = let l = word_shrinks w.Not i rest s in omega arith
 not_shrinks false i rest s = let l = ap length s.0 in omega arith
 

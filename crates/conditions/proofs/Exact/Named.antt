@@ -48,7 +48,7 @@ module _ (one : Reference) where
   item_factor zero i rest s = (operand_as.Item one, refl, s)
   item_factor (suc depth) i rest s = inl (operand_as.Item one, refl, s)
 
-  plain_named : (depth : ℕ) (x : Condition) → x ≡ c.Name one → (i rest : List Token) → g.plain depth x i rest → reference one i rest × (goes_on rest ≡ false)
+  plain_named : (depth : ℕ) (x : Condition) → x ≡ c.Name one → (i rest : List Token) → g.simple_condition depth x i rest → reference one i rest × (goes_on rest ≡ false)
   plain_named depth x is i rest (inl (other, is', (j, s, (same, nowhere)))) =
       (subst (λ k. reference one i k) same (subst (λ y. reference y i j) (same_name is is') s), sym (ap goes_on same) ∙ (tests_tested goes_on).refuses j nowhere)
     where

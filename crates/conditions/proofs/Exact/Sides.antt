@@ -30,7 +30,7 @@ use Rattle.expressions.proofs.Exact.Leads.{expression_starts}
 use Rattle.expressions.proofs.Exact.Literals.{literal_sound, literal_complete, literal_shrinks}
 use Rattle.expressions.proofs.Exact.Expressions.{expression_sound, expression_complete, expression_shrinks}
 use Rattle.conditions.specs.Conditions as g
-use Rattle.conditions.specs.Conditions.{is_text}
+use Rattle.conditions.specs.Conditions.{is_text_literal}
 
 -- ---- how an expression and a literal begin
 
@@ -42,19 +42,19 @@ number_told o place = is_told (option_map (literal_at place) (if zero_in o then 
 abbrev opens : Kind → Place → Bool
 opens kind place = is_told (named_by kind place) || ((is_told (left_of kind) || is_told (sign_by kind)) || is_told (option_map (literal_at place) (number_value_by kind)))
 
-constant_opens : (o : Option Figurative) (place : Place) (v : LiteralValue) → option_map value_as.Figurative o ≡ Some v → number_told o place ≡ not (is_text v)
+constant_opens : (o : Option Figurative) (place : Place) (v : LiteralValue) → option_map value_as.Figurative o ≡ Some v → number_told o place ≡ not (is_text_literal v)
 constant_opens None place v e = absurd (none_not e)
-constant_opens (Some figurative.Zero) place v e = ap (λ y. not (is_text y)) (some_is e)
-constant_opens (Some figurative.Space) place v e = ap (λ y. not (is_text y)) (some_is e)
-constant_opens (Some figurative.HighValue) place v e = ap (λ y. not (is_text y)) (some_is e)
-constant_opens (Some figurative.LowValue) place v e = ap (λ y. not (is_text y)) (some_is e)
-constant_opens (Some figurative.Quote) place v e = ap (λ y. not (is_text y)) (some_is e)
+constant_opens (Some figurative.Zero) place v e = ap (λ y. not (is_text_literal y)) (some_is e)
+constant_opens (Some figurative.Space) place v e = ap (λ y. not (is_text_literal y)) (some_is e)
+constant_opens (Some figurative.HighValue) place v e = ap (λ y. not (is_text_literal y)) (some_is e)
+constant_opens (Some figurative.LowValue) place v e = ap (λ y. not (is_text_literal y)) (some_is e)
+constant_opens (Some figurative.Quote) place v e = ap (λ y. not (is_text_literal y)) (some_is e)
 
-value_opens : (kind : Kind) (place : Place) (v : LiteralValue) → value_by kind ≡ Some v → opens kind place ≡ not (is_text v)
+value_opens : (kind : Kind) (place : Place) (v : LiteralValue) → value_by kind ≡ Some v → opens kind place ≡ not (is_text_literal v)
 value_opens (k.Reserved one) place v e = constant_opens (figurative_of one) place v e
 value_opens (k.Word characters) place v e = absurd (none_not e)
-value_opens (k.Numeric number) place v e = ap (λ y. not (is_text y)) (some_is e)
-value_opens (k.Nonnumeric bytes) place v e = ap (λ y. not (is_text y)) (some_is e)
+value_opens (k.Numeric number) place v e = ap (λ y. not (is_text_literal y)) (some_is e)
+value_opens (k.Nonnumeric bytes) place v e = ap (λ y. not (is_text_literal y)) (some_is e)
 value_opens (k.Picture characters) place v e = absurd (none_not e)
 value_opens k.Period place v e = absurd (none_not e)
 value_opens k.LeftParenthesis place v e = absurd (none_not e)
@@ -65,11 +65,11 @@ plain_value : (o : Option LiteralValue) (place : Place) (x : Literal) → option
 plain_value None place x e = absurd (none_not e)
 plain_value (Some v) place x e = ap (λ y. Some y.value) (some_is e)
 
-literal_begins : (x : Literal) (i rest : List Token) → literal x i rest → begins_expression i ≡ not (is_text x.value)
+literal_begins : (x : Literal) (i rest : List Token) → literal x i rest → begins_expression i ≡ not (is_text_literal x.value)
 literal_begins x i rest (inl (first, is, tell)) =
     ap begins_expression is ∙ value_opens first.kind first.place x.value (plain_value (value_by first.kind) first.place x tell)
 literal_begins x i rest (inr (bytes, is, (i1, at, (i2, (first, all, kind), told)))) =
-    ap begins_expression (at.0 ∙ all) ∙ ap (λ y. opens y first.place) kind ∙ sym (ap (λ y. not (is_text y.value)) is)
+    ap begins_expression (at.0 ∙ all) ∙ ap (λ y. opens y first.place) kind ∙ sym (ap (λ y. not (is_text_literal y.value)) is)
 
 not_true : (b : Bool) → b ≡ true → not b ≡ false
 not_true b e = ap not e
@@ -78,8 +78,8 @@ not_false : (b : Bool) → not b ≡ false → b ≡ true
 not_false true e = refl
 not_false false e = cc
 
-pub text_begins : (x : Literal) (i rest : List Token) → is_text x.value ≡ true → literal x i rest → begins_expression i ≡ false
-text_begins x i rest text s = literal_begins x i rest s ∙ not_true (is_text x.value) text
+pub text_begins : (x : Literal) (i rest : List Token) → is_text_literal x.value ≡ true → literal x i rest → begins_expression i ≡ false
+text_begins x i rest text s = literal_begins x i rest s ∙ not_true (is_text_literal x.value) text
 
 -- ---- sides
 
@@ -92,7 +92,7 @@ side_sound depth x i rest e = go (begins_expression i) refl e
     go false is e =
         unstep (literal_reader i) _ e (λ one i1 is1 e1.
         let s = literal_sound one i rest (last is1 e1) in
-        subst (λ y. g.side depth y i rest) (value e1) (not_false (is_text one.value) (sym (literal_begins one i rest s) ∙ is), s))
+        subst (λ y. g.side depth y i rest) (value e1) (not_false (is_text_literal one.value) (sym (literal_begins one i rest s) ∙ is), s))
 
 pub side_complete : (depth depth' : ℕ) → Complete (Deeper depth depth') (g.side depth') (g.side_reader depth)
 unfolding g.side_reader g.expression_side_reader g.literal_side_reader
@@ -187,7 +187,7 @@ first_of_both : (a b : Bool) → (a || b) ≡ false → (a ≡ false) × (b ≡ 
 first_of_both true b e = cc
 first_of_both false b e = (refl, e)
 
-pub text_opens : (x : Literal) (i rest : List Token) → is_text x.value ≡ true → literal x i rest → (begins_name i ≡ false) × (begins_left i ≡ false)
+pub text_opens : (x : Literal) (i rest : List Token) → is_text_literal x.value ≡ true → literal x i rest → (begins_name i ≡ false) × (begins_left i ≡ false)
 text_opens x i rest text s =
     let a = first_of_both _ _ (text_begins x i rest text s) in
     let b = first_of_both _ _ a.1 in

@@ -11,7 +11,7 @@ use Rattle.tokens.specs.declared.token.Operator.{Operator as Written}
 use Rattle.source_tree.specs.declared.condition.Relation.{Relation}
 use Rattle.source_tree.specs.declared.condition.Relation.TheVariants as relation
 use Rattle.grammar.specs.declared.fault.Halt.{Halt}
-use Rattle.grammar.specs.Parts.{stands, optional, word, telling, is_told}
+use Rattle.grammar.specs.Parts.{optional_part, optional, word, token_with, is_told}
 use Rattle.grammar.specs.Reading as r
 use Rattle.grammar.specs.Reading.{Parser, is_kind, begins_word, after_word, past_word, otherwise_here, expect, skip, one_token}
 use Rattle.grammar.proofs.Outcomes.{Answers, Reached, step, unstep, value, after, last}
@@ -71,41 +71,41 @@ or_equal_shrinks false i rest e = let l = ap length e.0 in omega arith
 
 -- ---- what is asked
 
-after_sound : (negated : Bool) (one : Test) (x : Asked) (i i2 i3 rest : List Token) → g.is_not negated i i2 → telling test_in one i2 i3
-    → g.asked_after negated one i3 ≡ Ok (x, rest) → g.asked x i rest
+after_sound : (negated : Bool) (one : Test) (x : Asked) (i i2 i3 rest : List Token) → g.is_not negated i i2 → token_with test_in one i2 i3
+    → g.asked_after negated one i3 ≡ Ok (x, rest) → g.test_phrase x i rest
 unfolding g.order_reader g.equal_reader
 after_sound negated (test.Symbol one) x i i2 i3 rest before told e =
-    subst (λ y. g.asked y i rest) (value e) (i2, before, inl (subst (λ j. telling test_in (test.Symbol one) i2 j) (after e) told))
+    subst (λ y. g.test_phrase y i rest) (value e) (i2, before, inl (subst (λ j. token_with test_in (test.Symbol one) i2 j) (after e) told))
 after_sound negated (test.Order one) x i i2 i3 rest before told e =
     unstep (skip w.Than i3) _ e (λ u i4 is4 e4.
     unstep (g.or_equal_reader i4) _ e4 (λ equal i5 is5 e5.
-    subst (λ y. g.asked y i rest) (value e5)
+    subst (λ y. g.test_phrase y i rest) (value e5)
     (i2, before, inr (inl (one, equal, refl, (i3, told, (i4, skip_sound w.Than u i3 i4 is4, or_equal_sound equal i4 rest (last is5 e5))))))))
 after_sound negated test.Equal x i i2 i3 rest before told e =
     unstep (skip w.To i3) _ e (λ u i4 is4 e4.
-    subst (λ y. g.asked y i rest) (value e4) (i2, before, inr (inr (refl, (i3, told, skip_sound w.To u i3 rest (last is4 e4))))))
+    subst (λ y. g.test_phrase y i rest) (value e4) (i2, before, inr (inr (refl, (i3, told, skip_sound w.To u i3 rest (last is4 e4))))))
 after_sound negated (test.Sign one) x i i2 i3 rest before told e =
-    subst (λ y. g.asked y i rest) (value e) (i2, before, subst (λ j. telling test_in (test.Sign one) i2 j) (after e) told)
+    subst (λ y. g.test_phrase y i rest) (value e) (i2, before, subst (λ j. token_with test_in (test.Sign one) i2 j) (after e) told)
 after_sound negated (test.Class one) x i i2 i3 rest before told e =
-    subst (λ y. g.asked y i rest) (value e) (i2, before, subst (λ j. telling test_in (test.Class one) i2 j) (after e) told)
+    subst (λ y. g.test_phrase y i rest) (value e) (i2, before, subst (λ j. token_with test_in (test.Class one) i2 j) (after e) told)
 
-pub asked_sound : Sound g.asked g.asked_reader
+pub asked_sound : Sound g.test_phrase g.asked_reader
 unfolding g.asked_reader
 asked_sound x i rest e =
     unstep (skip w.Is i) _ e (λ u i1 is1 e1.
-    unstep (r.stands (after_word w.Not) i1) _ e1 (λ negated i2 is2 e2.
+    unstep (r.presence_reader (after_word w.Not) i1) _ e1 (λ negated i2 is2 e2.
     unstep (one_token test_in i2) _ e2 (λ one i3 is3 e3.
     after_sound negated one x i i2 i3 rest (i1, skip_sound w.Is u i i1 is1, stands_sound (finds_word w.Not) negated i1 i2 is2) (one_token_sound test_in one i2 i3 is3) e3)))
 
-asked_by : {Allowed : Halt → Type 0} (negated : Bool) (one : Test) (x : Asked) (i i2 i3 rest : List Token) → g.is_not negated i i2 → telling test_in one i2 i3
+asked_by : {Allowed : Halt → Type 0} (negated : Bool) (one : Test) (x : Asked) (i i2 i3 rest : List Token) → g.is_not negated i i2 → token_with test_in one i2 i3
     → Answers Allowed (g.asked_after negated one i3) x rest → Answers Allowed (g.asked_reader i) x rest
 unfolding g.asked_reader
 asked_by negated one x i i2 i3 rest (i1, is, stands) told others =
     step (skip w.Is i) _ (skip_complete w.Is tt i i1 is)
-    (step (r.stands (after_word w.Not) i1) _ (stands_complete (finds_word w.Not) negated i1 i2 stands)
+    (step (r.presence_reader (after_word w.Not) i1) _ (stands_complete (finds_word w.Not) negated i1 i2 stands)
     (step (one_token test_in i2) _ (one_token_complete test_in one i2 i3 told) others))
 
-pub asked_complete : {Allowed : Halt → Type 0} → Complete Allowed g.asked g.asked_reader
+pub asked_complete : {Allowed : Halt → Type 0} → Complete Allowed g.test_phrase g.asked_reader
 unfolding g.order_reader g.equal_reader
 asked_complete (asked_as.Relation one) i rest (i2, before, inl told) =
     asked_by one.negated (test.Symbol one.relation) (asked_as.Relation one) i i2 rest rest before told (Reached refl)
@@ -135,7 +135,7 @@ comparison_shrinks one i rest (inr (inl (order, equal, is, (i1, told, (i2, than,
     let a = telling_shrinks test_in (test.Order order) i i1 told in let b = skip_shrinks w.Than i1 i2 than in let c = or_equal_shrinks equal i2 rest or in omega arith
 comparison_shrinks one i rest (inr (inr (is, (i1, told, to)))) = let a = telling_shrinks test_in test.Equal i i1 told in let b = skip_shrinks w.To i1 rest to in omega arith
 
-pub asked_shrinks : Shrinks g.asked
+pub asked_shrinks : Shrinks g.test_phrase
 asked_shrinks (asked_as.Relation one) i rest (i1, before, s) =
     let a = is_not_shrinks one.negated i i1 before in let b = comparison_shrinks one.relation i1 rest s in omega arith
 asked_shrinks (asked_as.Sign negated one) i rest (i1, before, told) =
@@ -145,15 +145,15 @@ asked_shrinks (asked_as.Class negated one) i rest (i1, before, told) =
 
 -- ---- it has no parenthesis
 
-test_even : (one : Test) → Even (telling test_in one)
+test_even : (one : Test) → Even (token_with test_in one)
 test_even one = plain_told test_in (λ first a e. plain_kind g.test_by refl refl first.kind a e) one
 
-stands_even : (there : Bool) → Even (stands (word w.Not) there)
+stands_even : (there : Bool) → Even (optional_part (word w.Not) there)
 stands_even true = word_even w.Not
 stands_even false = without_even (word w.Not)
 
 is_not_even : (negated : Bool) → Even (g.is_not negated)
-is_not_even negated = then_even {p = optional (word w.Is)} {q = stands (word w.Not) negated} (optional_even {p = word w.Is} (word_even w.Is)) (stands_even negated)
+is_not_even negated = then_even {p = optional (word w.Is)} {q = optional_part (word w.Not) negated} (optional_even {p = word w.Is} (word_even w.Is)) (stands_even negated)
 
 or_equal_even : (x : Bool) → Even (g.or_equal x)
 or_equal_even true i rest (i1, or, (i2, equal, to)) n =
@@ -166,7 +166,7 @@ comparison_even one i rest (inr (inl (order, equal, is, (i1, told, (i2, than, or
     test_even (test.Order order) i i1 told n ∙ optional_even {p = word w.Than} (word_even w.Than) i1 i2 than n ∙ or_equal_even equal i2 rest or n
 comparison_even one i rest (inr (inr (is, (i1, told, to)))) n = test_even test.Equal i i1 told n ∙ optional_even {p = word w.To} (word_even w.To) i1 rest to n
 
-pub asked_even : (x : Asked) → Even (g.asked x)
+pub asked_even : (x : Asked) → Even (g.test_phrase x)
 asked_even (asked_as.Relation one) i rest (i1, before, s) n = is_not_even one.negated i i1 before n ∙ comparison_even one.relation i1 rest s n
 asked_even (asked_as.Sign negated one) i rest (i1, before, told) n = is_not_even negated i i1 before n ∙ test_even (test.Sign one) i1 rest told n
 asked_even (asked_as.Class negated one) i rest (i1, before, told) n = is_not_even negated i i1 before n ∙ test_even (test.Class one) i1 rest told n
@@ -177,7 +177,7 @@ passed : (negated : Bool) (i rest : List Token) → g.is_not negated i rest → 
 passed true i rest (i1, is, stands) = ap (past_word w.Not) (past_is w.Is i i1 is) ∙ past_is w.Not i1 rest (inl stands)
 passed false i rest (i1, is, stands) = ap (past_word w.Not) (past_is w.Is i i1 is) ∙ past_is w.Not i1 rest (inr stands)
 
-pub seen : (negated : Bool) (one : Test) (i i1 rest : List Token) → g.is_not negated i i1 → telling test_in one i1 rest → next_test i ≡ Some one
+pub seen : (negated : Bool) (one : Test) (i i1 rest : List Token) → g.is_not negated i i1 → token_with test_in one i1 rest → next_test i ≡ Some one
 seen negated one i i1 rest before (first, is, tell) = ap (first_told test_in) (passed negated i i1 before) ∙ ap (first_told test_in) is ∙ tell
 
 abbrev pub asks_class : Asked → Bool
@@ -188,7 +188,7 @@ asks_class _ = false
 abbrev pub Seen : Asked → List Token → Type 0
 Seen x i = (one : Test) × (next_test i ≡ Some one) × (is_class (Some one) ≡ asks_class x)
 
-asked_seen : (x : Asked) (i rest : List Token) → g.asked x i rest → Seen x i
+asked_seen : (x : Asked) (i rest : List Token) → g.test_phrase x i rest → Seen x i
 asked_seen (asked_as.Relation one) i rest (i1, before, inl told) = (test.Symbol one.relation, seen one.negated (test.Symbol one.relation) i i1 rest before told, refl)
 asked_seen (asked_as.Relation one) i rest (i1, before, inr (inl (order, equal, as_order, (i2, told, others)))) =
     (test.Order order, seen one.negated (test.Order order) i i1 i2 before told, refl)
@@ -197,10 +197,10 @@ asked_seen (asked_as.Relation one) i rest (i1, before, inr (inr (as_equal, (i2, 
 asked_seen (asked_as.Sign negated one) i rest (i1, before, told) = (test.Sign one, seen negated (test.Sign one) i i1 rest before told, refl)
 asked_seen (asked_as.Class negated one) i rest (i1, before, told) = (test.Class one, seen negated (test.Class one) i i1 rest before told, refl)
 
-pub asked_begins : (x : Asked) (i rest : List Token) → g.asked x i rest → begins_test i ≡ true
+pub asked_begins : (x : Asked) (i rest : List Token) → g.test_phrase x i rest → begins_test i ≡ true
 asked_begins x i rest s = let one = asked_seen x i rest s in ap is_told one.1
 
-pub asked_class : (x : Asked) (i rest : List Token) → g.asked x i rest → begins_class i ≡ asks_class x
+pub asked_class : (x : Asked) (i rest : List Token) → g.test_phrase x i rest → begins_class i ≡ asks_class x
 asked_class x i rest s = let one = asked_seen x i rest s in ap is_class one.1 ∙ one.2
 
 pub no_test_no_class : (i : List Token) → begins_test i ≡ false → begins_class i ≡ false

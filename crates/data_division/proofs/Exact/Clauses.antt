@@ -84,7 +84,7 @@ unfolding r.sign_reader
 sign_sound x i rest e =
     unstep (r.skip_led w.Sign i) _ e (λ u i1 is1 e1.
     unstep (one_token position_in i1) _ e1 (λ position i2 is2 e2.
-    unstep (read.stands r.after_separate i2) _ e2 (λ separate i3 is3 e3.
+    unstep (read.presence_reader r.after_separate i2) _ e2 (λ separate i3 is3 e3.
     subst (λ y. IsClause kind.Sign y i rest) (value e3)
     ((i1, skip_led_sound w.Sign u i i1 is1, (i2, one_token_sound position_in position i1 i2 is2, stands_sound finds_separate separate i2 rest (last is3 e3))), refl))))
 
@@ -160,7 +160,7 @@ clause_complete (clause_as.Usage one) i rest (i1, led, told) =
 clause_complete (clause_as.Sign one) i rest (i1, led, (i2, told, separate)) =
     step (r.skip_led w.Sign i) _ (skip_led_complete w.Sign tt i i1 led)
     (step (one_token position_in i1) _ (one_token_complete position_in one.position i1 i2 told)
-    (step (read.stands r.after_separate i2) _ (stands_complete finds_separate one.separate i2 rest separate) (Reached refl)))
+    (step (read.presence_reader r.after_separate i2) _ (stands_complete finds_separate one.separate i2 rest separate) (Reached refl)))
 clause_complete (clause_as.Occurs count) i rest (i1, first, (i2, told, times)) =
     step (read.expect w.Occurs i) _ (word_complete w.Occurs tt i i1 first)
     (step (integer_reader i1) _ (one_token_complete integer_in count i1 i2 told)

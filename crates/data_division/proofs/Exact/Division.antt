@@ -7,7 +7,7 @@ use Rattle.tokens.specs.declared.token.Token.{Token}
 use Rattle.source_tree.specs.declared.entry.Entry.{Entry}
 use Rattle.source_tree.specs.declared.select.FileDescription.{FileDescription}
 use Rattle.grammar.specs.declared.fault.Halt.{Halt}
-use Rattle.grammar.specs.Parts.{tested}
+use Rattle.grammar.specs.Parts.{lookahead}
 use Rattle.grammar.specs.Reading as read
 use Rattle.grammar.specs.Reading.{begins_word}
 use Rattle.grammar.proofs.Outcomes.{Reached, step, unstep, value, after, last}
@@ -31,20 +31,20 @@ use Rattle.data_division.proofs.Exact.Files.{file_section_sound, file_section_co
 abbrev section_words : List Reserved
 section_words = w.WorkingStorage ∷ w.Section ∷ []
 
-stored_sound : Sound g.stored g.stored_reader
+stored_sound : Sound g.working_storage_section g.stored_reader
 unfolding g.stored_reader
 stored_sound x i rest e =
-    unstep (read.heading section_words i) _ e (λ u i1 is1 e1.
-    (i1, heading_sound section_words u i i1 is1, lists.any_sound entry entry_reader (tested begins_integer) begins_integer (tests_tested begins_integer) entry_sound x i1 rest e1))
+    unstep (read.heading_reader section_words i) _ e (λ u i1 is1 e1.
+    (i1, heading_sound section_words u i i1 is1, lists.any_sound entry entry_reader (lookahead begins_integer) begins_integer (tests_tested begins_integer) entry_sound x i1 rest e1))
 
-stored_complete : {Allowed : Halt → Type 0} → Complete Allowed g.stored g.stored_reader
+stored_complete : {Allowed : Halt → Type 0} → Complete Allowed g.working_storage_section g.stored_reader
 unfolding g.stored_reader
 stored_complete {Allowed = Allowed} x i rest (i1, words, all) =
-    step (read.heading section_words i) _ (heading_complete section_words tt i i1 words)
-    (lists.any_complete entry entry_reader (tested begins_integer) begins_integer (tests_tested begins_integer) Allowed
+    step (read.heading_reader section_words i) _ (heading_complete section_words tt i i1 words)
+    (lists.any_complete entry entry_reader (lookahead begins_integer) begins_integer (tests_tested begins_integer) Allowed
     (entry_complete {Allowed = Allowed}) entry_shrinks entry_starts x i1 rest all)
 
-stored_begins : (x : List Entry) → BeginsWith w.WorkingStorage (g.stored x)
+stored_begins : (x : List Entry) → BeginsWith w.WorkingStorage (g.working_storage_section x)
 stored_begins x i rest s = word_begins w.WorkingStorage i s.1.0 s.1.1
 
 working_storage_sound : Sound g.working_storage g.working_storage_reader
@@ -63,7 +63,7 @@ division_words = w.Data ∷ w.Division ∷ []
 sections_sound : Sound g.sections g.sections_reader
 unfolding g.sections_reader
 sections_sound x i rest e =
-    unstep (read.heading division_words i) _ e (λ u i1 is1 e1.
+    unstep (read.heading_reader division_words i) _ e (λ u i1 is1 e1.
     unstep (file_section_reader i1) _ e1 (λ files i2 is2 e2.
     unstep (g.working_storage_reader i2) _ e2 (λ storage i3 is3 e3.
     subst (λ y. g.sections y i rest) (value e3)
@@ -72,7 +72,7 @@ sections_sound x i rest e =
 sections_complete : {Allowed : Halt → Type 0} → Complete Allowed g.sections g.sections_reader
 unfolding g.sections_reader
 sections_complete x i rest (i1, words, (i2, files, storage)) =
-    step (read.heading division_words i) _ (heading_complete division_words tt i i1 words)
+    step (read.heading_reader division_words i) _ (heading_complete division_words tt i i1 words)
     (step (file_section_reader i1) _ (file_section_complete x.files i1 i2 files)
     (step (g.working_storage_reader i2) _ (working_storage_complete x.storage i2 rest storage) (Reached refl)))
 

@@ -12,7 +12,7 @@ use Rattle.source_tree.specs.declared.entry.Entry.{Entry}
 use Rattle.source_tree.specs.declared.entry.Entry.TheVariants as entry_as
 use Rattle.grammar.specs.declared.fault.Halt.{Halt}
 use Rattle.grammar.specs.Parts as parts
-use Rattle.grammar.specs.Parts.{◌then◌, ◌or◌, optional, several, tested, telling, begins_telling, is_told, word, begins_name}
+use Rattle.grammar.specs.Parts.{◌then◌, ◌or◌, optional, several, lookahead, token_with, begins_telling, is_told, word, begins_name}
 use Rattle.grammar.specs.Reading as read
 use Rattle.grammar.specs.Reading.{Outcome, Parser, begins_word}
 use Rattle.grammar.proofs.Outcomes.{Reached, step, unstep, value, after, last}
@@ -52,7 +52,7 @@ no_name i nowhere = go (begins_name i) refl
 word_is_no_name : (one : Reserved) (i rest : List Token) → word one i rest → begins_name i ≡ false
 word_is_no_name one i rest (first, is, kind) = ap begins_name is ∙ ap (λ k. is_told (parts.named_by k first.place)) kind
 
-unnamed : (i rest : List Token) → begins_name i ≡ false → optional (word w.Filler) i rest → g.named None i rest
+unnamed : (i rest : List Token) → begins_name i ≡ false → optional (word w.Filler) i rest → g.entry_name None i rest
 unnamed i rest none (inl s) = inl s
 unnamed i rest none (inr (same, absent)) = inr (same, go)
   where
@@ -60,15 +60,15 @@ unnamed i rest none (inr (same, absent)) = inr (same, go)
     go after (inl (given, s)) = true_not_false (begins_name i) none (name_starts given i after s)
     go after (inr s) = absent after s
 
-named_sound : Sound g.named r.named_reader
+named_sound : Sound g.entry_name r.named_reader
 unfolding r.named_reader r.given_reader r.filler_reader
 named_sound x i rest e = go (begins_name i) refl e
   where
-    go : (b : Bool) → begins_name i ≡ b → (if b then r.given_reader i else r.filler_reader i) ≡ Ok (x, rest) → g.named x i rest
-    go true is e = unstep (read.name i) _ e (λ given i1 is1 e1. subst (λ y. g.named y i rest) (value e1) (name_sound given i rest (last is1 e1)))
-    go false is e = unstep (read.skip w.Filler i) _ e (λ u i1 is1 e1. subst (λ y. g.named y i rest) (value e1) (unnamed i rest is (skip_sound w.Filler u i rest (last is1 e1))))
+    go : (b : Bool) → begins_name i ≡ b → (if b then r.given_reader i else r.filler_reader i) ≡ Ok (x, rest) → g.entry_name x i rest
+    go true is e = unstep (read.name i) _ e (λ given i1 is1 e1. subst (λ y. g.entry_name y i rest) (value e1) (name_sound given i rest (last is1 e1)))
+    go false is e = unstep (read.skip w.Filler i) _ e (λ u i1 is1 e1. subst (λ y. g.entry_name y i rest) (value e1) (unnamed i rest is (skip_sound w.Filler u i rest (last is1 e1))))
 
-named_complete : {Allowed : Halt → Type 0} → Complete Allowed g.named r.named_reader
+named_complete : {Allowed : Halt → Type 0} → Complete Allowed g.entry_name r.named_reader
 unfolding r.named_reader r.given_reader r.filler_reader
 named_complete (Some given) i rest s = rw (name_starts given i rest s) (step (read.name i) _ (name_complete given i rest s) (Reached refl))
 named_complete None i rest (inl s) =
@@ -77,7 +77,7 @@ named_complete None i rest (inr (same, absent)) =
     let none = no_name i (λ after s. absent after (inl s)) in
     rw none (step (read.skip w.Filler i) _ (skip_complete w.Filler tt i rest (inr (same, λ after s. absent after (inr s)))) (Reached refl))
 
-named_shrinks : (x : Option Name) (i rest : List Token) → g.named x i rest → length rest ≤ length i
+named_shrinks : (x : Option Name) (i rest : List Token) → g.entry_name x i rest → length rest ≤ length i
 named_shrinks (Some given) i rest s = let l = name_shrinks given i rest s in omega arith
 named_shrinks None i rest (inl s) = let l = word_shrinks w.Filler i rest s in omega arith
 named_shrinks None i rest (inr (same, absent)) = let l = ap length same in omega arith
@@ -96,18 +96,18 @@ is_words : same_word w.Are w.Is ≡ false
 unfolding same_word
 is_words = refl
 
-tests_through : Tests g.through r.begins_through
+tests_through : Tests g.through_word r.begins_through
 tests_through = tests_either w.Thru w.Through
 
-through_begins : (i rest : List Token) → g.through i rest → r.begins_through i ≡ true
+through_begins : (i rest : List Token) → g.through_word i rest → r.begins_through i ≡ true
 through_begins i rest (inl s) = ap (λ b. b || begins_word w.Through i) (word_begins w.Thru i rest s)
 through_begins i rest (inr s) = either (begins_word w.Thru i) (begins_word w.Through i) (word_begins w.Through i rest s)
 
 last_sound : Sound g.last_value r.last_value_reader
-unfolding r.last_value_reader r.last_reader
+unfolding r.last_value_reader r.through_literal_reader
 last_sound x i rest e = go (r.begins_through i) refl e
   where
-    go : (b : Bool) → r.begins_through i ≡ b → (if b then r.last_reader i else Ok (None, i)) ≡ Ok (x, rest) → g.last_value x i rest
+    go : (b : Bool) → r.begins_through i ≡ b → (if b then r.through_literal_reader i else Ok (None, i)) ≡ Ok (x, rest) → g.last_value x i rest
     go true is e =
         unstep (either_reader w.Thru w.Through i) _ e (λ u i1 is1 e1.
         unstep (literal_reader i1) _ e1 (λ one i2 is2 e2.
@@ -115,7 +115,7 @@ last_sound x i rest e = go (r.begins_through i) refl e
     go false is e = subst (λ y. g.last_value y i rest) (value e) (after e, tests_through.fails i is)
 
 last_complete : {Allowed : Halt → Type 0} → Complete Allowed g.last_value r.last_value_reader
-unfolding r.last_value_reader r.last_reader
+unfolding r.last_value_reader r.through_literal_reader
 last_complete None i rest s = rw (tests_through.refuses i s.1) (Reached (ap (λ j. Ok (None, j)) s.0))
 last_complete (Some one) i rest (i1, through, given) =
     rw (through_begins i i1 through)
@@ -146,12 +146,12 @@ range_shrinks x i rest (i1, first, end) = let a = literal_shrinks x.first i i1 f
 range_starts : Starts begins_literal g.range
 range_starts x i rest (i1, first, end) = literal_starts x.first i i1 first
 
-ranges_sound : Sound (several g.range (tested begins_literal)) (read.several r.range_reader begins_literal)
-ranges_sound = lists.several_sound g.range r.range_reader (tested begins_literal) begins_literal (tests_tested begins_literal) range_sound
+ranges_sound : Sound (several g.range (lookahead begins_literal)) (read.several r.range_reader begins_literal)
+ranges_sound = lists.several_sound g.range r.range_reader (lookahead begins_literal) begins_literal (tests_tested begins_literal) range_sound
 
-ranges_complete : {Allowed : Halt → Type 0} → Complete Allowed (several g.range (tested begins_literal)) (read.several r.range_reader begins_literal)
+ranges_complete : {Allowed : Halt → Type 0} → Complete Allowed (several g.range (lookahead begins_literal)) (read.several r.range_reader begins_literal)
 ranges_complete {Allowed = Allowed} =
-    lists.several_complete g.range r.range_reader (tested begins_literal) begins_literal (tests_tested begins_literal) Allowed (range_complete {Allowed = Allowed}) range_shrinks range_starts
+    lists.several_complete g.range r.range_reader (lookahead begins_literal) begins_literal (tests_tested begins_literal) Allowed (range_complete {Allowed = Allowed}) range_shrinks range_starts
 
 -- ---- entries
 
@@ -230,7 +230,7 @@ entry_shrinks (entry_as.Condition one) i rest (i1, (level, is, told), (i2, given
     let b = name_shrinks one.name i1 i2 given in
     let c = either_shrinks w.Value w.Values i2 i3 values in
     let d = skip_either_shrinks w.Is w.Are i3 i4 optional in
-    let f = lists.several_shrinks g.range (tested begins_literal) range_shrinks one.values i4 i5 ranges in
+    let f = lists.several_shrinks g.range (lookahead begins_literal) range_shrinks one.values i4 i5 ranges in
     let h = period_shrinks i5 rest end in omega arith
 
 pub entry_starts : Starts begins_integer g.entry

@@ -7,7 +7,7 @@ use Rattle.tokens.specs.Reserved.{same_word}
 use Rattle.source_tree.specs.declared.name.Name.{Name}
 use Rattle.grammar.specs.declared.fault.Halt.{Halt}
 use Rattle.grammar.specs.Parts as parts
-use Rattle.grammar.specs.Parts.{Part, word, tested, begins_name}
+use Rattle.grammar.specs.Parts.{Part, word, lookahead, begins_name}
 use Rattle.grammar.specs.Reading as read
 use Rattle.grammar.proofs.Outcomes.{Answers, Reached, step, unstep, value, last}
 use Rattle.grammar.proofs.Looking.{word_begins, tests_tested}
@@ -20,9 +20,9 @@ use Rattle.data_division.specs.declared.file_clauses.FileClause.TheVariants as c
 use Rattle.data_division.specs.declared.file_clauses.FileClauses.{FileClauses}
 use Rattle.data_division.specs.Clauses.{either}
 use Rattle.data_division.specs.ClauseReading.{either_reader, skip_either}
-use Rattle.data_division.specs.Gathering.{gathering, gathering_reader}
+use Rattle.data_division.specs.Gathering.{clauses_from, gathering_reader}
 use Rattle.data_division.specs.FileClauses as g
-use Rattle.data_division.specs.FileClauses.{file_clause, file_clauses, file_clause_of, file_clause_in, file_clause_at, none, file_clause_reader}
+use Rattle.data_division.specs.FileClauses.{file_clause, file_clauses, file_clause_of, file_clause_in, file_clause_at, no_file_clauses, file_clause_reader}
 use Rattle.data_division.proofs.Exact.Optional.{either_sound, either_complete, either_shrinks, skip_either_sound, skip_either_complete, skip_either_shrinks}
 use Rattle.data_division.proofs.Exact.Listed.{unless_sound, unless_complete, unless_shrinks}
 use Rattle.data_division.proofs.Exact.Gathering.{gathering_sound, gathering_complete, gathering_shrinks}
@@ -75,17 +75,17 @@ to_size_shrinks i rest (i1, to, (size, told)) =
     let a = word_shrinks w.To i i1 to in let b = telling_shrinks integer_in size i1 rest told in omega arith
 
 abbrev names : List Name → Part
-names = parts.several parts.name (tested begins_name)
+names = parts.several parts.name (lookahead begins_name)
 
 names_sound : Sound names (read.several read.name begins_name)
-names_sound = lists.several_sound parts.name read.name (tested begins_name) begins_name (tests_tested begins_name) name_sound
+names_sound = lists.several_sound parts.name read.name (lookahead begins_name) begins_name (tests_tested begins_name) name_sound
 
 names_complete : {Allowed : Halt → Type 0} → Complete Allowed names (read.several read.name begins_name)
 names_complete {Allowed = Allowed} =
-    lists.several_complete parts.name read.name (tested begins_name) begins_name (tests_tested begins_name) Allowed (name_complete {Allowed = Allowed}) name_shrinks name_starts
+    lists.several_complete parts.name read.name (lookahead begins_name) begins_name (tests_tested begins_name) Allowed (name_complete {Allowed = Allowed}) name_shrinks name_starts
 
 names_shrink : Shrinks names
-names_shrink = lists.several_shrinks parts.name (tested begins_name) name_shrinks
+names_shrink = lists.several_shrinks parts.name (lookahead begins_name) name_shrinks
 
 -- ---- what is read is spelled
 
@@ -224,11 +224,11 @@ clause_shrinks clause_as.DataRecords i rest (i1, first, (i2, rows, (i3, is, (all
 
 -- ---- all clauses
 
-pub clauses_sound : Sound (gathering file_clauses none) (gathering_reader file_clauses file_clause_reader none)
-clauses_sound = gathering_sound file_clauses file_clause_reader (λ kind x i rest begun e. clause_sound kind x i rest e) none
+pub clauses_sound : Sound (clauses_from file_clauses no_file_clauses) (gathering_reader file_clauses file_clause_reader no_file_clauses)
+clauses_sound = gathering_sound file_clauses file_clause_reader (λ kind x i rest begun e. clause_sound kind x i rest e) no_file_clauses
 
-pub clauses_complete : {Allowed : Halt → Type 0} → Complete Allowed (gathering file_clauses none) (gathering_reader file_clauses file_clause_reader none)
-clauses_complete {Allowed = Allowed} = gathering_complete file_clauses file_clause_reader Allowed clause_stands clause_shrinks (clause_complete {Allowed = Allowed}) none
+pub clauses_complete : {Allowed : Halt → Type 0} → Complete Allowed (clauses_from file_clauses no_file_clauses) (gathering_reader file_clauses file_clause_reader no_file_clauses)
+clauses_complete {Allowed = Allowed} = gathering_complete file_clauses file_clause_reader Allowed clause_stands clause_shrinks (clause_complete {Allowed = Allowed}) no_file_clauses
 
-pub clauses_shrink : (all : FileClauses) (i rest : List Token) → gathering file_clauses none all i rest → length rest ≤ length i
-clauses_shrink = gathering_shrinks file_clauses file_clause_reader clause_shrinks none
+pub clauses_shrink : (all : FileClauses) (i rest : List Token) → clauses_from file_clauses no_file_clauses all i rest → length rest ≤ length i
+clauses_shrink = gathering_shrinks file_clauses file_clause_reader clause_shrinks no_file_clauses

@@ -7,7 +7,7 @@ use Rattle.tokens.specs.declared.token.Kind.TheVariants as k
 use Rattle.tokens.specs.declared.token.Token.{Token}
 use Rattle.source_tree.specs.declared.entry.UsageClause.{UsageClause}
 use Rattle.source_tree.specs.declared.entry.SignPosition.{SignPosition}
-use Rattle.grammar.specs.Parts.{word, telling}
+use Rattle.grammar.specs.Parts.{word, token_with}
 use Rattle.data_division.specs.declared.clause.ClauseKind.TheVariants as kind
 use Rattle.data_division.specs.Words.{usage_of, usage_by, usage_in, position_of, position_by, position_in, clause_of, clause_in, clause_at}
 
@@ -37,8 +37,8 @@ position_kind : (one : Kind) (position : SignPosition) → position_by one ≡ S
 position_kind (k.Reserved one) position e = position_word one position e
 position_kind _ position e = cc
 
-pub usage_stands : (usage : UsageClause) (i rest : List Token) → telling usage_in usage i rest → clause_at i ≡ Some kind.Usage
+pub usage_stands : (usage : UsageClause) (i rest : List Token) → token_with usage_in usage i rest → clause_at i ≡ Some kind.Usage
 usage_stands usage i rest (first, is, tell) = ap clause_at is ∙ usage_kind first.kind usage tell
 
-pub position_stands : (position : SignPosition) (i rest : List Token) → telling position_in position i rest → clause_at i ≡ Some kind.Sign
+pub position_stands : (position : SignPosition) (i rest : List Token) → token_with position_in position i rest → clause_at i ≡ Some kind.Sign
 position_stands position i rest (first, is, tell) = ap clause_at is ∙ position_kind first.kind position tell

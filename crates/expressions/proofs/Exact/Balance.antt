@@ -18,9 +18,9 @@ use Rattle.source_tree.specs.declared.expression.Operand.TheVariants as operand_
 use Rattle.source_tree.specs.declared.expression.Operator.{Operator}
 use Rattle.source_tree.specs.declared.expression.Expression.{Expression}
 use Rattle.grammar.specs.Parts as parts
-use Rattle.grammar.specs.Parts.{Part, ◌then◌, ◌or◌, without, optional, tested, telling, begins_telling, named_by, word}
+use Rattle.grammar.specs.Parts.{Part, ◌then◌, ◌or◌, absence_of, optional, lookahead, token_with, begins_telling, named_by, word}
 use Rattle.grammar.proofs.Looking.{none_not}
-use Rattle.expressions.specs.Marks.{left, right, left_of, right_of, sign_in, sign_by, sum_in, sum_by, product_in, product_by}
+use Rattle.expressions.specs.Marks.{left_parenthesis, right_parenthesis, left_of, right_of, sign_in, sign_by, sum_in, sum_by, product_in, product_by}
 use Rattle.expressions.specs.Subscripts as s
 use Rattle.expressions.specs.References as r
 use Rattle.expressions.specs.Literals as l
@@ -52,7 +52,7 @@ plain_kind by no_left no_right (k.Operator operator) a e unclosed = refl
 
 -- what tells something of a token by its kind and place
 pub plain_told : {A : Type 0} (tells : Token → Option A) → ((first : Token) (a : A) → tells first ≡ Some a → IsPlain first.kind)
-    → (a : A) → Even (telling tells a)
+    → (a : A) → Even (token_with tells a)
 unfolding past_closing
 plain_told tells plain a i rest (first, is, tell) unclosed = ap (λ j. past_closing j (suc unclosed)) is ∙ ap (past_closing rest) (plain first a tell unclosed)
 
@@ -72,11 +72,11 @@ pub or_even : {p q : Part} → Even p → Even q → Even (p or q)
 or_even a b i rest (inl s) unclosed = a i rest s unclosed
 or_even a b i rest (inr s) unclosed = b i rest s unclosed
 
-pub without_even : (p : Part) → Even (without p)
+pub without_even : (p : Part) → Even (absence_of p)
 without_even p i rest s unclosed = ap (λ j. past_closing j (suc unclosed)) s.0
 
 pub optional_even : {p : Part} → Even p → Even (optional p)
-optional_even {p = p} a i rest s unclosed = or_even {p = p} {q = without p} a (without_even p) i rest s unclosed
+optional_even {p = p} a i rest s unclosed = or_even {p = p} {q = absence_of p} a (without_even p) i rest s unclosed
 
 module _ {A : Type 0} (p : A → Part) (begin : Part) (each : (a : A) → Even (p a)) where
   pub any_even : (all : List A) → Even (parts.any p begin all)
@@ -111,15 +111,15 @@ right_is k.LeftParenthesis e unclosed = absurd (none_not e)
 right_is k.RightParenthesis e unclosed = refl
 right_is (k.Operator operator) e unclosed = absurd (none_not e)
 
-pub left_opens : (i rest : List Token) → left i rest → (unclosed : ℕ) → past_closing i (suc unclosed) ≡ past_closing rest (suc (suc unclosed))
+pub left_opens : (i rest : List Token) → left_parenthesis i rest → (unclosed : ℕ) → past_closing i (suc unclosed) ≡ past_closing rest (suc (suc unclosed))
 unfolding past_closing
 left_opens i rest (first, is, tell) unclosed = ap (λ j. past_closing j (suc unclosed)) is ∙ ap (past_closing rest) (left_is first.kind tell unclosed)
 
-pub right_closes : (i rest : List Token) → right i rest → (unclosed : ℕ) → past_closing i (suc unclosed) ≡ past_closing rest unclosed
+pub right_closes : (i rest : List Token) → right_parenthesis i rest → (unclosed : ℕ) → past_closing i (suc unclosed) ≡ past_closing rest unclosed
 unfolding past_closing
 right_closes i rest (first, is, tell) unclosed = ap (λ j. past_closing j (suc unclosed)) is ∙ ap (past_closing rest) (right_is first.kind tell unclosed)
 
-pub enclosed_even : {p : Part} → Even p → Even (left then p then right)
+pub enclosed_even : {p : Part} → Even p → Even (left_parenthesis then p then right_parenthesis)
 enclosed_even a i rest (i1, opens, (i2, s, closes)) unclosed =
     left_opens i i1 opens unclosed ∙ a i1 i2 s (suc unclosed) ∙ right_closes i2 rest closes (suc unclosed)
 
@@ -129,7 +129,7 @@ none_open [] = refl
 none_open (first ∷ more) = refl
 
 -- the parenthesis that closes the first is found
-pub parentheses_passed : {p : Part} → Even p → (i rest : List Token) → (left then p then right) i rest → past_parentheses i ≡ Some rest
+pub parentheses_passed : {p : Part} → Even p → (i rest : List Token) → (left_parenthesis then p then right_parenthesis) i rest → past_parentheses i ≡ Some rest
 parentheses_passed a i rest (i1, (first, is, tell), (i2, s, closes)) =
     ap past_parentheses is ∙ a i1 i2 s zero ∙ right_closes i2 rest closes zero ∙ none_open rest
 
@@ -141,17 +141,17 @@ name_even one = plain_told parts.name_in (λ first a e. plain_kind (λ kind. nam
 qualifier_even : (one : Name) → Even (s.qualifier one)
 qualifier_even one = then_even {p = word w.In or word w.Of} {q = parts.name one} (or_even {p = word w.In} {q = word w.Of} (word_even w.In) (word_even w.Of)) (name_even one)
 
-qualified_even : (one : QualifiedName) → Even (s.qualified one)
+qualified_even : (one : QualifiedName) → Even (s.qualified_name one)
 qualified_even one i rest (i1, given, groups) unclosed =
-    name_even one.name i i1 given unclosed ∙ any_even s.qualifier (tested s.begins_qualifier) qualifier_even one.qualifiers i1 rest groups unclosed
+    name_even one.name i i1 given unclosed ∙ any_even s.qualifier (lookahead s.begins_qualifier) qualifier_even one.qualifiers i1 rest groups unclosed
 
 integer_even : (one : Rattle.source_tree.specs.declared.literal.Integer.Integer) → Even (s.integer one)
 integer_even one = plain_told s.integer_in (λ first a e. plain_kind (λ kind. s.integer_by kind first.place) refl refl first.kind a e) one
 
-sign_even : (one : Rattle.expressions.specs.declared.marks.PlusOrMinus.PlusOrMinus) → Even (telling sign_in one)
+sign_even : (one : Rattle.expressions.specs.declared.marks.PlusOrMinus.PlusOrMinus) → Even (token_with sign_in one)
 sign_even one = plain_told sign_in (λ first a e. plain_kind sign_by refl refl first.kind a e) one
 
-adjusted_even : (by : Adjustment) → Even (s.adjusted by)
+adjusted_even : (by : Adjustment) → Even (s.adjustment by)
 adjusted_even adjustment.Nothing i rest e unclosed = ap (λ j. past_closing j (suc unclosed)) e.0
 adjusted_even (adjustment.Plus n) i rest (i1, sign, integer) unclosed = sign_even _ i i1 sign unclosed ∙ integer_even n i1 rest integer unclosed
 adjusted_even (adjustment.Minus n) i rest (i1, sign, integer) unclosed = sign_even _ i i1 sign unclosed ∙ integer_even n i1 rest integer unclosed
@@ -163,20 +163,20 @@ subscript_even (subscript_as.Item item by) i rest (i1, name, added) unclosed = q
 subscripts_even : (all : List Subscript) → Even (r.subscripts all)
 subscripts_even [] i rest e unclosed = ap (λ j. past_closing j (suc unclosed)) e.0
 subscripts_even (one ∷ more) i rest e unclosed =
-    enclosed_even {p = parts.several s.subscript (tested s.begins_subscript) (one ∷ more)} (several_even s.subscript (tested s.begins_subscript) subscript_even (one ∷ more)) i rest e unclosed
+    enclosed_even {p = parts.several s.subscript (lookahead s.begins_subscript) (one ∷ more)} (several_even s.subscript (lookahead s.begins_subscript) subscript_even (one ∷ more)) i rest e unclosed
 
 pub reference_even : (one : Reference) → Even (r.reference one)
 reference_even one i rest (i1, item, found) unclosed = qualified_even one.item i i1 item unclosed ∙ subscripts_even one.subscripts i1 rest found unclosed
 
 -- ---- literals
 
-plain_even : (one : Literal) → Even (telling l.plain_in one)
+plain_even : (one : Literal) → Even (token_with l.plain_in one)
 plain_even one = plain_told l.plain_in (λ first a e. plain_kind (λ kind. Rattle.std.specs.Option.option_map (l.literal_at first.place) (l.value_by kind)) refl refl first.kind a e) one
 
-number_even : (one : Literal) → Even (telling l.number_literal_in one)
+number_even : (one : Literal) → Even (token_with l.number_literal_in one)
 number_even one = plain_told l.number_literal_in (λ first a e. plain_kind (λ kind. Rattle.std.specs.Option.option_map (l.literal_at first.place) (l.number_value_by kind)) refl refl first.kind a e) one
 
-bytes_even : (one : List ℕ) → Even (telling l.bytes_in one)
+bytes_even : (one : List ℕ) → Even (token_with l.bytes_in one)
 bytes_even one = plain_told l.bytes_in (λ first a e. plain_kind l.bytes_by refl refl first.kind a e) one
 
 pub literal_even : (one : Literal) → Even (l.literal one)
@@ -191,12 +191,12 @@ number_operand_even (operand_as.Item one) i rest e unclosed = reference_even one
 number_operand_even (operand_as.Literal one) i rest e unclosed = number_even one i rest e unclosed
 
 module _ (tells : Token → Option Operator) (plain : (first : Token) (a : Operator) → tells first ≡ Some a → IsPlain first.kind) (lower : Expression → Part) (each : (x : Expression) → Even (lower x)) where
-  further_even : (x : Operator × Expression) → Even (e.further tells lower x)
-  further_even x = then_even {p = telling tells x.0} {q = lower x.1} (plain_told tells plain x.0) (each x.1)
+  further_even : (x : Operator × Expression) → Even (e.further_operand tells lower x)
+  further_even x = then_even {p = token_with tells x.0} {q = lower x.1} (plain_told tells plain x.0) (each x.1)
 
   level_even : (x : Expression) → Even (e.level tells lower x)
   level_even x i rest (first, more, is, (i1, one, others)) unclosed =
-      each first i i1 one unclosed ∙ any_even (e.further tells lower) (tested (begins_telling tells)) further_even more i1 rest others unclosed
+      each first i i1 one unclosed ∙ any_even (e.further_operand tells lower) (lookahead (begins_telling tells)) further_even more i1 rest others unclosed
 
 sum_even : (factor : Expression → Part) → ((x : Expression) → Even (factor x)) → (x : Expression) → Even (e.sum factor x)
 sum_even factor each =

@@ -9,7 +9,7 @@ use Rattle.source_tree.specs.declared.expression.Operand.TheVariants as operand_
 use Rattle.source_tree.specs.declared.expression.Operator.{Operator}
 use Rattle.source_tree.specs.declared.expression.Expression.{Expression}
 use Rattle.grammar.specs.Parts as parts
-use Rattle.grammar.specs.Parts.{Part, ◌then◌, some_of, tested, telling, begins_telling, named_by, name_in, begins_name}
+use Rattle.grammar.specs.Parts.{Part, ◌then◌, some_of, lookahead, token_with, begins_telling, named_by, name_in, begins_name}
 use Rattle.grammar.proofs.Lists.{Starts}
 use Rattle.grammar.proofs.Looking.{Finds, true_not_false, finds_also}
 use Rattle.grammar.proofs.Parts.{telling_starts}
@@ -90,7 +90,7 @@ never : {A : Type 0} (b : Bool) → b ≡ false → b ≡ true → A
 never b is_false is_true = absurd (true_not_false b is_false is_true)
 
 module _ (tells : Token → Option Operator) (operator : (i : List Token) → begins_telling tells i ≡ true → begins_operator i ≡ true) (lower : Expression → Part) where
-  more_follows : (more : List (Operator × Expression)) (i rest : List Token) → parts.any (e.further tells lower) (tested (begins_telling tells)) more i rest
+  more_follows : (more : List (Operator × Expression)) (i rest : List Token) → parts.any (e.further_operand tells lower) (lookahead (begins_telling tells)) more i rest
       → (i ≡ rest) ⊎ (begins_operator i ≡ true)
   more_follows [] i rest s = inl s.0
   more_follows (one ∷ more) i rest s = inr (operator i (telling_starts tells one.0 i s.1.0 s.1.1))
@@ -112,7 +112,7 @@ sum_operator i e = either (begins_telling product_in i) (begins_telling sum_in i
 
 -- ---- factors
 
-plain_leads : Leads e.plain
+plain_leads : Leads e.primary
 plain_leads x i rest (operand_as.Item one, is, s) =
     (λ b. (rest, reference_passed one i rest s, inl refl), λ b. never (begins_left i) (number_operand_no_left (operand_as.Item one) i rest s) b)
 plain_leads x i rest (operand_as.Literal one, is, s) =
@@ -135,7 +135,7 @@ factor_starts zero x i rest (one, is, s) = plain_starts one i rest s
         either (begins_name i) (e.begins_nested i || begins_telling number_literal_in i) (either (e.begins_nested i) (begins_telling number_literal_in i) (telling_starts number_literal_in one i rest s))
 factor_starts (suc depth) x i rest (inl s) = factor_starts depth x i rest (plain_below depth x i rest s)
   where
-    plain_below : (depth : ℕ) (x : Expression) (i rest : List Token) → e.plain x i rest → e.factor depth x i rest
+    plain_below : (depth : ℕ) (x : Expression) (i rest : List Token) → e.primary x i rest → e.factor depth x i rest
     plain_below zero x i rest s = s
     plain_below (suc depth) x i rest s = inl s
 factor_starts (suc depth) x i rest (inr (inl (sign, inner, is, (i1, told, one)))) =

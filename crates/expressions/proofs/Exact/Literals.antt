@@ -11,7 +11,7 @@ use Rattle.source_tree.specs.declared.literal.LiteralValue.{LiteralValue}
 use Rattle.source_tree.specs.declared.literal.Literal.{Literal}
 use Rattle.grammar.specs.declared.fault.Halt.{Halt}
 use Rattle.grammar.specs.Parts as parts
-use Rattle.grammar.specs.Parts.{telling, begins_telling, name_in, named_by, begins_name}
+use Rattle.grammar.specs.Parts.{token_with, begins_telling, name_in, named_by, begins_name}
 use Rattle.grammar.specs.Reading as read
 use Rattle.grammar.specs.Reading.{Outcome, Parser, begins_word, is_kind, one_token}
 use Rattle.grammar.proofs.Outcomes.{Answers, Reached, step, unstep, value, last}
@@ -53,7 +53,7 @@ value_is : (o : Option LiteralValue) (place : Place) (x : Literal) → option_ma
 value_is None place x e = cc
 value_is (Some v) place x e = (v, refl)
 
-plain_is_no_all : (x : Literal) (i rest : List Token) → telling plain_in x i rest → begins_word w.All i ≡ false
+plain_is_no_all : (x : Literal) (i rest : List Token) → token_with plain_in x i rest → begins_word w.All i ≡ false
 plain_is_no_all x i rest (first, is, tell) = ap (begins_word w.All) is ∙ go (is_kind w.All first.kind) refl
   where
     go : (b : Bool) → is_kind w.All first.kind ≡ b → is_kind w.All first.kind ≡ false

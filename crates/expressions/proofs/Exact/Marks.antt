@@ -7,7 +7,7 @@ use Rattle.tokens.specs.declared.token.Token.{Token}
 use Rattle.lexical.specs.declared.place.Place.{Place}
 use Rattle.source_tree.specs.declared.name.Name.{Name}
 use Rattle.source_tree.specs.declared.literal.LiteralValue.{LiteralValue}
-use Rattle.grammar.specs.Parts.{telling, begins_telling, is_told, named_by, name_in}
+use Rattle.grammar.specs.Parts.{token_with, begins_telling, is_told, named_by, name_in}
 use Rattle.expressions.specs.declared.marks.PlusOrMinus.{PlusOrMinus}
 use Rattle.expressions.specs.Marks.{left_of, left_in, sign_by, sign_in}
 use Rattle.expressions.specs.Subscripts.{integer_by, integer_in}
@@ -18,7 +18,7 @@ abbrev pub Apart : {A B : Type 0} → (Token → Option A) → (Token → Option
 Apart {A = A} one other = (first : Token) (a : A) → one first ≡ Some a → other first ≡ None
 
 pub begins_not : {A B : Type 0} (one : Token → Option A) (other : Token → Option B) → Apart one other
-    → (a : A) (i rest : List Token) → telling one a i rest → begins_telling other i ≡ false
+    → (a : A) (i rest : List Token) → token_with one a i rest → begins_telling other i ≡ false
 begins_not one other apart a i rest (first, is, tell) = ap (begins_telling other) is ∙ ap is_told (apart first a tell)
 
 -- ---- names

@@ -9,7 +9,7 @@ use Rattle.source_tree.specs.declared.literal.Literal.{Literal}
 use Rattle.source_tree.specs.declared.expression.Operand.{Operand}
 use Rattle.source_tree.specs.declared.expression.Operand.TheVariants as operand_as
 use Rattle.grammar.specs.declared.fault.Halt.{Halt}
-use Rattle.grammar.specs.Parts.{begins_name, begins_telling, name_in, several, tested}
+use Rattle.grammar.specs.Parts.{begins_name, begins_telling, name_in, several, lookahead}
 use Rattle.grammar.specs.Reading as read
 use Rattle.grammar.specs.Reading.{one_token}
 use Rattle.grammar.proofs.Outcomes.{Reached, step, unstep, value, last}
@@ -66,15 +66,15 @@ operand_starts (operand_as.Literal one) i rest s = either (begins_name i) (begin
 
 -- ---- operands in a list
 
-pub operands_sound : Sound (several g.operand (tested g.begins_operand)) (read.several g.operand_reader g.begins_operand)
-operands_sound = lists.several_sound g.operand g.operand_reader (tested g.begins_operand) g.begins_operand (tests_tested g.begins_operand) operand_sound
+pub operands_sound : Sound (several g.operand (lookahead g.begins_operand)) (read.several g.operand_reader g.begins_operand)
+operands_sound = lists.several_sound g.operand g.operand_reader (lookahead g.begins_operand) g.begins_operand (tests_tested g.begins_operand) operand_sound
 
-pub operands_complete : {Allowed : Halt → Type 0} → Complete Allowed (several g.operand (tested g.begins_operand)) (read.several g.operand_reader g.begins_operand)
+pub operands_complete : {Allowed : Halt → Type 0} → Complete Allowed (several g.operand (lookahead g.begins_operand)) (read.several g.operand_reader g.begins_operand)
 operands_complete {Allowed = Allowed} =
-    lists.several_complete g.operand g.operand_reader (tested g.begins_operand) g.begins_operand (tests_tested g.begins_operand) Allowed (operand_complete {Allowed = Allowed}) operand_shrinks operand_starts
+    lists.several_complete g.operand g.operand_reader (lookahead g.begins_operand) g.begins_operand (tests_tested g.begins_operand) Allowed (operand_complete {Allowed = Allowed}) operand_shrinks operand_starts
 
-pub operands_shrink : Shrinks (several g.operand (tested g.begins_operand))
-operands_shrink = lists.several_shrinks g.operand (tested g.begins_operand) operand_shrinks
+pub operands_shrink : Shrinks (several g.operand (lookahead g.begins_operand))
+operands_shrink = lists.several_shrinks g.operand (lookahead g.begins_operand) operand_shrinks
 
 -- ---- where a number is wanted
 
@@ -122,15 +122,15 @@ number_operand_starts (operand_as.Literal one) i rest s = either (begins_name i)
 
 -- ---- numbers in a list
 
-pub number_operands_sound : Sound (several g.number_operand (tested g.begins_number_operand)) (read.several g.number_operand_reader g.begins_number_operand)
-number_operands_sound = lists.several_sound g.number_operand g.number_operand_reader (tested g.begins_number_operand) g.begins_number_operand (tests_tested g.begins_number_operand) number_operand_sound
+pub number_operands_sound : Sound (several g.number_operand (lookahead g.begins_number_operand)) (read.several g.number_operand_reader g.begins_number_operand)
+number_operands_sound = lists.several_sound g.number_operand g.number_operand_reader (lookahead g.begins_number_operand) g.begins_number_operand (tests_tested g.begins_number_operand) number_operand_sound
 
-pub number_operands_complete : {Allowed : Halt → Type 0} → Complete Allowed (several g.number_operand (tested g.begins_number_operand)) (read.several g.number_operand_reader g.begins_number_operand)
+pub number_operands_complete : {Allowed : Halt → Type 0} → Complete Allowed (several g.number_operand (lookahead g.begins_number_operand)) (read.several g.number_operand_reader g.begins_number_operand)
 number_operands_complete {Allowed = Allowed} =
-    lists.several_complete g.number_operand g.number_operand_reader (tested g.begins_number_operand) g.begins_number_operand (tests_tested g.begins_number_operand) Allowed (number_operand_complete {Allowed = Allowed}) number_operand_shrinks number_operand_starts
+    lists.several_complete g.number_operand g.number_operand_reader (lookahead g.begins_number_operand) g.begins_number_operand (tests_tested g.begins_number_operand) Allowed (number_operand_complete {Allowed = Allowed}) number_operand_shrinks number_operand_starts
 
-pub number_operands_shrink : Shrinks (several g.number_operand (tested g.begins_number_operand))
-number_operands_shrink = lists.several_shrinks g.number_operand (tested g.begins_number_operand) number_operand_shrinks
+pub number_operands_shrink : Shrinks (several g.number_operand (lookahead g.begins_number_operand))
+number_operands_shrink = lists.several_shrinks g.number_operand (lookahead g.begins_number_operand) number_operand_shrinks
 
 -- it begins with no parenthesis and no operator
 

@@ -5,7 +5,7 @@ use Rattle.tokens.specs.declared.token.Token.{Token}
 use Rattle.source_tree.specs.declared.reference.Subscript.{Subscript}
 use Rattle.grammar.specs.declared.fault.Halt.{Halt}
 use Rattle.grammar.specs.Parts as parts
-use Rattle.grammar.specs.Parts.{tested, several}
+use Rattle.grammar.specs.Parts.{lookahead, several}
 use Rattle.grammar.specs.Reading as read
 use Rattle.grammar.specs.Reading.{Outcome, Parser, one_token}
 use Rattle.grammar.proofs.Outcomes.{Reached, step, unstep, value, after, last}
@@ -19,21 +19,21 @@ use Rattle.expressions.specs.References as g
 use Rattle.expressions.proofs.Exact.Subscripts.{qualified_sound, qualified_complete, qualified_shrinks, qualified_starts, subscript_sound, subscript_complete, subscript_shrinks, subscript_starts}
 
 abbrev listed : List Subscript → parts.Part
-listed = several s.subscript (tested s.begins_subscript)
+listed = several s.subscript (lookahead s.begins_subscript)
 
 listed_sound : Sound listed (read.several s.subscript_reader s.begins_subscript)
-listed_sound = lists.several_sound s.subscript s.subscript_reader (tested s.begins_subscript) s.begins_subscript (tests_tested s.begins_subscript) subscript_sound
+listed_sound = lists.several_sound s.subscript s.subscript_reader (lookahead s.begins_subscript) s.begins_subscript (tests_tested s.begins_subscript) subscript_sound
 
 listed_complete : {Allowed : Halt → Type 0} → Complete Allowed listed (read.several s.subscript_reader s.begins_subscript)
 listed_complete {Allowed = Allowed} =
-    lists.several_complete s.subscript s.subscript_reader (tested s.begins_subscript) s.begins_subscript (tests_tested s.begins_subscript) Allowed (subscript_complete {Allowed = Allowed}) subscript_shrinks subscript_starts
+    lists.several_complete s.subscript s.subscript_reader (lookahead s.begins_subscript) s.begins_subscript (tests_tested s.begins_subscript) Allowed (subscript_complete {Allowed = Allowed}) subscript_shrinks subscript_starts
 
 listed_shrinks : Shrinks listed
-listed_shrinks = lists.several_shrinks s.subscript (tested s.begins_subscript) subscript_shrinks
+listed_shrinks = lists.several_shrinks s.subscript (lookahead s.begins_subscript) subscript_shrinks
 
 -- ---- subscripts in parentheses
 
-in_parentheses : (x : List Subscript) (i i1 i2 rest : List Token) → parts.telling left_in tt i i1 → listed x i1 i2 → parts.telling right_in tt i2 rest → g.subscripts x i rest
+in_parentheses : (x : List Subscript) (i i1 i2 rest : List Token) → parts.token_with left_in tt i i1 → listed x i1 i2 → parts.token_with right_in tt i2 rest → g.subscripts x i rest
 in_parentheses [] i i1 i2 rest a b c = absurd b
 in_parentheses (one ∷ more) i i1 i2 rest a b c = (i1, a, (i2, b, c))
 
@@ -94,12 +94,12 @@ reference_starts x i rest (i1, item, found) = qualified_starts x.item i i1 item
 
 -- ---- references in a list
 
-pub references_sound : Sound (several g.reference (tested parts.begins_name)) (read.several g.reference_reader parts.begins_name)
-references_sound = lists.several_sound g.reference g.reference_reader (tested parts.begins_name) parts.begins_name (tests_tested parts.begins_name) reference_sound
+pub references_sound : Sound (several g.reference (lookahead parts.begins_name)) (read.several g.reference_reader parts.begins_name)
+references_sound = lists.several_sound g.reference g.reference_reader (lookahead parts.begins_name) parts.begins_name (tests_tested parts.begins_name) reference_sound
 
-pub references_complete : {Allowed : Halt → Type 0} → Complete Allowed (several g.reference (tested parts.begins_name)) (read.several g.reference_reader parts.begins_name)
+pub references_complete : {Allowed : Halt → Type 0} → Complete Allowed (several g.reference (lookahead parts.begins_name)) (read.several g.reference_reader parts.begins_name)
 references_complete {Allowed = Allowed} =
-    lists.several_complete g.reference g.reference_reader (tested parts.begins_name) parts.begins_name (tests_tested parts.begins_name) Allowed (reference_complete {Allowed = Allowed}) reference_shrinks reference_starts
+    lists.several_complete g.reference g.reference_reader (lookahead parts.begins_name) parts.begins_name (tests_tested parts.begins_name) Allowed (reference_complete {Allowed = Allowed}) reference_shrinks reference_starts
 
-pub references_shrink : Shrinks (several g.reference (tested parts.begins_name))
-references_shrink = lists.several_shrinks g.reference (tested parts.begins_name) reference_shrinks
+pub references_shrink : Shrinks (several g.reference (lookahead parts.begins_name))
+references_shrink = lists.several_shrinks g.reference (lookahead parts.begins_name) reference_shrinks

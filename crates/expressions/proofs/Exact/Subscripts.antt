@@ -9,7 +9,7 @@ use Rattle.source_tree.specs.declared.reference.Adjustment.TheVariants as adjust
 use Rattle.source_tree.specs.declared.reference.Subscript.TheVariants as subscript_as
 use Rattle.grammar.specs.declared.fault.Halt.{Halt}
 use Rattle.grammar.specs.Parts as parts
-use Rattle.grammar.specs.Parts.{tested, telling, begins_telling, name_in}
+use Rattle.grammar.specs.Parts.{lookahead, token_with, begins_telling, name_in}
 use Rattle.grammar.specs.Reading as read
 use Rattle.tokens.specs.Reserved.{same_word}
 use Rattle.grammar.specs.Reading.{Outcome, Parser, ◌>>◌, begins_word, one_token}
@@ -55,31 +55,31 @@ qualifier_starts x i rest (i1, inr first, given) = either (begins_word w.In i) (
 
 -- ---- qualified names
 
-pub qualified_sound : Sound s.qualified s.qualified_reader
+pub qualified_sound : Sound s.qualified_name s.qualified_reader
 unfolding s.qualified_reader
 qualified_sound x i rest e =
     unstep (read.name i) _ e (λ given i1 is1 e1.
     unstep (read.any s.qualifier_reader s.begins_qualifier i1) _ e1 (λ groups i2 is2 e2.
-    subst (λ y. s.qualified y i rest) (value e2) (
+    subst (λ y. s.qualified_name y i rest) (value e2) (
       i1,
       name_sound given i i1 is1,
-      lists.any_sound s.qualifier s.qualifier_reader (tested s.begins_qualifier) s.begins_qualifier (tests_tested s.begins_qualifier) qualifier_sound groups i1 rest (last is2 e2),
+      lists.any_sound s.qualifier s.qualifier_reader (lookahead s.begins_qualifier) s.begins_qualifier (tests_tested s.begins_qualifier) qualifier_sound groups i1 rest (last is2 e2),
     )))
 
-pub qualified_complete : {Allowed : Halt → Type 0} → Complete Allowed s.qualified s.qualified_reader
+pub qualified_complete : {Allowed : Halt → Type 0} → Complete Allowed s.qualified_name s.qualified_reader
 unfolding s.qualified_reader
 qualified_complete {Allowed = Allowed} x i rest (i1, given, groups) =
     step (read.name i) _ (name_complete x.name i i1 given)
     (step (read.any s.qualifier_reader s.begins_qualifier i1) _
-    (lists.any_complete s.qualifier s.qualifier_reader (tested s.begins_qualifier) s.begins_qualifier (tests_tested s.begins_qualifier) Allowed (qualifier_complete {Allowed = Allowed}) qualifier_shrinks qualifier_starts x.qualifiers i1 rest groups)
+    (lists.any_complete s.qualifier s.qualifier_reader (lookahead s.begins_qualifier) s.begins_qualifier (tests_tested s.begins_qualifier) Allowed (qualifier_complete {Allowed = Allowed}) qualifier_shrinks qualifier_starts x.qualifiers i1 rest groups)
     (Reached refl))
 
-pub qualified_shrinks : Shrinks s.qualified
+pub qualified_shrinks : Shrinks s.qualified_name
 qualified_shrinks x i rest (i1, given, groups) =
     let a = name_shrinks x.name i i1 given in
-    let b = lists.any_shrinks s.qualifier (tested s.begins_qualifier) qualifier_shrinks x.qualifiers i1 rest groups in omega arith
+    let b = lists.any_shrinks s.qualifier (lookahead s.begins_qualifier) qualifier_shrinks x.qualifiers i1 rest groups in omega arith
 
-pub qualified_starts : Starts parts.begins_name s.qualified
+pub qualified_starts : Starts parts.begins_name s.qualified_name
 qualified_starts x i rest (i1, given, groups) = name_starts x.name i i1 given
 
 -- ---- integers
@@ -100,26 +100,26 @@ integer_starts = telling_starts s.integer_in
 
 -- ---- what is added
 
-adjusted_by : (sign : PlusOrMinus) (n : Integer) (i i1 rest : List Token) → telling sign_in sign i i1 → s.integer n i1 rest → s.adjusted (s.adjustment_of sign n) i rest
+adjusted_by : (sign : PlusOrMinus) (n : Integer) (i i1 rest : List Token) → token_with sign_in sign i i1 → s.integer n i1 rest → s.adjustment (s.adjustment_of sign n) i rest
 adjusted_by Plus n i i1 rest a b = (i1, a, b)
 adjusted_by Minus n i i1 rest a b = (i1, a, b)
 
-signed_integer_sound : (x : Adjustment) (i rest : List Token) → s.signed_integer_reader i ≡ Ok (x, rest) → s.adjusted x i rest
+signed_integer_sound : (x : Adjustment) (i rest : List Token) → s.signed_integer_reader i ≡ Ok (x, rest) → s.adjustment x i rest
 unfolding s.signed_integer_reader
 signed_integer_sound x i rest e =
     unstep (one_token sign_in i) _ e (λ sign i1 is1 e1.
     unstep (s.integer_reader i1) _ e1 (λ n i2 is2 e2.
-    subst (λ y. s.adjusted y i rest) (value e2) (adjusted_by sign n i i1 rest (one_token_sound sign_in sign i i1 is1) (integer_sound n i1 rest (last is2 e2)))))
+    subst (λ y. s.adjustment y i rest) (value e2) (adjusted_by sign n i i1 rest (one_token_sound sign_in sign i i1 is1) (integer_sound n i1 rest (last is2 e2)))))
 
-adjusted_sound : Sound s.adjusted s.adjustment_reader
+adjusted_sound : Sound s.adjustment s.adjustment_reader
 unfolding s.adjustment_reader
 adjusted_sound x i rest e = go (begins_sign i) refl e
   where
-    go : (b : Bool) → begins_sign i ≡ b → (if b then s.signed_integer_reader i else Ok (adjustment.Nothing, i)) ≡ Ok (x, rest) → s.adjusted x i rest
+    go : (b : Bool) → begins_sign i ≡ b → (if b then s.signed_integer_reader i else Ok (adjustment.Nothing, i)) ≡ Ok (x, rest) → s.adjustment x i rest
     go true is e = signed_integer_sound x i rest e
-    go false is e = subst (λ y. s.adjusted y i rest) (value e) (after e, (tests_tested begins_sign).fails i is)
+    go false is e = subst (λ y. s.adjustment y i rest) (value e) (after e, (tests_tested begins_sign).fails i is)
 
-adjusted_complete : {Allowed : Halt → Type 0} → Complete Allowed s.adjusted s.adjustment_reader
+adjusted_complete : {Allowed : Halt → Type 0} → Complete Allowed s.adjustment s.adjustment_reader
 unfolding s.adjustment_reader s.signed_integer_reader
 adjusted_complete adjustment.Nothing i rest e = rw ((tests_tested begins_sign).refuses i e.1) (Reached (ap (λ j. Ok (adjustment.Nothing, j)) e.0))
 adjusted_complete (adjustment.Plus n) i rest (i1, sign, integer) =
@@ -131,7 +131,7 @@ adjusted_complete (adjustment.Minus n) i rest (i1, sign, integer) =
     (step (one_token sign_in i) _ (one_token_complete sign_in Minus i i1 sign)
     (step (s.integer_reader i1) _ (integer_complete n i1 rest integer) (Reached refl)))
 
-adjusted_shrinks : (x : Adjustment) (i rest : List Token) → s.adjusted x i rest → length rest ≤ length i
+adjusted_shrinks : (x : Adjustment) (i rest : List Token) → s.adjustment x i rest → length rest ≤ length i
 adjusted_shrinks adjustment.Nothing i rest e = let l = ap length e.0 in omega arith
 adjusted_shrinks (adjustment.Plus n) i rest (i1, sign, integer) =
     let a = telling_shrinks sign_in Plus i i1 sign in let b = telling_shrinks s.integer_in n i1 rest integer in omega arith

@@ -91,7 +91,7 @@ alternate_key_sound x i rest e =
     unstep (read.expect w.Alternate i) _ e (λ u i1 is1 e1.
     unstep (read.skip w.Record i1) _ e1 (λ v i2 is2 e2.
     unstep (r.key_reader i2) _ e2 (λ key i3 is3 e3.
-    unstep (read.stands r.after_with_duplicates i3) _ e3 (λ duplicates i4 is4 e4.
+    unstep (read.presence_reader r.after_with_duplicates i3) _ e3 (λ duplicates i4 is4 e4.
     subst (λ y. IsClause kind.AlternateKey y i rest) (value e4) (
       (
         i1,
@@ -152,7 +152,7 @@ clause_complete (clause_as.AlternateKey one) i rest (i1, first, (i2, row, (i3, k
     step (read.expect w.Alternate i) _ (word_complete w.Alternate tt i i1 first)
     (step (read.skip w.Record i1) _ (skip_complete w.Record tt i1 i2 row)
     (step (r.key_reader i2) _ (key_complete one.key i2 i3 key)
-    (step (read.stands r.after_with_duplicates i3) _ (stands_complete finds_with_duplicates one.duplicates i3 rest duplicates) (Reached refl))))
+    (step (read.presence_reader r.after_with_duplicates i3) _ (stands_complete finds_with_duplicates one.duplicates i3 rest duplicates) (Reached refl))))
 clause_complete (clause_as.Status one) i rest (i1, file, (i2, first, (i3, is, item))) =
     step (read.skip w.File i) _ (skip_complete w.File tt i i1 file)
     (step (read.expect w.Status i1) _ (word_complete w.Status tt i1 i2 first)

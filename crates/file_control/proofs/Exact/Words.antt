@@ -9,7 +9,7 @@ use Rattle.tokens.specs.declared.token.Token.{Token}
 use Rattle.tokens.specs.Reserved.{same_word}
 use Rattle.source_tree.specs.declared.reference.Reference.{Reference}
 use Rattle.source_tree.specs.declared.select.OrganizationClause.{OrganizationClause}
-use Rattle.grammar.specs.Parts.{word, telling, begins_name}
+use Rattle.grammar.specs.Parts.{word, token_with, begins_name}
 use Rattle.data_division.specs.Clauses.{led_by}
 use Rattle.grammar.specs.Reading.{begins_word, after_word}
 use Rattle.grammar.proofs.Looking.{finds_word, is_missing, word_stands, word_begins, begins_no_other, tests_tested}
@@ -53,7 +53,7 @@ pub organization_stands : (one : OrganizationClause) (i rest : List Token) → g
 organization_stands one i rest ((i1, led, told), no_key) =
     ap (λ b. chosen b i) ((tests_tested begins_relative_key).refuses i no_key) ∙ go led told
   where
-    go : led_by w.Organization i i1 → telling organization_in one i1 rest → clause_by_word i ≡ Some kind.Organization
+    go : led_by w.Organization i i1 → token_with organization_in one i1 rest → clause_by_word i ≡ Some kind.Organization
     go (inl (i2, first, is)) told = by_word w.Organization i i2 first
     go (inr (same, absent)) (first, is, tell) = ap clause_by_word (same ∙ is) ∙ organization_kind first.kind one tell
 

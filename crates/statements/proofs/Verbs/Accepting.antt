@@ -17,7 +17,7 @@ use Rattle.expressions.specs.References.{reference_reader}
 use Rattle.expressions.proofs.Exact.References.{reference_sound, reference_complete, reference_shrinks}
 use Rattle.statements.specs.declared.verb.VerbWord.TheVariants as v
 use Rattle.statements.specs.Verbs.{verb_at}
-use Rattle.statements.specs.Accepting.{from_date, accepting, accepted, after_from_date, accepting_reader}
+use Rattle.statements.specs.Accepting.{from_date, accept_statement, accept_tree, after_from_date, accept_reader}
 use Rattle.statements.specs.Spelling as g
 use Rattle.statements.proofs.Standing.{stands}
 
@@ -31,30 +31,30 @@ from_date_shrinks i rest (i1, from, date) =
     let b = word_shrinks w.Date i1 rest date in omega arith
 
 module _ (receiver : Reference) (console : Bool) where
-  pub accepting_shrinks : (i rest : List Token) → accepting receiver console i rest → length rest < length i
+  pub accepting_shrinks : (i rest : List Token) → accept_statement receiver console i rest → length rest < length i
   accepting_shrinks i rest (i1, verb, (i2, into, out)) =
       let a = word_shrinks w.Accept i i1 verb in
       let b = reference_shrinks receiver i1 i2 into in
       let c = left_out_shrinks from_date_shrinks console i2 rest out in omega arith
 
-  pub accepting_stands : (i rest : List Token) → accepting receiver console i rest → verb_at i ≡ Some v.Accept
+  pub accepting_stands : (i rest : List Token) → accept_statement receiver console i rest → verb_at i ≡ Some v.Accept
   accepting_stands i rest s = stands w.Accept i s.0 s.1
 
-  pub accepting_complete : {Allowed : Halt → Type 0} (i rest : List Token) → accepting receiver console i rest
-      → Answers Allowed (accepting_reader i) (verb.Text (accepted receiver console)) rest
-  unfolding accepting_reader
+  pub accepting_complete : {Allowed : Halt → Type 0} (i rest : List Token) → accept_statement receiver console i rest
+      → Answers Allowed (accept_reader i) (verb.Text (accept_tree receiver console)) rest
+  unfolding accept_reader
   accepting_complete i rest (i1, verb, (i2, into, out)) =
       step (read.expect w.Accept i) _ (word_complete w.Accept tt i i1 verb)
       (step (reference_reader i1) _ (reference_complete receiver i1 i2 into)
       (step (read.left_out after_from_date i2) _ (left_out_complete finds_from_date console i2 rest out) (Reached refl)))
 
 accepted_spelled : (depth : ℕ) (p : Statement → Part) (receiver : Reference) (console : Bool) (i rest : List Token)
-    → accepting receiver console i rest → g.verb_line depth p (verb.Text (accepted receiver console)) i rest
+    → accept_statement receiver console i rest → g.verb_line depth p (verb.Text (accept_tree receiver console)) i rest
 accepted_spelled depth p receiver true i rest s = s
 accepted_spelled depth p receiver false i rest s = s
 
-pub accepting_sound : (depth : ℕ) (p : Statement → Part) → Sound (g.verb_line depth p) accepting_reader
-unfolding accepting_reader
+pub accepting_sound : (depth : ℕ) (p : Statement → Part) → Sound (g.verb_line depth p) accept_reader
+unfolding accept_reader
 accepting_sound depth p x i rest e =
     unstep (read.expect w.Accept i) _ e (λ u i1 is1 e1.
     unstep (reference_reader i1) _ e1 (λ receiver i2 is2 e2.

@@ -22,7 +22,7 @@ use Rattle.statements.specs.declared.receivers.Target.{Target}
 use Rattle.statements.specs.declared.receivers.Target.TheVariants.{Receivers, Giving}
 use Rattle.statements.specs.Verbs.{verb_at}
 use Rattle.statements.specs.Receivers.{numbers, receivers, target, numbers_reader, receivers_reader, target_reader}
-use Rattle.statements.specs.Adding.{adding, adding_giving, added, adding_to_reader, adding_up_reader, added_reader, adding_reader}
+use Rattle.statements.specs.Adding.{add_statement, adding_giving, add_operation, adding_to_reader, adding_up_reader, added_reader, add_reader}
 use Rattle.statements.specs.Arithmetic.{operation}
 use Rattle.statements.proofs.Standing.{stands}
 use Rattle.statements.proofs.ReceiverLists.{numbers_sound, numbers_complete, numbers_shrink, receivers_sound, receivers_complete, receivers_shrink, target_sound, target_complete, target_shrinks}
@@ -33,7 +33,7 @@ giving_no_to = refl
 
 -- ---- it takes a token, and its verb comes first
 
-pub adding_shrinks : (operands : List Operand) (to : Target) (i rest : List Token) → adding operands to i rest → length rest < length i
+pub adding_shrinks : (operands : List Operand) (to : Target) (i rest : List Token) → add_statement operands to i rest → length rest < length i
 adding_shrinks operands to i rest (i1, verb, (i2, given, (i3, to_word, into))) =
     let a = word_shrinks w.Add i i1 verb in
     let b = numbers_shrink operands i1 i2 given in
@@ -48,7 +48,7 @@ adding_giving_shrinks operands all i rest (inl (i1, verb, (i2, given, (i3, givin
     let d = receivers_shrink all i3 rest into in omega arith
 adding_giving_shrinks operands all i rest (inr (others, last, is, s)) = adding_shrinks others (Giving last all) i rest s
 
-pub adding_stands : (operands : List Operand) (to : Target) (i rest : List Token) → adding operands to i rest → verb_at i ≡ Some (v.Arithmetic a.Add)
+pub adding_stands : (operands : List Operand) (to : Target) (i rest : List Token) → add_statement operands to i rest → verb_at i ≡ Some (v.Arithmetic a.Add)
 adding_stands operands to i rest s = stands w.Add i s.0 s.1
 
 pub adding_giving_stands : (operands : List Operand) (all : List Receiver) (i rest : List Token) → adding_giving operands all i rest → verb_at i ≡ Some (v.Arithmetic a.Add)
@@ -59,7 +59,7 @@ adding_giving_stands operands all i rest (inr (others, last, is, s)) = stands w.
 
 module _ {Allowed : Halt → Type 0} where
   added_complete : (operands : List Operand) (to : Target) (i i1 rest : List Token) → word w.To i i1 → target to i1 rest
-      → Answers Allowed (added_reader operands i) (added operands to) rest
+      → Answers Allowed (added_reader operands i) (add_operation operands to) rest
   unfolding added_reader adding_to_reader
   added_complete operands to i i1 rest to_word into =
       rw (word_begins w.To i i1 to_word)
@@ -74,24 +74,24 @@ module _ {Allowed : Halt → Type 0} where
       (step (read.expect w.Giving i) _ (word_complete w.Giving tt i i1 giving)
       (step (receivers_reader i1) _ (receivers_complete all i1 rest into) (Reached refl)))
 
-  pub adding_complete : (operands : List Operand) (to : Target) (i rest : List Token) → adding operands to i rest → Answers Allowed (adding_reader i) (added operands to) rest
-  unfolding adding_reader
+  pub adding_complete : (operands : List Operand) (to : Target) (i rest : List Token) → add_statement operands to i rest → Answers Allowed (add_reader i) (add_operation operands to) rest
+  unfolding add_reader
   adding_complete operands to i rest (i1, verb, (i2, given, (i3, to_word, into))) =
       step (read.expect w.Add i) _ (word_complete w.Add tt i i1 verb)
       (step (numbers_reader i1) _ (numbers_complete operands i1 i2 given) (added_complete operands to i2 i3 rest to_word into))
 
   pub adding_giving_complete : (operands : List Operand) (all : List Receiver) (i rest : List Token) → adding_giving operands all i rest
-      → Answers Allowed (adding_reader i) (AddGiving operands all) rest
-  unfolding adding_reader
+      → Answers Allowed (add_reader i) (AddGiving operands all) rest
+  unfolding add_reader
   adding_giving_complete operands all i rest (inl (i1, verb, (i2, given, (i3, giving, into)))) =
       step (read.expect w.Add i) _ (word_complete w.Add tt i i1 verb)
       (step (numbers_reader i1) _ (numbers_complete operands i1 i2 given) (added_up_complete operands all i2 i3 rest giving into))
   adding_giving_complete operands all i rest (inr (others, last, is, s)) =
-      subst (λ y. Answers Allowed (adding_reader i) (AddGiving y all) rest) (sym is) (adding_complete others (Giving last all) i rest s)
+      subst (λ y. Answers Allowed (add_reader i) (AddGiving y all) rest) (sym is) (adding_complete others (Giving last all) i rest s)
 
 -- ---- what is read is spelled
 
-added_spelled : (depth : ℕ) (operands : List Operand) (to : Target) (i rest : List Token) → adding operands to i rest → operation depth (added operands to) i rest
+added_spelled : (depth : ℕ) (operands : List Operand) (to : Target) (i rest : List Token) → add_statement operands to i rest → operation depth (add_operation operands to) i rest
 added_spelled depth operands (Receivers all) i rest s = s
 added_spelled depth operands (Giving last all) i rest s = inr (operands, last, refl, s)
 
@@ -120,8 +120,8 @@ module _ (depth : ℕ) (operands : List Operand) (i i1 i2 : List Token) (verb : 
       go true e = adding_to_sound x rest e
       go false e = adding_up_sound x rest e
 
-pub adding_sound : (depth : ℕ) → Sound (operation depth) adding_reader
-unfolding adding_reader
+pub adding_sound : (depth : ℕ) → Sound (operation depth) add_reader
+unfolding add_reader
 adding_sound depth x i rest e =
     unstep (read.expect w.Add i) _ e (λ u i1 is1 e1.
     unstep (numbers_reader i1) _ e1 (λ operands i2 is2 e2.

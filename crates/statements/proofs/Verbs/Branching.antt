@@ -3,7 +3,7 @@ use Rattle.std.proofs.Common.{◌≡◌, ◌<◌, ℕ, List, length, Option, Som
 use Rattle.tokens.specs.declared.reserved.Reserved.TheVariants as w
 use Rattle.tokens.specs.declared.token.Token.{Token}
 use Rattle.source_tree.specs.declared.condition.Condition.{Condition}
-use Rattle.source_tree.specs.declared.branching.Branching.TheVariants.{If}
+use Rattle.source_tree.specs.declared.conditional_statement.ConditionalStatement.TheVariants.{If}
 use Rattle.source_tree.specs.declared.statement.Verb.TheVariants as verb
 use Rattle.source_tree.specs.declared.statement.Statement.{Statement}
 use Rattle.grammar.specs.declared.fault.Halt.{Halt}
@@ -20,7 +20,7 @@ use Rattle.conditions.specs.Conditions.{condition, condition_reader}
 use Rattle.conditions.proofs.Exact.Conditions.{condition_sound, condition_shrinks}
 use Rattle.statements.specs.declared.verb.VerbWord.TheVariants as v
 use Rattle.statements.specs.Verbs.{verb_at}
-use Rattle.statements.specs.Branching.{branching, otherwise_reader, branching_reader}
+use Rattle.statements.specs.Branching.{conditional_statement, otherwise_reader, conditional_reader}
 use Rattle.statements.specs.Spelling as g
 use Rattle.statements.specs.Reading as r
 use Rattle.statements.proofs.Standing.{stands}
@@ -28,11 +28,11 @@ use Rattle.statements.proofs.StatementLists.{statements_sound}
 
 module _ (statements : List Statement → Part) where
   pub branching_stands : (depth : ℕ) (asked : Condition) (done : List Statement) (otherwise : Option (List Statement)) (i rest : List Token)
-      → branching depth statements (If asked done otherwise) i rest → verb_at i ≡ Some v.If
+      → conditional_statement depth statements (If asked done otherwise) i rest → verb_at i ≡ Some v.If
   branching_stands depth asked done otherwise i rest s = stands w.If i s.0 s.1
 
   pub branching_shrinks : (depth : ℕ) → Shrinks statements → (asked : Condition) (done : List Statement) (otherwise : Option (List Statement)) (i rest : List Token)
-      → branching depth statements (If asked done otherwise) i rest → length rest < length i
+      → conditional_statement depth statements (If asked done otherwise) i rest → length rest < length i
   branching_shrinks depth each asked done otherwise i rest (i1, verb, (i2, asks, (i3, then_word, (i4, inner, (i5, other, end))))) =
       let a = word_shrinks w.If i i1 verb in
       let b = condition_shrinks depth asked i1 i2 asks in
@@ -54,9 +54,9 @@ module _ (statements : List Statement → Part) where
 
       pub branching_complete : (depth depth' : ℕ) → Complete Allowed (condition depth') (condition_reader depth)
           → (asked : Condition) (done : List Statement) (otherwise : Option (List Statement)) (i rest : List Token)
-          → branching depth' statements (If asked done otherwise) i rest
-          → Answers Allowed (branching_reader depth reader i) (verb.Branching (If asked done otherwise)) rest
-      unfolding branching_reader
+          → conditional_statement depth' statements (If asked done otherwise) i rest
+          → Answers Allowed (conditional_reader depth reader i) (verb.ConditionalStatement (If asked done otherwise)) rest
+      unfolding conditional_reader
       branching_complete depth depth' asks asked done otherwise i rest (i1, verb, (i2, is, (i3, then_word, (i4, inner, (i5, other, end))))) =
           step (read.expect w.If i) _ (word_complete w.If tt i i1 verb)
           (step (condition_reader depth i1) _ (asks asked i1 i2 is)
@@ -65,8 +65,8 @@ module _ (statements : List Statement → Part) where
           (step (otherwise_reader reader i4) _ (otherwise_complete otherwise i4 i5 other)
           (step (read.skip w.EndIf i5) _ (skip_complete w.EndIf tt i5 rest end) (Reached refl))))))
 
-pub branching_sound : (depth : ℕ) (p : Statement → Part) (nested : Parser Statement) → Sound p nested → Sound (g.verb_line depth p) (branching_reader depth (r.statements nested))
-unfolding branching_reader
+pub branching_sound : (depth : ℕ) (p : Statement → Part) (nested : Parser Statement) → Sound p nested → Sound (g.verb_line depth p) (conditional_reader depth (r.statements nested))
+unfolding conditional_reader
 branching_sound depth p nested each x i rest e =
     unstep (read.expect w.If i) _ e (λ u i1 is1 e1.
     unstep (condition_reader depth i1) _ e1 (λ asked i2 is2 e2.

@@ -17,33 +17,33 @@ use Rattle.statements.specs.declared.verb.VerbWord.TheVariants as v
 use Rattle.statements.specs.declared.verb.ArithmeticVerb.TheVariants as a
 use Rattle.statements.specs.Verbs.{verb_at}
 use Rattle.statements.specs.Receivers.{receivers_reader}
-use Rattle.statements.specs.Computing.{equal_in, computing, computing_reader}
+use Rattle.statements.specs.Computing.{equal_in, compute_statement, compute_reader}
 use Rattle.statements.specs.Arithmetic.{operation}
 use Rattle.statements.proofs.Standing.{stands}
 use Rattle.statements.proofs.ReceiverLists.{receivers_sound, receivers_complete, receivers_shrink}
 
 module _ (all : List Receiver) (what : Expression) where
-  pub computing_shrinks : (depth : ℕ) (i rest : List Token) → computing depth all what i rest → length rest < length i
+  pub computing_shrinks : (depth : ℕ) (i rest : List Token) → compute_statement depth all what i rest → length rest < length i
   computing_shrinks depth i rest (i1, verb, (i2, into, (i3, equal, from))) =
       let a = word_shrinks w.Compute i i1 verb in
       let b = receivers_shrink all i1 i2 into in
       let c = telling_shrinks equal_in tt i2 i3 equal in
       let d = expression_shrinks depth what i3 rest from in omega arith
 
-  pub computing_stands : (depth : ℕ) (i rest : List Token) → computing depth all what i rest → verb_at i ≡ Some (v.Arithmetic a.Compute)
+  pub computing_stands : (depth : ℕ) (i rest : List Token) → compute_statement depth all what i rest → verb_at i ≡ Some (v.Arithmetic a.Compute)
   computing_stands depth i rest s = stands w.Compute i s.0 s.1
 
   pub computing_complete : (Allowed : Halt → Type 0) (depth depth' : ℕ) → Complete Allowed (expression depth') (expression_reader depth)
-      → (i rest : List Token) → computing depth' all what i rest → Answers Allowed (computing_reader depth i) (Compute all what) rest
-  unfolding computing_reader
+      → (i rest : List Token) → compute_statement depth' all what i rest → Answers Allowed (compute_reader depth i) (Compute all what) rest
+  unfolding compute_reader
   computing_complete Allowed depth depth' each i rest (i1, verb, (i2, into, (i3, equal, from))) =
       step (read.expect w.Compute i) _ (word_complete w.Compute tt i i1 verb)
       (step (receivers_reader i1) _ (receivers_complete all i1 i2 into)
       (step (one_token equal_in i2) _ (one_token_complete equal_in tt i2 i3 equal)
       (step (expression_reader depth i3) _ (each what i3 rest from) (Reached refl))))
 
-pub computing_sound : (depth : ℕ) → Sound (operation depth) (computing_reader depth)
-unfolding computing_reader
+pub computing_sound : (depth : ℕ) → Sound (operation depth) (compute_reader depth)
+unfolding compute_reader
 computing_sound depth x i rest e =
     unstep (read.expect w.Compute i) _ e (λ u i1 is1 e1.
     unstep (receivers_reader i1) _ e1 (λ all i2 is2 e2.

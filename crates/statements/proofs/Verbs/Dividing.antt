@@ -13,7 +13,7 @@ use Rattle.source_tree.specs.declared.arithmetic.DivisionOrder.TheVariants.{Into
 use Rattle.source_tree.specs.declared.arithmetic.Operation.{Operation}
 use Rattle.source_tree.specs.declared.arithmetic.Operation.TheVariants.{Divide, DivideGiving, DivideRemainder}
 use Rattle.grammar.specs.declared.fault.Halt.{Halt}
-use Rattle.grammar.specs.Parts.{Part, ◌then◌, without, word, begins_name}
+use Rattle.grammar.specs.Parts.{Part, ◌then◌, absence_of, word, begins_name}
 use Rattle.grammar.specs.Reading as read
 use Rattle.grammar.specs.Reading.{is_word, begins_word}
 use Rattle.grammar.proofs.Outcomes.{Answers, Reached, step, unstep, value, after, last}
@@ -30,7 +30,7 @@ use Rattle.statements.specs.declared.receivers.Target.{Target}
 use Rattle.statements.specs.declared.receivers.Target.TheVariants.{Receivers, Giving}
 use Rattle.statements.specs.Verbs.{verb_at}
 use Rattle.statements.specs.Receivers.{receiver, receivers, target, receivers_reader, target_reader}
-use Rattle.statements.specs.Dividing.{dividing, order_word, dividing_giving, quotients, quotient_remainder, only, remainder_of, given_reader, divided_into, into_reader, by_reader, divided_reader, dividing_reader}
+use Rattle.statements.specs.Dividing.{divide_into_statement, order_word, dividing_giving, quotients, quotient_remainder, only, remainder_of, given_reader, divided_into, into_reader, by_reader, divided_reader, divide_reader}
 use Rattle.statements.specs.Arithmetic.{operation}
 use Rattle.statements.proofs.Standing.{stands, word_no_name}
 use Rattle.statements.proofs.ReceiverLists.{receiver_shrinks, receivers_sound, receivers_complete, receivers_shrink, target_sound, target_complete, target_shrinks}
@@ -41,14 +41,14 @@ into_no_by = refl
 
 -- ---- it takes a token, and its verb comes first
 
-pub dividing_shrinks : (divisor : Operand) (all : List Receiver) (i rest : List Token) → dividing divisor all i rest → length rest < length i
+pub dividing_shrinks : (divisor : Operand) (all : List Receiver) (i rest : List Token) → divide_into_statement divisor all i rest → length rest < length i
 dividing_shrinks divisor all i rest (i1, verb, (i2, num, (i3, into_word, into))) =
     let a = word_shrinks w.Divide i i1 verb in
     let b = number_operand_shrinks divisor i1 i2 num in
     let c = word_shrinks w.Into i2 i3 into_word in
     let d = target_shrinks (Receivers all) i3 rest into in omega arith
 
-pub dividing_stands : (divisor : Operand) (all : List Receiver) (i rest : List Token) → dividing divisor all i rest → verb_at i ≡ Some (v.Arithmetic a.Divide)
+pub dividing_stands : (divisor : Operand) (all : List Receiver) (i rest : List Token) → divide_into_statement divisor all i rest → verb_at i ≡ Some (v.Arithmetic a.Divide)
 dividing_stands divisor all i rest s = stands w.Divide i s.0 s.1
 
 pub quotients_shrink : (all : List Receiver) (i rest : List Token) → quotients all i rest → length rest ≤ length i
@@ -89,7 +89,7 @@ word_absent one (first ∷ more) nowhere = go (is_word one first) refl
 
 module _ {Allowed : Halt → Type 0} where
   module _ (first : Operand) (order : DivisionOrder) (second : Operand) where
-    given_complete : (all : List Receiver) (i rest : List Token) → without (word w.Remainder) i rest → Answers Allowed (given_reader first order second all i) (DivideGiving first order second all) rest
+    given_complete : (all : List Receiver) (i rest : List Token) → absence_of (word w.Remainder) i rest → Answers Allowed (given_reader first order second all i) (DivideGiving first order second all) rest
     unfolding given_reader
     given_complete all i rest s = rw (word_absent w.Remainder i s.1) (Reached (ap (λ j. Ok (DivideGiving first order second all, j)) s.0))
 
@@ -130,23 +130,23 @@ module _ {Allowed : Halt → Type 0} where
         by_complete second all x i i1 i2 i3 i4 rest between other giving into next
 
     first_complete : (x : Operation) (i i1 i2 rest : List Token) → word w.Divide i i1 → number_operand first i1 i2 → Answers Allowed (divided_reader first i2) x rest
-        → Answers Allowed (dividing_reader i) x rest
-    unfolding dividing_reader
+        → Answers Allowed (divide_reader i) x rest
+    unfolding divide_reader
     first_complete x i i1 i2 rest verb num next =
         step (read.expect w.Divide i) _ (word_complete w.Divide tt i i1 verb) (step (number_operand_reader i1) _ (number_operand_complete first i1 i2 num) next)
 
-  pub dividing_complete : (divisor : Operand) (all : List Receiver) (i rest : List Token) → dividing divisor all i rest → Answers Allowed (dividing_reader i) (Divide divisor all) rest
+  pub dividing_complete : (divisor : Operand) (all : List Receiver) (i rest : List Token) → divide_into_statement divisor all i rest → Answers Allowed (divide_reader i) (Divide divisor all) rest
   dividing_complete divisor all i rest (i1, verb, (i2, num, (i3, into_word, into))) =
       first_complete divisor (Divide divisor all) i i1 i2 rest verb num (into_complete divisor (Receivers all) (Divide divisor all) i2 i3 rest rest into_word into (Reached refl))
 
   pub dividing_giving_complete : (first : Operand) (order : DivisionOrder) (second : Operand) (all : List Receiver) (i rest : List Token)
-      → dividing_giving first order second (quotients all) i rest → Answers Allowed (dividing_reader i) (DivideGiving first order second all) rest
+      → dividing_giving first order second (quotients all) i rest → Answers Allowed (divide_reader i) (DivideGiving first order second all) rest
   dividing_giving_complete first order second all i rest (i1, verb, (i2, num, (i3, between, (i4, other, (i5, giving, (i6, into, absent)))))) =
       first_complete first (DivideGiving first order second all) i i1 i2 rest verb num
       (ordered_complete first order second all (DivideGiving first order second all) i2 i3 i4 i5 i6 rest between other giving into (given_complete first order second all i6 rest absent))
 
   pub dividing_remainder_complete : (first : Operand) (order : DivisionOrder) (second : Operand) (quotient : Receiver) (remainder : Reference) (i rest : List Token)
-      → dividing_giving first order second (quotient_remainder quotient remainder) i rest → Answers Allowed (dividing_reader i) (DivideRemainder first order second quotient remainder) rest
+      → dividing_giving first order second (quotient_remainder quotient remainder) i rest → Answers Allowed (divide_reader i) (DivideRemainder first order second quotient remainder) rest
   dividing_remainder_complete first order second quotient remainder i rest (i1, verb, (i2, num, (i3, between, (i4, other, (i5, giving, (i6, into, (i7, remainder_word, left))))))) =
       first_complete first (DivideRemainder first order second quotient remainder) i i1 i2 rest verb num
       (ordered_complete first order second (quotient ∷ []) (DivideRemainder first order second quotient remainder) i2 i3 i4 i5 i6 rest between other giving
@@ -217,8 +217,8 @@ module _ (depth : ℕ) (first : Operand) (i i1 i2 : List Token) (verb : word w.D
       go true e = by_sound x rest e
       go false e = into_sound x rest e
 
-pub dividing_sound : (depth : ℕ) → Sound (operation depth) dividing_reader
-unfolding dividing_reader
+pub dividing_sound : (depth : ℕ) → Sound (operation depth) divide_reader
+unfolding divide_reader
 dividing_sound depth x i rest e =
     unstep (read.expect w.Divide i) _ e (λ u i1 is1 e1.
     unstep (number_operand_reader i1) _ e1 (λ first i2 is2 e2.

@@ -2,7 +2,7 @@
 use Rattle.std.proofs.Common.{◌≡◌, ◌<◌, ℕ, List, length, Some, refl, subst}
 use Rattle.tokens.specs.declared.reserved.Reserved.TheVariants as w
 use Rattle.tokens.specs.declared.token.Token.{Token}
-use Rattle.source_tree.specs.declared.ending.Ending.TheVariants as ending
+use Rattle.source_tree.specs.declared.control_statement.ControlStatement.TheVariants as ending
 use Rattle.source_tree.specs.declared.statement.Verb.TheVariants as verb
 use Rattle.source_tree.specs.declared.statement.Statement.{Statement}
 use Rattle.grammar.specs.declared.fault.Halt.{Halt}
@@ -13,21 +13,21 @@ use Rattle.grammar.proofs.Lists.{Sound}
 use Rattle.grammar.proofs.Parts.{word_sound, word_complete, word_shrinks}
 use Rattle.statements.specs.declared.verb.VerbWord.TheVariants as v
 use Rattle.statements.specs.Verbs.{verb_at}
-use Rattle.statements.specs.Exiting.{exiting, exiting_reader}
+use Rattle.statements.specs.Exiting.{exit_statement, exit_reader}
 use Rattle.statements.specs.Spelling as g
 use Rattle.statements.proofs.Standing.{stands}
 
-pub exiting_shrinks : (i rest : List Token) → exiting i rest → length rest < length i
+pub exiting_shrinks : (i rest : List Token) → exit_statement i rest → length rest < length i
 exiting_shrinks i rest s = word_shrinks w.Exit i rest s
 
-pub exiting_stands : (i rest : List Token) → exiting i rest → verb_at i ≡ Some v.Exit
+pub exiting_stands : (i rest : List Token) → exit_statement i rest → verb_at i ≡ Some v.Exit
 exiting_stands i rest s = stands w.Exit i rest s
 
-pub exiting_complete : {Allowed : Halt → Type 0} (i rest : List Token) → exiting i rest → Answers Allowed (exiting_reader i) (verb.Ending ending.Exit) rest
-unfolding exiting_reader
+pub exiting_complete : {Allowed : Halt → Type 0} (i rest : List Token) → exit_statement i rest → Answers Allowed (exit_reader i) (verb.ControlStatement ending.Exit) rest
+unfolding exit_reader
 exiting_complete i rest s = step (read.expect w.Exit i) _ (word_complete w.Exit tt i rest s) (Reached refl)
 
-pub exiting_sound : (depth : ℕ) (p : Statement → Part) → Sound (g.verb_line depth p) exiting_reader
-unfolding exiting_reader
+pub exiting_sound : (depth : ℕ) (p : Statement → Part) → Sound (g.verb_line depth p) exit_reader
+unfolding exit_reader
 exiting_sound depth p x i rest e =
     unstep (read.expect w.Exit i) _ e (λ u i1 is1 e1. subst (λ y. g.verb_line depth p y i rest) (value e1) (word_sound w.Exit u i rest (last is1 e1)))

@@ -6,9 +6,9 @@ use Rattle.tokens.specs.declared.reserved.Reserved.TheVariants as w
 use Rattle.tokens.specs.declared.token.Token.{Token}
 use Rattle.source_tree.specs.declared.reference.Reference.{Reference}
 use Rattle.source_tree.specs.declared.phrases.FilePhrases.{FilePhrases}
-use Rattle.source_tree.specs.declared.filing.StartKey.{StartKey}
-use Rattle.source_tree.specs.declared.filing.Filing.{Filing}
-use Rattle.source_tree.specs.declared.filing.Filing.TheVariants as filing_as
+use Rattle.source_tree.specs.declared.file_statement.StartKey.{StartKey}
+use Rattle.source_tree.specs.declared.file_statement.FileStatement.{FileStatement}
+use Rattle.source_tree.specs.declared.file_statement.FileStatement.TheVariants as filing_as
 use Rattle.source_tree.specs.declared.statement.Verb.TheVariants as verb
 use Rattle.source_tree.specs.declared.statement.Statement.{Statement}
 use Rattle.grammar.specs.declared.fault.Halt.{Halt}
@@ -29,7 +29,7 @@ use Rattle.statements.specs.declared.verb.VerbWord.TheVariants as v
 use Rattle.statements.specs.Verbs.{verb_at}
 use Rattle.statements.specs.FilePhrases.{key_phrases, key_phrases_reader, read_phrases_reader}
 use Rattle.statements.specs.Filing as rule
-use Rattle.statements.specs.Filing.{filing, item_at, item_behind_reader, after_key_is, some_key_reader, start_key_at, start_key_reader, by_file_verb, filing_reader}
+use Rattle.statements.specs.Filing.{file_statement, item_at, item_behind_reader, after_key_is, some_key_reader, start_key_at, start_key_reader, by_file_verb, file_reader}
 use Rattle.statements.specs.Spelling as g
 use Rattle.statements.specs.Reading as r
 use Rattle.statements.proofs.Standing.{stands}
@@ -115,7 +115,7 @@ word_below one i rest s = let l = word_shrinks one i rest s in omega arith
 -- ---- the statements take tokens, and begin with their verbs
 
 -- the verb of a file statement
-abbrev pub file_verb : Filing Statement → FileVerb
+abbrev pub file_verb : FileStatement Statement → FileVerb
 file_verb (filing_as.Open files) = f.Open
 file_verb (filing_as.Close files) = f.Close
 file_verb (filing_as.Read file next into key phrases) = f.Read
@@ -126,7 +126,7 @@ file_verb (filing_as.Start file key phrases) = f.Start
 
 module _ (statements : List Statement → Part) where
   storing_shrinks : Shrinks statements → (one end : Reserved) (row : Reference) (from : Option Reference) (phrases : FilePhrases Statement) (i rest : List Token)
-      → rule.storing statements one end row from phrases i rest → length rest < length i
+      → rule.record_statement statements one end row from phrases i rest → length rest < length i
   storing_shrinks fewer one end row from phrases i rest (i1, first, (i2, item, (i3, sent, (i4, both, last)))) =
       let a = word_shrinks one i i1 first in
       let b = reference_shrinks row i1 i2 item in
@@ -134,7 +134,7 @@ module _ (statements : List Statement → Part) where
       let d = key_phrases_shrink statements fewer phrases i3 i4 both in
       let e = skip_shrinks end i4 rest last in omega arith
 
-  pub filing_shrinks : Shrinks statements → Shrinks (filing statements)
+  pub filing_shrinks : Shrinks statements → Shrinks (file_statement statements)
   filing_shrinks fewer (filing_as.Open files) i rest s = openings_shrink files i rest s
   filing_shrinks fewer (filing_as.Close files) i rest s = closing_shrinks files i rest s
   filing_shrinks fewer (filing_as.Read file next into key phrases) i rest (i1, first, (i2, named, (i3, next_word, (i4, row, (i5, taken, (i6, by, (i7, both, end))))))) =
@@ -161,7 +161,7 @@ module _ (statements : List Statement → Part) where
       let d = key_phrases_shrink statements fewer phrases i3 i4 both in
       let e = skip_shrinks w.EndStart i4 rest end in omega arith
 
-  pub filing_stands : (x : Filing Statement) (i rest : List Token) → filing statements x i rest → verb_at i ≡ Some (v.Filing (file_verb x))
+  pub filing_stands : (x : FileStatement Statement) (i rest : List Token) → file_statement statements x i rest → verb_at i ≡ Some (v.Filing (file_verb x))
   filing_stands (filing_as.Open files) i rest s = openings_stand files i rest s
   filing_stands (filing_as.Close files) i rest s = closing_stands files i rest s
   filing_stands (filing_as.Read file next into key phrases) i rest s = stands w.Read i s.0 s.1
@@ -179,12 +179,12 @@ module _ (statements : List Statement → Part) where
   stored x = reference x.0 then rule.item_behind (word w.From) x.1.0 then key_phrases statements x.1.1
 
   module _ (reader : Parser (List Statement)) (each : Sound statements reader) where
-    reading_sound : Sound (filing statements) (rule.reading_reader reader)
-    unfolding rule.reading_reader
+    reading_sound : Sound (file_statement statements) (rule.read_reader reader)
+    unfolding rule.read_reader
     reading_sound x i rest e =
         unstep (read.expect w.Read i) _ e (λ u i1 is1 e1.
         unstep (read.name i1) _ e1 (λ file i2 is2 e2.
-        unstep (read.stands (after_word w.Next) i2) _ e2 (λ next i3 is3 e3.
+        unstep (read.presence_reader (after_word w.Next) i2) _ e2 (λ next i3 is3 e3.
         unstep (read.skip w.Record i3) _ e3 (λ t i4 is4 e4.
         unstep (item_behind_reader (after_word w.Into) i4) _ e4 (λ into i5 is5 e5.
         unstep (item_behind_reader after_key_is i5) _ e5 (λ key i6 is6 e6.
@@ -195,7 +195,7 @@ module _ (statements : List Statement → Part) where
         let by = item_sound finds_key_is key i5 i6 is6 in
         let taken = item_sound (finds_word w.Into) into i4 i5 is5 in
         let next_word = stands_sound (finds_word w.Next) next i2 i3 is3 in
-        subst (λ y. filing statements y i rest) (value e8)
+        subst (λ y. file_statement statements y i rest) (value e8)
         (i1, word_sound w.Read u i i1 is1, (i2, name_sound file i1 i2 is2, (i3, next_word, (i4, skip_sound w.Record t i3 i4 is4, (i5, taken, (i6, by, (i7, both, end)))))))))))))))
 
     stored_sound : Sound stored (rule.stored_reader reader)
@@ -207,28 +207,28 @@ module _ (statements : List Statement → Part) where
         subst (λ y. stored y i rest) (value e3)
         (i1, reference_sound row i i1 is1, (i2, item_sound (finds_word w.From) from i1 i2 is2, key_phrases_sound statements reader each phrases i2 rest (last is3 e3))))))
 
-    writing_sound : Sound (filing statements) (rule.writing_reader reader)
-    unfolding rule.writing_reader
+    writing_sound : Sound (file_statement statements) (rule.write_reader reader)
+    unfolding rule.write_reader
     writing_sound x i rest e =
         unstep (read.expect w.Write i) _ e (λ u i1 is1 e1.
         unstep (rule.stored_reader reader i1) _ e1 (λ found i2 is2 e2.
         unstep (read.skip w.EndWrite i2) _ e2 (λ z i3 is3 e3.
         let s = stored_sound found i1 i2 is2 in
-        subst (λ y. filing statements y i rest) (value e3)
+        subst (λ y. file_statement statements y i rest) (value e3)
         (i1, word_sound w.Write u i i1 is1, (s.0, s.1, (s.2.0, s.2.1, (i2, s.2.2, skip_sound w.EndWrite z i2 rest (last is3 e3))))))))
 
-    rewriting_sound : Sound (filing statements) (rule.rewriting_reader reader)
-    unfolding rule.rewriting_reader
+    rewriting_sound : Sound (file_statement statements) (rule.rewrite_reader reader)
+    unfolding rule.rewrite_reader
     rewriting_sound x i rest e =
         unstep (read.expect w.Rewrite i) _ e (λ u i1 is1 e1.
         unstep (rule.stored_reader reader i1) _ e1 (λ found i2 is2 e2.
         unstep (read.skip w.EndRewrite i2) _ e2 (λ z i3 is3 e3.
         let s = stored_sound found i1 i2 is2 in
-        subst (λ y. filing statements y i rest) (value e3)
+        subst (λ y. file_statement statements y i rest) (value e3)
         (i1, word_sound w.Rewrite u i i1 is1, (s.0, s.1, (s.2.0, s.2.1, (i2, s.2.2, skip_sound w.EndRewrite z i2 rest (last is3 e3))))))))
 
-    deleting_sound : Sound (filing statements) (rule.deleting_reader reader)
-    unfolding rule.deleting_reader
+    deleting_sound : Sound (file_statement statements) (rule.delete_reader reader)
+    unfolding rule.delete_reader
     deleting_sound x i rest e =
         unstep (read.expect w.Delete i) _ e (λ u i1 is1 e1.
         unstep (read.name i1) _ e1 (λ file i2 is2 e2.
@@ -236,11 +236,11 @@ module _ (statements : List Statement → Part) where
         unstep (key_phrases_reader reader i3) _ e3 (λ phrases i4 is4 e4.
         unstep (read.skip w.EndDelete i4) _ e4 (λ z i5 is5 e5.
         let both = key_phrases_sound statements reader each phrases i3 i4 is4 in
-        subst (λ y. filing statements y i rest) (value e5)
+        subst (λ y. file_statement statements y i rest) (value e5)
         (i1, word_sound w.Delete u i i1 is1, (i2, name_sound file i1 i2 is2, (i3, skip_sound w.Record t i2 i3 is3, (i4, both, skip_sound w.EndDelete z i4 rest (last is5 e5))))))))))
 
-    starting_sound : Sound (filing statements) (rule.starting_reader reader)
-    unfolding rule.starting_reader
+    starting_sound : Sound (file_statement statements) (rule.start_reader reader)
+    unfolding rule.start_reader
     starting_sound x i rest e =
         unstep (read.expect w.Start i) _ e (λ u i1 is1 e1.
         unstep (read.name i1) _ e1 (λ file i2 is2 e2.
@@ -248,10 +248,10 @@ module _ (statements : List Statement → Part) where
         unstep (key_phrases_reader reader i3) _ e3 (λ phrases i4 is4 e4.
         unstep (read.skip w.EndStart i4) _ e4 (λ z i5 is5 e5.
         let both = key_phrases_sound statements reader each phrases i3 i4 is4 in
-        subst (λ y. filing statements y i rest) (value e5)
+        subst (λ y. file_statement statements y i rest) (value e5)
         (i1, word_sound w.Start u i i1 is1, (i2, name_sound file i1 i2 is2, (i3, start_key_sound key i2 i3 is3, (i4, both, skip_sound w.EndStart z i4 rest (last is5 e5))))))))))
 
-    by_verb_sound : (one : FileVerb) → Sound (filing statements) (by_file_verb reader one)
+    by_verb_sound : (one : FileVerb) → Sound (file_statement statements) (by_file_verb reader one)
     by_verb_sound f.Open = openings_sound statements
     by_verb_sound f.Close = closing_sound statements
     by_verb_sound f.Read = reading_sound
@@ -270,14 +270,14 @@ module _ (statements : List Statement → Part) where
         (step (item_behind_reader (after_word w.From) i1) _ (item_complete (finds_word w.From) x.1.0 i1 i2 sent)
         (step (key_phrases_reader reader i2) _ (key_phrases_complete statements reader Allowed each x.1.1 i2 rest both) (Reached refl)))
 
-    by_verb_complete : (x : Filing Statement) (i rest : List Token) → filing statements x i rest → Answers Allowed (by_file_verb reader (file_verb x) i) x rest
-    unfolding rule.reading_reader rule.writing_reader rule.rewriting_reader rule.deleting_reader rule.starting_reader
+    by_verb_complete : (x : FileStatement Statement) (i rest : List Token) → file_statement statements x i rest → Answers Allowed (by_file_verb reader (file_verb x) i) x rest
+    unfolding rule.read_reader rule.write_reader rule.rewrite_reader rule.delete_reader rule.start_reader
     by_verb_complete (filing_as.Open files) i rest s = openings_complete files i rest s
     by_verb_complete (filing_as.Close files) i rest s = closing_complete files i rest s
     by_verb_complete (filing_as.Read file next into key phrases) i rest (i1, first, (i2, named, (i3, next_word, (i4, row, (i5, taken, (i6, by, (i7, both, end))))))) =
         step (read.expect w.Read i) _ (word_complete w.Read tt i i1 first)
         (step (read.name i1) _ (name_complete file i1 i2 named)
-        (step (read.stands (after_word w.Next) i2) _ (stands_complete (finds_word w.Next) next i2 i3 next_word)
+        (step (read.presence_reader (after_word w.Next) i2) _ (stands_complete (finds_word w.Next) next i2 i3 next_word)
         (step (read.skip w.Record i3) _ (skip_complete w.Record tt i3 i4 row)
         (step (item_behind_reader (after_word w.Into) i4) _ (item_complete (finds_word w.Into) into i4 i5 taken)
         (step (item_behind_reader after_key_is i5) _ (item_complete finds_key_is key i5 i6 by)
@@ -304,14 +304,14 @@ module _ (statements : List Statement → Part) where
         (step (key_phrases_reader reader i3) _ (key_phrases_complete statements reader Allowed each phrases i3 i4 both)
         (step (read.skip w.EndStart i4) _ (skip_complete w.EndStart tt i4 rest end) (Reached refl)))))
 
-    pub filing_complete : (x : Filing Statement) (i rest : List Token) → filing statements x i rest
-        → Answers Allowed (filing_reader reader (file_verb x) i) (verb.Filing x) rest
-    unfolding filing_reader
+    pub filing_complete : (x : FileStatement Statement) (i rest : List Token) → file_statement statements x i rest
+        → Answers Allowed (file_reader reader (file_verb x) i) (verb.FileStatement x) rest
+    unfolding file_reader
     filing_complete x i rest s = step (by_file_verb reader (file_verb x) i) _ (by_verb_complete x i rest s) (Reached refl)
 
 pub filing_sound : (depth : ℕ) (p : Statement → Part) (nested : Parser Statement) → Sound p nested → (one : FileVerb)
-    → Sound (g.verb_line depth p) (filing_reader (r.statements nested) one)
-unfolding filing_reader
+    → Sound (g.verb_line depth p) (file_reader (r.statements nested) one)
+unfolding file_reader
 filing_sound depth p nested each one x i rest e =
     unstep (by_file_verb (r.statements nested) one i) _ e (λ found i1 is1 e1.
     subst (λ y. g.verb_line depth p y i rest) (value e1)

@@ -4,21 +4,21 @@ use Rattle.std.specs.Prelude.{◌||◌, is_some}
 use Rattle.tokens.specs.declared.reserved.Reserved.TheVariants as w
 use Rattle.tokens.specs.declared.token.Token.{Token}
 use Rattle.tokens.specs.Reserved.{same_word}
-use Rattle.source_tree.specs.declared.inspecting.Occurrences.{Occurrences}
-use Rattle.source_tree.specs.declared.inspecting.TalliedText.{TalliedText}
-use Rattle.source_tree.specs.declared.inspecting.Tallied.{Tallied}
-use Rattle.source_tree.specs.declared.inspecting.Tallied.TheVariants as tallied_as
-use Rattle.source_tree.specs.declared.inspecting.Tallying.{Tallying}
-use Rattle.source_tree.specs.declared.inspecting.ReplacedText.{ReplacedText}
-use Rattle.source_tree.specs.declared.inspecting.Replacing.{Replacing}
-use Rattle.source_tree.specs.declared.inspecting.Replacing.TheVariants as replacing_as
-use Rattle.source_tree.specs.declared.inspecting.Inspecting.{Inspecting}
-use Rattle.source_tree.specs.declared.text.Text.TheVariants as text_as
+use Rattle.source_tree.specs.declared.inspect_statement.Occurrences.{Occurrences}
+use Rattle.source_tree.specs.declared.inspect_statement.TalliedText.{TalliedText}
+use Rattle.source_tree.specs.declared.inspect_statement.Tallied.{Tallied}
+use Rattle.source_tree.specs.declared.inspect_statement.Tallied.TheVariants as tallied_as
+use Rattle.source_tree.specs.declared.inspect_statement.Tallying.{Tallying}
+use Rattle.source_tree.specs.declared.inspect_statement.ReplacedText.{ReplacedText}
+use Rattle.source_tree.specs.declared.inspect_statement.Replacing.{Replacing}
+use Rattle.source_tree.specs.declared.inspect_statement.Replacing.TheVariants as replacing_as
+use Rattle.source_tree.specs.declared.inspect_statement.InspectStatement.{InspectStatement}
+use Rattle.source_tree.specs.declared.text_statement.TextStatement.TheVariants as text_as
 use Rattle.source_tree.specs.declared.statement.Verb.TheVariants as verb
 use Rattle.source_tree.specs.declared.statement.Statement.{Statement}
 use Rattle.grammar.specs.declared.fault.Halt.{Halt}
 use Rattle.grammar.specs.Parts as grammar
-use Rattle.grammar.specs.Parts.{Part, is_told, telling, begins_telling, tested, word, begins_name}
+use Rattle.grammar.specs.Parts.{Part, is_told, token_with, begins_telling, lookahead, word, begins_name}
 use Rattle.grammar.specs.Reading as read
 use Rattle.grammar.specs.Reading.{begins_word, refuse, one_token}
 use Rattle.grammar.proofs.Outcomes.{Answers, Reached, step, unstep, value, after, last}
@@ -36,7 +36,7 @@ use Rattle.statements.specs.declared.verb.VerbWord.TheVariants as v
 use Rattle.statements.specs.Verbs.{verb_at}
 use Rattle.statements.specs.Limiting.{begins_text, text_reader, limits_reader}
 use Rattle.statements.specs.Inspecting as rule
-use Rattle.statements.specs.Inspecting.{tallied_in, tallied_by, replaced_in, replaced_by, begins_tallied_text, begins_tallied, begins_replaced, limited_text_reader, tallied_text_reader, tallied_texts_reader, tallied_characters_reader, tallied_reader, counting_reader, tallying_reader, replaced_text_reader, replaced_texts_reader, replaced_characters_reader, replaced_reader, replacing_reader, perhaps_replacing_reader, counted_reader, uncounted_reader, phrases_reader, inspecting_reader}
+use Rattle.statements.specs.Inspecting.{tallied_in, tallied_by, replaced_in, replaced_by, begins_tallied_text, begins_tallied, begins_replaced, limited_text_reader, tallied_text_reader, tallied_texts_reader, tallied_characters_reader, tallied_reader, counting_reader, tallying_reader, replaced_text_reader, replaced_texts_reader, replaced_characters_reader, replaced_reader, replacing_reader, perhaps_replacing_reader, counted_reader, uncounted_reader, phrases_reader, inspect_reader}
 use Rattle.statements.specs.Spelling as g
 use Rattle.statements.proofs.Except.{both}
 use Rattle.statements.proofs.Standing.{stands}
@@ -99,21 +99,21 @@ tallied_list_complete {Allowed = Allowed} =
 
 -- ---- what a counter counts
 
-tallied_sound : Sound rule.tallied tallied_reader
+tallied_sound : Sound rule.tally_clause tallied_reader
 unfolding tallied_reader tallied_texts_reader tallied_characters_reader
 tallied_sound x i rest e = go (begins_telling tallied_in i) e
   where
-    go : (b : Bool) → (if b then tallied_texts_reader i else tallied_characters_reader i) ≡ Ok (x, rest) → rule.tallied x i rest
+    go : (b : Bool) → (if b then tallied_texts_reader i else tallied_characters_reader i) ≡ Ok (x, rest) → rule.tally_clause x i rest
     go true e =
         unstep (one_token tallied_in i) _ e (λ how i1 is1 e1.
         unstep (read.several tallied_text_reader begins_tallied_text i1) _ e1 (λ texts i2 is2 e2.
-        subst (λ y. rule.tallied y i rest) (value e2) (i1, one_token_sound tallied_in how i i1 is1, tallied_list_sound texts i1 rest (last is2 e2))))
+        subst (λ y. rule.tally_clause y i rest) (value e2) (i1, one_token_sound tallied_in how i i1 is1, tallied_list_sound texts i1 rest (last is2 e2))))
     go false e =
         unstep (read.expect w.Characters i) _ e (λ u i1 is1 e1.
         unstep (limits_reader i1) _ e1 (λ limits i2 is2 e2.
-        subst (λ y. rule.tallied y i rest) (value e2) (i1, word_sound w.Characters u i i1 is1, limits_sound limits i1 rest (last is2 e2))))
+        subst (λ y. rule.tally_clause y i rest) (value e2) (i1, word_sound w.Characters u i i1 is1, limits_sound limits i1 rest (last is2 e2))))
 
-tallied_complete : {Allowed : Halt → Type 0} → Complete Allowed rule.tallied tallied_reader
+tallied_complete : {Allowed : Halt → Type 0} → Complete Allowed rule.tally_clause tallied_reader
 unfolding tallied_reader tallied_texts_reader tallied_characters_reader
 tallied_complete (tallied_as.Texts how texts) i rest (i1, told, list) =
     rw (telling_starts tallied_in how i i1 told)
@@ -124,7 +124,7 @@ tallied_complete (tallied_as.Characters limits) i rest (i1, characters, bounds) 
     (step (read.expect w.Characters i) _ (word_complete w.Characters tt i i1 characters)
     (step (limits_reader i1) _ (limits_complete limits i1 rest bounds) (Reached refl)))
 
-tallied_shrinks : Shrinks rule.tallied
+tallied_shrinks : Shrinks rule.tally_clause
 tallied_shrinks (tallied_as.Texts how texts) i rest (i1, told, list) =
     let a = telling_shrinks tallied_in how i i1 told in
     let b = lists.several_shrinks rule.tallied_text rule.begin_tallied_text tallied_text_shrinks texts i1 rest list in omega arith
@@ -132,70 +132,70 @@ tallied_shrinks (tallied_as.Characters limits) i rest (i1, characters, bounds) =
     let a = word_shrinks w.Characters i i1 characters in
     let b = limits_shrink limits i1 rest bounds in omega arith
 
-tallied_starts : Starts begins_tallied rule.tallied
+tallied_starts : Starts begins_tallied rule.tally_clause
 tallied_starts (tallied_as.Texts how texts) i rest (i1, told, list) =
     either (begins_word w.Characters i) (begins_telling tallied_in i) (telling_starts tallied_in how i i1 told)
 tallied_starts (tallied_as.Characters limits) i rest (i1, characters, bounds) = ap (λ b. b || begins_telling tallied_in i) (word_begins w.Characters i i1 characters)
 
 -- ---- counters
 
-counting_sound : Sound rule.counting counting_reader
+counting_sound : Sound rule.counter_clause counting_reader
 unfolding counting_reader
 counting_sound x i rest e =
     unstep (reference_reader i) _ e (λ counter i1 is1 e1.
     unstep (read.expect w.For i1) _ e1 (λ u i2 is2 e2.
     unstep (read.several tallied_reader begins_tallied i2) _ e2 (λ entries i3 is3 e3.
-    subst (λ y. rule.counting y i rest) (value e3) (
+    subst (λ y. rule.counter_clause y i rest) (value e3) (
       i1,
       reference_sound counter i i1 is1,
       (
         i2,
         word_sound w.For u i1 i2 is2,
-        lists.several_sound rule.tallied tallied_reader (tested begins_tallied) begins_tallied (tests_tested begins_tallied) tallied_sound entries i2 rest (last is3 e3),
+        lists.several_sound rule.tally_clause tallied_reader (lookahead begins_tallied) begins_tallied (tests_tested begins_tallied) tallied_sound entries i2 rest (last is3 e3),
       ),
     ))))
 
-counting_complete : {Allowed : Halt → Type 0} → Complete Allowed rule.counting counting_reader
+counting_complete : {Allowed : Halt → Type 0} → Complete Allowed rule.counter_clause counting_reader
 unfolding counting_reader
 counting_complete {Allowed = Allowed} x i rest (i1, counter, (i2, for, entries)) =
     step (reference_reader i) _ (reference_complete x.counter i i1 counter)
     (step (read.expect w.For i1) _ (word_complete w.For tt i1 i2 for)
     (step (read.several tallied_reader begins_tallied i2) _
-    (lists.several_complete rule.tallied tallied_reader (tested begins_tallied) begins_tallied (tests_tested begins_tallied) Allowed (tallied_complete {Allowed = Allowed}) tallied_shrinks tallied_starts
+    (lists.several_complete rule.tally_clause tallied_reader (lookahead begins_tallied) begins_tallied (tests_tested begins_tallied) Allowed (tallied_complete {Allowed = Allowed}) tallied_shrinks tallied_starts
     x.tallied i2 rest entries)
     (Reached refl)))
 
-counting_shrinks : Shrinks rule.counting
+counting_shrinks : Shrinks rule.counter_clause
 counting_shrinks x i rest (i1, counter, (i2, for, entries)) =
     let a = reference_shrinks x.counter i i1 counter in
     let b = word_shrinks w.For i1 i2 for in
-    let c = lists.several_shrinks rule.tallied (tested begins_tallied) tallied_shrinks x.tallied i2 rest entries in omega arith
+    let c = lists.several_shrinks rule.tally_clause (lookahead begins_tallied) tallied_shrinks x.tallied i2 rest entries in omega arith
 
-counting_starts : Starts begins_name rule.counting
+counting_starts : Starts begins_name rule.counter_clause
 counting_starts x i rest s = reference_starts x.counter i s.0 s.1
 
 -- ---- TALLYING
 
-tallying_sound : Sound rule.tallying tallying_reader
+tallying_sound : Sound rule.tallying_phrase tallying_reader
 unfolding tallying_reader
 tallying_sound x i rest e =
     unstep (read.expect w.Tallying i) _ e (λ u i1 is1 e1. (
       i1,
       word_sound w.Tallying u i i1 is1,
-      lists.several_sound rule.counting counting_reader (tested begins_name) begins_name (tests_tested begins_name) counting_sound x i1 rest e1,
+      lists.several_sound rule.counter_clause counting_reader (lookahead begins_name) begins_name (tests_tested begins_name) counting_sound x i1 rest e1,
     ))
 
-tallying_complete : {Allowed : Halt → Type 0} → Complete Allowed rule.tallying tallying_reader
+tallying_complete : {Allowed : Halt → Type 0} → Complete Allowed rule.tallying_phrase tallying_reader
 unfolding tallying_reader
 tallying_complete {Allowed = Allowed} x i rest (i1, verb, counters) =
     step (read.expect w.Tallying i) _ (word_complete w.Tallying tt i i1 verb)
-    (lists.several_complete rule.counting counting_reader (tested begins_name) begins_name (tests_tested begins_name) Allowed (counting_complete {Allowed = Allowed}) counting_shrinks counting_starts
+    (lists.several_complete rule.counter_clause counting_reader (lookahead begins_name) begins_name (tests_tested begins_name) Allowed (counting_complete {Allowed = Allowed}) counting_shrinks counting_starts
     x i1 rest counters)
 
-tallying_shrinks : Shrinks rule.tallying
+tallying_shrinks : Shrinks rule.tallying_phrase
 tallying_shrinks x i rest (i1, verb, counters) =
     let a = word_shrinks w.Tallying i i1 verb in
-    let b = lists.several_shrinks rule.counting (tested begins_name) counting_shrinks x i1 rest counters in omega arith
+    let b = lists.several_shrinks rule.counter_clause (lookahead begins_name) counting_shrinks x i1 rest counters in omega arith
 
 -- ---- texts that are replaced
 
@@ -228,43 +228,43 @@ replaced_text_starts : Starts begins_text rule.replaced_text
 replaced_text_starts x i rest s = text_starts x.text i s.0 s.1
 
 abbrev some_replaced_texts : List ReplacedText → Part
-some_replaced_texts = grammar.several rule.replaced_text (tested begins_text)
+some_replaced_texts = grammar.several rule.replaced_text (lookahead begins_text)
 
 replaced_list_sound : Sound some_replaced_texts (read.several replaced_text_reader begins_text)
-replaced_list_sound = lists.several_sound rule.replaced_text replaced_text_reader (tested begins_text) begins_text (tests_tested begins_text) replaced_text_sound
+replaced_list_sound = lists.several_sound rule.replaced_text replaced_text_reader (lookahead begins_text) begins_text (tests_tested begins_text) replaced_text_sound
 
 replaced_list_complete : {Allowed : Halt → Type 0} → Complete Allowed some_replaced_texts (read.several replaced_text_reader begins_text)
 replaced_list_complete {Allowed = Allowed} =
-    lists.several_complete rule.replaced_text replaced_text_reader (tested begins_text) begins_text (tests_tested begins_text) Allowed (replaced_text_complete {Allowed = Allowed}) replaced_text_shrinks replaced_text_starts
+    lists.several_complete rule.replaced_text replaced_text_reader (lookahead begins_text) begins_text (tests_tested begins_text) Allowed (replaced_text_complete {Allowed = Allowed}) replaced_text_shrinks replaced_text_starts
 
 -- ---- what is replaced
 
-replaced_texts_sound : Sound rule.replaced replaced_texts_reader
+replaced_texts_sound : Sound rule.replacement_clause replaced_texts_reader
 unfolding replaced_texts_reader
 replaced_texts_sound x i rest e =
     unstep (one_token replaced_in i) _ e (λ how i1 is1 e1.
     unstep (read.several replaced_text_reader begins_text i1) _ e1 (λ texts i2 is2 e2.
-    subst (λ y. rule.replaced y i rest) (value e2) (i1, one_token_sound replaced_in how i i1 is1, replaced_list_sound texts i1 rest (last is2 e2))))
+    subst (λ y. rule.replacement_clause y i rest) (value e2) (i1, one_token_sound replaced_in how i i1 is1, replaced_list_sound texts i1 rest (last is2 e2))))
 
-replaced_characters_sound : Sound rule.replaced replaced_characters_reader
+replaced_characters_sound : Sound rule.replacement_clause replaced_characters_reader
 unfolding replaced_characters_reader
 replaced_characters_sound x i rest e =
     unstep (read.expect w.Characters i) _ e (λ u i1 is1 e1.
     unstep (read.expect w.By i1) _ e1 (λ t i2 is2 e2.
     unstep (text_reader i2) _ e2 (λ by i3 is3 e3.
     unstep (limits_reader i3) _ e3 (λ limits i4 is4 e4.
-    subst (λ y. rule.replaced y i rest) (value e4)
+    subst (λ y. rule.replacement_clause y i rest) (value e4)
     (i1, word_sound w.Characters u i i1 is1, (i2, word_sound w.By t i1 i2 is2, (i3, text_sound by i2 i3 is3, limits_sound limits i3 rest (last is4 e4))))))))
 
-replaced_sound : Sound rule.replaced replaced_reader
+replaced_sound : Sound rule.replacement_clause replaced_reader
 unfolding replaced_reader
 replaced_sound x i rest e = go (begins_telling replaced_in i) e
   where
-    go : (b : Bool) → (if b then replaced_texts_reader i else replaced_characters_reader i) ≡ Ok (x, rest) → rule.replaced x i rest
+    go : (b : Bool) → (if b then replaced_texts_reader i else replaced_characters_reader i) ≡ Ok (x, rest) → rule.replacement_clause x i rest
     go true e = replaced_texts_sound x i rest e
     go false e = replaced_characters_sound x i rest e
 
-replaced_complete : {Allowed : Halt → Type 0} → Complete Allowed rule.replaced replaced_reader
+replaced_complete : {Allowed : Halt → Type 0} → Complete Allowed rule.replacement_clause replaced_reader
 unfolding replaced_reader replaced_texts_reader replaced_characters_reader
 replaced_complete (replacing_as.Texts how texts) i rest (i1, told, list) =
     rw (telling_starts replaced_in how i i1 told)
@@ -277,46 +277,46 @@ replaced_complete (replacing_as.Characters by limits) i rest (i1, characters, (i
     (step (text_reader i2) _ (text_complete by i2 i3 one)
     (step (limits_reader i3) _ (limits_complete limits i3 rest bounds) (Reached refl)))))
 
-replaced_shrinks : Shrinks rule.replaced
+replaced_shrinks : Shrinks rule.replacement_clause
 replaced_shrinks (replacing_as.Texts how texts) i rest (i1, told, list) =
     let a = telling_shrinks replaced_in how i i1 told in
-    let b = lists.several_shrinks rule.replaced_text (tested begins_text) replaced_text_shrinks texts i1 rest list in omega arith
+    let b = lists.several_shrinks rule.replaced_text (lookahead begins_text) replaced_text_shrinks texts i1 rest list in omega arith
 replaced_shrinks (replacing_as.Characters by limits) i rest (i1, characters, (i2, word, (i3, one, bounds))) =
     let a = word_shrinks w.Characters i i1 characters in
     let b = word_shrinks w.By i1 i2 word in
     let c = text_shrinks by i2 i3 one in
     let d = limits_shrink limits i3 rest bounds in omega arith
 
-replaced_starts : Starts begins_replaced rule.replaced
+replaced_starts : Starts begins_replaced rule.replacement_clause
 replaced_starts (replacing_as.Texts how texts) i rest (i1, told, list) =
     either (begins_word w.Characters i) (begins_telling replaced_in i) (telling_starts replaced_in how i i1 told)
 replaced_starts (replacing_as.Characters by limits) i rest s = ap (λ b. b || begins_telling replaced_in i) (word_begins w.Characters i s.0 s.1)
 
 -- ---- REPLACING
 
-replacing_sound : Sound rule.replacing replacing_reader
+replacing_sound : Sound rule.replacing_phrase replacing_reader
 unfolding replacing_reader
 replacing_sound x i rest e =
     unstep (read.expect w.Replacing i) _ e (λ u i1 is1 e1. (
       i1,
       word_sound w.Replacing u i i1 is1,
-      lists.several_sound rule.replaced replaced_reader (tested begins_replaced) begins_replaced (tests_tested begins_replaced) replaced_sound x i1 rest e1,
+      lists.several_sound rule.replacement_clause replaced_reader (lookahead begins_replaced) begins_replaced (tests_tested begins_replaced) replaced_sound x i1 rest e1,
     ))
 
-replacing_complete : {Allowed : Halt → Type 0} → Complete Allowed rule.replacing replacing_reader
+replacing_complete : {Allowed : Halt → Type 0} → Complete Allowed rule.replacing_phrase replacing_reader
 unfolding replacing_reader
 replacing_complete {Allowed = Allowed} x i rest (i1, verb, entries) =
     step (read.expect w.Replacing i) _ (word_complete w.Replacing tt i i1 verb)
-    (lists.several_complete rule.replaced replaced_reader (tested begins_replaced) begins_replaced (tests_tested begins_replaced) Allowed (replaced_complete {Allowed = Allowed}) replaced_shrinks replaced_starts
+    (lists.several_complete rule.replacement_clause replaced_reader (lookahead begins_replaced) begins_replaced (tests_tested begins_replaced) Allowed (replaced_complete {Allowed = Allowed}) replaced_shrinks replaced_starts
     x i1 rest entries)
 
-replacing_shrinks : Shrinks rule.replacing
+replacing_shrinks : Shrinks rule.replacing_phrase
 replacing_shrinks x i rest (i1, verb, entries) =
     let a = word_shrinks w.Replacing i i1 verb in
-    let b = lists.several_shrinks rule.replaced (tested begins_replaced) replaced_shrinks x i1 rest entries in omega arith
+    let b = lists.several_shrinks rule.replacement_clause (lookahead begins_replaced) replaced_shrinks x i1 rest entries in omega arith
 
 -- one phrase is no empty list
-as_perhaps : (all : List Replacing) (i rest : List Token) → rule.replacing all i rest → rule.perhaps_replacing all i rest
+as_perhaps : (all : List Replacing) (i rest : List Token) → rule.replacing_phrase all i rest → rule.perhaps_replacing all i rest
 as_perhaps [] i rest (i1, verb, none) = absurd none
 as_perhaps (one ∷ more) i rest s = s
 
@@ -343,7 +343,7 @@ perhaps_shrinks (one ∷ more) i rest s = let a = replacing_shrinks (one ∷ mor
 abbrev both_phrases : List Tallying × List Replacing → Part
 both_phrases x = rule.phrases x.0 x.1
 
-with_counters : (counters : List Tallying) (entries : List Replacing) (i i1 rest : List Token) → rule.tallying counters i i1 → rule.perhaps_replacing entries i1 rest
+with_counters : (counters : List Tallying) (entries : List Replacing) (i i1 rest : List Token) → rule.tallying_phrase counters i i1 → rule.perhaps_replacing entries i1 rest
     → rule.phrases counters entries i rest
 with_counters [] entries i i1 rest (j, verb, none) s = absurd none
 with_counters (one ∷ more) entries i i1 rest counted s = (i1, counted, s)
@@ -384,25 +384,25 @@ phrases_shrink (one ∷ more) entries i rest (i1, counters, s) =
 
 -- ---- the statement
 
-pub inspecting_shrinks : (one : Inspecting) (i rest : List Token) → rule.inspecting one i rest → length rest < length i
+pub inspecting_shrinks : (one : InspectStatement) (i rest : List Token) → rule.inspect_statement one i rest → length rest < length i
 inspecting_shrinks one i rest (i1, verb, (i2, subject, s)) =
     let a = word_shrinks w.Inspect i i1 verb in
     let b = reference_shrinks one.subject i1 i2 subject in
     let c = phrases_shrink one.tallying one.replacing i2 rest s in omega arith
 
-pub inspecting_stands : (one : Inspecting) (i rest : List Token) → rule.inspecting one i rest → verb_at i ≡ Some v.Inspect
+pub inspecting_stands : (one : InspectStatement) (i rest : List Token) → rule.inspect_statement one i rest → verb_at i ≡ Some v.Inspect
 inspecting_stands one i rest s = stands w.Inspect i s.0 s.1
 
-pub inspecting_complete : {Allowed : Halt → Type 0} (one : Inspecting) (i rest : List Token) → rule.inspecting one i rest
-    → Answers Allowed (inspecting_reader i) (verb.Text (text_as.Inspect one)) rest
-unfolding inspecting_reader
+pub inspecting_complete : {Allowed : Halt → Type 0} (one : InspectStatement) (i rest : List Token) → rule.inspect_statement one i rest
+    → Answers Allowed (inspect_reader i) (verb.Text (text_as.Inspect one)) rest
+unfolding inspect_reader
 inspecting_complete one i rest (i1, verb, (i2, subject, s)) =
     step (read.expect w.Inspect i) _ (word_complete w.Inspect tt i i1 verb)
     (step (reference_reader i1) _ (reference_complete one.subject i1 i2 subject)
     (step (phrases_reader i2) _ (phrases_complete one.tallying one.replacing i2 rest s) (Reached refl)))
 
-pub inspecting_sound : (depth : ℕ) (p : Statement → Part) → Sound (g.verb_line depth p) inspecting_reader
-unfolding inspecting_reader
+pub inspecting_sound : (depth : ℕ) (p : Statement → Part) → Sound (g.verb_line depth p) inspect_reader
+unfolding inspect_reader
 inspecting_sound depth p x i rest e =
     unstep (read.expect w.Inspect i) _ e (λ u i1 is1 e1.
     unstep (reference_reader i1) _ e1 (λ subject i2 is2 e2.

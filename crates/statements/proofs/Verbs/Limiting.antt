@@ -6,7 +6,7 @@ use Rattle.tokens.specs.declared.reserved.Reserved.TheVariants as w
 use Rattle.tokens.specs.declared.token.Token.{Token}
 use Rattle.tokens.specs.Reserved.{same_word}
 use Rattle.source_tree.specs.declared.expression.Operand.{Operand}
-use Rattle.source_tree.specs.declared.inspecting.Limits.{Limits}
+use Rattle.source_tree.specs.declared.inspect_statement.Limits.{Limits}
 use Rattle.grammar.specs.declared.fault.Halt.{Halt}
 use Rattle.grammar.specs.Parts.{word}
 use Rattle.grammar.specs.Reading as read
@@ -60,23 +60,23 @@ bound_shrinks x i rest (i1, initial, one) =
 -- ---- one of the two
 
 module _ (which : Reserved) where
-  limit_sound : Sound (rule.limiting which) (limit_reader which)
+  limit_sound : Sound (rule.limit_phrase which) (limit_reader which)
   unfolding limit_reader
   limit_sound x i rest e = go (after_word which i) refl e
     where
-      go : (o : Option (List Token)) → after_word which i ≡ o → limit_at o i ≡ Ok (x, rest) → rule.limiting which x i rest
-      go None is e = subst (λ y. rule.limiting which y i rest) (value e) (after e, is_absent (finds_word which) i is)
+      go : (o : Option (List Token)) → after_word which i ≡ o → limit_at o i ≡ Ok (x, rest) → rule.limit_phrase which x i rest
+      go None is e = subst (λ y. rule.limit_phrase which y i rest) (value e) (after e, is_absent (finds_word which) i is)
       go (Some m) is e =
           unstep (bound_reader m) _ e (λ one i1 is1 e1.
-          subst (λ y. rule.limiting which y i rest) (value e1) (m, (finds_word which).found i m is, bound_sound one m rest (last is1 e1)))
+          subst (λ y. rule.limit_phrase which y i rest) (value e1) (m, (finds_word which).found i m is, bound_sound one m rest (last is1 e1)))
 
-  limit_complete : {Allowed : Halt → Type 0} → Complete Allowed (rule.limiting which) (limit_reader which)
+  limit_complete : {Allowed : Halt → Type 0} → Complete Allowed (rule.limit_phrase which) (limit_reader which)
   unfolding limit_reader
   limit_complete None i rest s = rw (is_missing (finds_word which) i s.1) (Reached (ap (λ j. Ok (None, j)) s.0))
   limit_complete (Some one) i rest (m, word, bound) =
       rw ((finds_word which).stands i m word) (step (bound_reader m) _ (bound_complete one m rest bound) (Reached refl))
 
-  limit_shrinks : (x : Option Operand) (i rest : List Token) → rule.limiting which x i rest → length rest ≤ length i
+  limit_shrinks : (x : Option Operand) (i rest : List Token) → rule.limit_phrase which x i rest → length rest ≤ length i
   limit_shrinks None i rest s = let l = ap length s.0 in omega arith
   limit_shrinks (Some one) i rest (m, word, bound) =
       let a = word_shrinks which i m word in
@@ -84,39 +84,39 @@ module _ (which : Reserved) where
 
 -- ---- what is read of both is spelled
 
-before_sound : (before other : Option Operand) (i i1 rest : List Token) → ((j : List Token) → word w.After i j → ⊥) → rule.limiting w.Before before i i1 → rule.limiting w.After other i1 rest
-    → rule.ordered before other false i rest
+before_sound : (before other : Option Operand) (i i1 rest : List Token) → ((j : List Token) → word w.After i j → ⊥) → rule.limit_phrase w.Before before i i1 → rule.limit_phrase w.After other i1 rest
+    → rule.ordered_limits before other false i rest
 before_sound None None i i1 rest absent front behind = (i1, front, behind)
 before_sound None (Some one) i i1 rest absent front behind = absurd (absent behind.0 (subst (λ j. word w.After j behind.0) (sym front.0) behind.1))
 before_sound (Some before) None i i1 rest absent front behind = (i1, front, behind)
 before_sound (Some before) (Some one) i i1 rest absent front behind = (i1, front, behind)
 
-after_sound : (one : Operand) (before : Option Operand) (i i1 rest : List Token) → rule.limit w.After one i i1 → rule.limiting w.Before before i1 rest
-    → rule.ordered before (Some one) (is_some before) i rest
+after_sound : (one : Operand) (before : Option Operand) (i i1 rest : List Token) → rule.limit w.After one i i1 → rule.limit_phrase w.Before before i1 rest
+    → rule.ordered_limits before (Some one) (is_some before) i rest
 after_sound one None i i1 rest front behind = (i1, front, behind)
 after_sound one (Some before) i i1 rest front behind = (i1, front, behind)
 
-before_first_sound : (x : Limits) (i rest : List Token) → ((j : List Token) → word w.After i j → ⊥) → before_first_reader i ≡ Ok (x, rest) → rule.limited x i rest
+before_first_sound : (x : Limits) (i rest : List Token) → ((j : List Token) → word w.After i j → ⊥) → before_first_reader i ≡ Ok (x, rest) → rule.limit_phrases x i rest
 unfolding before_first_reader
 before_first_sound x i rest absent e =
     unstep (limit_reader w.Before i) _ e (λ before i1 is1 e1.
     unstep (limit_reader w.After i1) _ e1 (λ other i2 is2 e2.
-    subst (λ y. rule.limited y i rest) (value e2)
+    subst (λ y. rule.limit_phrases y i rest) (value e2)
     (before_sound before other i i1 rest absent (limit_sound w.Before before i i1 is1) (limit_sound w.After other i1 rest (last is2 e2)))))
 
-after_first_sound : (x : Limits) (i m rest : List Token) → word w.After i m → after_first_reader m ≡ Ok (x, rest) → rule.limited x i rest
+after_first_sound : (x : Limits) (i m rest : List Token) → word w.After i m → after_first_reader m ≡ Ok (x, rest) → rule.limit_phrases x i rest
 unfolding after_first_reader
 after_first_sound x i m rest front e =
     unstep (bound_reader m) _ e (λ one i1 is1 e1.
     unstep (limit_reader w.Before i1) _ e1 (λ before i2 is2 e2.
-    subst (λ y. rule.limited y i rest) (value e2)
+    subst (λ y. rule.limit_phrases y i rest) (value e2)
     (after_sound one before i i1 rest (m, front, bound_sound one m i1 is1) (limit_sound w.Before before i1 rest (last is2 e2)))))
 
-pub limits_sound : Sound rule.limited limits_reader
+pub limits_sound : Sound rule.limit_phrases limits_reader
 unfolding limits_reader
 limits_sound x i rest e = go (after_word w.After i) refl e
   where
-    go : (o : Option (List Token)) → after_word w.After i ≡ o → limits_at o i ≡ Ok (x, rest) → rule.limited x i rest
+    go : (o : Option (List Token)) → after_word w.After i ≡ o → limits_at o i ≡ Ok (x, rest) → rule.limit_phrases x i rest
     go None is e = before_first_sound x i rest (is_absent (finds_word w.After) i is) e
     go (Some m) is e = after_first_sound x i m rest ((finds_word w.After).found i m is) e
 
@@ -127,7 +127,7 @@ unfolding same_word
 no_after i j before = is_missing (finds_word w.After) i (λ k s. true_not_false (begins_word w.After i) (begins_no_other w.Before w.After refl i j before) (word_begins w.After i k s))
 
 module _ {Allowed : Halt → Type 0} where
-  before_complete : (before other : Option Operand) (i i1 rest : List Token) → after_word w.After i ≡ None → rule.limiting w.Before before i i1 → rule.limiting w.After other i1 rest
+  before_complete : (before other : Option Operand) (i i1 rest : List Token) → after_word w.After i ≡ None → rule.limit_phrase w.Before before i i1 → rule.limit_phrase w.After other i1 rest
       → Answers Allowed (limits_reader i) (record { before = before; after = other; after_first = false }) rest
   unfolding limits_reader before_first_reader
   before_complete before other i i1 rest absent front behind =
@@ -135,7 +135,7 @@ module _ {Allowed : Halt → Type 0} where
       (step (limit_reader w.Before i) _ (limit_complete w.Before before i i1 front)
       (step (limit_reader w.After i1) _ (limit_complete w.After other i1 rest behind) (Reached refl)))
 
-  after_complete : (one : Operand) (before : Option Operand) (i i1 rest : List Token) → rule.limit w.After one i i1 → rule.limiting w.Before before i1 rest
+  after_complete : (one : Operand) (before : Option Operand) (i i1 rest : List Token) → rule.limit w.After one i i1 → rule.limit_phrase w.Before before i1 rest
       → Answers Allowed (limits_reader i) (record { before = before; after = Some one; after_first = is_some before }) rest
   unfolding limits_reader after_first_reader
   after_complete one before i i1 rest (m, front, bound) behind =
@@ -143,7 +143,7 @@ module _ {Allowed : Halt → Type 0} where
       (step (bound_reader m) _ (bound_complete one m i1 bound)
       (step (limit_reader w.Before i1) _ (limit_complete w.Before before i1 rest behind) (Reached refl)))
 
-  ordered_complete : (before other : Option Operand) (after_first : Bool) (i rest : List Token) → rule.ordered before other after_first i rest
+  ordered_complete : (before other : Option Operand) (after_first : Bool) (i rest : List Token) → rule.ordered_limits before other after_first i rest
       → Answers Allowed (limits_reader i) (record { before = before; after = other; after_first = after_first }) rest
   ordered_complete None None false i rest (i1, front, behind) =
       before_complete None None i i1 rest (is_missing (finds_word w.After) i (λ j s. behind.1 j (subst (λ k. word w.After k j) front.0 s))) front behind
@@ -155,15 +155,15 @@ module _ {Allowed : Halt → Type 0} where
   ordered_complete (Some before) None true i rest s = absurd s
   ordered_complete (Some before) (Some one) true i rest (i1, front, behind) = after_complete one (Some before) i i1 rest front behind
 
-  pub limits_complete : Complete Allowed rule.limited limits_reader
+  pub limits_complete : Complete Allowed rule.limit_phrases limits_reader
   limits_complete x i rest s = ordered_complete x.before x.after x.after_first i rest s
 
-two_shrink : (one other : Reserved) (first second : Option Operand) (i i1 rest : List Token) → rule.limiting one first i i1 → rule.limiting other second i1 rest → length rest ≤ length i
+two_shrink : (one other : Reserved) (first second : Option Operand) (i i1 rest : List Token) → rule.limit_phrase one first i i1 → rule.limit_phrase other second i1 rest → length rest ≤ length i
 two_shrink one other first second i i1 rest front behind =
     let a = limit_shrinks one first i i1 front in
     let b = limit_shrinks other second i1 rest behind in omega arith
 
-ordered_shrinks : (before other : Option Operand) (after_first : Bool) (i rest : List Token) → rule.ordered before other after_first i rest → length rest ≤ length i
+ordered_shrinks : (before other : Option Operand) (after_first : Bool) (i rest : List Token) → rule.ordered_limits before other after_first i rest → length rest ≤ length i
 ordered_shrinks None None false i rest (i1, front, behind) = two_shrink w.Before w.After None None i i1 rest front behind
 ordered_shrinks None (Some one) false i rest (i1, front, behind) = two_shrink w.After w.Before (Some one) None i i1 rest front behind
 ordered_shrinks (Some before) None false i rest (i1, front, behind) = two_shrink w.Before w.After (Some before) None i i1 rest front behind
@@ -173,5 +173,5 @@ ordered_shrinks None (Some one) true i rest s = absurd s
 ordered_shrinks (Some before) None true i rest s = absurd s
 ordered_shrinks (Some before) (Some one) true i rest (i1, front, behind) = two_shrink w.After w.Before (Some one) (Some before) i i1 rest front behind
 
-pub limits_shrink : (x : Limits) (i rest : List Token) → rule.limited x i rest → length rest ≤ length i
+pub limits_shrink : (x : Limits) (i rest : List Token) → rule.limit_phrases x i rest → length rest ≤ length i
 limits_shrink x i rest s = ordered_shrinks x.before x.after x.after_first i rest s

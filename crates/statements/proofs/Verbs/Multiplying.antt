@@ -16,37 +16,37 @@ use Rattle.statements.specs.declared.receivers.Target.{Target}
 use Rattle.statements.specs.declared.receivers.Target.TheVariants.{Receivers, Giving}
 use Rattle.statements.specs.Verbs.{verb_at}
 use Rattle.statements.specs.Receivers.{target_reader}
-use Rattle.statements.specs.Multiplying.{multiplying, multiplied, multiplying_reader}
+use Rattle.statements.specs.Multiplying.{multiply_statement, multiply_operation, multiply_reader}
 use Rattle.statements.specs.Arithmetic.{operation}
 use Rattle.statements.proofs.Standing.{stands}
 use Rattle.statements.proofs.ReceiverLists.{target_sound, target_complete, target_shrinks}
 
 module _ (factor : Operand) (by : Target) where
-  pub multiplying_shrinks : (i rest : List Token) → multiplying factor by i rest → length rest < length i
+  pub multiplying_shrinks : (i rest : List Token) → multiply_statement factor by i rest → length rest < length i
   multiplying_shrinks i rest (i1, verb, (i2, given, (i3, by_word, into))) =
       let a = word_shrinks w.Multiply i i1 verb in
       let b = number_operand_shrinks factor i1 i2 given in
       let c = word_shrinks w.By i2 i3 by_word in
       let d = target_shrinks by i3 rest into in omega arith
 
-  pub multiplying_stands : (i rest : List Token) → multiplying factor by i rest → verb_at i ≡ Some (v.Arithmetic a.Multiply)
+  pub multiplying_stands : (i rest : List Token) → multiply_statement factor by i rest → verb_at i ≡ Some (v.Arithmetic a.Multiply)
   multiplying_stands i rest s = stands w.Multiply i s.0 s.1
 
-  pub multiplying_complete : {Allowed : Halt → Type 0} (i rest : List Token) → multiplying factor by i rest
-      → Answers Allowed (multiplying_reader i) (multiplied factor by) rest
-  unfolding multiplying_reader
+  pub multiplying_complete : {Allowed : Halt → Type 0} (i rest : List Token) → multiply_statement factor by i rest
+      → Answers Allowed (multiply_reader i) (multiply_operation factor by) rest
+  unfolding multiply_reader
   multiplying_complete i rest (i1, verb, (i2, given, (i3, by_word, into))) =
       step (read.expect w.Multiply i) _ (word_complete w.Multiply tt i i1 verb)
       (step (number_operand_reader i1) _ (number_operand_complete factor i1 i2 given)
       (step (read.expect w.By i2) _ (word_complete w.By tt i2 i3 by_word)
       (step (target_reader i3) _ (target_complete by i3 rest into) (Reached refl))))
 
-multiplied_spelled : (depth : ℕ) (factor : Operand) (by : Target) (i rest : List Token) → multiplying factor by i rest → operation depth (multiplied factor by) i rest
+multiplied_spelled : (depth : ℕ) (factor : Operand) (by : Target) (i rest : List Token) → multiply_statement factor by i rest → operation depth (multiply_operation factor by) i rest
 multiplied_spelled depth factor (Receivers all) i rest s = s
 multiplied_spelled depth factor (Giving by all) i rest s = s
 
-pub multiplying_sound : (depth : ℕ) → Sound (operation depth) multiplying_reader
-unfolding multiplying_reader
+pub multiplying_sound : (depth : ℕ) → Sound (operation depth) multiply_reader
+unfolding multiply_reader
 multiplying_sound depth x i rest e =
     unstep (read.expect w.Multiply i) _ e (λ u i1 is1 e1.
     unstep (number_operand_reader i1) _ e1 (λ factor i2 is2 e2.

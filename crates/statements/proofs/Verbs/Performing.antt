@@ -6,10 +6,10 @@ use Rattle.tokens.specs.declared.reserved.Reserved.TheVariants as w
 use Rattle.tokens.specs.declared.token.Token.{Token}
 use Rattle.tokens.specs.Reserved.{same_word}
 use Rattle.source_tree.specs.declared.name.Name.{Name}
-use Rattle.source_tree.specs.declared.performing.Performed.{Performed}
-use Rattle.source_tree.specs.declared.performing.Performed.TheVariants.{Procedures, Statements}
-use Rattle.source_tree.specs.declared.performing.Turns.{Turns}
-use Rattle.source_tree.specs.declared.performing.Performing.{Performing}
+use Rattle.source_tree.specs.declared.perform_statement.Performed.{Performed}
+use Rattle.source_tree.specs.declared.perform_statement.Performed.TheVariants.{Procedures, Statements}
+use Rattle.source_tree.specs.declared.perform_statement.Repetition.{Repetition}
+use Rattle.source_tree.specs.declared.perform_statement.PerformStatement.{PerformStatement}
 use Rattle.source_tree.specs.declared.statement.Verb.{Verb}
 use Rattle.source_tree.specs.declared.statement.Verb.TheVariants as verb
 use Rattle.source_tree.specs.declared.statement.Statement.{Statement}
@@ -29,7 +29,7 @@ use Rattle.statements.specs.declared.verb.VerbWord.TheVariants as v
 use Rattle.statements.specs.Verbs.{verb_at, begins_statement}
 use Rattle.statements.specs.Turning.{turns_reader}
 use Rattle.statements.specs.Performing as rule
-use Rattle.statements.specs.Performing.{performing, begins_procedures, through_by, through_reader, last_reader, procedures_reader, in_line_reader, performing_reader}
+use Rattle.statements.specs.Performing.{perform_statement, begins_procedures, through_by, through_reader, through_name_reader, procedures_reader, in_line_reader, perform_reader}
 use Rattle.statements.specs.Spelling as g
 use Rattle.statements.specs.Reading as r
 use Rattle.statements.proofs.Except.{not_second, both}
@@ -64,8 +64,8 @@ neither_word : (i : List Token) → begins_word w.Thru i ≡ false → begins_wo
 neither_word i is is' behind (inl s) = true_not_false (begins_word w.Thru i) is (word_begins w.Thru i behind s)
 neither_word i is is' behind (inr s) = true_not_false (begins_word w.Through i) is' (word_begins w.Through i behind s)
 
-last_sound : Sound rule.last_named last_reader
-unfolding last_reader through_reader
+last_sound : Sound rule.last_named through_name_reader
+unfolding through_name_reader through_reader
 last_sound x i rest e = go (begins_word w.Thru i) (begins_word w.Through i) refl refl e
   where
     go : (a b : Bool) → begins_word w.Thru i ≡ a → begins_word w.Through i ≡ b
@@ -79,8 +79,8 @@ through_complete : {Allowed : Halt → Type 0} (one : Reserved) (name : Name) (i
 through_complete one name i i1 rest thru named =
     step (read.expect one i) _ (word_complete one tt i i1 thru) (step (read.name i1) _ (name_complete name i1 rest named) (Reached refl))
 
-last_complete : {Allowed : Halt → Type 0} → Complete Allowed rule.last_named last_reader
-unfolding last_reader through_reader
+last_complete : {Allowed : Halt → Type 0} → Complete Allowed rule.last_named through_name_reader
+unfolding through_name_reader through_reader
 last_complete None i rest s =
     rw (no_word w.Thru i (λ j stands. s.1 j (inl stands)))
     (rw (no_word w.Through i (λ j stands. s.1 j (inr stands))) (Reached (ap (λ j. Ok (None, j)) s.0)))
@@ -91,22 +91,22 @@ last_complete (Some name) i rest (i1, inr thru, named) =
 
 -- ---- procedures
 
-procedures_shrink : (depth : ℕ) (first : Name) (to : Option Name) (often : Turns) (i rest : List Token) → rule.procedures depth first to often i rest → length rest < length i
+procedures_shrink : (depth : ℕ) (first : Name) (to : Option Name) (often : Repetition) (i rest : List Token) → rule.procedures depth first to often i rest → length rest < length i
 procedures_shrink depth first to often i rest (i1, (named, no_count), (i2, thru, phrase)) =
     let a = name_shrinks first i i1 named in
     let b = last_shrinks to i1 i2 thru in
     let c = turns_shrink depth often i2 rest phrase in omega arith
 
 procedures_complete : (Allowed : Halt → Type 0) (depth depth' : ℕ) → Complete Allowed (condition depth') (condition_reader depth)
-    → (first : Name) (to : Option Name) (often : Turns) (i rest : List Token) → rule.procedures depth' first to often i rest
-    → Answers Allowed (procedures_reader depth i) (verb.Performing (record { performed = Procedures first to; turns = often })) rest
+    → (first : Name) (to : Option Name) (often : Repetition) (i rest : List Token) → rule.procedures depth' first to often i rest
+    → Answers Allowed (procedures_reader depth i) (verb.PerformStatement (record { performed = Procedures first to; turns = often })) rest
 unfolding procedures_reader
 procedures_complete Allowed depth depth' asks first to often i rest (i1, (named, no_count), (i2, thru, phrase)) =
     step (read.name i) _ (name_complete first i i1 named)
-    (step (last_reader i1) _ (last_complete to i1 i2 thru)
+    (step (through_name_reader i1) _ (last_complete to i1 i2 thru)
     (step (turns_reader depth i2) _ (turns_complete Allowed depth depth' asks often i2 rest phrase) (Reached refl)))
 
-procedures_begin : (depth : ℕ) (first : Name) (to : Option Name) (often : Turns) (i rest : List Token) → rule.procedures depth first to often i rest → begins_procedures i ≡ true
+procedures_begin : (depth : ℕ) (first : Name) (to : Option Name) (often : Repetition) (i rest : List Token) → rule.procedures depth first to often i rest → begins_procedures i ≡ true
 procedures_begin depth first to often i rest (i1, (named, no_count), more) =
     both (begins_name i) (is_some (after_reference_before w.Times i)) (name_starts first i i1 named) ((tests_words (reference_before_found w.Times)).refuses i no_count)
 
@@ -118,52 +118,52 @@ begin_no_count i is =
 -- ---- either
 
 module _ (statements : List Statement → Part) where
-  in_line_no_procedures : Starts begins_statement statements → (depth : ℕ) (inside : List Statement) (often : Turns) (i rest : List Token)
+  in_line_no_procedures : Starts begins_statement statements → (depth : ℕ) (inside : List Statement) (often : Repetition) (i rest : List Token)
       → rule.in_line depth statements inside often i rest → begins_procedures i ≡ false
   in_line_no_procedures begins depth inside often i rest (i1, phrase, (i2, inner, end)) =
       turns_no_procedures depth often i i1 phrase (statement_no_name i1 (begins inside i1 i2 inner))
 
-  in_line_shrinks : Shrinks statements → (depth : ℕ) (inside : List Statement) (often : Turns) (i rest : List Token)
+  in_line_shrinks : Shrinks statements → (depth : ℕ) (inside : List Statement) (often : Repetition) (i rest : List Token)
       → rule.in_line depth statements inside often i rest → length rest < length i
   in_line_shrinks fewer depth inside often i rest (i1, phrase, (i2, inner, end)) =
       let a = turns_shrink depth often i i1 phrase in
       let b = fewer inside i1 i2 inner in
       let c = word_shrinks w.EndPerform i2 rest end in omega arith
 
-  performed_shrinks : Shrinks statements → (depth : ℕ) (one : Performed Statement) (often : Turns) (i rest : List Token)
-      → rule.performed depth statements one often i rest → length rest < length i
+  performed_shrinks : Shrinks statements → (depth : ℕ) (one : Performed Statement) (often : Repetition) (i rest : List Token)
+      → rule.perform_body depth statements one often i rest → length rest < length i
   performed_shrinks fewer depth (Procedures first to) often i rest s = procedures_shrink depth first to often i rest s
   performed_shrinks fewer depth (Statements inside) often i rest s = in_line_shrinks fewer depth inside often i rest s
 
-  pub performing_stands : (depth : ℕ) (one : Performing Statement) (i rest : List Token) → performing depth statements one i rest → verb_at i ≡ Some v.Perform
+  pub performing_stands : (depth : ℕ) (one : PerformStatement Statement) (i rest : List Token) → perform_statement depth statements one i rest → verb_at i ≡ Some v.Perform
   performing_stands depth one i rest s = stands w.Perform i s.0 s.1
 
-  pub performing_shrinks : (depth : ℕ) → Shrinks statements → Shrinks (performing depth statements)
+  pub performing_shrinks : (depth : ℕ) → Shrinks statements → Shrinks (perform_statement depth statements)
   performing_shrinks depth fewer one i rest (i1, verb, s) =
       let a = word_shrinks w.Perform i i1 verb in
       let b = performed_shrinks fewer depth one.performed one.turns i1 rest s in omega arith
 
   module _ (Allowed : Halt → Type 0) (depth depth' : ℕ) (asks : Complete Allowed (condition depth') (condition_reader depth))
       (reader : Parser (List Statement)) (each : Complete Allowed statements reader) (begins : Starts begins_statement statements) where
-    in_line_complete : (inside : List Statement) (often : Turns) (i rest : List Token) → rule.in_line depth' statements inside often i rest
-        → Answers Allowed (in_line_reader depth reader i) (verb.Performing (record { performed = Statements inside; turns = often })) rest
+    in_line_complete : (inside : List Statement) (often : Repetition) (i rest : List Token) → rule.in_line depth' statements inside often i rest
+        → Answers Allowed (in_line_reader depth reader i) (verb.PerformStatement (record { performed = Statements inside; turns = often })) rest
     unfolding in_line_reader
     in_line_complete inside often i rest (i1, phrase, (i2, inner, end)) =
         step (turns_reader depth i) _ (turns_complete Allowed depth depth' asks often i i1 phrase)
         (step (reader i1) _ (each inside i1 i2 inner)
         (step (read.expect w.EndPerform i2) _ (word_complete w.EndPerform tt i2 rest end) (Reached refl)))
 
-    performed_complete : (what : Performed Statement) (often : Turns) (i rest : List Token) → rule.performed depth' statements what often i rest
-        → Answers Allowed (rule.performed_reader depth reader i) (verb.Performing (record { performed = what; turns = often })) rest
+    performed_complete : (what : Performed Statement) (often : Repetition) (i rest : List Token) → rule.perform_body depth' statements what often i rest
+        → Answers Allowed (rule.performed_reader depth reader i) (verb.PerformStatement (record { performed = what; turns = often })) rest
     performed_complete (Procedures first to) often i rest s =
         rw (procedures_begin depth' first to often i rest s) (procedures_complete Allowed depth depth' asks first to often i rest s)
     performed_complete (Statements inside) often i rest s =
         rw (in_line_no_procedures begins depth' inside often i rest s) (in_line_complete inside often i rest s)
 
-    pub performing_complete : (often : Turns) (what : Performed Statement) (i rest : List Token)
-        → performing depth' statements (record { performed = what; turns = often }) i rest
-        → Answers Allowed (performing_reader depth reader i) (verb.Performing (record { performed = what; turns = often })) rest
-    unfolding performing_reader
+    pub performing_complete : (often : Repetition) (what : Performed Statement) (i rest : List Token)
+        → perform_statement depth' statements (record { performed = what; turns = often }) i rest
+        → Answers Allowed (perform_reader depth reader i) (verb.PerformStatement (record { performed = what; turns = often })) rest
+    unfolding perform_reader
     performing_complete often what i rest (i1, verb, s) =
         step (read.expect w.Perform i) _ (word_complete w.Perform tt i i1 verb) (performed_complete what often i1 rest s)
 
@@ -173,7 +173,7 @@ module _ (depth : ℕ) (p : Statement → Part) (nested : Parser Statement) (eac
   unfolding procedures_reader
   procedures_sound x verb i rest perform no_count e =
       unstep (read.name i) _ e (λ first i1 is1 e1.
-      unstep (last_reader i1) _ e1 (λ to i2 is2 e2.
+      unstep (through_name_reader i1) _ e1 (λ to i2 is2 e2.
       unstep (turns_reader depth i2) _ e2 (λ often i3 is3 e3.
       subst (λ y. g.verb_line depth p y verb rest) (value e3)
       (i, perform, (i1, (name_sound first i i1 is1, no_count), (i2, last_sound to i1 i2 is2, turns_sound depth often i2 rest (last is3 e3)))))))
@@ -195,7 +195,7 @@ module _ (depth : ℕ) (p : Statement → Part) (nested : Parser Statement) (eac
       go true is e = procedures_sound x verb i rest perform (begin_no_count i is) e
       go false is e = in_line_sound x verb i rest perform e
 
-  pub performing_sound : Sound (g.verb_line depth p) (performing_reader depth (r.statements nested))
-  unfolding performing_reader
+  pub performing_sound : Sound (g.verb_line depth p) (perform_reader depth (r.statements nested))
+  unfolding perform_reader
   performing_sound x i rest e =
       unstep (read.expect w.Perform i) _ e (λ u i1 is1 e1. performed_sound x i i1 rest (word_sound w.Perform u i i1 is1) e1)

@@ -3,7 +3,7 @@ use Rattle.std.proofs.Common.{◌≡◌, ◌<◌, ℕ, List, length, Some, refl,
 use Rattle.tokens.specs.declared.reserved.Reserved.TheVariants as w
 use Rattle.tokens.specs.declared.token.Token.{Token}
 use Rattle.source_tree.specs.declared.reference.Reference.{Reference}
-use Rattle.source_tree.specs.declared.moving.Moving.TheVariants.{Set}
+use Rattle.source_tree.specs.declared.data_statement.DataStatement.TheVariants.{Set}
 use Rattle.source_tree.specs.declared.statement.Verb.TheVariants as verb
 use Rattle.source_tree.specs.declared.statement.Statement.{Statement}
 use Rattle.grammar.specs.declared.fault.Halt.{Halt}
@@ -16,32 +16,32 @@ use Rattle.expressions.specs.References.{reference_reader}
 use Rattle.expressions.proofs.Exact.References.{references_sound, references_complete, references_shrink}
 use Rattle.statements.specs.declared.verb.VerbWord.TheVariants as v
 use Rattle.statements.specs.Verbs.{verb_at}
-use Rattle.statements.specs.Setting.{setting, setting_reader}
+use Rattle.statements.specs.Setting.{set_statement, set_reader}
 use Rattle.statements.specs.Spelling as g
 use Rattle.statements.proofs.Standing.{stands}
 
 module _ (conditions : List Reference) where
-  pub setting_shrinks : (i rest : List Token) → setting conditions i rest → length rest < length i
+  pub setting_shrinks : (i rest : List Token) → set_statement conditions i rest → length rest < length i
   setting_shrinks i rest (i1, verb, (i2, named, (i3, to, true_word))) =
       let a = word_shrinks w.Set i i1 verb in
       let b = references_shrink conditions i1 i2 named in
       let c = word_shrinks w.To i2 i3 to in
       let d = word_shrinks w.True i3 rest true_word in omega arith
 
-  pub setting_stands : (i rest : List Token) → setting conditions i rest → verb_at i ≡ Some v.Set
+  pub setting_stands : (i rest : List Token) → set_statement conditions i rest → verb_at i ≡ Some v.Set
   setting_stands i rest s = stands w.Set i s.0 s.1
 
-  pub setting_complete : {Allowed : Halt → Type 0} (i rest : List Token) → setting conditions i rest
-      → Answers Allowed (setting_reader i) (verb.Moving (Set conditions)) rest
-  unfolding setting_reader
+  pub setting_complete : {Allowed : Halt → Type 0} (i rest : List Token) → set_statement conditions i rest
+      → Answers Allowed (set_reader i) (verb.DataStatement (Set conditions)) rest
+  unfolding set_reader
   setting_complete i rest (i1, verb, (i2, named, (i3, to, true_word))) =
       step (read.expect w.Set i) _ (word_complete w.Set tt i i1 verb)
       (step (read.several reference_reader begins_name i1) _ (references_complete conditions i1 i2 named)
       (step (read.expect w.To i2) _ (word_complete w.To tt i2 i3 to)
       (step (read.expect w.True i3) _ (word_complete w.True tt i3 rest true_word) (Reached refl))))
 
-pub setting_sound : (depth : ℕ) (p : Statement → Part) → Sound (g.verb_line depth p) setting_reader
-unfolding setting_reader
+pub setting_sound : (depth : ℕ) (p : Statement → Part) → Sound (g.verb_line depth p) set_reader
+unfolding set_reader
 setting_sound depth p x i rest e =
     unstep (read.expect w.Set i) _ e (λ u i1 is1 e1.
     unstep (read.several reference_reader begins_name i1) _ e1 (λ conditions i2 is2 e2.

@@ -2,7 +2,7 @@
 use Rattle.std.proofs.Common.{◌≡◌, ◌<◌, ℕ, List, length, Some, refl, subst, arith}
 use Rattle.tokens.specs.declared.reserved.Reserved.TheVariants as w
 use Rattle.tokens.specs.declared.token.Token.{Token}
-use Rattle.source_tree.specs.declared.ending.Ending.TheVariants as ending
+use Rattle.source_tree.specs.declared.control_statement.ControlStatement.TheVariants as ending
 use Rattle.source_tree.specs.declared.statement.Verb.TheVariants as verb
 use Rattle.source_tree.specs.declared.statement.Statement.{Statement}
 use Rattle.grammar.specs.declared.fault.Halt.{Halt}
@@ -25,7 +25,7 @@ stop_run_shrinks i rest (i1, verb, run) =
 pub stop_run_stands : (i rest : List Token) → stop_run i rest → verb_at i ≡ Some v.Stop
 stop_run_stands i rest s = stands w.Stop i s.0 s.1
 
-pub stop_run_complete : {Allowed : Halt → Type 0} (i rest : List Token) → stop_run i rest → Answers Allowed (stop_run_reader i) (verb.Ending ending.StopRun) rest
+pub stop_run_complete : {Allowed : Halt → Type 0} (i rest : List Token) → stop_run i rest → Answers Allowed (stop_run_reader i) (verb.ControlStatement ending.StopRun) rest
 unfolding stop_run_reader
 stop_run_complete i rest (i1, verb, run) =
     step (read.expect w.Stop i) _ (word_complete w.Stop tt i i1 verb)

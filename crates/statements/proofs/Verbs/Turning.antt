@@ -7,8 +7,8 @@ use Rattle.tokens.specs.declared.token.Token.{Token}
 use Rattle.source_tree.specs.declared.name.Name.{Name}
 use Rattle.source_tree.specs.declared.literal.Integer.{Integer}
 use Rattle.source_tree.specs.declared.reference.Reference.{Reference}
-use Rattle.source_tree.specs.declared.performing.Turns.{Turns}
-use Rattle.source_tree.specs.declared.performing.Turns.TheVariants.{Once, Times, CountedBy, Until as Through}
+use Rattle.source_tree.specs.declared.perform_statement.Repetition.{Repetition}
+use Rattle.source_tree.specs.declared.perform_statement.Repetition.TheVariants.{Once, Times, CountedBy, Until as Through}
 use Rattle.source_tree.specs.declared.until.TestTime.{TestTime}
 use Rattle.source_tree.specs.declared.until.Varying.{Varying}
 use Rattle.source_tree.specs.declared.until.Until.{Until}
@@ -67,7 +67,7 @@ test_shrinks x i rest (inr (is, out)) = let l = ap length out.0 in omega arith
 
 -- ---- VARYING
 
-varied_sound : Sound rule.varied varied_reader
+varied_sound : Sound rule.varying_phrase varied_reader
 unfolding varied_reader
 varied_sound x i rest e =
     unstep (read.expect w.Varying i) _ e (λ u i1 is1 e1.
@@ -76,7 +76,7 @@ varied_sound x i rest e =
     unstep (number_operand_reader i3) _ e3 (λ from i4 is4 e4.
     unstep (read.expect w.By i4) _ e4 (λ v i5 is5 e5.
     unstep (number_operand_reader i5) _ e5 (λ by i6 is6 e6.
-    subst (λ y. rule.varied y i rest) (value e6) (
+    subst (λ y. rule.varying_phrase y i rest) (value e6) (
       i1,
       word_sound w.Varying u i i1 is1,
       (
@@ -86,7 +86,7 @@ varied_sound x i rest e =
       ),
     )))))))
 
-varied_complete : {Allowed : Halt → Type 0} → Complete Allowed rule.varied varied_reader
+varied_complete : {Allowed : Halt → Type 0} → Complete Allowed rule.varying_phrase varied_reader
 unfolding varied_reader
 varied_complete x i rest (i1, first, (i2, item, (i3, from_word, (i4, from, (i5, by_word, by))))) =
     step (read.expect w.Varying i) _ (word_complete w.Varying tt i i1 first)
@@ -96,7 +96,7 @@ varied_complete x i rest (i1, first, (i2, item, (i3, from_word, (i4, from, (i5, 
     (step (read.expect w.By i4) _ (word_complete w.By tt i4 i5 by_word)
     (step (number_operand_reader i5) _ (number_operand_complete x.by i5 rest by) (Reached refl))))))
 
-varied_shrinks : Shrinks rule.varied
+varied_shrinks : Shrinks rule.varying_phrase
 varied_shrinks x i rest (i1, first, (i2, item, (i3, from_word, (i4, from, (i5, by_word, by))))) =
     let a = word_shrinks w.Varying i i1 first in
     let b = reference_shrinks x.item i1 i2 item in
@@ -105,24 +105,24 @@ varied_shrinks x i rest (i1, first, (i2, item, (i3, from_word, (i4, from, (i5, b
     let f = word_shrinks w.By i4 i5 by_word in
     let g = number_operand_shrinks x.by i5 rest by in omega arith
 
-varying_sound : Sound rule.varying varying_reader
+varying_sound : Sound rule.optional_varying varying_reader
 unfolding varying_reader some_varied_reader
 varying_sound x i rest e = go (begins_word w.Varying i) refl e
   where
-    go : (b : Bool) → begins_word w.Varying i ≡ b → (if b then some_varied_reader i else Ok (None, i)) ≡ Ok (x, rest) → rule.varying x i rest
+    go : (b : Bool) → begins_word w.Varying i ≡ b → (if b then some_varied_reader i else Ok (None, i)) ≡ Ok (x, rest) → rule.optional_varying x i rest
     go true is e =
-        unstep (varied_reader i) _ e (λ one i1 is1 e1. subst (λ y. rule.varying y i rest) (value e1) (varied_sound one i rest (last is1 e1)))
+        unstep (varied_reader i) _ e (λ one i1 is1 e1. subst (λ y. rule.optional_varying y i rest) (value e1) (varied_sound one i rest (last is1 e1)))
     go false is e =
-        subst (λ y. rule.varying y i rest) (value e)
+        subst (λ y. rule.optional_varying y i rest) (value e)
         (after e, λ behind stands. true_not_false (begins_word w.Varying i) is (word_begins w.Varying i behind stands))
 
-varying_complete : {Allowed : Halt → Type 0} → Complete Allowed rule.varying varying_reader
+varying_complete : {Allowed : Halt → Type 0} → Complete Allowed rule.optional_varying varying_reader
 unfolding varying_reader some_varied_reader
 varying_complete None i rest s = rw (no_word w.Varying i s.1) (Reached (ap (λ j. Ok (None, j)) s.0))
 varying_complete (Some one) i rest s =
     rw (word_begins w.Varying i s.0 s.1) (step (varied_reader i) _ (varied_complete one i rest s) (Reached refl))
 
-varying_shrinks : (x : Option Varying) (i rest : List Token) → rule.varying x i rest → length rest ≤ length i
+varying_shrinks : (x : Option Varying) (i rest : List Token) → rule.optional_varying x i rest → length rest ≤ length i
 varying_shrinks None i rest s = let l = ap length s.0 in omega arith
 varying_shrinks (Some one) i rest s = let a = varied_shrinks one i rest s in omega arith
 
@@ -197,7 +197,7 @@ phrase_opens depth x i rest (i1, inl (m, (j, inl with_word, test_word), told), m
 phrase_opens depth x i rest (i1, inl (m, (j, inr out, test_word), told), more) = subst Opens (sym out.0) (test_opens j m test_word)
 phrase_opens depth x i rest (i1, inr (is, out), (i2, what, (i3, until_word, asked))) = subst Opens (sym out.0) (go x.varying what)
   where
-    go : (one : Option Varying) → rule.varying one i1 i2 → Opens i1
+    go : (one : Option Varying) → rule.optional_varying one i1 i2 → Opens i1
     go None s = subst Opens (sym s.0) (until_opens i2 i3 until_word)
     go (Some one) s = varying_opens i1 s.0 s.1
 
@@ -231,7 +231,7 @@ count_stands : (i rest : List Token) → reference_before w.Times i rest → beg
 count_stands i rest s = second_holds (begins_name i) (is_some (after_reference_before w.Times i)) (ap is_some ((reference_before_found w.Times).stands i rest s))
 
 -- where no name begins behind it
-pub turns_no_procedures : (depth : ℕ) (x : Turns) (i rest : List Token) → rule.turns depth x i rest → begins_name rest ≡ false → begins_procedures i ≡ false
+pub turns_no_procedures : (depth : ℕ) (x : Repetition) (i rest : List Token) → rule.turns depth x i rest → begins_name rest ≡ false → begins_procedures i ≡ false
 turns_no_procedures depth Once i rest s none = name_fails i (ap begins_name s.0 ∙ none)
 turns_no_procedures depth (Times count) i rest s none = name_fails i (integer_no_name count i s.0 s.1)
 turns_no_procedures depth (CountedBy one) i rest (i1, item, times) none = count_stands i rest (i1, (one, item), times)
@@ -300,7 +300,7 @@ turns_complete Allowed depth depth' asks (Through one) i rest s =
     let opens = phrase_opens depth' one i rest s in
     rw (opens_no_integer i opens) (rw (opens_no_name i opens) (rw (opens_phrase i opens) (until_complete Allowed depth depth' asks one i rest s)))
 
-pub turns_shrink : (depth : ℕ) (x : Turns) (i rest : List Token) → rule.turns depth x i rest → length rest ≤ length i
+pub turns_shrink : (depth : ℕ) (x : Repetition) (i rest : List Token) → rule.turns depth x i rest → length rest ≤ length i
 turns_shrink depth Once i rest e = let l = ap length e.0 in omega arith
 turns_shrink depth (Times count) i rest (i1, digits, times) =
     let a = integer_shrinks count i i1 digits in

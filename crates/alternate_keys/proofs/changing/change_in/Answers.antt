@@ -7,18 +7,18 @@ use Rattle.station.specs.State.{State}
 use Rattle.station.proofs.Calls.{reads_writes, blamed_where, writes_then}
 use Rattle.station.proofs.Spans.{stays}
 use Rattle.pages.specs.Image.{Map, Volume, map_of}
-use Rattle.pages.specs.Pages.{map_now, committed_of, advanced, Agrees}
+use Rattle.pages.specs.Pages.{map_now, committed_of, next_generation, Agrees}
 use Rattle.pages.specs.declared.page_map.PageMap.{PageMap}
 use Rattle.records.specs.declared.fault.StoreFault.TheVariants.{Device, Full, Damaged}
-use Rattle.records.specs.Changes.{Changed}
+use Rattle.records.specs.Changes.{FileChange}
 use Rattle.records.specs.Files.{Files, with_file}
 use Rattle.records.specs.Spec.{Spec}
 use Rattle.records.specs.Stores.{spec_of, is_change, files_after, Either}
-use Rattle.file_trees.specs.Volume.{MapHolds, Holds}
+use Rattle.volume_format.specs.Volume.{MapHolds, Holds}
 use Rattle.alternate_keys.specs.Held.{held_law}
 use Rattle.alternate_keys.specs.Moved.{changed_by}
 use Rattle.alternate_keys.specs.Settles.{IsChanged}
-use Rattle.alternate_keys.specs.Stands.{Stands}
+use Rattle.alternate_keys.specs.Stands.{Represents}
 use Rattle.alternate_keys.proofs.Still.{same_volume, stands_still, lacks_room}
 use Rattle.alternate_keys.proofs.Turning.{changed_spec, keys_then, lacks_before, lacks_then}
 use Rattle.alternate_keys.proofs.changing.change_in.Goals as goal
@@ -33,7 +33,7 @@ pub returns-in_err-outcome-clause-turned : goal.returns-in_err-outcome-clause-tu
 returns-in_err-outcome-clause-turned g c = λ honest files held stands has.
     let spec : Spec = spec_of c.args.file.now in
     let name : List ℕ = c.args.file.now.name.items in
-    let changed : Changed = changed_by c.args.verb c.args.file.now.organization c.args.number c.args.bytes.now held in
+    let changed : FileChange = changed_by c.args.verb c.args.file.now.organization c.args.number c.args.bytes.now held in
     let after : Files = files_after name files changed in
     let old = g.D.Device.state c.args.device.now in
     let new = g.D.Device.state c.prepare.new.device in
@@ -63,7 +63,7 @@ pub returns-clause-turned : goal.returns-clause-turned
 returns-clause-turned g c = λ honest files held stands has.
     let spec : Spec = spec_of c.args.file.now in
     let name : List ℕ = c.args.file.now.name.items in
-    let changed : Changed = changed_by c.args.verb c.args.file.now.organization c.args.number c.args.bytes.now held in
+    let changed : FileChange = changed_by c.args.verb c.args.file.now.organization c.args.number c.args.bytes.now held in
     let after : Files = files_after name files changed in
     let before : PageMap = c.args.pages.now in
     let between : PageMap = c.prepare.new.pages in
@@ -78,12 +78,12 @@ returns-clause-turned g c = λ honest files held stands has.
       agrees = agrees;
       was = subst (λ (s : State). MapHolds (map_of s.disk.present (committed_of between)) files) (sym still)
           (subst (λ (v : Volume). MapHolds (map_of old.disk.present v) files) (sym (same_volume before between edits.committed)) (subst (λ (m : Map). MapHolds m files) stands.still stands.holds));
-      will = subst (λ (s : State). MapHolds (advanced (map_now between s.disk.present)) after) (sym still) (c.in_ok-outcome.ensures.will honest stands.agrees files held stands.holds has done);
+      will = subst (λ (s : State). MapHolds (next_generation (map_now between s.disk.present)) after) (sym still) (c.in_ok-outcome.ensures.will honest stands.agrees files held stands.holds has done);
     } in
-    let rested : is_change c.in_ok-outcome.outcome ≡ false → Stands between new.disk after = λ none.
+    let rested : is_change c.in_ok-outcome.outcome ≡ false → Represents between new.disk after = λ none.
     let same : files ≡ after = sym (ap (λ (b : Bool). if b then with_file name changed.file files else files) (ap is_change (sym outcome_is) ∙ none)) in
-    let here : Stands between old.disk files = stands_still before between old.disk files (c.in_ok-outcome.ensures.same none) (subst (λ (s : State). Agrees between s.disk) still agrees) stands in
-    subst (λ (l : Files). Stands between new.disk l) same (subst (λ (s : State). Stands between s.disk files) (sym still) here) in
+    let here : Represents between old.disk files = stands_still before between old.disk files (c.in_ok-outcome.ensures.same none) (subst (λ (s : State). Agrees between s.disk) still agrees) stands in
+    subst (λ (l : Files). Represents between new.disk l) same (subst (λ (s : State). Represents between s.disk files) (sym still) here) in
     let settles = c.finish.ensures.settles files after changed_map rested in
     let keys = keys_then name files held changed spec has.there has.spec (changed_spec c.args.verb c.args.file.now.organization c.args.number c.args.bytes.now held) in
     let none = ap (λ (l : List ℕ). length l) stands.rested in

@@ -11,16 +11,16 @@ use Rattle.btree.proofs.Frames.{same_pages, unchanged_on}
 use Rattle.records.specs.declared.fault.StoreFault.TheVariants.{Device, Full, Damaged}
 use Rattle.records.specs.declared.file_spec.Organization.{Organization}
 use Rattle.records.specs.Spec.{Spec}
-use Rattle.records.specs.Changes.{Changed}
+use Rattle.records.specs.Changes.{FileChange}
 use Rattle.records.specs.Files.{AreFiles}
 use Rattle.records.specs.Stores.{spec_of, is_change, files_after}
-use Rattle.file_trees.specs.Catalog.{padded}
-use Rattle.file_trees.specs.Forest.{Planted}
-use Rattle.file_trees.specs.Grows.{StandsAmong}
-use Rattle.file_trees.specs.Volume.{catalog_entry}
+use Rattle.volume_format.specs.Catalog.{padded_name}
+use Rattle.volume_format.specs.Forest.{TreeLevels}
+use Rattle.volume_format.specs.Grows.{IsTreeAmong}
+use Rattle.volume_format.specs.Volume.{catalog_entry}
 use Rattle.alternate_keys.specs.Listed.{catalog_at}
 use Rattle.alternate_keys.specs.Moved.{IsAsked, changed_by, named_after}
-use Rattle.alternate_keys.specs.Placed.{Placed, HasTrees}
+use Rattle.alternate_keys.specs.Placed.{HasFileTrees, HasTrees}
 use Rattle.alternate_keys.proofs.Bytes.{bytes_by}
 use Rattle.alternate_keys.proofs.Calling.{looks_edits, edits_blamed, edits_last}
 use Rattle.alternate_keys.proofs.Faults.{never_full}
@@ -43,7 +43,7 @@ returns-in-None-clause-outcome g c = λ honest agrees files held holds has.
     let name : List ℕ = c.args.file.now.name.items in
     let old = g.D.Device.state c.args.device.now in
     let m : Map = map_now c.args.pages.now old.disk.present in
-    let told : c.in_ok-entry.field-0 ≡ entry_with (map catalog_entry holds.kept) (padded name) = c.in_ok-entry.ensures.entry honest agrees files holds ∙ ap (λ (n : List ℕ). entry_with (map catalog_entry holds.kept) (padded n)) c.deref.ensures.value in
+    let told : c.in_ok-entry.field-0 ≡ entry_with (map catalog_entry holds.kept) (padded_name name) = c.in_ok-entry.ensures.entry honest agrees files holds ∙ ap (λ (n : List ℕ). entry_with (map catalog_entry holds.kept) (padded_name n)) c.deref.ensures.value in
     absurd (never_none m files holds name held c.args.file.now.named has.there c.in_ok-entry.field-0 told c.in-None.is)
 
 pub returns-in_err-turn-clause-room : goal.returns-in_err-turn-clause-room
@@ -55,11 +55,11 @@ returns-in_err-turn-clause-room g c = λ honest agrees files held holds has full
     let name : List ℕ = c.args.file.now.name.items in
     let old = g.D.Device.state c.args.device.now in
     let m : Map = map_now c.args.pages.now old.disk.present in
-    let told : c.in_ok-entry.field-0 ≡ entry_with (map catalog_entry holds.kept) (padded name) = c.in_ok-entry.ensures.entry honest agrees files holds ∙ ap (λ (n : List ℕ). entry_with (map catalog_entry holds.kept) (padded n)) c.deref.ensures.value in
+    let told : c.in_ok-entry.field-0 ≡ entry_with (map catalog_entry holds.kept) (padded_name name) = c.in_ok-entry.ensures.entry honest agrees files holds ∙ ap (λ (n : List ℕ). entry_with (map catalog_entry holds.kept) (padded_name n)) c.deref.ensures.value in
     let bounds = c.map_bounds.ensures.open c.args.pages.now old.disk.present c.requires.open c.requires.unspent in
     let one = own m files holds name held c.args.file.now.named has.there in
-    let left : List Planted = left_of m files holds name held one in
-    let right : List Planted = right_of m files holds name held one in
+    let left : List TreeLevels = left_of m files holds name held one in
+    let right : List TreeLevels = right_of m files holds name held one in
     let trees = trees_at m files holds name held c.args.file.now.named has.there c.in_ok-entry.field-0 told spec c.value.result.now c.in-Some.entry has.spec bounds.0 bounds.1 c.in-Some.is c.value.ensures in
     let honest_found = c.find_listing.ensures.only.honest.0 honest in
     let agrees_found = c.find_listing.ensures.agrees honest agrees in
@@ -82,11 +82,11 @@ returns-in_err-turn-clause-damaged g c = λ honest agrees files held holds has r
     let name : List ℕ = c.args.file.now.name.items in
     let old = g.D.Device.state c.args.device.now in
     let m : Map = map_now c.args.pages.now old.disk.present in
-    let told : c.in_ok-entry.field-0 ≡ entry_with (map catalog_entry holds.kept) (padded name) = c.in_ok-entry.ensures.entry honest agrees files holds ∙ ap (λ (n : List ℕ). entry_with (map catalog_entry holds.kept) (padded n)) c.deref.ensures.value in
+    let told : c.in_ok-entry.field-0 ≡ entry_with (map catalog_entry holds.kept) (padded_name name) = c.in_ok-entry.ensures.entry honest agrees files holds ∙ ap (λ (n : List ℕ). entry_with (map catalog_entry holds.kept) (padded_name n)) c.deref.ensures.value in
     let bounds = c.map_bounds.ensures.open c.args.pages.now old.disk.present c.requires.open c.requires.unspent in
     let one = own m files holds name held c.args.file.now.named has.there in
-    let left : List Planted = left_of m files holds name held one in
-    let right : List Planted = right_of m files holds name held one in
+    let left : List TreeLevels = left_of m files holds name held one in
+    let right : List TreeLevels = right_of m files holds name held one in
     let trees = trees_at m files holds name held c.args.file.now.named has.there c.in_ok-entry.field-0 told spec c.value.result.now c.in-Some.entry has.spec bounds.0 bounds.1 c.in-Some.is c.value.ensures in
     let honest_found = c.find_listing.ensures.only.honest.0 honest in
     let agrees_found = c.find_listing.ensures.agrees honest agrees in
@@ -103,11 +103,11 @@ returns-then-not-is_done-clause-outcome g c = λ honest agrees files held holds 
     let name : List ℕ = c.args.file.now.name.items in
     let old = g.D.Device.state c.args.device.now in
     let m : Map = map_now c.args.pages.now old.disk.present in
-    let told : c.in_ok-entry.field-0 ≡ entry_with (map catalog_entry holds.kept) (padded name) = c.in_ok-entry.ensures.entry honest agrees files holds ∙ ap (λ (n : List ℕ). entry_with (map catalog_entry holds.kept) (padded n)) c.deref.ensures.value in
+    let told : c.in_ok-entry.field-0 ≡ entry_with (map catalog_entry holds.kept) (padded_name name) = c.in_ok-entry.ensures.entry honest agrees files holds ∙ ap (λ (n : List ℕ). entry_with (map catalog_entry holds.kept) (padded_name n)) c.deref.ensures.value in
     let bounds = c.map_bounds.ensures.open c.args.pages.now old.disk.present c.requires.open c.requires.unspent in
     let one = own m files holds name held c.args.file.now.named has.there in
-    let left : List Planted = left_of m files holds name held one in
-    let right : List Planted = right_of m files holds name held one in
+    let left : List TreeLevels = left_of m files holds name held one in
+    let right : List TreeLevels = right_of m files holds name held one in
     let trees = trees_at m files holds name held c.args.file.now.named has.there c.in_ok-entry.field-0 told spec c.value.result.now c.in-Some.entry has.spec bounds.0 bounds.1 c.in-Some.is c.value.ensures in
     let honest_found = c.find_listing.ensures.only.honest.0 honest in
     let agrees_found = c.find_listing.ensures.agrees honest agrees in
@@ -117,7 +117,7 @@ returns-then-not-is_done-clause-outcome g c = λ honest agrees files held holds 
     let named = named_here m files holds name held c.args.file.now.named has.there in
     let trees_found = subst (λ (p : List (Option Sector)). HasTrees spec named m.generation p left right c.value.result.now) (sym same_found) trees in
     let organization = c.args.file.now.organization in
-    let changed : Changed = changed_by c.args.verb organization c.args.number c.args.bytes.now held in
+    let changed : FileChange = changed_by c.args.verb organization c.args.number c.args.bytes.now held in
     let outcome_is : c.in_ok-turn.turn.outcome ≡ changed.outcome = c.in_ok-turn.ensures.outcome honest_found agrees_found named m.generation left right trees_found in
     outcome_is
 
@@ -127,11 +127,11 @@ returns-then-not-is_done-clause-few g c = λ honest agrees files held holds has.
     let name : List ℕ = c.args.file.now.name.items in
     let old = g.D.Device.state c.args.device.now in
     let m : Map = map_now c.args.pages.now old.disk.present in
-    let told : c.in_ok-entry.field-0 ≡ entry_with (map catalog_entry holds.kept) (padded name) = c.in_ok-entry.ensures.entry honest agrees files holds ∙ ap (λ (n : List ℕ). entry_with (map catalog_entry holds.kept) (padded n)) c.deref.ensures.value in
+    let told : c.in_ok-entry.field-0 ≡ entry_with (map catalog_entry holds.kept) (padded_name name) = c.in_ok-entry.ensures.entry honest agrees files holds ∙ ap (λ (n : List ℕ). entry_with (map catalog_entry holds.kept) (padded_name n)) c.deref.ensures.value in
     let bounds = c.map_bounds.ensures.open c.args.pages.now old.disk.present c.requires.open c.requires.unspent in
     let one = own m files holds name held c.args.file.now.named has.there in
-    let left : List Planted = left_of m files holds name held one in
-    let right : List Planted = right_of m files holds name held one in
+    let left : List TreeLevels = left_of m files holds name held one in
+    let right : List TreeLevels = right_of m files holds name held one in
     let trees = trees_at m files holds name held c.args.file.now.named has.there c.in_ok-entry.field-0 told spec c.value.result.now c.in-Some.entry has.spec bounds.0 bounds.1 c.in-Some.is c.value.ensures in
     let honest_found = c.find_listing.ensures.only.honest.0 honest in
     let agrees_found = c.find_listing.ensures.agrees honest agrees in
@@ -153,11 +153,11 @@ returns-in_err-replace_listing-clause-damaged g c = λ honest agrees files held 
     let name : List ℕ = c.args.file.now.name.items in
     let old = g.D.Device.state c.args.device.now in
     let m : Map = map_now c.args.pages.now old.disk.present in
-    let told : c.in_ok-entry.field-0 ≡ entry_with (map catalog_entry holds.kept) (padded name) = c.in_ok-entry.ensures.entry honest agrees files holds ∙ ap (λ (n : List ℕ). entry_with (map catalog_entry holds.kept) (padded n)) c.deref.ensures.value in
+    let told : c.in_ok-entry.field-0 ≡ entry_with (map catalog_entry holds.kept) (padded_name name) = c.in_ok-entry.ensures.entry honest agrees files holds ∙ ap (λ (n : List ℕ). entry_with (map catalog_entry holds.kept) (padded_name n)) c.deref.ensures.value in
     let bounds = c.map_bounds.ensures.open c.args.pages.now old.disk.present c.requires.open c.requires.unspent in
     let one = own m files holds name held c.args.file.now.named has.there in
-    let left : List Planted = left_of m files holds name held one in
-    let right : List Planted = right_of m files holds name held one in
+    let left : List TreeLevels = left_of m files holds name held one in
+    let right : List TreeLevels = right_of m files holds name held one in
     let trees = trees_at m files holds name held c.args.file.now.named has.there c.in_ok-entry.field-0 told spec c.value.result.now c.in-Some.entry has.spec bounds.0 bounds.1 c.in-Some.is c.value.ensures in
     let honest_found = c.find_listing.ensures.only.honest.0 honest in
     let agrees_found = c.find_listing.ensures.agrees honest agrees in
@@ -167,7 +167,7 @@ returns-in_err-replace_listing-clause-damaged g c = λ honest agrees files held 
     let named = named_here m files holds name held c.args.file.now.named has.there in
     let trees_found = subst (λ (p : List (Option Sector)). HasTrees spec named m.generation p left right c.value.result.now) (sym same_found) trees in
     let organization = c.args.file.now.organization in
-    let changed : Changed = changed_by c.args.verb organization c.args.number c.args.bytes.now held in
+    let changed : FileChange = changed_by c.args.verb organization c.args.number c.args.bytes.now held in
     let outcome_is : c.in_ok-turn.turn.outcome ≡ changed.outcome = c.in_ok-turn.ensures.outcome honest_found agrees_found named m.generation left right trees_found in
     let done_is : is_change c.in_ok-turn.turn.outcome ≡ true = sym c.is_done.ensures ∙ c.if-not-is_done.false in
     let edits = c.change_trees.ensures.edits in
@@ -177,12 +177,12 @@ returns-in_err-replace_listing-clause-damaged g c = λ honest agrees files held 
     let between : List (Option Sector) = (map_now c.change_trees.new.pages (g.D.Device.state c.change_trees.new.device).disk.present).pages in
     let came = c.in_ok-turn.ensures.placed honest_found agrees_found named m.generation left right trees_found done_is in
     let listing : List ℕ = c.in_ok-turn.turn.listing.items in
-    let placed = subst (λ (s : State). Placed (named_after named changed) (m.generation + 1) (map_now c.change_trees.new.pages s.disk.present).pages left right listing) (sym still_turn) came in
+    let placed = subst (λ (s : State). HasFileTrees (named_after named changed) (m.generation + 1) (map_now c.change_trees.new.pages s.disk.present).pages left right listing) (sym still_turn) came in
     let catalog_is : catalog_of c.change_trees.new.pages ≡ m.catalog = edits.catalog ∙ ap (λ (x : Map). x.catalog) (c.find_listing.ensures.unchanged.map old.disk.present) in
-    let arounds : List Planted = around m files holds name held c.args.file.now.named has.there changed between listing placed in
+    let arounds : List TreeLevels = around m files holds name held c.args.file.now.named has.there changed between listing placed in
     let stands = catalog_stands m files holds name held c.args.file.now.named has.there changed between listing placed (catalog_of c.change_trees.new.pages) catalog_is in
     let some = some_entry m files holds name held c.args.file.now.named has.there in
-    let here = subst (λ (n : List ℕ). IsSome (entry_with (map catalog_entry holds.kept) (padded n))) (sym c.deref-2.ensures.value) some in
+    let here = subst (λ (n : List ℕ). IsSome (entry_with (map catalog_entry holds.kept) (padded_name n))) (sym c.deref-2.ensures.value) some in
     c.replace_listing.ensures.damaged honest_turn agrees_turn [] arounds (map catalog_entry holds.kept) stands here refusal
 
 pub returns-clause-outcome : goal.returns-clause-outcome
@@ -191,11 +191,11 @@ returns-clause-outcome g c = λ honest agrees files held holds has.
     let name : List ℕ = c.args.file.now.name.items in
     let old = g.D.Device.state c.args.device.now in
     let m : Map = map_now c.args.pages.now old.disk.present in
-    let told : c.in_ok-entry.field-0 ≡ entry_with (map catalog_entry holds.kept) (padded name) = c.in_ok-entry.ensures.entry honest agrees files holds ∙ ap (λ (n : List ℕ). entry_with (map catalog_entry holds.kept) (padded n)) c.deref.ensures.value in
+    let told : c.in_ok-entry.field-0 ≡ entry_with (map catalog_entry holds.kept) (padded_name name) = c.in_ok-entry.ensures.entry honest agrees files holds ∙ ap (λ (n : List ℕ). entry_with (map catalog_entry holds.kept) (padded_name n)) c.deref.ensures.value in
     let bounds = c.map_bounds.ensures.open c.args.pages.now old.disk.present c.requires.open c.requires.unspent in
     let one = own m files holds name held c.args.file.now.named has.there in
-    let left : List Planted = left_of m files holds name held one in
-    let right : List Planted = right_of m files holds name held one in
+    let left : List TreeLevels = left_of m files holds name held one in
+    let right : List TreeLevels = right_of m files holds name held one in
     let trees = trees_at m files holds name held c.args.file.now.named has.there c.in_ok-entry.field-0 told spec c.value.result.now c.in-Some.entry has.spec bounds.0 bounds.1 c.in-Some.is c.value.ensures in
     let honest_found = c.find_listing.ensures.only.honest.0 honest in
     let agrees_found = c.find_listing.ensures.agrees honest agrees in
@@ -205,7 +205,7 @@ returns-clause-outcome g c = λ honest agrees files held holds has.
     let named = named_here m files holds name held c.args.file.now.named has.there in
     let trees_found = subst (λ (p : List (Option Sector)). HasTrees spec named m.generation p left right c.value.result.now) (sym same_found) trees in
     let organization = c.args.file.now.organization in
-    let changed : Changed = changed_by c.args.verb organization c.args.number c.args.bytes.now held in
+    let changed : FileChange = changed_by c.args.verb organization c.args.number c.args.bytes.now held in
     let outcome_is : c.in_ok-turn.turn.outcome ≡ changed.outcome = c.in_ok-turn.ensures.outcome honest_found agrees_found named m.generation left right trees_found in
     outcome_is
 
@@ -215,11 +215,11 @@ returns-clause-few g c = λ honest agrees files held holds has.
     let name : List ℕ = c.args.file.now.name.items in
     let old = g.D.Device.state c.args.device.now in
     let m : Map = map_now c.args.pages.now old.disk.present in
-    let told : c.in_ok-entry.field-0 ≡ entry_with (map catalog_entry holds.kept) (padded name) = c.in_ok-entry.ensures.entry honest agrees files holds ∙ ap (λ (n : List ℕ). entry_with (map catalog_entry holds.kept) (padded n)) c.deref.ensures.value in
+    let told : c.in_ok-entry.field-0 ≡ entry_with (map catalog_entry holds.kept) (padded_name name) = c.in_ok-entry.ensures.entry honest agrees files holds ∙ ap (λ (n : List ℕ). entry_with (map catalog_entry holds.kept) (padded_name n)) c.deref.ensures.value in
     let bounds = c.map_bounds.ensures.open c.args.pages.now old.disk.present c.requires.open c.requires.unspent in
     let one = own m files holds name held c.args.file.now.named has.there in
-    let left : List Planted = left_of m files holds name held one in
-    let right : List Planted = right_of m files holds name held one in
+    let left : List TreeLevels = left_of m files holds name held one in
+    let right : List TreeLevels = right_of m files holds name held one in
     let trees = trees_at m files holds name held c.args.file.now.named has.there c.in_ok-entry.field-0 told spec c.value.result.now c.in-Some.entry has.spec bounds.0 bounds.1 c.in-Some.is c.value.ensures in
     let honest_found = c.find_listing.ensures.only.honest.0 honest in
     let agrees_found = c.find_listing.ensures.agrees honest agrees in
@@ -239,11 +239,11 @@ returns-clause-will g c = λ honest agrees files held holds has change.
     let name : List ℕ = c.args.file.now.name.items in
     let old = g.D.Device.state c.args.device.now in
     let m : Map = map_now c.args.pages.now old.disk.present in
-    let told : c.in_ok-entry.field-0 ≡ entry_with (map catalog_entry holds.kept) (padded name) = c.in_ok-entry.ensures.entry honest agrees files holds ∙ ap (λ (n : List ℕ). entry_with (map catalog_entry holds.kept) (padded n)) c.deref.ensures.value in
+    let told : c.in_ok-entry.field-0 ≡ entry_with (map catalog_entry holds.kept) (padded_name name) = c.in_ok-entry.ensures.entry honest agrees files holds ∙ ap (λ (n : List ℕ). entry_with (map catalog_entry holds.kept) (padded_name n)) c.deref.ensures.value in
     let bounds = c.map_bounds.ensures.open c.args.pages.now old.disk.present c.requires.open c.requires.unspent in
     let one = own m files holds name held c.args.file.now.named has.there in
-    let left : List Planted = left_of m files holds name held one in
-    let right : List Planted = right_of m files holds name held one in
+    let left : List TreeLevels = left_of m files holds name held one in
+    let right : List TreeLevels = right_of m files holds name held one in
     let trees = trees_at m files holds name held c.args.file.now.named has.there c.in_ok-entry.field-0 told spec c.value.result.now c.in-Some.entry has.spec bounds.0 bounds.1 c.in-Some.is c.value.ensures in
     let honest_found = c.find_listing.ensures.only.honest.0 honest in
     let agrees_found = c.find_listing.ensures.agrees honest agrees in
@@ -253,7 +253,7 @@ returns-clause-will g c = λ honest agrees files held holds has change.
     let named = named_here m files holds name held c.args.file.now.named has.there in
     let trees_found = subst (λ (p : List (Option Sector)). HasTrees spec named m.generation p left right c.value.result.now) (sym same_found) trees in
     let organization = c.args.file.now.organization in
-    let changed : Changed = changed_by c.args.verb organization c.args.number c.args.bytes.now held in
+    let changed : FileChange = changed_by c.args.verb organization c.args.number c.args.bytes.now held in
     let outcome_is : c.in_ok-turn.turn.outcome ≡ changed.outcome = c.in_ok-turn.ensures.outcome honest_found agrees_found named m.generation left right trees_found in
     let done_is : is_change c.in_ok-turn.turn.outcome ≡ true = sym c.is_done.ensures ∙ c.if-not-is_done.false in
     let edits = c.change_trees.ensures.edits in
@@ -263,17 +263,17 @@ returns-clause-will g c = λ honest agrees files held holds has change.
     let between : List (Option Sector) = (map_now c.change_trees.new.pages (g.D.Device.state c.change_trees.new.device).disk.present).pages in
     let came = c.in_ok-turn.ensures.placed honest_found agrees_found named m.generation left right trees_found done_is in
     let listing : List ℕ = c.in_ok-turn.turn.listing.items in
-    let placed = subst (λ (s : State). Placed (named_after named changed) (m.generation + 1) (map_now c.change_trees.new.pages s.disk.present).pages left right listing) (sym still_turn) came in
+    let placed = subst (λ (s : State). HasFileTrees (named_after named changed) (m.generation + 1) (map_now c.change_trees.new.pages s.disk.present).pages left right listing) (sym still_turn) came in
     let catalog_is : catalog_of c.change_trees.new.pages ≡ m.catalog = edits.catalog ∙ ap (λ (x : Map). x.catalog) (c.find_listing.ensures.unchanged.map old.disk.present) in
-    let arounds : List Planted = around m files holds name held c.args.file.now.named has.there changed between listing placed in
+    let arounds : List TreeLevels = around m files holds name held c.args.file.now.named has.there changed between listing placed in
     let stands = catalog_stands m files holds name held c.args.file.now.named has.there changed between listing placed (catalog_of c.change_trees.new.pages) catalog_is in
     let after : PageMap = c.replace_listing.new.pages in
     let put = c.in_ok-replace_listing.ensures.replaced honest_turn agrees_turn [] arounds (map catalog_entry holds.kept) stands in
     let last : State = g.D.Device.state c.args.device.now in
-    let put_name = subst (λ (n : List ℕ). StandsAmong (map_now after (g.D.Device.state c.change_trees.new.device).disk.present).pages [] arounds (catalog_at (catalog_of c.change_trees.new.pages)) (with_value (map catalog_entry holds.kept) (entry_as (padded n) c.deref-3.result.now))) c.deref-2.ensures.value put in
-    let put_value = subst (λ (v : List ℕ). StandsAmong (map_now after (g.D.Device.state c.change_trees.new.device).disk.present).pages [] arounds (catalog_at (catalog_of c.change_trees.new.pages)) (with_value (map catalog_entry holds.kept) (entry_as (padded name) v))) c.deref-3.ensures.value put_name in
-    let put_there = subst (λ (s : State). StandsAmong (map_now after s.disk.present).pages [] arounds (catalog_at (catalog_of c.change_trees.new.pages)) (with_value (map catalog_entry holds.kept) (entry_as (padded name) listing))) (still_turn ∙ still_found) put_value in
-    let put_catalog = subst (λ (n : ℕ). StandsAmong (map_now after last.disk.present).pages [] arounds (catalog_at n) (with_value (map catalog_entry holds.kept) (entry_as (padded name) listing))) catalog_is put_there in
+    let put_name = subst (λ (n : List ℕ). IsTreeAmong (map_now after (g.D.Device.state c.change_trees.new.device).disk.present).pages [] arounds (catalog_at (catalog_of c.change_trees.new.pages)) (with_value (map catalog_entry holds.kept) (entry_as (padded_name n) c.deref-3.result.now))) c.deref-2.ensures.value put in
+    let put_value = subst (λ (v : List ℕ). IsTreeAmong (map_now after (g.D.Device.state c.change_trees.new.device).disk.present).pages [] arounds (catalog_at (catalog_of c.change_trees.new.pages)) (with_value (map catalog_entry holds.kept) (entry_as (padded_name name) v))) c.deref-3.ensures.value put_name in
+    let put_there = subst (λ (s : State). IsTreeAmong (map_now after s.disk.present).pages [] arounds (catalog_at (catalog_of c.change_trees.new.pages)) (with_value (map catalog_entry holds.kept) (entry_as (padded_name name) listing))) (still_turn ∙ still_found) put_value in
+    let put_catalog = subst (λ (n : ℕ). IsTreeAmong (map_now after last.disk.present).pages [] arounds (catalog_at n) (with_value (map catalog_entry holds.kept) (entry_as (padded_name name) listing))) catalog_is put_there in
     let asked = subst (λ (s : Spec). IsAsked c.args.verb s c.args.number c.args.bytes.now) (sym has.spec) c.requires.asked in
     let all : AreFiles (files_after name files (changed_by c.args.verb held.spec.organization c.args.number c.args.bytes.now held)) =
     are_files c.args.verb name held files c.args.number c.args.bytes.now holds.are has.there asked (bytes_by c.args.bytes.now c.type_inv.bytes) in
@@ -329,11 +329,11 @@ returns-in_err-turn-clause-full g c = λ honest agrees files held holds has full
     let name : List ℕ = c.args.file.now.name.items in
     let old = g.D.Device.state c.args.device.now in
     let m : Map = map_now c.args.pages.now old.disk.present in
-    let told : c.in_ok-entry.field-0 ≡ entry_with (map catalog_entry holds.kept) (padded name) = c.in_ok-entry.ensures.entry honest agrees files holds ∙ ap (λ (n : List ℕ). entry_with (map catalog_entry holds.kept) (padded n)) c.deref.ensures.value in
+    let told : c.in_ok-entry.field-0 ≡ entry_with (map catalog_entry holds.kept) (padded_name name) = c.in_ok-entry.ensures.entry honest agrees files holds ∙ ap (λ (n : List ℕ). entry_with (map catalog_entry holds.kept) (padded_name n)) c.deref.ensures.value in
     let bounds = c.map_bounds.ensures.open c.args.pages.now old.disk.present c.requires.open c.requires.unspent in
     let one = own m files holds name held c.args.file.now.named has.there in
-    let left : List Planted = left_of m files holds name held one in
-    let right : List Planted = right_of m files holds name held one in
+    let left : List TreeLevels = left_of m files holds name held one in
+    let right : List TreeLevels = right_of m files holds name held one in
     let trees = trees_at m files holds name held c.args.file.now.named has.there c.in_ok-entry.field-0 told spec c.value.result.now c.in-Some.entry has.spec bounds.0 bounds.1 c.in-Some.is c.value.ensures in
     let honest_found = c.find_listing.ensures.only.honest.0 honest in
     let agrees_found = c.find_listing.ensures.agrees honest agrees in
@@ -350,11 +350,11 @@ returns-in_err-replace_listing-clause-full g c = λ honest agrees files held hol
     let name : List ℕ = c.args.file.now.name.items in
     let old = g.D.Device.state c.args.device.now in
     let m : Map = map_now c.args.pages.now old.disk.present in
-    let told : c.in_ok-entry.field-0 ≡ entry_with (map catalog_entry holds.kept) (padded name) = c.in_ok-entry.ensures.entry honest agrees files holds ∙ ap (λ (n : List ℕ). entry_with (map catalog_entry holds.kept) (padded n)) c.deref.ensures.value in
+    let told : c.in_ok-entry.field-0 ≡ entry_with (map catalog_entry holds.kept) (padded_name name) = c.in_ok-entry.ensures.entry honest agrees files holds ∙ ap (λ (n : List ℕ). entry_with (map catalog_entry holds.kept) (padded_name n)) c.deref.ensures.value in
     let bounds = c.map_bounds.ensures.open c.args.pages.now old.disk.present c.requires.open c.requires.unspent in
     let one = own m files holds name held c.args.file.now.named has.there in
-    let left : List Planted = left_of m files holds name held one in
-    let right : List Planted = right_of m files holds name held one in
+    let left : List TreeLevels = left_of m files holds name held one in
+    let right : List TreeLevels = right_of m files holds name held one in
     let trees = trees_at m files holds name held c.args.file.now.named has.there c.in_ok-entry.field-0 told spec c.value.result.now c.in-Some.entry has.spec bounds.0 bounds.1 c.in-Some.is c.value.ensures in
     let honest_found = c.find_listing.ensures.only.honest.0 honest in
     let agrees_found = c.find_listing.ensures.agrees honest agrees in
@@ -364,7 +364,7 @@ returns-in_err-replace_listing-clause-full g c = λ honest agrees files held hol
     let named = named_here m files holds name held c.args.file.now.named has.there in
     let trees_found = subst (λ (p : List (Option Sector)). HasTrees spec named m.generation p left right c.value.result.now) (sym same_found) trees in
     let organization = c.args.file.now.organization in
-    let changed : Changed = changed_by c.args.verb organization c.args.number c.args.bytes.now held in
+    let changed : FileChange = changed_by c.args.verb organization c.args.number c.args.bytes.now held in
     let outcome_is : c.in_ok-turn.turn.outcome ≡ changed.outcome = c.in_ok-turn.ensures.outcome honest_found agrees_found named m.generation left right trees_found in
     let done_is : is_change c.in_ok-turn.turn.outcome ≡ true = sym c.is_done.ensures ∙ c.if-not-is_done.false in
     sym (ap is_change outcome_is) ∙ done_is

@@ -4,9 +4,9 @@ use Rattle.station.specs.Disk.{Sector}
 use Rattle.station.specs.State.{State}
 use Rattle.pages.specs.Pages.{map_now}
 use Rattle.records.specs.declared.fault.StoreFault.TheVariants.{Device, Damaged}
-use Rattle.file_trees.specs.Catalog.{Listing}
-use Rattle.file_trees.specs.Forest.{Planted, IsForest}
-use Rattle.file_trees.specs.Volume.{listing_of, no_tree}
+use Rattle.volume_format.specs.Catalog.{Listing}
+use Rattle.volume_format.specs.Forest.{TreeLevels, IsForest}
+use Rattle.volume_format.specs.Volume.{listing_of, no_tree}
 use Rattle.alternate_keys.proofs.Calling.{edits_nothing, edits_then}
 use Rattle.alternate_keys.proofs.Pairing.{rest_of}
 use Rattle.alternate_keys.proofs.clearing.clear_alternates.Goals as goal
@@ -24,7 +24,7 @@ loop-key-init g c = record {
   edits = edits_nothing g.D.Device c.args.pages.now c.args.device.now c.requires.open;
   cleared = λ honest agrees kept left right stored forest.
       let before : List (Option Sector) = (map_now c.args.pages.now (g.D.Device.state c.args.device.now).disk.present).pages in
-      subst (λ (ts : List Planted). IsForest before (left ++ (ts ++ right))) (sym (drop_none kept.alternates)) forest;
+      subst (λ (ts : List TreeLevels). IsForest before (left ++ (ts ++ right))) (sym (drop_none kept.alternates)) forest;
   filled = omega arith;
 }
 
@@ -44,10 +44,10 @@ returns-in_err-clear_tree-clause-damaged g c = λ honest agrees kept left right 
     let many : c.stored_count-count.result ≡ length l.spec.alternates = c.stored_count-count.ensures.count l stored.good stored.says in
     let count = stored.count in
     let low : loop.key < length l.spec.alternates = let test = c.loop-key-test.true in omega (arith, many, test) in
-    let t : Planted = slice_index_or kept.alternates loop.key no_tree in
-    let rest : drop loop.key kept.alternates ++ right ≡ t ∷ (drop (loop.key + 1) kept.alternates ++ right) = ap (λ (ts : List Planted). ts ++ right) (rest_of kept.alternates loop.key no_tree (omega (arith, count, low))) in
+    let t : TreeLevels = slice_index_or kept.alternates loop.key no_tree in
+    let rest : drop loop.key kept.alternates ++ right ≡ t ∷ (drop (loop.key + 1) kept.alternates ++ right) = ap (λ (ts : List TreeLevels). ts ++ right) (rest_of kept.alternates loop.key no_tree (omega (arith, count, low))) in
     let forest_here = loop.invariant.cleared honest agrees kept left right stored forest in
-    let standing = subst (λ (p : List (Option Sector)). IsForest p (left ++ (t ∷ (drop (loop.key + 1) kept.alternates ++ right)))) (sym same) (subst (λ (ts : List Planted). IsForest here (left ++ ts)) rest forest_here) in
+    let standing = subst (λ (p : List (Option Sector)). IsForest p (left ++ (t ∷ (drop (loop.key + 1) kept.alternates ++ right)))) (sym same) (subst (λ (ts : List TreeLevels). IsForest here (left ++ ts)) rest forest_here) in
     c.clear_tree.ensures.damaged honest_then agrees_then l t left (drop (loop.key + 1) kept.alternates ++ right) stored.good stored.says (omega (arith, low)) (stored.trees loop.key low) standing told
 
 pub loop-key-preserved : goal.loop-key-preserved
@@ -67,10 +67,10 @@ loop-key-preserved g c = record {
       let many : c.stored_count-count.result ≡ length l.spec.alternates = c.stored_count-count.ensures.count l stored.good stored.says in
       let count = stored.count in
       let low : loop.key < length l.spec.alternates = let test = c.loop-key-test.true in omega (arith, many, test) in
-      let t : Planted = slice_index_or kept.alternates loop.key no_tree in
-      let rest : drop loop.key kept.alternates ++ right ≡ t ∷ (drop (loop.key + 1) kept.alternates ++ right) = ap (λ (ts : List Planted). ts ++ right) (rest_of kept.alternates loop.key no_tree (omega (arith, count, low))) in
+      let t : TreeLevels = slice_index_or kept.alternates loop.key no_tree in
+      let rest : drop loop.key kept.alternates ++ right ≡ t ∷ (drop (loop.key + 1) kept.alternates ++ right) = ap (λ (ts : List TreeLevels). ts ++ right) (rest_of kept.alternates loop.key no_tree (omega (arith, count, low))) in
       let forest_here = loop.invariant.cleared honest agrees kept left right stored forest in
-      let standing = subst (λ (p : List (Option Sector)). IsForest p (left ++ (t ∷ (drop (loop.key + 1) kept.alternates ++ right)))) (sym same) (subst (λ (ts : List Planted). IsForest here (left ++ ts)) rest forest_here) in
+      let standing = subst (λ (p : List (Option Sector)). IsForest p (left ++ (t ∷ (drop (loop.key + 1) kept.alternates ++ right)))) (sym same) (subst (λ (ts : List TreeLevels). IsForest here (left ++ ts)) rest forest_here) in
       let done = c.in_ok-clear_tree.ensures.cleared honest_then agrees_then l t left (drop (loop.key + 1) kept.alternates ++ right) stored.good stored.says (omega (arith, low)) (stored.trees loop.key low) standing in
       subst (λ (s : State). IsForest (map_now c.clear_tree.new.pages s.disk.present).pages (left ++ (drop (loop.key + 1) kept.alternates ++ right))) still done;
   filled = let was = c.loop-key.invariant.filled in let now = c.clear_tree.ensures.filled in omega (arith, was, now);
@@ -85,4 +85,4 @@ returns-clause-cleared g c = λ honest agrees kept left right stored forest.
     let count = stored.count in
     let all : loop.key ≡ length kept.alternates = let test = c.loop-key-test.false in let end = loop.auto.key-end in omega (arith, many, count, test, end) in
     let none : drop loop.key kept.alternates ≡ [] = ap (λ (n : ℕ). drop n kept.alternates) all ∙ drop_all kept.alternates in
-    subst (λ (ts : List Planted). IsForest here (left ++ (ts ++ right))) none (loop.invariant.cleared honest agrees kept left right stored forest)
+    subst (λ (ts : List TreeLevels). IsForest here (left ++ (ts ++ right))) none (loop.invariant.cleared honest agrees kept left right stored forest)

@@ -4,11 +4,11 @@ use Rattle.std.proofs.lemmas.List.Elements.{All-head}
 use Rattle.station.specs.Disk.{Sector}
 use Rattle.pages.specs.Pages.{map_now}
 use Rattle.pages.specs.declared.error.PagesError.TheVariants as pages
-use Rattle.btree.specs.Rooted.{Rooted}
+use Rattle.btree.specs.Rooted.{RootedTree}
 use Rattle.records.specs.declared.fault.StoreFault.TheVariants.{Damaged}
-use Rattle.file_trees.specs.Forest.{Planted, Grows}
-use Rattle.file_trees.specs.Volume.{planted}
-use Rattle.file_trees.proofs.Forests.{all_right, forest_moves}
+use Rattle.volume_format.specs.Forest.{TreeLevels, IsTreeIn}
+use Rattle.volume_format.specs.Volume.{tree_levels}
+use Rattle.volume_format.proofs.Forests.{all_right, forest_moves}
 use Rattle.alternate_keys.proofs.Empties.{forest_without}
 use Rattle.alternate_keys.proofs.Faults.{damaged_back}
 use Rattle.alternate_keys.proofs.clearing.clear_among.Goals as goal
@@ -18,17 +18,17 @@ returns-in-Ok-clause-cleared g c = λ honest agrees left right levels forest.
     let image = (g.D.Device.state c.args.device.now).disk.present in
     let before : List (Option Sector) = (map_now c.args.pages.now image).pages in
     let after : List (Option Sector) = (map_now c.clear.new.pages image).pages in
-    let old : Planted = planted c.args.tree.now levels in
-    let none : Rooted = record { layout = c.args.tree.now.layout; root = 0 } in
-    let holds = All-head (Grows before) old right (all_right (Grows before) left (old ∷ right) forest.grow) in
+    let old : TreeLevels = tree_levels c.args.tree.now levels in
+    let none : RootedTree = record { layout = c.args.tree.now.layout; root = 0 } in
+    let holds = All-head (IsTreeIn before) old right (all_right (IsTreeIn before) left (old ∷ right) forest.grow) in
     let moves = c.in-Ok.ensures.cleared honest agrees levels holds in
-    forest_without after left right (planted none []) (forest_moves before after left right old (planted none []) forest moves (inl (refl, refl))) refl
+    forest_without after left right (tree_levels none []) (forest_moves before after left right old (tree_levels none []) forest moves (inl (refl, refl))) refl
 
 pub returns-in-Err-clause-damaged : goal.returns-in-Err-clause-damaged
 returns-in-Err-clause-damaged g c = λ honest agrees left right levels forest is.
     let before : List (Option Sector) = (map_now c.args.pages.now (g.D.Device.state c.args.device.now).disk.present).pages in
-    let old : Planted = planted c.args.tree.now levels in
-    let holds = All-head (Grows before) old right (all_right (Grows before) left (old ∷ right) forest.grow) in
+    let old : TreeLevels = tree_levels c.args.tree.now levels in
+    let holds = All-head (IsTreeIn before) old right (all_right (IsTreeIn before) left (old ∷ right) forest.grow) in
     let told : c.to_fault.result ≡ Damaged = cc in
     let fault : c.in-Err.error ≡ pages.Damaged = damaged_back c.in-Err.error (sym c.to_fault.ensures ∙ told) in
     c.in-Err.ensures.damaged honest agrees (ap Err fault) levels holds

@@ -2,11 +2,11 @@ use Rattle.std.proofs.Common.{◌≡◌, ◌++◌, ◌∷◌, Err, List, sym, ap
 use Rattle.std.specs.Prelude.{Option}
 use Rattle.station.specs.Disk.{Sector}
 use Rattle.pages.specs.Pages.{map_now}
-use Rattle.btree.specs.Rooted.{Rooted}
+use Rattle.btree.specs.Rooted.{RootedTree}
 use Rattle.records.specs.declared.fault.StoreFault.TheVariants.{Damaged}
-use Rattle.file_trees.specs.Forest.{IsForest}
-use Rattle.file_trees.specs.Trees.{layout_under}
-use Rattle.file_trees.specs.Volume.{planted}
+use Rattle.volume_format.specs.Forest.{IsForest}
+use Rattle.volume_format.specs.Trees.{layout_under}
+use Rattle.volume_format.specs.Volume.{tree_levels}
 use Rattle.alternate_keys.specs.Listed.{root_in}
 use Rattle.alternate_keys.proofs.Keeping.{same_tree}
 use Rattle.alternate_keys.proofs.clearing.clear_tree.Goals as goal
@@ -21,14 +21,14 @@ pub returns-clause-cleared : goal.returns-clause-cleared
 returns-clause-cleared g c = λ honest agrees l tree left right spec says within is forest.
     let before : List (Option Sector) = (map_now c.args.pages.now (g.D.Device.state c.args.device.now).disk.present).pages in
     let told = c.in_ok-tree.ensures.tree l spec says within in
-    let own : Rooted = record { layout = layout_under l.spec c.args.key; root = root_in c.args.key c.args.value.now } in
+    let own : RootedTree = record { layout = layout_under l.spec c.args.key; root = root_in c.args.key c.args.value.now } in
     let same : tree.tree ≡ c.in_ok-tree.tree = is ∙ sym (same_tree c.in_ok-tree.tree own told.0 told.1) in
-    c.clear_among.ensures.cleared honest agrees left right tree.levels (subst (λ (t : Rooted). IsForest before (left ++ planted t tree.levels ∷ right)) same forest)
+    c.clear_among.ensures.cleared honest agrees left right tree.levels (subst (λ (t : RootedTree). IsForest before (left ++ tree_levels t tree.levels ∷ right)) same forest)
 
 pub returns-clause-damaged : goal.returns-clause-damaged
 returns-clause-damaged g c = λ honest agrees l tree left right spec says within is forest refused.
     let before : List (Option Sector) = (map_now c.args.pages.now (g.D.Device.state c.args.device.now).disk.present).pages in
     let told = c.in_ok-tree.ensures.tree l spec says within in
-    let own : Rooted = record { layout = layout_under l.spec c.args.key; root = root_in c.args.key c.args.value.now } in
+    let own : RootedTree = record { layout = layout_under l.spec c.args.key; root = root_in c.args.key c.args.value.now } in
     let same : tree.tree ≡ c.in_ok-tree.tree = is ∙ sym (same_tree c.in_ok-tree.tree own told.0 told.1) in
-    c.clear_among.ensures.damaged honest agrees left right tree.levels (subst (λ (t : Rooted). IsForest before (left ++ planted t tree.levels ∷ right)) same forest) refused
+    c.clear_among.ensures.damaged honest agrees left right tree.levels (subst (λ (t : RootedTree). IsForest before (left ++ tree_levels t tree.levels ∷ right)) same forest) refused

@@ -4,8 +4,8 @@ use Rattle.station.specs.Disk.{Sector}
 use Rattle.station.specs.State.{State}
 use Rattle.pages.specs.Pages.{map_now}
 use Rattle.records.specs.declared.fault.StoreFault.TheVariants.{Damaged}
-use Rattle.file_trees.specs.Forest.{IsForest}
-use Rattle.file_trees.specs.Volume.{Kept, listing_of}
+use Rattle.volume_format.specs.Forest.{IsForest}
+use Rattle.volume_format.specs.Volume.{FileTrees, listing_of}
 use Rattle.alternate_keys.proofs.FileTrees.{prime_told, good_spec, all_stored}
 use Rattle.alternate_keys.proofs.clearing.clear_trees.Goals as goal
 
@@ -15,7 +15,7 @@ returns-in_err-clear_tree-clause-damaged g c = λ honest agrees spec named gener
     let fault : c.in_err-clear_tree.field-0.0 ≡ Damaged = sym from in
     let told : c.clear_tree.result ≡ Err Damaged = c.in_err-clear_tree.was ∙ ap Err fault in
     let before : List (Option Sector) = (map_now c.args.pages.now (g.D.Device.state c.args.device.now).disk.present).pages in
-    let kept : Kept = has.placed.kept in
+    let kept : FileTrees = has.placed.kept in
     let good = good_spec spec named generation before left right c.args.value.now has in
     let told_prime = prime_told spec named generation before left right c.args.value.now has in
     c.clear_tree.ensures.damaged honest agrees (listing_of kept) kept.prime left (kept.alternates ++ right) good has.placed.says (omega arith) told_prime has.placed.forest told
@@ -23,7 +23,7 @@ returns-in_err-clear_tree-clause-damaged g c = λ honest agrees spec named gener
 pub returns-clause-cleared : goal.returns-clause-cleared
 returns-clause-cleared g c = λ honest agrees spec named generation left right has.
     let before : List (Option Sector) = (map_now c.args.pages.now (g.D.Device.state c.args.device.now).disk.present).pages in
-    let kept : Kept = has.placed.kept in
+    let kept : FileTrees = has.placed.kept in
     let good = good_spec spec named generation before left right c.args.value.now has in
     let told_prime = prime_told spec named generation before left right c.args.value.now has in
     let edits = c.clear_tree.ensures.edits in
@@ -36,7 +36,7 @@ returns-clause-cleared g c = λ honest agrees spec named generation left right h
 pub returns-clause-damaged : goal.returns-clause-damaged
 returns-clause-damaged g c = λ honest agrees spec named generation left right has refused.
     let before : List (Option Sector) = (map_now c.args.pages.now (g.D.Device.state c.args.device.now).disk.present).pages in
-    let kept : Kept = has.placed.kept in
+    let kept : FileTrees = has.placed.kept in
     let good = good_spec spec named generation before left right c.args.value.now has in
     let told_prime = prime_told spec named generation before left right c.args.value.now has in
     let edits = c.clear_tree.ensures.edits in

@@ -1,6 +1,6 @@
 use Rattle.std.proofs.Common.{◌≡◌, ◌≤◌, length}
 use Rattle.std.specs.Prelude.{map}
-use Rattle.file_trees.specs.Volume.{catalog_entry}
+use Rattle.volume_format.specs.Volume.{catalog_entry}
 use Rattle.alternate_keys.specs.Calls.{LooksAt}
 use Rattle.alternate_keys.specs.Created.{OnFiles}
 use Rattle.alternate_keys.proofs.Counted.{entry_at}

@@ -6,14 +6,14 @@ use Rattle.station.specs.State.{State}
 use Rattle.pages.specs.Image.{Map}
 use Rattle.pages.specs.Use.{free_count}
 use Rattle.pages.specs.Pages.{map_now, catalog_of}
-use Rattle.btree.specs.Entries.{Entry, entry_with, with_entry}
-use Rattle.btree.specs.Rooted.{Rooted}
+use Rattle.btree.specs.Entries.{Entry, entry_with, with_new_entry}
+use Rattle.btree.specs.Rooted.{RootedTree}
 use Rattle.btree.proofs.Frames.{same_pages}
 use Rattle.records.specs.declared.fault.StoreFault.TheVariants.{Device, Full, Damaged}
-use Rattle.file_trees.specs.Catalog.{padded}
-use Rattle.file_trees.specs.Forest.{Planted}
-use Rattle.file_trees.specs.Grows.{StandsAmong}
-use Rattle.file_trees.specs.Volume.{trees_of, catalog_entry}
+use Rattle.volume_format.specs.Catalog.{padded_name}
+use Rattle.volume_format.specs.Forest.{TreeLevels}
+use Rattle.volume_format.specs.Grows.{IsTreeAmong}
+use Rattle.volume_format.specs.Volume.{trees_of, catalog_entry}
 use Rattle.alternate_keys.specs.Listed.{catalog_at}
 use Rattle.alternate_keys.proofs.Added.{entry_as}
 use Rattle.alternate_keys.proofs.Calling.{looks_edits, edits_blamed, edits_last, prepares_of, prepares_set}
@@ -70,13 +70,13 @@ returns-in_err-insert_among-clause-room g c = λ honest agrees files holds full.
     let still = looks.only.state honest in
     let there : List (Option Sector) = (map_now c.is_full.new.pages (g.D.Device.state c.is_full.new.device).disk.present).pages in
     let same : there ≡ m.pages = same_pages c.args.pages.now c.is_full.new.pages old (g.D.Device.state c.is_full.new.device) looks.unchanged still in
-    let trees : List Planted = flat_map trees_of holds.kept in
+    let trees : List TreeLevels = flat_map trees_of holds.kept in
     let entries : List Entry = map catalog_entry holds.kept in
-    let tree : Rooted = c.catalog_tree-catalog.result in
+    let tree : RootedTree = c.catalog_tree-catalog.result in
     let root_is : tree.root ≡ m.catalog = c.catalog_tree-catalog.ensures.root ∙ c.catalog.ensures ∙ ap (λ (x : Map). x.catalog) (looks.unchanged.map []) in
     let own : tree ≡ catalog_at m.catalog = same_tree tree (catalog_at m.catalog) c.catalog_tree-catalog.ensures.layout root_is in
-    let first : StandsAmong m.pages [] trees (catalog_at m.catalog) entries = record { levels = holds.keeps.catalog; forest = holds.keeps.forest; listed = holds.keeps.listed } in
-    let stands = subst (λ (p : List (Option Sector)). StandsAmong p [] trees tree entries) (sym same) (subst (λ (t : Rooted). StandsAmong m.pages [] trees t entries) (sym own) first) in
+    let first : IsTreeAmong m.pages [] trees (catalog_at m.catalog) entries = record { levels = holds.keeps.catalog; forest = holds.keeps.forest; listed = holds.keeps.listed } in
+    let stands = subst (λ (p : List (Option Sector)). IsTreeAmong p [] trees tree entries) (sym same) (subst (λ (t : RootedTree). IsTreeAmong m.pages [] trees t entries) (sym own) first) in
     let room = c.insert_among.ensures.room honest_then agrees_then [] trees entries stands refusal in
     let committed = ap free_count (same_volume c.args.pages.now c.is_full.new.pages looks.unchanged.committed) in
     let changed = ap (λ (l : List ℕ). length l) looks.unchanged.changed_pages in
@@ -95,13 +95,13 @@ returns-in_err-insert_among-clause-damaged g c = λ honest agrees files holds no
     let still = looks.only.state honest in
     let there : List (Option Sector) = (map_now c.is_full.new.pages (g.D.Device.state c.is_full.new.device).disk.present).pages in
     let same : there ≡ m.pages = same_pages c.args.pages.now c.is_full.new.pages old (g.D.Device.state c.is_full.new.device) looks.unchanged still in
-    let trees : List Planted = flat_map trees_of holds.kept in
+    let trees : List TreeLevels = flat_map trees_of holds.kept in
     let entries : List Entry = map catalog_entry holds.kept in
-    let tree : Rooted = c.catalog_tree-catalog.result in
+    let tree : RootedTree = c.catalog_tree-catalog.result in
     let root_is : tree.root ≡ m.catalog = c.catalog_tree-catalog.ensures.root ∙ c.catalog.ensures ∙ ap (λ (x : Map). x.catalog) (looks.unchanged.map []) in
     let own : tree ≡ catalog_at m.catalog = same_tree tree (catalog_at m.catalog) c.catalog_tree-catalog.ensures.layout root_is in
-    let first : StandsAmong m.pages [] trees (catalog_at m.catalog) entries = record { levels = holds.keeps.catalog; forest = holds.keeps.forest; listed = holds.keeps.listed } in
-    let stands = subst (λ (p : List (Option Sector)). StandsAmong p [] trees tree entries) (sym same) (subst (λ (t : Rooted). StandsAmong m.pages [] trees t entries) (sym own) first) in
+    let first : IsTreeAmong m.pages [] trees (catalog_at m.catalog) entries = record { levels = holds.keeps.catalog; forest = holds.keeps.forest; listed = holds.keeps.listed } in
+    let stands = subst (λ (p : List (Option Sector)). IsTreeAmong p [] trees tree entries) (sym same) (subst (λ (t : RootedTree). IsTreeAmong m.pages [] trees t entries) (sym own) first) in
     c.insert_among.ensures.damaged honest_then agrees_then [] trees entries stands refusal
 
 pub returns-then-not-branch-clause-damaged : goal.returns-then-not-branch-clause-damaged
@@ -114,13 +114,13 @@ returns-then-not-branch-clause-damaged g c = λ honest agrees files holds none r
     let still = looks.only.state honest in
     let there : List (Option Sector) = (map_now c.is_full.new.pages (g.D.Device.state c.is_full.new.device).disk.present).pages in
     let same : there ≡ m.pages = same_pages c.args.pages.now c.is_full.new.pages old (g.D.Device.state c.is_full.new.device) looks.unchanged still in
-    let trees : List Planted = flat_map trees_of holds.kept in
+    let trees : List TreeLevels = flat_map trees_of holds.kept in
     let entries : List Entry = map catalog_entry holds.kept in
-    let tree : Rooted = c.catalog_tree-catalog.result in
+    let tree : RootedTree = c.catalog_tree-catalog.result in
     let root_is : tree.root ≡ m.catalog = c.catalog_tree-catalog.ensures.root ∙ c.catalog.ensures ∙ ap (λ (x : Map). x.catalog) (looks.unchanged.map []) in
     let own : tree ≡ catalog_at m.catalog = same_tree tree (catalog_at m.catalog) c.catalog_tree-catalog.ensures.layout root_is in
-    let first : StandsAmong m.pages [] trees (catalog_at m.catalog) entries = record { levels = holds.keeps.catalog; forest = holds.keeps.forest; listed = holds.keeps.listed } in
-    let stands = subst (λ (p : List (Option Sector)). StandsAmong p [] trees tree entries) (sym same) (subst (λ (t : Rooted). StandsAmong m.pages [] trees t entries) (sym own) first) in
+    let first : IsTreeAmong m.pages [] trees (catalog_at m.catalog) entries = record { levels = holds.keeps.catalog; forest = holds.keeps.forest; listed = holds.keeps.listed } in
+    let stands = subst (λ (p : List (Option Sector)). IsTreeAmong p [] trees tree entries) (sym same) (subst (λ (t : RootedTree). IsTreeAmong m.pages [] trees t entries) (sym own) first) in
     let some = c.in_ok-insert_among.ensures.there honest_then agrees_then [] trees entries stands (ap Ok c.if-not-branch.true) in
     let here : is_some (entry_with entries c.pad_name.result) ≡ false = ap (λ (e : Option Entry). is_some e) (ap (entry_with entries) c.pad_name.ensures ∙ none) in
     let both : true ≡ false = sym some ∙ here in
@@ -136,22 +136,22 @@ returns-clause-added g c = λ honest agrees files holds.
     let still = looks.only.state honest in
     let there : List (Option Sector) = (map_now c.is_full.new.pages (g.D.Device.state c.is_full.new.device).disk.present).pages in
     let same : there ≡ m.pages = same_pages c.args.pages.now c.is_full.new.pages old (g.D.Device.state c.is_full.new.device) looks.unchanged still in
-    let trees : List Planted = flat_map trees_of holds.kept in
+    let trees : List TreeLevels = flat_map trees_of holds.kept in
     let entries : List Entry = map catalog_entry holds.kept in
-    let tree : Rooted = c.catalog_tree-catalog.result in
+    let tree : RootedTree = c.catalog_tree-catalog.result in
     let root_is : tree.root ≡ m.catalog = c.catalog_tree-catalog.ensures.root ∙ c.catalog.ensures ∙ ap (λ (x : Map). x.catalog) (looks.unchanged.map []) in
     let own : tree ≡ catalog_at m.catalog = same_tree tree (catalog_at m.catalog) c.catalog_tree-catalog.ensures.layout root_is in
-    let first : StandsAmong m.pages [] trees (catalog_at m.catalog) entries = record { levels = holds.keeps.catalog; forest = holds.keeps.forest; listed = holds.keeps.listed } in
-    let stands = subst (λ (p : List (Option Sector)). StandsAmong p [] trees tree entries) (sym same) (subst (λ (t : Rooted). StandsAmong m.pages [] trees t entries) (sym own) first) in
+    let first : IsTreeAmong m.pages [] trees (catalog_at m.catalog) entries = record { levels = holds.keeps.catalog; forest = holds.keeps.forest; listed = holds.keeps.listed } in
+    let stands = subst (λ (p : List (Option Sector)). IsTreeAmong p [] trees tree entries) (sym same) (subst (λ (t : RootedTree). IsTreeAmong m.pages [] trees t entries) (sym own) first) in
     let came = (c.in_ok-insert_among.ensures.inserted honest_then agrees_then [] trees entries stands (ap Ok c.if-not-branch.false)).1 in
-    let new : Rooted = c.insert_among.new.tree in
+    let new : RootedTree = c.insert_among.new.tree in
     let after = λ (s : State). (map_now c.insert_among.new.pages s.disk.present).pages in
-    let named = subst (λ (k : List ℕ). StandsAmong (after (g.D.Device.state c.is_full.new.device)) [] trees new (with_entry entries (entry_as k c.args.listing.now))) c.pad_name.ensures came in
-    let back = subst (λ (s : State). StandsAmong (after s) [] trees new (with_entry entries (entry_as (padded c.args.name.now) c.args.listing.now))) still named in
+    let named = subst (λ (k : List ℕ). IsTreeAmong (after (g.D.Device.state c.is_full.new.device)) [] trees new (with_new_entry entries (entry_as k c.args.listing.now))) c.pad_name.ensures came in
+    let back = subst (λ (s : State). IsTreeAmong (after s) [] trees new (with_new_entry entries (entry_as (padded_name c.args.name.now) c.args.listing.now))) still named in
     let root : new ≡ catalog_at (catalog_of c.set_catalog.new.self) =
     same_tree new (catalog_at (catalog_of c.set_catalog.new.self)) (c.insert_among.ensures.layout ∙ c.catalog_tree-catalog.ensures.layout) (sym c.root.ensures ∙ sym c.set_catalog.ensures.catalog) in
-    let rooted = subst (λ (t : Rooted). StandsAmong (after old) [] trees t (with_entry entries (entry_as (padded c.args.name.now) c.args.listing.now))) root back in
-    subst (λ (p : List (Option Sector)). StandsAmong p [] trees (catalog_at (catalog_of c.set_catalog.new.self)) (with_entry entries (entry_as (padded c.args.name.now) c.args.listing.now))) (sym (c.set_catalog.ensures.pages old.disk.present)) rooted
+    let rooted = subst (λ (t : RootedTree). IsTreeAmong (after old) [] trees t (with_new_entry entries (entry_as (padded_name c.args.name.now) c.args.listing.now))) root back in
+    subst (λ (p : List (Option Sector)). IsTreeAmong p [] trees (catalog_at (catalog_of c.set_catalog.new.self)) (with_new_entry entries (entry_as (padded_name c.args.name.now) c.args.listing.now))) (sym (c.set_catalog.ensures.pages old.disk.present)) rooted
 
 pub returns-clause-few_files : goal.returns-clause-few_files
 returns-clause-few_files g c = λ honest agrees files holds.
@@ -167,13 +167,13 @@ returns-clause-few g c = λ honest agrees files holds.
     let still = looks.only.state honest in
     let there : List (Option Sector) = (map_now c.is_full.new.pages (g.D.Device.state c.is_full.new.device).disk.present).pages in
     let same : there ≡ m.pages = same_pages c.args.pages.now c.is_full.new.pages old (g.D.Device.state c.is_full.new.device) looks.unchanged still in
-    let trees : List Planted = flat_map trees_of holds.kept in
+    let trees : List TreeLevels = flat_map trees_of holds.kept in
     let entries : List Entry = map catalog_entry holds.kept in
-    let tree : Rooted = c.catalog_tree-catalog.result in
+    let tree : RootedTree = c.catalog_tree-catalog.result in
     let root_is : tree.root ≡ m.catalog = c.catalog_tree-catalog.ensures.root ∙ c.catalog.ensures ∙ ap (λ (x : Map). x.catalog) (looks.unchanged.map []) in
     let own : tree ≡ catalog_at m.catalog = same_tree tree (catalog_at m.catalog) c.catalog_tree-catalog.ensures.layout root_is in
-    let first : StandsAmong m.pages [] trees (catalog_at m.catalog) entries = record { levels = holds.keeps.catalog; forest = holds.keeps.forest; listed = holds.keeps.listed } in
-    let stands = subst (λ (p : List (Option Sector)). StandsAmong p [] trees tree entries) (sym same) (subst (λ (t : Rooted). StandsAmong m.pages [] trees t entries) (sym own) first) in
+    let first : IsTreeAmong m.pages [] trees (catalog_at m.catalog) entries = record { levels = holds.keeps.catalog; forest = holds.keeps.forest; listed = holds.keeps.listed } in
+    let stands = subst (λ (p : List (Option Sector)). IsTreeAmong p [] trees tree entries) (sym same) (subst (λ (t : RootedTree). IsTreeAmong m.pages [] trees t entries) (sym own) first) in
     let few = c.in_ok-insert_among.ensures.changed_pages honest_then agrees_then [] trees entries stands in
     let changed = ap (λ (l : List ℕ). length l) looks.unchanged.changed_pages in
     let last = ap (λ (l : List ℕ). length l) c.set_catalog.ensures.changed_pages in

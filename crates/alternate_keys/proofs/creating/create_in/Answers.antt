@@ -6,12 +6,12 @@ use Rattle.station.specs.State.{State}
 use Rattle.station.proofs.Calls.{reads_writes, blamed_where, writes_then}
 use Rattle.station.proofs.Spans.{stays}
 use Rattle.pages.specs.Image.{Map, Volume, map_of}
-use Rattle.pages.specs.Pages.{map_now, committed_of, advanced}
+use Rattle.pages.specs.Pages.{map_now, committed_of, next_generation}
 use Rattle.pages.specs.declared.page_map.PageMap.{PageMap}
 use Rattle.records.specs.declared.fault.StoreFault.TheVariants.{Device, Full, Damaged}
 use Rattle.records.specs.Files.{Files, empty_file, with_file}
 use Rattle.records.specs.Stores.{spec_of, Either}
-use Rattle.file_trees.specs.Volume.{MapHolds, Holds}
+use Rattle.volume_format.specs.Volume.{MapHolds, Holds}
 use Rattle.alternate_keys.specs.Held.{held_law}
 use Rattle.alternate_keys.specs.Settles.{IsChanged}
 use Rattle.alternate_keys.proofs.Still.{same_volume, lacks_room}
@@ -45,8 +45,8 @@ returns-in_err-prepare_file-clause-turned g c = λ honest files stands.
 
 pub returns-clause-only : goal.returns-clause-only
 returns-clause-only g c =
-    writes_then g.D.Device (c.prepare_file.result ≡ Err Device) (c.settle.result ≡ Err Device) (c.settle.result ≡ Err Device) c.args.device.now c.prepare_file.new.device c.settle.new.device (λ is. inr is)
-    (reads_writes g.D.Device (c.prepare_file.result ≡ Err Device) c.args.device.now c.prepare_file.new.device c.prepare_file.ensures.prepares.only) c.settle.ensures.only
+    writes_then g.D.Device (c.prepare_file.result ≡ Err Device) (c.commit_pages.result ≡ Err Device) (c.commit_pages.result ≡ Err Device) c.args.device.now c.prepare_file.new.device c.commit_pages.new.device (λ is. inr is)
+    (reads_writes g.D.Device (c.prepare_file.result ≡ Err Device) c.args.device.now c.prepare_file.new.device c.prepare_file.ensures.prepares.only) c.commit_pages.ensures.only
 
 pub returns-clause-turned : goal.returns-clause-turned
 returns-clause-turned g c = λ honest files stands.
@@ -63,13 +63,13 @@ returns-clause-turned g c = λ honest files stands.
       agrees = prepares.agrees honest stands.agrees;
       was = subst (λ (s : State). MapHolds (map_of s.disk.present (committed_of between)) files) (sym still)
           (subst (λ (v : Volume). MapHolds (map_of old.disk.present v) files) (sym (same_volume before between prepares.committed)) (subst (λ (m : Map). MapHolds m files) stands.still stands.holds));
-      will = subst (λ (s : State). MapHolds (advanced (map_now between s.disk.present)) after) (sym still) (c.in_ok-prepare_file.ensures.will honest stands.agrees files stands.holds);
+      will = subst (λ (s : State). MapHolds (next_generation (map_now between s.disk.present)) after) (sym still) (c.in_ok-prepare_file.ensures.will honest stands.agrees files stands.holds);
     } in
-    let settles = c.settle.ensures.settles files after changed in
-    let moments_then = subst (λ (h : List State). Through h (g.D.Device.history c.settle.new.device) (g.D.Device.state c.settle.new.device) (CrashLeaves new.events (Either Holds files after))) (prepares.only.history honest) settles.moments in
+    let settles = c.commit_pages.ensures.settles files after changed in
+    let moments_then = subst (λ (h : List State). Through h (g.D.Device.history c.commit_pages.new.device) (g.D.Device.state c.commit_pages.new.device) (CrashLeaves new.events (Either Holds files after))) (prepares.only.history honest) settles.moments in
     record {
       stands = settles.stands;
-      moments = subst (λ (s : State). Through (g.D.Device.history c.args.device.now) (g.D.Device.history c.settle.new.device) (g.D.Device.state c.settle.new.device) (CrashLeaves s.events (Either Holds files after))) still moments_then;
+      moments = subst (λ (s : State). Through (g.D.Device.history c.args.device.now) (g.D.Device.history c.commit_pages.new.device) (g.D.Device.state c.commit_pages.new.device) (CrashLeaves s.events (Either Holds files after))) still moments_then;
       sound = settles.sound;
       room = λ is. lacks_room before old.disk true name after stands.agrees (c.in_ok-prepare_file.ensures.full honest stands.agrees files stands.holds stands.rested (settles.full is));
     }
@@ -80,4 +80,4 @@ returns-in_err-prepare_file-clause-unwritten g c = λ is honest. c.prepare_file.
 pub returns-clause-unwritten : goal.returns-clause-unwritten
 returns-clause-unwritten g c = λ is honest.
     let only = c.prepare_file.ensures.prepares.only in
-    c.settle.ensures.unwritten is (only.honest.0 honest) ∙ only.state honest
+    c.commit_pages.ensures.unwritten is (only.honest.0 honest) ∙ only.state honest

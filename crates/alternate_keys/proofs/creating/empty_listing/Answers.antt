@@ -1,7 +1,7 @@
 use Rattle.std.proofs.Common.{◌≡◌, ℕ, List, length, ap, ◌∙◌, arith}
 use Rattle.records.specs.Stores.{spec_of}
-use Rattle.file_trees.specs.Catalog.{Listing}
-use Rattle.file_trees.proofs.Listings.{long}
+use Rattle.volume_format.specs.Catalog.{Listing}
+use Rattle.volume_format.proofs.Listings.{long}
 use Rattle.alternate_keys.proofs.creating.empty_listing.Goals as goal
 
 pub returns-clause-long : goal.returns-clause-long

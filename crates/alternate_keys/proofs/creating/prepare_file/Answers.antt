@@ -7,19 +7,19 @@ use Rattle.pages.specs.Image.{Map}
 use Rattle.pages.specs.Use.{free_count}
 use Rattle.pages.specs.Pages.{map_now, catalog_of, committed_of, SameCommitted}
 use Rattle.pages.specs.declared.page_map.PageMap.{PageMap}
-use Rattle.btree.specs.Entries.{Entry, entry_with, with_entry, with_value}
+use Rattle.btree.specs.Entries.{Entry, entry_with, with_new_entry, with_value}
 use Rattle.btree.proofs.Frames.{same_pages}
 use Rattle.records.specs.declared.answer.Outcome.TheVariants.{Done}
 use Rattle.records.specs.declared.fault.StoreFault.TheVariants.{Full, Damaged}
-use Rattle.records.specs.Changes.{Changed}
+use Rattle.records.specs.Changes.{FileChange}
 use Rattle.records.specs.Files.{File, Files, AreFiles, file_at, with_file, empty_file}
 use Rattle.records.specs.Spec.{Spec}
 use Rattle.records.specs.Stores.{spec_of}
 use Rattle.records.proofs.Changed.{created_are_files}
-use Rattle.file_trees.specs.Catalog.{padded}
-use Rattle.file_trees.specs.Forest.{Planted, IsForest}
-use Rattle.file_trees.specs.Grows.{StandsAmong}
-use Rattle.file_trees.specs.Volume.{MapHolds, trees_of, catalog_entry}
+use Rattle.volume_format.specs.Catalog.{padded_name}
+use Rattle.volume_format.specs.Forest.{TreeLevels, IsForest}
+use Rattle.volume_format.specs.Grows.{IsTreeAmong}
+use Rattle.volume_format.specs.Volume.{MapHolds, trees_of, catalog_entry}
 use Rattle.alternate_keys.specs.Listed.{IsListed, catalog_at}
 use Rattle.alternate_keys.specs.Placed.{HasTrees}
 use Rattle.alternate_keys.proofs.Added.{entry_as, added_count, holds_added}
@@ -48,7 +48,7 @@ returns-in_err-clear_trees-in-Some-clause-damaged g c = λ honest agrees files h
     let old = g.D.Device.state c.args.device.now in
     let m : Map = map_now c.args.pages.now old.disk.present in
     let answer : Option Entry = c.in_ok-entry.field-0 in
-    let told : answer ≡ entry_with (map catalog_entry holds.kept) (padded name) = c.in_ok-entry.ensures.entry honest agrees files holds ∙ ap (λ (n : List ℕ). entry_with (map catalog_entry holds.kept) (padded n)) c.deref.ensures.value in
+    let told : answer ≡ entry_with (map catalog_entry holds.kept) (padded_name name) = c.in_ok-entry.ensures.entry honest agrees files holds ∙ ap (λ (n : List ℕ). entry_with (map catalog_entry holds.kept) (padded_name n)) c.deref.ensures.value in
     let listed : IsListed m (file_at name files) answer = subst (λ (n : List ℕ). IsListed m (file_at n files) answer) c.deref.ensures.value (c.in_ok-entry.ensures.listed honest agrees files holds) in
     let found_unchanged = c.find_listing.ensures.unchanged in
     let honest_found = c.find_listing.ensures.only.honest.0 honest in
@@ -61,8 +61,8 @@ returns-in_err-clear_trees-in-Some-clause-damaged g c = λ honest agrees files h
     let there : file_at name files ≡ Some held = here.1.there in
     let bounds = c.map_bounds.ensures.open c.args.pages.now old.disk.present c.requires.open c.requires.unspent in
     let one = own m files holds name held named there in
-    let left : List Planted = left_of m files holds name held one in
-    let right : List Planted = right_of m files holds name held one in
+    let left : List TreeLevels = left_of m files holds name held one in
+    let right : List TreeLevels = right_of m files holds name held one in
     let trees = trees_at m files holds name held named there answer told held.spec c.value.result.now c.in-Some.entry refl bounds.0 bounds.1 c.in-Some.is c.value.ensures in
     let found_pages : List (Option Sector) = (map_now c.find_listing.new.pages new_state.disk.present).pages in
     let same_found : found_pages ≡ m.pages = same_pages c.args.pages.now c.find_listing.new.pages old new_state found_unchanged still_found in
@@ -81,7 +81,7 @@ returns-in_err-replace_listing-in-Some-clause-damaged g c = λ honest agrees fil
     let old = g.D.Device.state c.args.device.now in
     let m : Map = map_now c.args.pages.now old.disk.present in
     let answer : Option Entry = c.in_ok-entry.field-0 in
-    let told : answer ≡ entry_with (map catalog_entry holds.kept) (padded name) = c.in_ok-entry.ensures.entry honest agrees files holds ∙ ap (λ (n : List ℕ). entry_with (map catalog_entry holds.kept) (padded n)) c.deref.ensures.value in
+    let told : answer ≡ entry_with (map catalog_entry holds.kept) (padded_name name) = c.in_ok-entry.ensures.entry honest agrees files holds ∙ ap (λ (n : List ℕ). entry_with (map catalog_entry holds.kept) (padded_name n)) c.deref.ensures.value in
     let listed : IsListed m (file_at name files) answer = subst (λ (n : List ℕ). IsListed m (file_at n files) answer) c.deref.ensures.value (c.in_ok-entry.ensures.listed honest agrees files holds) in
     let found_unchanged = c.find_listing.ensures.unchanged in
     let honest_found = c.find_listing.ensures.only.honest.0 honest in
@@ -94,8 +94,8 @@ returns-in_err-replace_listing-in-Some-clause-damaged g c = λ honest agrees fil
     let there : file_at name files ≡ Some held = here.1.there in
     let bounds = c.map_bounds.ensures.open c.args.pages.now old.disk.present c.requires.open c.requires.unspent in
     let one = own m files holds name held named there in
-    let left : List Planted = left_of m files holds name held one in
-    let right : List Planted = right_of m files holds name held one in
+    let left : List TreeLevels = left_of m files holds name held one in
+    let right : List TreeLevels = right_of m files holds name held one in
     let trees = trees_at m files holds name held named there answer told held.spec c.value.result.now c.in-Some.entry refl bounds.0 bounds.1 c.in-Some.is c.value.ensures in
     let found_pages : List (Option Sector) = (map_now c.find_listing.new.pages new_state.disk.present).pages in
     let same_found : found_pages ≡ m.pages = same_pages c.args.pages.now c.find_listing.new.pages old new_state found_unchanged still_found in
@@ -109,14 +109,14 @@ returns-in_err-replace_listing-in-Some-clause-damaged g c = λ honest agrees fil
     let forest = subst (λ (s : State). IsForest (map_now c.clear_trees.new.pages s.disk.present).pages (left ++ right)) (sym still_clear) (c.in_ok-clear_trees-in-Some.ensures.cleared honest_found agrees_found held.spec file_named m.generation left right trees_found) in
     let listing : List ℕ = c.in_ok-listing.listing.items in
     let placed = empty_placed spec name m.generation between left right listing forest c.in_ok-listing.ensures.bytes in
-    let changed : Changed = record { outcome = Done; file = empty_file spec } in
+    let changed : FileChange = record { outcome = Done; file = empty_file spec } in
     let catalog_is : catalog_of c.clear_trees.new.pages ≡ m.catalog = edits.catalog ∙ ap (λ (x : Map). x.catalog) (found_unchanged.map old.disk.present) in
-    let arounds : List Planted = around m files holds name held named there changed between listing placed in
+    let arounds : List TreeLevels = around m files holds name held named there changed between listing placed in
     let stands = catalog_stands m files holds name held named there changed between listing placed (catalog_of c.clear_trees.new.pages) catalog_is in
     let first = found_unchanged.committed in
     let second = edits.committed in
     let some = some_entry m files holds name held named there in
-    let at_name = subst (λ (n : List ℕ). IsSome (entry_with (map catalog_entry holds.kept) (padded n))) (sym c.deref-in-Some.ensures.value) some in
+    let at_name = subst (λ (n : List ℕ). IsSome (entry_with (map catalog_entry holds.kept) (padded_name n))) (sym c.deref-in-Some.ensures.value) some in
     c.replace_listing.ensures.damaged honest_clear agrees_clear [] arounds (map catalog_entry holds.kept) stands at_name refusal
 
 pub returns-in-Some-clause-will : goal.returns-in-Some-clause-will
@@ -127,7 +127,7 @@ returns-in-Some-clause-will g c = λ honest agrees files holds.
     let old = g.D.Device.state c.args.device.now in
     let m : Map = map_now c.args.pages.now old.disk.present in
     let answer : Option Entry = c.in_ok-entry.field-0 in
-    let told : answer ≡ entry_with (map catalog_entry holds.kept) (padded name) = c.in_ok-entry.ensures.entry honest agrees files holds ∙ ap (λ (n : List ℕ). entry_with (map catalog_entry holds.kept) (padded n)) c.deref.ensures.value in
+    let told : answer ≡ entry_with (map catalog_entry holds.kept) (padded_name name) = c.in_ok-entry.ensures.entry honest agrees files holds ∙ ap (λ (n : List ℕ). entry_with (map catalog_entry holds.kept) (padded_name n)) c.deref.ensures.value in
     let listed : IsListed m (file_at name files) answer = subst (λ (n : List ℕ). IsListed m (file_at n files) answer) c.deref.ensures.value (c.in_ok-entry.ensures.listed honest agrees files holds) in
     let found_unchanged = c.find_listing.ensures.unchanged in
     let honest_found = c.find_listing.ensures.only.honest.0 honest in
@@ -140,8 +140,8 @@ returns-in-Some-clause-will g c = λ honest agrees files holds.
     let there : file_at name files ≡ Some held = here.1.there in
     let bounds = c.map_bounds.ensures.open c.args.pages.now old.disk.present c.requires.open c.requires.unspent in
     let one = own m files holds name held named there in
-    let left : List Planted = left_of m files holds name held one in
-    let right : List Planted = right_of m files holds name held one in
+    let left : List TreeLevels = left_of m files holds name held one in
+    let right : List TreeLevels = right_of m files holds name held one in
     let trees = trees_at m files holds name held named there answer told held.spec c.value.result.now c.in-Some.entry refl bounds.0 bounds.1 c.in-Some.is c.value.ensures in
     let found_pages : List (Option Sector) = (map_now c.find_listing.new.pages new_state.disk.present).pages in
     let same_found : found_pages ≡ m.pages = same_pages c.args.pages.now c.find_listing.new.pages old new_state found_unchanged still_found in
@@ -155,18 +155,18 @@ returns-in-Some-clause-will g c = λ honest agrees files holds.
     let forest = subst (λ (s : State). IsForest (map_now c.clear_trees.new.pages s.disk.present).pages (left ++ right)) (sym still_clear) (c.in_ok-clear_trees-in-Some.ensures.cleared honest_found agrees_found held.spec file_named m.generation left right trees_found) in
     let listing : List ℕ = c.in_ok-listing.listing.items in
     let placed = empty_placed spec name m.generation between left right listing forest c.in_ok-listing.ensures.bytes in
-    let changed : Changed = record { outcome = Done; file = empty_file spec } in
+    let changed : FileChange = record { outcome = Done; file = empty_file spec } in
     let catalog_is : catalog_of c.clear_trees.new.pages ≡ m.catalog = edits.catalog ∙ ap (λ (x : Map). x.catalog) (found_unchanged.map old.disk.present) in
-    let arounds : List Planted = around m files holds name held named there changed between listing placed in
+    let arounds : List TreeLevels = around m files holds name held named there changed between listing placed in
     let stands = catalog_stands m files holds name held named there changed between listing placed (catalog_of c.clear_trees.new.pages) catalog_is in
     let first = found_unchanged.committed in
     let second = edits.committed in
     let last : PageMap = c.replace_listing.new.pages in
     let put = c.in_ok-replace_listing-in-Some.ensures.replaced honest_clear agrees_clear [] arounds (map catalog_entry holds.kept) stands in
-    let put_name = subst (λ (n : List ℕ). StandsAmong (map_now last (g.D.Device.state c.clear_trees.new.device).disk.present).pages [] arounds (catalog_at (catalog_of c.clear_trees.new.pages)) (with_value (map catalog_entry holds.kept) (entry_as (padded n) c.deref-in-Some-2.result.now))) c.deref-in-Some.ensures.value put in
-    let put_value = subst (λ (v : List ℕ). StandsAmong (map_now last (g.D.Device.state c.clear_trees.new.device).disk.present).pages [] arounds (catalog_at (catalog_of c.clear_trees.new.pages)) (with_value (map catalog_entry holds.kept) (entry_as (padded name) v))) c.deref-in-Some-2.ensures.value put_name in
-    let put_there = subst (λ (s : State). StandsAmong (map_now last s.disk.present).pages [] arounds (catalog_at (catalog_of c.clear_trees.new.pages)) (with_value (map catalog_entry holds.kept) (entry_as (padded name) listing))) (still_clear ∙ still_found) put_value in
-    let put_catalog = subst (λ (n : ℕ). StandsAmong (map_now last old.disk.present).pages [] arounds (catalog_at n) (with_value (map catalog_entry holds.kept) (entry_as (padded name) listing))) catalog_is put_there in
+    let put_name = subst (λ (n : List ℕ). IsTreeAmong (map_now last (g.D.Device.state c.clear_trees.new.device).disk.present).pages [] arounds (catalog_at (catalog_of c.clear_trees.new.pages)) (with_value (map catalog_entry holds.kept) (entry_as (padded_name n) c.deref-in-Some-2.result.now))) c.deref-in-Some.ensures.value put in
+    let put_value = subst (λ (v : List ℕ). IsTreeAmong (map_now last (g.D.Device.state c.clear_trees.new.device).disk.present).pages [] arounds (catalog_at (catalog_of c.clear_trees.new.pages)) (with_value (map catalog_entry holds.kept) (entry_as (padded_name name) v))) c.deref-in-Some-2.ensures.value put_name in
+    let put_there = subst (λ (s : State). IsTreeAmong (map_now last s.disk.present).pages [] arounds (catalog_at (catalog_of c.clear_trees.new.pages)) (with_value (map catalog_entry holds.kept) (entry_as (padded_name name) listing))) (still_clear ∙ still_found) put_value in
+    let put_catalog = subst (λ (n : ℕ). IsTreeAmong (map_now last old.disk.present).pages [] arounds (catalog_at n) (with_value (map catalog_entry holds.kept) (entry_as (padded_name name) listing))) catalog_is put_there in
     let third = c.replace_listing.ensures.edits.committed in
     let same_all : SameCommitted c.args.pages.now last = record { volume = third.volume ∙ second.volume ∙ first.volume; spent = third.spent ∙ second.spent ∙ first.spent } in
     let long : length after ≡ length files = ap (λ (l : Files). length (with_file name (empty_file spec) l)) (sym holds.named) ∙ kept_count name holds.kept held (empty_file spec) one ∙ ap (λ (l : Files). length l) holds.named in
@@ -203,7 +203,7 @@ returns-in_err-add_listing-in-None-clause-room g c = λ honest agrees files hold
     let old = g.D.Device.state c.args.device.now in
     let m : Map = map_now c.args.pages.now old.disk.present in
     let answer : Option Entry = c.in_ok-entry.field-0 in
-    let told : answer ≡ entry_with (map catalog_entry holds.kept) (padded name) = c.in_ok-entry.ensures.entry honest agrees files holds ∙ ap (λ (n : List ℕ). entry_with (map catalog_entry holds.kept) (padded n)) c.deref.ensures.value in
+    let told : answer ≡ entry_with (map catalog_entry holds.kept) (padded_name name) = c.in_ok-entry.ensures.entry honest agrees files holds ∙ ap (λ (n : List ℕ). entry_with (map catalog_entry holds.kept) (padded_name n)) c.deref.ensures.value in
     let listed : IsListed m (file_at name files) answer = subst (λ (n : List ℕ). IsListed m (file_at n files) answer) c.deref.ensures.value (c.in_ok-entry.ensures.listed honest agrees files holds) in
     let found_unchanged = c.find_listing.ensures.unchanged in
     let honest_found = c.find_listing.ensures.only.honest.0 honest in
@@ -233,7 +233,7 @@ returns-in_err-add_listing-in-None-clause-damaged g c = λ honest agrees files h
     let old = g.D.Device.state c.args.device.now in
     let m : Map = map_now c.args.pages.now old.disk.present in
     let answer : Option Entry = c.in_ok-entry.field-0 in
-    let told : answer ≡ entry_with (map catalog_entry holds.kept) (padded name) = c.in_ok-entry.ensures.entry honest agrees files holds ∙ ap (λ (n : List ℕ). entry_with (map catalog_entry holds.kept) (padded n)) c.deref.ensures.value in
+    let told : answer ≡ entry_with (map catalog_entry holds.kept) (padded_name name) = c.in_ok-entry.ensures.entry honest agrees files holds ∙ ap (λ (n : List ℕ). entry_with (map catalog_entry holds.kept) (padded_name n)) c.deref.ensures.value in
     let listed : IsListed m (file_at name files) answer = subst (λ (n : List ℕ). IsListed m (file_at n files) answer) c.deref.ensures.value (c.in_ok-entry.ensures.listed honest agrees files holds) in
     let found_unchanged = c.find_listing.ensures.unchanged in
     let honest_found = c.find_listing.ensures.only.honest.0 honest in
@@ -245,8 +245,8 @@ returns-in_err-add_listing-in-None-clause-damaged g c = λ honest agrees files h
     let map_is : map_now c.find_listing.new.pages new_state.disk.present ≡ m = ap (λ (s : State). map_now c.find_listing.new.pages s.disk.present) still_found ∙ found_unchanged.map old.disk.present in
     let holds_found = holds_at m (map_now c.find_listing.new.pages new_state.disk.present) files map_is holds in
     let first = found_unchanged.committed in
-    let absent : entry_with (map catalog_entry holds.kept) (padded name) ≡ None = sym told ∙ c.in-None.is in
-    let at_name = subst (λ (n : List ℕ). entry_with (map catalog_entry holds.kept) (padded n) ≡ None) (sym c.deref-in-None.ensures.value) absent in
+    let absent : entry_with (map catalog_entry holds.kept) (padded_name name) ≡ None = sym told ∙ c.in-None.is in
+    let at_name = subst (λ (n : List ℕ). entry_with (map catalog_entry holds.kept) (padded_name n) ≡ None) (sym c.deref-in-None.ensures.value) absent in
     c.add_listing.ensures.damaged honest_found agrees_found files holds_found at_name refusal
 
 pub returns-clause-will : goal.returns-clause-will
@@ -257,7 +257,7 @@ returns-clause-will g c = λ honest agrees files holds.
     let old = g.D.Device.state c.args.device.now in
     let m : Map = map_now c.args.pages.now old.disk.present in
     let answer : Option Entry = c.in_ok-entry.field-0 in
-    let told : answer ≡ entry_with (map catalog_entry holds.kept) (padded name) = c.in_ok-entry.ensures.entry honest agrees files holds ∙ ap (λ (n : List ℕ). entry_with (map catalog_entry holds.kept) (padded n)) c.deref.ensures.value in
+    let told : answer ≡ entry_with (map catalog_entry holds.kept) (padded_name name) = c.in_ok-entry.ensures.entry honest agrees files holds ∙ ap (λ (n : List ℕ). entry_with (map catalog_entry holds.kept) (padded_name n)) c.deref.ensures.value in
     let listed : IsListed m (file_at name files) answer = subst (λ (n : List ℕ). IsListed m (file_at n files) answer) c.deref.ensures.value (c.in_ok-entry.ensures.listed honest agrees files holds) in
     let found_unchanged = c.find_listing.ensures.unchanged in
     let honest_found = c.find_listing.ensures.only.honest.0 honest in
@@ -271,12 +271,12 @@ returns-clause-will g c = λ honest agrees files holds.
     let first = found_unchanged.committed in
     let last : PageMap = c.add_listing.new.pages in
     let listing : List ℕ = c.in_ok-listing.listing.items in
-    let trees : List Planted = flat_map trees_of holds.kept in
+    let trees : List TreeLevels = flat_map trees_of holds.kept in
     let entries : List Entry = map catalog_entry holds.kept in
     let put = c.in_ok-add_listing-in-None.ensures.added honest_found agrees_found files holds_found in
-    let put_name = subst (λ (n : List ℕ). StandsAmong (map_now last new_state.disk.present).pages [] trees (catalog_at (catalog_of last)) (with_entry entries (entry_as (padded n) c.deref-in-None-2.result.now))) c.deref-in-None.ensures.value put in
-    let put_value = subst (λ (v : List ℕ). StandsAmong (map_now last new_state.disk.present).pages [] trees (catalog_at (catalog_of last)) (with_entry entries (entry_as (padded name) v))) c.deref-in-None-2.ensures.value put_name in
-    let put_there = subst (λ (s : State). StandsAmong (map_now last s.disk.present).pages [] trees (catalog_at (catalog_of last)) (with_entry entries (entry_as (padded name) listing))) still_found put_value in
+    let put_name = subst (λ (n : List ℕ). IsTreeAmong (map_now last new_state.disk.present).pages [] trees (catalog_at (catalog_of last)) (with_new_entry entries (entry_as (padded_name n) c.deref-in-None-2.result.now))) c.deref-in-None.ensures.value put in
+    let put_value = subst (λ (v : List ℕ). IsTreeAmong (map_now last new_state.disk.present).pages [] trees (catalog_at (catalog_of last)) (with_new_entry entries (entry_as (padded_name name) v))) c.deref-in-None-2.ensures.value put_name in
+    let put_there = subst (λ (s : State). IsTreeAmong (map_now last s.disk.present).pages [] trees (catalog_at (catalog_of last)) (with_new_entry entries (entry_as (padded_name name) listing))) still_found put_value in
     let few = c.in_ok-add_listing-in-None.ensures.few_files honest_found agrees_found files holds_found in
     let long = added_count name (empty_file spec) files none in
     let are : AreFiles after = created_are_files name spec files holds.are named c.args.file.now.sound (omega (arith, few, long)) in
@@ -293,7 +293,7 @@ returns-clause-full g c = λ honest agrees files holds rested full.
     let old = g.D.Device.state c.args.device.now in
     let m : Map = map_now c.args.pages.now old.disk.present in
     let answer : Option Entry = c.in_ok-entry.field-0 in
-    let told : answer ≡ entry_with (map catalog_entry holds.kept) (padded name) = c.in_ok-entry.ensures.entry honest agrees files holds ∙ ap (λ (n : List ℕ). entry_with (map catalog_entry holds.kept) (padded n)) c.deref.ensures.value in
+    let told : answer ≡ entry_with (map catalog_entry holds.kept) (padded_name name) = c.in_ok-entry.ensures.entry honest agrees files holds ∙ ap (λ (n : List ℕ). entry_with (map catalog_entry holds.kept) (padded_name n)) c.deref.ensures.value in
     let listed : IsListed m (file_at name files) answer = subst (λ (n : List ℕ). IsListed m (file_at n files) answer) c.deref.ensures.value (c.in_ok-entry.ensures.listed honest agrees files holds) in
     let found_unchanged = c.find_listing.ensures.unchanged in
     let honest_found = c.find_listing.ensures.only.honest.0 honest in

@@ -4,8 +4,8 @@ use Rattle.station.specs.Disk.{Sector}
 use Rattle.pages.specs.Pages.{map_now}
 use Rattle.pages.specs.declared.error.PagesError.TheVariants as pages
 use Rattle.records.specs.declared.fault.StoreFault.TheVariants.{Damaged}
-use Rattle.btree.specs.Rooted.{Rooted}
-use Rattle.btree.specs.Entries.{Entry, entries_of, entry_with, without}
+use Rattle.btree.specs.Rooted.{RootedTree}
+use Rattle.btree.specs.Entries.{Entry, entries_of, entry_with, without_entry}
 use Rattle.btree.specs.Changes.{Becomes}
 use Rattle.alternate_keys.proofs.Among.{grows}
 use Rattle.alternate_keys.proofs.Becoming.{becomes_among}
@@ -17,13 +17,13 @@ returns-in-Ok-true-clause-removed g c = λ honest agrees left right entries stan
     let image = (g.D.Device.state c.args.device.now).disk.present in
     let before : List (Option Sector) = (map_now c.args.pages.now image).pages in
     let after : List (Option Sector) = (map_now c.remove.new.pages image).pages in
-    let old : Rooted = c.args.tree.now in
-    let new : Rooted = c.remove.new.self in
+    let old : RootedTree = c.args.tree.now in
+    let new : RootedTree = c.remove.new.self in
     let told = c.in-Ok-true.ensures.removed honest agrees stands.levels (grows before left right old entries stands) (ap Ok c.in-Ok-true.field-0-test) in
-    let listed : without (entries_of old.layout stands.levels) c.args.key.now ≡ without entries c.args.key.now = ap (λ (es : List Entry). without es c.args.key.now) stands.listed in
-    let becomes : Becomes old.layout before stands.levels after new.root (without entries c.args.key.now) =
+    let listed : without_entry (entries_of old.layout stands.levels) c.args.key.now ≡ without_entry entries c.args.key.now = ap (λ (es : List Entry). without_entry es c.args.key.now) stands.listed in
+    let becomes : Becomes old.layout before stands.levels after new.root (without_entry entries c.args.key.now) =
     subst (λ (es : List Entry). Becomes old.layout before stands.levels after new.root es) listed told.1.became in
-    becomes_among before after left right old new entries (without entries c.args.key.now) stands c.in-Ok-true.ensures.layout becomes
+    becomes_among before after left right old new entries (without_entry entries c.args.key.now) stands c.in-Ok-true.ensures.layout becomes
 
 pub returns-in-Ok-true-clause-few : goal.returns-in-Ok-true-clause-few
 returns-in-Ok-true-clause-few g c = λ honest agrees left right entries stands.
@@ -33,7 +33,7 @@ returns-in-Ok-true-clause-few g c = λ honest agrees left right entries stands.
 pub returns-in-Ok-false-clause-damaged : goal.returns-in-Ok-false-clause-damaged
 returns-in-Ok-false-clause-damaged g c = λ honest agrees left right entries stands some is.
     let before : List (Option Sector) = (map_now c.args.pages.now (g.D.Device.state c.args.device.now).disk.present).pages in
-    let tree : Rooted = c.args.tree.now in
+    let tree : RootedTree = c.args.tree.now in
     let none : entry_with (entries_of tree.layout stands.levels) c.args.key.now ≡ None = c.in-Ok-false.ensures.missing honest agrees stands.levels (grows before left right tree entries stands) (ap Ok c.in-Ok-false.field-0-test) in
     let none_there : entry_with entries c.args.key.now ≡ None = ap (λ (es : List Entry). entry_with es c.args.key.now) (sym stands.listed) ∙ none in
     let clash : is_some (entry_with entries c.args.key.now) ≡ false = ap (λ (e : Option Entry). is_some e) none_there in

@@ -3,10 +3,10 @@ use Rattle.pages.specs.Image.{Map}
 use Rattle.pages.specs.Pages.{map_now}
 use Rattle.pages.specs.declared.error.PagesError.TheVariants as pages
 use Rattle.records.specs.declared.fault.StoreFault.TheVariants.{Damaged}
-use Rattle.tree_pages.specs.declared.row_layout.RowLayout.{RowLayout}
-use Rattle.btree.specs.Rooted.{Rooted}
+use Rattle.btree_pages.specs.declared.row_layout.RowLayout.{RowLayout}
+use Rattle.btree.specs.Rooted.{RootedTree}
 use Rattle.btree.specs.Entries.{Entry, entries_of, entry_with}
-use Rattle.file_trees.specs.Catalog.{catalog_layout, padded}
+use Rattle.volume_format.specs.Catalog.{catalog_layout, padded_name}
 use Rattle.alternate_keys.proofs.Catalogs.{listed, catalog_holds}
 use Rattle.alternate_keys.proofs.Faults.{damaged_back}
 use Rattle.alternate_keys.proofs.listing.find_listing.Goals as goal
@@ -14,7 +14,7 @@ use Rattle.alternate_keys.proofs.listing.find_listing.Goals as goal
 pub returns-in-Ok-clause-listed : goal.returns-in-Ok-clause-listed
 returns-in-Ok-clause-listed g c = λ honest agrees files holds.
     let m : Map = map_now c.args.pages.now (g.D.Device.state c.args.device.now).disk.present in
-    let tree : Rooted = c.catalog_tree-catalog.result in
+    let tree : RootedTree = c.catalog_tree-catalog.result in
     let root : tree.root ≡ m.catalog = c.catalog_tree-catalog.ensures.root ∙ c.catalog.ensures in
     let levels = holds.keeps.catalog in
     listed m files c.args.name.now c.in-Ok.entry c.requires.name holds
@@ -25,18 +25,18 @@ returns-in-Ok-clause-listed g c = λ honest agrees files holds.
 pub returns-in-Ok-clause-entry : goal.returns-in-Ok-clause-entry
 returns-in-Ok-clause-entry g c = λ honest agrees files holds.
     let m : Map = map_now c.args.pages.now (g.D.Device.state c.args.device.now).disk.present in
-    let tree : Rooted = c.catalog_tree-catalog.result in
+    let tree : RootedTree = c.catalog_tree-catalog.result in
     let root : tree.root ≡ m.catalog = c.catalog_tree-catalog.ensures.root ∙ c.catalog.ensures in
     let levels = holds.keeps.catalog in
     c.in-Ok.ensures.entry honest agrees levels (catalog_holds m files holds tree c.catalog_tree-catalog.ensures.layout root)
     ∙ ap (λ (l : RowLayout). entry_with (entries_of l levels) c.pad_name.result) c.catalog_tree-catalog.ensures.layout
     ∙ ap (entry_with (entries_of catalog_layout levels)) c.pad_name.ensures
-    ∙ ap (λ (es : List Entry). entry_with es (padded c.args.name.now)) holds.keeps.listed
+    ∙ ap (λ (es : List Entry). entry_with es (padded_name c.args.name.now)) holds.keeps.listed
 
 pub returns-in-Err-clause-damaged : goal.returns-in-Err-clause-damaged
 returns-in-Err-clause-damaged g c = λ honest agrees files holds is.
     let m : Map = map_now c.args.pages.now (g.D.Device.state c.args.device.now).disk.present in
-    let tree : Rooted = c.catalog_tree-catalog.result in
+    let tree : RootedTree = c.catalog_tree-catalog.result in
     let root : tree.root ≡ m.catalog = c.catalog_tree-catalog.ensures.root ∙ c.catalog.ensures in
     let told : c.to_fault.result ≡ Damaged = cc in
     let fault : c.in-Err.error ≡ pages.Damaged = damaged_back c.in-Err.error (sym c.to_fault.ensures ∙ told) in

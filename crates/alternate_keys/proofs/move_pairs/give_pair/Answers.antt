@@ -3,12 +3,12 @@ use Rattle.std.specs.Prelude.{Option, is_some}
 use Rattle.station.specs.Disk.{Sector}
 use Rattle.byteorder.specs.Endian.{big_bytes}
 use Rattle.pages.specs.Pages.{map_now}
-use Rattle.btree.specs.Entries.{Entry, entry_with, with_entry}
+use Rattle.btree.specs.Entries.{Entry, entry_with, with_new_entry}
 use Rattle.records.specs.declared.fault.StoreFault.TheVariants.{Full, Damaged}
 use Rattle.records.specs.declared.file_spec.KeyPlace.{KeyPlace}
 use Rattle.records.specs.Rows.{part}
 use Rattle.records.specs.Stores.{spec_of}
-use Rattle.file_trees.specs.Grows.{StandsAmong}
+use Rattle.volume_format.specs.Grows.{IsTreeAmong}
 use Rattle.alternate_keys.specs.Moved.{pair_entry}
 use Rattle.alternate_keys.proofs.move_pairs.give_pair.Goals as goal
 
@@ -39,7 +39,7 @@ returns-then-branch-clause-given g c = λ honest agrees left right entries stand
     c.deref.ensures.value ∙ c.in_ok-at.ensures.bytes ∙ ap (λ (l : List ℕ). l ++ big_bytes 8 c.args.arrival) (c.part_of.ensures ∙ ap (λ (p : KeyPlace). part p bytes) c.key_place-place.ensures.place) in
     let value : c.part_of-2.result.now ≡ own.value = c.part_of-2.ensures ∙ ap (λ (p : KeyPlace). part p bytes) c.key_place-prime.ensures.place in
     let same : made c.deref.result.now c.part_of-2.result.now ≡ own = ap (λ (k : List ℕ). made k c.part_of-2.result.now) key ∙ ap (made own.key) value in
-    subst (λ (e : Entry). StandsAmong after left right c.insert_among.new.tree (with_entry entries e)) same
+    subst (λ (e : Entry). IsTreeAmong after left right c.insert_among.new.tree (with_new_entry entries e)) same
     (c.in_ok-insert_among.ensures.inserted honest agrees left right entries stands (ap Ok c.if-branch.true)).1
 
 pub returns-clause-damaged : goal.returns-clause-damaged

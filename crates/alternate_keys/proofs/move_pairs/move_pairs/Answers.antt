@@ -5,18 +5,18 @@ use Rattle.station.specs.Disk.{Sector}
 use Rattle.station.specs.State.{State}
 use Rattle.pages.specs.Use.{free_count}
 use Rattle.pages.specs.Pages.{map_now, committed_of}
-use Rattle.btree.specs.Rooted.{Rooted}
+use Rattle.btree.specs.Rooted.{RootedTree}
 use Rattle.btree.specs.Entries.{Entry, entries_of}
 use Rattle.records.specs.declared.fault.StoreFault.TheVariants.{Device, Full, Damaged}
 use Rattle.records.specs.declared.key.KeyOfReference.TheVariants.{Alternate}
 use Rattle.records.specs.Spec.{Spec}
 use Rattle.records.specs.Stores.{spec_of}
-use Rattle.file_trees.specs.Forest.{Planted, IsForest}
-use Rattle.file_trees.specs.Grows.{StandsAmong}
-use Rattle.file_trees.specs.Trees.{AreOf}
-use Rattle.file_trees.specs.Volume.{no_tree}
-use Rattle.alternate_keys.specs.Moved.{moved, MayMove}
-use Rattle.alternate_keys.specs.Placed.{Become, listed_tree}
+use Rattle.volume_format.specs.Forest.{TreeLevels, IsForest}
+use Rattle.volume_format.specs.Grows.{IsTreeAmong}
+use Rattle.volume_format.specs.Trees.{AreOf}
+use Rattle.volume_format.specs.Volume.{no_tree}
+use Rattle.alternate_keys.specs.Moved.{entries_after, MayMove}
+use Rattle.alternate_keys.specs.Placed.{HaveBecome, listed_tree}
 use Rattle.alternate_keys.proofs.Calling.{edits_nothing, edits_then}
 use Rattle.alternate_keys.proofs.Keeping.{same_tree}
 use Rattle.alternate_keys.proofs.Pairing.{stands_next, become_next, entries_ascend, pairs_next}
@@ -35,7 +35,7 @@ loop-key-init g c = record {
       record {
         done = [];
         count = refl;
-        forest = subst (λ (ts : List Planted). IsForest before (left ++ (ts ++ right))) (sym (drop_none trees)) has.forest;
+        forest = subst (λ (ts : List TreeLevels). IsForest before (left ++ (ts ++ right))) (sym (drop_none trees)) has.forest;
         indexes = λ k less. absurd (omega (arith, less));
         roots_are = sym c.new-roots.ensures.items;
       };
@@ -61,17 +61,17 @@ returns-in_err-move_pair-clause-room g c = λ honest agrees held left right tree
     let still = loop.invariant.edits.only.state honest in
     let same : (map_now loop.pages (g.D.Device.state loop.device).disk.present).pages ≡ here = ap (λ (s : State). (map_now loop.pages s.disk.present).pages) still in
     let n : c.len-count.result ≡ length c.args.file.now.alternates.items = omega (arith, c.len-count.ensures, c.args.file.now.alternates.ok) in
-    let become : Become after here left right trees loop.key loop.roots.items = loop.invariant.came honest agrees held left right trees is has after spec_then move in
+    let become : HaveBecome after here left right trees loop.key loop.roots.items = loop.invariant.came honest agrees held left right trees is has after spec_then move in
     let low : loop.key < length spec.alternates = let test = c.loop-key-test.true in omega (arith, n, test) in
     let low_held : loop.key < length held.spec.alternates = subst (λ (s : Spec). loop.key < length s.alternates) (sym is) low in
-    let tree : Rooted = c.file_tree-tree.result in
+    let tree : RootedTree = c.file_tree-tree.result in
     let tree_is : tree ≡ listed_tree held.spec loop.key listing = same_tree tree (listed_tree spec loop.key listing) c.file_tree-tree.ensures.layout c.file_tree-tree.ensures.root ∙ ap (λ (s : Spec). listed_tree s loop.key listing) (sym is) in
-    let lefts : List Planted = left ++ become.done in
-    let rights : List Planted = drop (loop.key + 1) trees ++ right in
-    let t : Planted = slice_index_or trees loop.key no_tree in
+    let lefts : List TreeLevels = left ++ become.done in
+    let rights : List TreeLevels = drop (loop.key + 1) trees ++ right in
+    let t : TreeLevels = slice_index_or trees loop.key no_tree in
     let entries : List Entry = entries_of tree.layout t.levels in
     let stands_here = stands_next held after before here left right trees listing loop.key loop.roots.items has become low_held tree tree_is in
-    let stands = subst (λ (p : List (Option Sector)). StandsAmong p lefts rights tree entries) (sym same) stands_here in
+    let stands = subst (λ (p : List (Option Sector)). IsTreeAmong p lefts rights tree entries) (sym same) stands_here in
     let few = loop.invariant.few honest agrees held left right trees is has after spec_then move in
     let room = c.move_pair.ensures.room honest_then agrees_then lefts rights entries stands told in
     let committed : free_count (committed_of loop.pages) ≡ free_count (committed_of c.args.pages.now) = ap free_count (same_volume c.args.pages.now loop.pages loop.invariant.edits.committed) in
@@ -95,17 +95,17 @@ returns-in_err-move_pair-clause-damaged g c = λ honest agrees held left right t
     let still = loop.invariant.edits.only.state honest in
     let same : (map_now loop.pages (g.D.Device.state loop.device).disk.present).pages ≡ here = ap (λ (s : State). (map_now loop.pages s.disk.present).pages) still in
     let n : c.len-count.result ≡ length c.args.file.now.alternates.items = omega (arith, c.len-count.ensures, c.args.file.now.alternates.ok) in
-    let become : Become after here left right trees loop.key loop.roots.items = loop.invariant.came honest agrees held left right trees is has after spec_then move in
+    let become : HaveBecome after here left right trees loop.key loop.roots.items = loop.invariant.came honest agrees held left right trees is has after spec_then move in
     let low : loop.key < length spec.alternates = let test = c.loop-key-test.true in omega (arith, n, test) in
     let low_held : loop.key < length held.spec.alternates = subst (λ (s : Spec). loop.key < length s.alternates) (sym is) low in
-    let tree : Rooted = c.file_tree-tree.result in
+    let tree : RootedTree = c.file_tree-tree.result in
     let tree_is : tree ≡ listed_tree held.spec loop.key listing = same_tree tree (listed_tree spec loop.key listing) c.file_tree-tree.ensures.layout c.file_tree-tree.ensures.root ∙ ap (λ (s : Spec). listed_tree s loop.key listing) (sym is) in
-    let lefts : List Planted = left ++ become.done in
-    let rights : List Planted = drop (loop.key + 1) trees ++ right in
-    let t : Planted = slice_index_or trees loop.key no_tree in
+    let lefts : List TreeLevels = left ++ become.done in
+    let rights : List TreeLevels = drop (loop.key + 1) trees ++ right in
+    let t : TreeLevels = slice_index_or trees loop.key no_tree in
     let entries : List Entry = entries_of tree.layout t.levels in
     let stands_here = stands_next held after before here left right trees listing loop.key loop.roots.items has become low_held tree tree_is in
-    let stands = subst (λ (p : List (Option Sector)). StandsAmong p lefts rights tree entries) (sym same) stands_here in
+    let stands = subst (λ (p : List (Option Sector)). IsTreeAmong p lefts rights tree entries) (sym same) stands_here in
     let own = may loop.key entries low_held (pairs_next held before left right trees listing loop.key has low_held tree tree_is) (entries_ascend here lefts rights tree entries stands_here) in
     let mine = subst (λ (s : Spec). MayMove c.args.verb s loop.key old bytes c.args.arrival entries) is own in
     c.move_pair.ensures.damaged honest_then agrees_then lefts rights entries stands mine told
@@ -129,26 +129,26 @@ loop-key-preserved g c = record {
       let still = loop.invariant.edits.only.state honest in
       let same : (map_now loop.pages (g.D.Device.state loop.device).disk.present).pages ≡ here = ap (λ (s : State). (map_now loop.pages s.disk.present).pages) still in
       let n : c.len-count.result ≡ length c.args.file.now.alternates.items = omega (arith, c.len-count.ensures, c.args.file.now.alternates.ok) in
-      let become : Become after here left right trees loop.key loop.roots.items = loop.invariant.came honest agrees held left right trees is has after spec_then move in
+      let become : HaveBecome after here left right trees loop.key loop.roots.items = loop.invariant.came honest agrees held left right trees is has after spec_then move in
       let low : loop.key < length spec.alternates = let test = c.loop-key-test.true in omega (arith, n, test) in
       let low_held : loop.key < length held.spec.alternates = subst (λ (s : Spec). loop.key < length s.alternates) (sym is) low in
-      let tree : Rooted = c.file_tree-tree.result in
+      let tree : RootedTree = c.file_tree-tree.result in
       let tree_is : tree ≡ listed_tree held.spec loop.key listing = same_tree tree (listed_tree spec loop.key listing) c.file_tree-tree.ensures.layout c.file_tree-tree.ensures.root ∙ ap (λ (s : Spec). listed_tree s loop.key listing) (sym is) in
-      let lefts : List Planted = left ++ become.done in
-      let rights : List Planted = drop (loop.key + 1) trees ++ right in
-      let t : Planted = slice_index_or trees loop.key no_tree in
+      let lefts : List TreeLevels = left ++ become.done in
+      let rights : List TreeLevels = drop (loop.key + 1) trees ++ right in
+      let t : TreeLevels = slice_index_or trees loop.key no_tree in
       let entries : List Entry = entries_of tree.layout t.levels in
       let stands_here = stands_next held after before here left right trees listing loop.key loop.roots.items has become low_held tree tree_is in
-      let stands = subst (λ (p : List (Option Sector)). StandsAmong p lefts rights tree entries) (sym same) stands_here in
-      let new : Rooted = c.move_pair.new.tree in
+      let stands = subst (λ (p : List (Option Sector)). IsTreeAmong p lefts rights tree entries) (sym same) stands_here in
+      let new : RootedTree = c.move_pair.new.tree in
       let later : List (Option Sector) = (map_now c.move_pair.new.pages image).pages in
       let told = c.in_ok-move_pair.ensures.moved honest_then agrees_then lefts rights entries stands in
-      let put = subst (λ (s : State). StandsAmong (map_now c.move_pair.new.pages s.disk.present).pages lefts rights new (moved c.args.verb spec loop.key old bytes c.args.arrival entries)) still told in
+      let put = subst (λ (s : State). IsTreeAmong (map_now c.move_pair.new.pages s.disk.present).pages lefts rights new (entries_after c.args.verb spec loop.key old bytes c.args.arrival entries)) still told in
       let own = move loop.key entries low_held (pairs_next held before left right trees listing loop.key has low_held tree tree_is) (entries_ascend here lefts rights tree entries stands_here) in
-      let mine = subst (λ (s : Spec). AreOf after.spec (Alternate loop.key) after.rows (moved c.args.verb s loop.key old bytes c.args.arrival entries)) (spec_then ∙ is) own in
-      let next = become_next held after before here later left right trees listing loop.key loop.roots.items has become low_held tree new (moved c.args.verb spec loop.key old bytes c.args.arrival entries) tree_is c.move_pair.ensures.layout spec_then mine put in
+      let mine = subst (λ (s : Spec). AreOf after.spec (Alternate loop.key) after.rows (entries_after c.args.verb s loop.key old bytes c.args.arrival entries)) (spec_then ∙ is) own in
+      let next = become_next held after before here later left right trees listing loop.key loop.roots.items has become low_held tree new (entries_after c.args.verb spec loop.key old bytes c.args.arrival entries) tree_is c.move_pair.ensures.layout spec_then mine put in
       let pushed : loop.roots.items ++ new.root ∷ [] ≡ c.push.new.self.items = ap (λ (r : ℕ). loop.roots.items ++ r ∷ []) (sym c.root.ensures) ∙ sym c.in_ok-push.ensures.items in
-      subst (λ (l : List ℕ). Become after later left right trees (loop.key + 1) l) pushed next;
+      subst (λ (l : List ℕ). HaveBecome after later left right trees (loop.key + 1) l) pushed next;
   few = λ honest agrees held left right trees is has after spec_then move.
       let loop = c.loop-key in
       let spec : Spec = spec_of c.args.file.now in
@@ -163,17 +163,17 @@ loop-key-preserved g c = record {
       let still = loop.invariant.edits.only.state honest in
       let same : (map_now loop.pages (g.D.Device.state loop.device).disk.present).pages ≡ here = ap (λ (s : State). (map_now loop.pages s.disk.present).pages) still in
       let n : c.len-count.result ≡ length c.args.file.now.alternates.items = omega (arith, c.len-count.ensures, c.args.file.now.alternates.ok) in
-      let become : Become after here left right trees loop.key loop.roots.items = loop.invariant.came honest agrees held left right trees is has after spec_then move in
+      let become : HaveBecome after here left right trees loop.key loop.roots.items = loop.invariant.came honest agrees held left right trees is has after spec_then move in
       let low : loop.key < length spec.alternates = let test = c.loop-key-test.true in omega (arith, n, test) in
       let low_held : loop.key < length held.spec.alternates = subst (λ (s : Spec). loop.key < length s.alternates) (sym is) low in
-      let tree : Rooted = c.file_tree-tree.result in
+      let tree : RootedTree = c.file_tree-tree.result in
       let tree_is : tree ≡ listed_tree held.spec loop.key listing = same_tree tree (listed_tree spec loop.key listing) c.file_tree-tree.ensures.layout c.file_tree-tree.ensures.root ∙ ap (λ (s : Spec). listed_tree s loop.key listing) (sym is) in
-      let lefts : List Planted = left ++ become.done in
-      let rights : List Planted = drop (loop.key + 1) trees ++ right in
-      let t : Planted = slice_index_or trees loop.key no_tree in
+      let lefts : List TreeLevels = left ++ become.done in
+      let rights : List TreeLevels = drop (loop.key + 1) trees ++ right in
+      let t : TreeLevels = slice_index_or trees loop.key no_tree in
       let entries : List Entry = entries_of tree.layout t.levels in
       let stands_here = stands_next held after before here left right trees listing loop.key loop.roots.items has become low_held tree tree_is in
-      let stands = subst (λ (p : List (Option Sector)). StandsAmong p lefts rights tree entries) (sym same) stands_here in
+      let stands = subst (λ (p : List (Option Sector)). IsTreeAmong p lefts rights tree entries) (sym same) stands_here in
       let few = loop.invariant.few honest agrees held left right trees is has after spec_then move in
       let more = c.in_ok-move_pair.ensures.few honest_then agrees_then lefts rights entries stands in
       omega (arith, few, more);
@@ -193,7 +193,7 @@ returns-clause-came g c = λ honest agrees held left right trees is has after sp
     let n : c.len-count.result ≡ length c.args.file.now.alternates.items = omega (arith, c.len-count.ensures, c.args.file.now.alternates.ok) in
     let count : length trees ≡ length spec.alternates = has.count ∙ ap (λ (s : Spec). length s.alternates) is in
     let all : loop.key ≡ length trees = let test = c.loop-key-test.false in let end = loop.auto.key-end in omega (arith, n, count, test, end) in
-    subst (λ (k : ℕ). Become after here left right trees k loop.roots.items) all (loop.invariant.came honest agrees held left right trees is has after spec_then move)
+    subst (λ (k : ℕ). HaveBecome after here left right trees k loop.roots.items) all (loop.invariant.came honest agrees held left right trees is has after spec_then move)
 
 pub returns-clause-few : goal.returns-clause-few
 returns-clause-few g c = λ honest agrees held left right trees is has after spec_then move.

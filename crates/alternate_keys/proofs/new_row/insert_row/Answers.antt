@@ -1,15 +1,15 @@
 use Rattle.std.proofs.Common.{◌≡◌, List, ℕ, length, sym, ap, subst, ◌∙◌}
 use Rattle.std.specs.Prelude.{Option, IsSome}
 use Rattle.station.specs.Disk.{Sector}
-use Rattle.tree_pages.specs.declared.row_layout.RowLayout.{RowLayout}
+use Rattle.btree_pages.specs.declared.row_layout.RowLayout.{RowLayout}
 use Rattle.pages.specs.Pages.{map_now}
-use Rattle.btree.specs.Entries.{Entry, entry_with, with_entry}
-use Rattle.btree.specs.Rooted.{Rooted}
+use Rattle.btree.specs.Entries.{Entry, entry_with, with_new_entry}
+use Rattle.btree.specs.Rooted.{RootedTree}
 use Rattle.records.specs.declared.key.KeyOfReference.TheVariants.{Prime}
 use Rattle.records.specs.Spec.{Spec}
 use Rattle.records.specs.Stores.{spec_of}
-use Rattle.file_trees.specs.Grows.{StandsAmong}
-use Rattle.file_trees.specs.Trees.{entry_under}
+use Rattle.volume_format.specs.Grows.{IsTreeAmong}
+use Rattle.volume_format.specs.Trees.{entry_under}
 use Rattle.alternate_keys.specs.NewRow.{row_with}
 use Rattle.alternate_keys.proofs.NewRows.{value_long}
 use Rattle.alternate_keys.proofs.new_row.insert_row.Goals as goal
@@ -32,9 +32,9 @@ returns-clause-inserted g c = λ honest agrees left right entries stands is.
     let value : c.deref-2.result.now ≡ own.value = c.deref-2.ensures.value ∙ c.in_ok-value.ensures.value in
     let same : made c.deref.result.now c.deref-2.result.now ≡ own = ap (λ (k : List ℕ). made k c.deref-2.result.now) key ∙ ap (made own.key) value in
     let after : List (Option Sector) = (map_now c.insert_among.new.pages (g.D.Device.state c.args.device.now).disk.present).pages in
-    let new : Rooted = c.insert_among.new.tree in
+    let new : RootedTree = c.insert_among.new.tree in
     let told = c.insert_among.ensures.inserted honest agrees left right entries stands is in
-    (ap (entry_with entries) (sym key) ∙ told.0, subst (λ (e : Entry). StandsAmong after left right new (with_entry entries e)) same told.1)
+    (ap (entry_with entries) (sym key) ∙ told.0, subst (λ (e : Entry). IsTreeAmong after left right new (with_new_entry entries e)) same told.1)
 
 pub returns-clause-there : goal.returns-clause-there
 returns-clause-there g c = λ honest agrees left right entries stands is.

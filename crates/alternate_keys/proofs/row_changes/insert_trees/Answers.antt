@@ -5,23 +5,23 @@ use Rattle.station.specs.Disk.{Sector}
 use Rattle.station.specs.State.{State}
 use Rattle.pages.specs.Use.{free_count}
 use Rattle.pages.specs.Pages.{map_now}
-use Rattle.btree.specs.Rooted.{Rooted}
-use Rattle.btree.specs.Entries.{Entry, entry_with, with_entry}
+use Rattle.btree.specs.Rooted.{RootedTree}
+use Rattle.btree.specs.Entries.{Entry, entry_with, with_new_entry}
 use Rattle.btree.proofs.Frames.{same_pages, unchanged_on}
 use Rattle.records.specs.declared.fault.StoreFault.TheVariants.{Device, Full, Damaged}
 use Rattle.records.specs.declared.key.KeyOfReference.TheVariants.{Prime}
 use Rattle.records.specs.Spec.{Spec}
 use Rattle.records.specs.Rows.{Row}
-use Rattle.records.specs.Changes.{Changed, has_prime, new_row, new_number}
+use Rattle.records.specs.Changes.{FileChange, has_prime, new_row, new_number}
 use Rattle.records.specs.Files.{IsByte}
 use Rattle.records.specs.Stores.{spec_of, is_change}
-use Rattle.file_trees.specs.Trees.{entry_under}
-use Rattle.file_trees.specs.Forest.{Planted}
-use Rattle.file_trees.specs.Grows.{StandsAmong}
+use Rattle.volume_format.specs.Trees.{entry_under}
+use Rattle.volume_format.specs.Forest.{TreeLevels}
+use Rattle.volume_format.specs.Grows.{IsTreeAmong}
 use Rattle.alternate_keys.specs.declared.row_verb.RowVerb.TheVariants.{Insert}
-use Rattle.alternate_keys.specs.Moved.{Moving, named_after}
+use Rattle.alternate_keys.specs.Moved.{HasChangedRows, named_after}
 use Rattle.alternate_keys.specs.NewRow.{row_with, named_with}
-use Rattle.alternate_keys.specs.Placed.{Placed, HasTrees}
+use Rattle.alternate_keys.specs.Placed.{HasFileTrees, HasTrees}
 use Rattle.alternate_keys.proofs.Bytes.{all_bytes}
 use Rattle.alternate_keys.proofs.Calling.{looks_edits, edits_blamed, edits_last}
 use Rattle.alternate_keys.proofs.FileTrees.{kept_in, arrival_few, arrival_is, prime_stands}
@@ -82,7 +82,7 @@ returns-in_err-insert_row-clause-room g c = λ honest agrees named generation le
     let arrival : ℕ = c.next_arrival-arrival.result in
     let same : arrival ≡ named.file.next_arrival = c.next_arrival-arrival.ensures ∙ arrival_is spec named generation there left right listing has_then in
     let all : All IsByte bytes = all_bytes bytes c.type_inv.bytes in
-    let rights : List Planted = (kept_in spec named generation there left right listing has_then).alternates ++ right in
+    let rights : List TreeLevels = (kept_in spec named generation there left right listing has_then).alternates ++ right in
     let entries : List Entry = map (entry_under spec Prime) named.file.rows in
     let stands = prime_stands spec named generation there left right listing has_then c.file_tree-prime.result c.file_tree-prime.ensures.layout c.file_tree-prime.ensures.root in
     let made : ℕ → Row = λ n. row_with spec n arrival bytes in
@@ -111,7 +111,7 @@ returns-in_err-insert_row-clause-damaged g c = λ honest agrees named generation
     let arrival : ℕ = c.next_arrival-arrival.result in
     let same : arrival ≡ named.file.next_arrival = c.next_arrival-arrival.ensures ∙ arrival_is spec named generation there left right listing has_then in
     let all : All IsByte bytes = all_bytes bytes c.type_inv.bytes in
-    let rights : List Planted = (kept_in spec named generation there left right listing has_then).alternates ++ right in
+    let rights : List TreeLevels = (kept_in spec named generation there left right listing has_then).alternates ++ right in
     let entries : List Entry = map (entry_under spec Prime) named.file.rows in
     let stands = prime_stands spec named generation there left right listing has_then c.file_tree-prime.result c.file_tree-prime.ensures.layout c.file_tree-prime.ensures.root in
     let made : ℕ → Row = λ n. row_with spec n arrival bytes in
@@ -134,7 +134,7 @@ returns-then-not-branch-clause-outcome g c = λ honest agrees named generation l
     let arrival : ℕ = c.next_arrival-arrival.result in
     let same : arrival ≡ named.file.next_arrival = c.next_arrival-arrival.ensures ∙ arrival_is spec named generation there left right listing has_then in
     let all : All IsByte bytes = all_bytes bytes c.type_inv.bytes in
-    let rights : List Planted = (kept_in spec named generation there left right listing has_then).alternates ++ right in
+    let rights : List TreeLevels = (kept_in spec named generation there left right listing has_then).alternates ++ right in
     let entries : List Entry = map (entry_under spec Prime) named.file.rows in
     let stands = prime_stands spec named generation there left right listing has_then c.file_tree-prime.result c.file_tree-prime.ensures.layout c.file_tree-prime.ensures.root in
     let made : ℕ → Row = λ n. row_with spec n arrival bytes in
@@ -143,7 +143,7 @@ returns-then-not-branch-clause-outcome g c = λ honest agrees named generation l
     let own : IsSome (entry_with entries (entry_under spec Prime (made (new_number spec.organization c.args.number arrival))).key) =
     subst (λ (n : ℕ). IsSome (entry_with entries (entry_under spec Prime (made n)).key)) own_is some in
     let prime = prime_there spec named generation there left right listing has_then c.args.number arrival bytes same c.args.file.now.sound c.requires.bytes all c.requires.number in
-    c.none-then-not-branch.ensures ∙ sym (ap (λ (ch : Changed). ch.outcome) (inserted_there c.args.number bytes named.file (sym prime ∙ own)))
+    c.none-then-not-branch.ensures ∙ sym (ap (λ (ch : FileChange). ch.outcome) (inserted_there c.args.number bytes named.file (sym prime ∙ own)))
 
 pub returns-in_err-listing-clause-room : goal.returns-in_err-listing-clause-room
 returns-in_err-listing-clause-room g c = λ honest agrees named generation left right has full.
@@ -164,7 +164,7 @@ returns-in_err-listing-clause-room g c = λ honest agrees named generation left 
     let arrival : ℕ = c.next_arrival-arrival.result in
     let same : arrival ≡ named.file.next_arrival = c.next_arrival-arrival.ensures ∙ arrival_is spec named generation there left right listing has_then in
     let all : All IsByte bytes = all_bytes bytes c.type_inv.bytes in
-    let rights : List Planted = (kept_in spec named generation there left right listing has_then).alternates ++ right in
+    let rights : List TreeLevels = (kept_in spec named generation there left right listing has_then).alternates ++ right in
     let entries : List Entry = map (entry_under spec Prime) named.file.rows in
     let stands = prime_stands spec named generation there left right listing has_then c.file_tree-prime.result c.file_tree-prime.ensures.layout c.file_tree-prime.ensures.root in
     let made : ℕ → Row = λ n. row_with spec n arrival bytes in
@@ -174,15 +174,15 @@ returns-in_err-listing-clause-room g c = λ honest agrees named generation left 
     let none : entry_with entries (entry_under spec Prime new).key ≡ None = subst (λ (n : ℕ). entry_with entries (entry_under spec Prime (made n)).key ≡ None) own_is came.0 in
     let free_prime : has_prime named.file (new_row named.file c.args.number bytes) ≡ false =
     sym (prime_there spec named generation there left right listing has_then c.args.number arrival bytes same c.args.file.now.sound c.requires.bytes all c.requires.number) ∙ ap (λ (e : Option Entry). is_some e) none in
-    let prime : Rooted = c.insert_row.new.prime in
+    let prime : RootedTree = c.insert_row.new.prime in
     let honest_put = c.insert_row.ensures.only.honest.0 honest_then in
     let agrees_put = c.insert_row.ensures.agrees honest_then agrees_then in
     let still_put = c.insert_row.ensures.only.state honest_then in
-    let put = subst (λ (n : ℕ). StandsAmong (map_now c.insert_row.new.pages (g.D.Device.state c.look_at_new_row.new.device).disk.present).pages left rights prime (with_entry entries (entry_under spec Prime (made n)))) own_is came.1 in
+    let put = subst (λ (n : ℕ). IsTreeAmong (map_now c.insert_row.new.pages (g.D.Device.state c.look_at_new_row.new.device).disk.present).pages left rights prime (with_new_entry entries (entry_under spec Prime (made n)))) own_is came.1 in
     let later : List (Option Sector) = (map_now c.insert_row.new.pages (g.D.Device.state c.insert_row.new.device).disk.present).pages in
-    let put_then = subst (λ (s : State). StandsAmong (map_now c.insert_row.new.pages s.disk.present).pages left rights prime (with_entry entries (entry_under spec Prime new))) (sym still_put) put in
+    let put_then = subst (λ (s : State). IsTreeAmong (map_now c.insert_row.new.pages s.disk.present).pages left rights prime (with_new_entry entries (entry_under spec Prime new))) (sym still_put) put in
     let moved = insert_moving spec named generation there left right listing has_then c.args.number arrival bytes same c.args.file.now.sound c.requires.bytes all c.requires.number later prime (c.insert_row.ensures.layout ∙ c.file_tree-prime.ensures.layout) put_then in
-    let moving = subst (λ (r : ℕ). Moving Insert spec named (named_with new named) generation later left right listing r [] bytes arrival (arrival + 1)) (sym c.root-root.ensures) moved in
+    let moving = subst (λ (r : ℕ). HasChangedRows Insert spec named (named_with new named) generation later left right listing r [] bytes arrival (arrival + 1)) (sym c.root-root.ensures) moved in
     let room = c.move_row.ensures.room honest_put agrees_put named (named_with new named) generation left right moving refusal in
     let few = c.in_ok-insert_row.ensures.changed_pages honest_then agrees_then left rights entries stands in
     let committed = ap free_count (same_volume c.args.pages.now c.look_at_new_row.new.pages looks.unchanged.committed) in
@@ -209,7 +209,7 @@ returns-in_err-listing-clause-damaged g c = λ honest agrees named generation le
     let arrival : ℕ = c.next_arrival-arrival.result in
     let same : arrival ≡ named.file.next_arrival = c.next_arrival-arrival.ensures ∙ arrival_is spec named generation there left right listing has_then in
     let all : All IsByte bytes = all_bytes bytes c.type_inv.bytes in
-    let rights : List Planted = (kept_in spec named generation there left right listing has_then).alternates ++ right in
+    let rights : List TreeLevels = (kept_in spec named generation there left right listing has_then).alternates ++ right in
     let entries : List Entry = map (entry_under spec Prime) named.file.rows in
     let stands = prime_stands spec named generation there left right listing has_then c.file_tree-prime.result c.file_tree-prime.ensures.layout c.file_tree-prime.ensures.root in
     let made : ℕ → Row = λ n. row_with spec n arrival bytes in
@@ -219,15 +219,15 @@ returns-in_err-listing-clause-damaged g c = λ honest agrees named generation le
     let none : entry_with entries (entry_under spec Prime new).key ≡ None = subst (λ (n : ℕ). entry_with entries (entry_under spec Prime (made n)).key ≡ None) own_is came.0 in
     let free_prime : has_prime named.file (new_row named.file c.args.number bytes) ≡ false =
     sym (prime_there spec named generation there left right listing has_then c.args.number arrival bytes same c.args.file.now.sound c.requires.bytes all c.requires.number) ∙ ap (λ (e : Option Entry). is_some e) none in
-    let prime : Rooted = c.insert_row.new.prime in
+    let prime : RootedTree = c.insert_row.new.prime in
     let honest_put = c.insert_row.ensures.only.honest.0 honest_then in
     let agrees_put = c.insert_row.ensures.agrees honest_then agrees_then in
     let still_put = c.insert_row.ensures.only.state honest_then in
-    let put = subst (λ (n : ℕ). StandsAmong (map_now c.insert_row.new.pages (g.D.Device.state c.look_at_new_row.new.device).disk.present).pages left rights prime (with_entry entries (entry_under spec Prime (made n)))) own_is came.1 in
+    let put = subst (λ (n : ℕ). IsTreeAmong (map_now c.insert_row.new.pages (g.D.Device.state c.look_at_new_row.new.device).disk.present).pages left rights prime (with_new_entry entries (entry_under spec Prime (made n)))) own_is came.1 in
     let later : List (Option Sector) = (map_now c.insert_row.new.pages (g.D.Device.state c.insert_row.new.device).disk.present).pages in
-    let put_then = subst (λ (s : State). StandsAmong (map_now c.insert_row.new.pages s.disk.present).pages left rights prime (with_entry entries (entry_under spec Prime new))) (sym still_put) put in
+    let put_then = subst (λ (s : State). IsTreeAmong (map_now c.insert_row.new.pages s.disk.present).pages left rights prime (with_new_entry entries (entry_under spec Prime new))) (sym still_put) put in
     let moved = insert_moving spec named generation there left right listing has_then c.args.number arrival bytes same c.args.file.now.sound c.requires.bytes all c.requires.number later prime (c.insert_row.ensures.layout ∙ c.file_tree-prime.ensures.layout) put_then in
-    let moving = subst (λ (r : ℕ). Moving Insert spec named (named_with new named) generation later left right listing r [] bytes arrival (arrival + 1)) (sym c.root-root.ensures) moved in
+    let moving = subst (λ (r : ℕ). HasChangedRows Insert spec named (named_with new named) generation later left right listing r [] bytes arrival (arrival + 1)) (sym c.root-root.ensures) moved in
     let may = pairs_may spec named generation there left right listing has_then c.args.number arrival bytes same c.args.file.now.sound c.requires.bytes all c.requires.number in
     c.move_row.ensures.damaged honest_put agrees_put named (named_with new named) generation left right moving may refusal
 
@@ -249,7 +249,7 @@ returns-clause-outcome g c = λ honest agrees named generation left right has.
     let arrival : ℕ = c.next_arrival-arrival.result in
     let same : arrival ≡ named.file.next_arrival = c.next_arrival-arrival.ensures ∙ arrival_is spec named generation there left right listing has_then in
     let all : All IsByte bytes = all_bytes bytes c.type_inv.bytes in
-    let rights : List Planted = (kept_in spec named generation there left right listing has_then).alternates ++ right in
+    let rights : List TreeLevels = (kept_in spec named generation there left right listing has_then).alternates ++ right in
     let entries : List Entry = map (entry_under spec Prime) named.file.rows in
     let stands = prime_stands spec named generation there left right listing has_then c.file_tree-prime.result c.file_tree-prime.ensures.layout c.file_tree-prime.ensures.root in
     let made : ℕ → Row = λ n. row_with spec n arrival bytes in
@@ -260,7 +260,7 @@ returns-clause-outcome g c = λ honest agrees named generation left right has.
     let free_prime : has_prime named.file (new_row named.file c.args.number bytes) ≡ false =
     sym (prime_there spec named generation there left right listing has_then c.args.number arrival bytes same c.args.file.now.sound c.requires.bytes all c.requires.number) ∙ ap (λ (e : Option Entry). is_some e) none in
     look_done spec named.file has.spec_is [] bytes c.in_ok-outcome.outcome told done_is
-    ∙ sym (ap (λ (ch : Changed). ch.outcome) (inserted_done c.args.number bytes named.file free_prime (look_free spec named.file has.spec_is [] bytes c.in_ok-outcome.outcome told done_is)))
+    ∙ sym (ap (λ (ch : FileChange). ch.outcome) (inserted_done c.args.number bytes named.file free_prime (look_free spec named.file has.spec_is [] bytes c.in_ok-outcome.outcome told done_is)))
 
 pub returns-clause-placed : goal.returns-clause-placed
 returns-clause-placed g c = λ honest agrees named generation left right has change.
@@ -280,7 +280,7 @@ returns-clause-placed g c = λ honest agrees named generation left right has cha
     let arrival : ℕ = c.next_arrival-arrival.result in
     let same : arrival ≡ named.file.next_arrival = c.next_arrival-arrival.ensures ∙ arrival_is spec named generation there left right listing has_then in
     let all : All IsByte bytes = all_bytes bytes c.type_inv.bytes in
-    let rights : List Planted = (kept_in spec named generation there left right listing has_then).alternates ++ right in
+    let rights : List TreeLevels = (kept_in spec named generation there left right listing has_then).alternates ++ right in
     let entries : List Entry = map (entry_under spec Prime) named.file.rows in
     let stands = prime_stands spec named generation there left right listing has_then c.file_tree-prime.result c.file_tree-prime.ensures.layout c.file_tree-prime.ensures.root in
     let made : ℕ → Row = λ n. row_with spec n arrival bytes in
@@ -290,22 +290,22 @@ returns-clause-placed g c = λ honest agrees named generation left right has cha
     let none : entry_with entries (entry_under spec Prime new).key ≡ None = subst (λ (n : ℕ). entry_with entries (entry_under spec Prime (made n)).key ≡ None) own_is came.0 in
     let free_prime : has_prime named.file (new_row named.file c.args.number bytes) ≡ false =
     sym (prime_there spec named generation there left right listing has_then c.args.number arrival bytes same c.args.file.now.sound c.requires.bytes all c.requires.number) ∙ ap (λ (e : Option Entry). is_some e) none in
-    let prime : Rooted = c.insert_row.new.prime in
+    let prime : RootedTree = c.insert_row.new.prime in
     let honest_put = c.insert_row.ensures.only.honest.0 honest_then in
     let agrees_put = c.insert_row.ensures.agrees honest_then agrees_then in
     let still_put = c.insert_row.ensures.only.state honest_then in
-    let put = subst (λ (n : ℕ). StandsAmong (map_now c.insert_row.new.pages (g.D.Device.state c.look_at_new_row.new.device).disk.present).pages left rights prime (with_entry entries (entry_under spec Prime (made n)))) own_is came.1 in
+    let put = subst (λ (n : ℕ). IsTreeAmong (map_now c.insert_row.new.pages (g.D.Device.state c.look_at_new_row.new.device).disk.present).pages left rights prime (with_new_entry entries (entry_under spec Prime (made n)))) own_is came.1 in
     let later : List (Option Sector) = (map_now c.insert_row.new.pages (g.D.Device.state c.insert_row.new.device).disk.present).pages in
-    let put_then = subst (λ (s : State). StandsAmong (map_now c.insert_row.new.pages s.disk.present).pages left rights prime (with_entry entries (entry_under spec Prime new))) (sym still_put) put in
+    let put_then = subst (λ (s : State). IsTreeAmong (map_now c.insert_row.new.pages s.disk.present).pages left rights prime (with_new_entry entries (entry_under spec Prime new))) (sym still_put) put in
     let moved = insert_moving spec named generation there left right listing has_then c.args.number arrival bytes same c.args.file.now.sound c.requires.bytes all c.requires.number later prime (c.insert_row.ensures.layout ∙ c.file_tree-prime.ensures.layout) put_then in
-    let moving = subst (λ (r : ℕ). Moving Insert spec named (named_with new named) generation later left right listing r [] bytes arrival (arrival + 1)) (sym c.root-root.ensures) moved in
+    let moving = subst (λ (r : ℕ). HasChangedRows Insert spec named (named_with new named) generation later left right listing r [] bytes arrival (arrival + 1)) (sym c.root-root.ensures) moved in
     let done = inserted_done c.args.number bytes named.file free_prime (look_free spec named.file has.spec_is [] bytes c.in_ok-outcome.outcome told done_is) in
     let placed = c.in_ok-listing.ensures.placed honest_put agrees_put named (named_with new named) generation left right moving in
-    let here = subst (λ (s : State). Placed (named_with new named) (generation + 1) (map_now c.move_row.new.pages s.disk.present).pages left right c.in_ok-listing.listing.items) (still_put ∙ still) placed in
+    let here = subst (λ (s : State). HasFileTrees (named_with new named) (generation + 1) (map_now c.move_row.new.pages s.disk.present).pages left right c.in_ok-listing.listing.items) (still_put ∙ still) placed in
     let last : List (Option Sector) = (map_now c.move_row.new.pages (g.D.Device.state c.args.device.now).disk.present).pages in
     let own = own_row spec named generation there left right listing has_then c.args.number arrival bytes same c.args.file.now.sound c.requires.bytes all c.requires.number in
-    let row_put = subst (λ (r : Row). Placed (named_with r named) (generation + 1) last left right c.in_ok-listing.listing.items) own here in
-    subst (λ (ch : Changed). Placed (named_after named ch) (generation + 1) last left right c.in_ok-listing.listing.items) (sym done) row_put
+    let row_put = subst (λ (r : Row). HasFileTrees (named_with r named) (generation + 1) last left right c.in_ok-listing.listing.items) own here in
+    subst (λ (ch : FileChange). HasFileTrees (named_after named ch) (generation + 1) last left right c.in_ok-listing.listing.items) (sym done) row_put
 
 pub returns-clause-few : goal.returns-clause-few
 returns-clause-few g c = λ honest agrees named generation left right has.
@@ -323,7 +323,7 @@ returns-clause-few g c = λ honest agrees named generation left right has.
     let arrival : ℕ = c.next_arrival-arrival.result in
     let same : arrival ≡ named.file.next_arrival = c.next_arrival-arrival.ensures ∙ arrival_is spec named generation there left right listing has_then in
     let all : All IsByte bytes = all_bytes bytes c.type_inv.bytes in
-    let rights : List Planted = (kept_in spec named generation there left right listing has_then).alternates ++ right in
+    let rights : List TreeLevels = (kept_in spec named generation there left right listing has_then).alternates ++ right in
     let entries : List Entry = map (entry_under spec Prime) named.file.rows in
     let stands = prime_stands spec named generation there left right listing has_then c.file_tree-prime.result c.file_tree-prime.ensures.layout c.file_tree-prime.ensures.root in
     let made : ℕ → Row = λ n. row_with spec n arrival bytes in
@@ -333,15 +333,15 @@ returns-clause-few g c = λ honest agrees named generation left right has.
     let none : entry_with entries (entry_under spec Prime new).key ≡ None = subst (λ (n : ℕ). entry_with entries (entry_under spec Prime (made n)).key ≡ None) own_is came.0 in
     let free_prime : has_prime named.file (new_row named.file c.args.number bytes) ≡ false =
     sym (prime_there spec named generation there left right listing has_then c.args.number arrival bytes same c.args.file.now.sound c.requires.bytes all c.requires.number) ∙ ap (λ (e : Option Entry). is_some e) none in
-    let prime : Rooted = c.insert_row.new.prime in
+    let prime : RootedTree = c.insert_row.new.prime in
     let honest_put = c.insert_row.ensures.only.honest.0 honest_then in
     let agrees_put = c.insert_row.ensures.agrees honest_then agrees_then in
     let still_put = c.insert_row.ensures.only.state honest_then in
-    let put = subst (λ (n : ℕ). StandsAmong (map_now c.insert_row.new.pages (g.D.Device.state c.look_at_new_row.new.device).disk.present).pages left rights prime (with_entry entries (entry_under spec Prime (made n)))) own_is came.1 in
+    let put = subst (λ (n : ℕ). IsTreeAmong (map_now c.insert_row.new.pages (g.D.Device.state c.look_at_new_row.new.device).disk.present).pages left rights prime (with_new_entry entries (entry_under spec Prime (made n)))) own_is came.1 in
     let later : List (Option Sector) = (map_now c.insert_row.new.pages (g.D.Device.state c.insert_row.new.device).disk.present).pages in
-    let put_then = subst (λ (s : State). StandsAmong (map_now c.insert_row.new.pages s.disk.present).pages left rights prime (with_entry entries (entry_under spec Prime new))) (sym still_put) put in
+    let put_then = subst (λ (s : State). IsTreeAmong (map_now c.insert_row.new.pages s.disk.present).pages left rights prime (with_new_entry entries (entry_under spec Prime new))) (sym still_put) put in
     let moved = insert_moving spec named generation there left right listing has_then c.args.number arrival bytes same c.args.file.now.sound c.requires.bytes all c.requires.number later prime (c.insert_row.ensures.layout ∙ c.file_tree-prime.ensures.layout) put_then in
-    let moving = subst (λ (r : ℕ). Moving Insert spec named (named_with new named) generation later left right listing r [] bytes arrival (arrival + 1)) (sym c.root-root.ensures) moved in
+    let moving = subst (λ (r : ℕ). HasChangedRows Insert spec named (named_with new named) generation later left right listing r [] bytes arrival (arrival + 1)) (sym c.root-root.ensures) moved in
     let few = c.in_ok-insert_row.ensures.changed_pages honest_then agrees_then left rights entries stands in
     let more = c.in_ok-listing.ensures.few honest_put agrees_put named (named_with new named) generation left right moving in
     let changed = ap (λ (l : List ℕ). length l) looks.unchanged.changed_pages in
@@ -404,7 +404,7 @@ returns-in_err-insert_row-clause-full g c = λ unspent honest agrees named gener
     let arrival : ℕ = c.next_arrival-arrival.result in
     let same : arrival ≡ named.file.next_arrival = c.next_arrival-arrival.ensures ∙ arrival_is spec named generation there left right listing has_then in
     let all : All IsByte bytes = all_bytes bytes c.type_inv.bytes in
-    let rights : List Planted = (kept_in spec named generation there left right listing has_then).alternates ++ right in
+    let rights : List TreeLevels = (kept_in spec named generation there left right listing has_then).alternates ++ right in
     let entries : List Entry = map (entry_under spec Prime) named.file.rows in
     let stands = prime_stands spec named generation there left right listing has_then c.file_tree-prime.result c.file_tree-prime.ensures.layout c.file_tree-prime.ensures.root in
     let made : ℕ → Row = λ n. row_with spec n arrival bytes in
@@ -434,7 +434,7 @@ returns-in_err-listing-clause-full g c = λ unspent honest agrees named generati
     let arrival : ℕ = c.next_arrival-arrival.result in
     let same : arrival ≡ named.file.next_arrival = c.next_arrival-arrival.ensures ∙ arrival_is spec named generation there left right listing has_then in
     let all : All IsByte bytes = all_bytes bytes c.type_inv.bytes in
-    let rights : List Planted = (kept_in spec named generation there left right listing has_then).alternates ++ right in
+    let rights : List TreeLevels = (kept_in spec named generation there left right listing has_then).alternates ++ right in
     let entries : List Entry = map (entry_under spec Prime) named.file.rows in
     let stands = prime_stands spec named generation there left right listing has_then c.file_tree-prime.result c.file_tree-prime.ensures.layout c.file_tree-prime.ensures.root in
     let made : ℕ → Row = λ n. row_with spec n arrival bytes in

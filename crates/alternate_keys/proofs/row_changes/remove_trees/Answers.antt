@@ -4,22 +4,22 @@ use Rattle.station.specs.Disk.{Sector}
 use Rattle.station.specs.State.{State}
 use Rattle.pages.specs.Use.{free_count}
 use Rattle.pages.specs.Pages.{map_now}
-use Rattle.tree_pages.specs.declared.row_layout.RowLayout.{RowLayout}
-use Rattle.btree.specs.Rooted.{Rooted}
-use Rattle.btree.specs.Entries.{Entry, HasLengths, entry_with, without}
+use Rattle.btree_pages.specs.declared.row_layout.RowLayout.{RowLayout}
+use Rattle.btree.specs.Rooted.{RootedTree}
+use Rattle.btree.specs.Entries.{Entry, HasLengths, entry_with, without_entry}
 use Rattle.btree.proofs.Frames.{same_pages}
 use Rattle.records.specs.declared.fault.StoreFault.TheVariants.{Device, Full, Damaged}
 use Rattle.records.specs.declared.key.KeyOfReference.TheVariants.{Prime}
 use Rattle.records.specs.Spec.{Spec}
 use Rattle.records.specs.Rows.{Pair}
-use Rattle.records.specs.Changes.{Changed}
+use Rattle.records.specs.Changes.{FileChange}
 use Rattle.records.specs.Stores.{spec_of, pair_of, is_change}
-use Rattle.file_trees.specs.Trees.{entry_under, key_under, row_value}
-use Rattle.file_trees.specs.Forest.{Planted}
-use Rattle.file_trees.specs.Grows.{StandsAmong}
+use Rattle.volume_format.specs.Trees.{entry_under, key_under, row_value}
+use Rattle.volume_format.specs.Forest.{TreeLevels}
+use Rattle.volume_format.specs.Grows.{IsTreeAmong}
 use Rattle.alternate_keys.specs.declared.row_verb.RowVerb.TheVariants.{Remove}
-use Rattle.alternate_keys.specs.Moved.{Moving, PairsMayMove, named_after}
-use Rattle.alternate_keys.specs.Placed.{Placed, HasTrees}
+use Rattle.alternate_keys.specs.Moved.{HasChangedRows, PairsMayMove, named_after}
+use Rattle.alternate_keys.specs.Placed.{HasFileTrees, HasTrees}
 use Rattle.alternate_keys.proofs.Calling.{looks_edits, edits_blamed, edits_last}
 use Rattle.alternate_keys.proofs.Faults.{never_full}
 use Rattle.alternate_keys.proofs.FileTrees.{kept_in, arrival_is, prime_stands, prime_rows}
@@ -49,7 +49,7 @@ returns-in-None-clause-outcome g c = λ honest agrees named generation left righ
     let rows = prime_rows spec named generation before left right listing has c.file_tree-prime.result c.file_tree-prime.ensures.layout c.file_tree-prime.ensures.root in
     let told = c.in_ok-row.ensures.found honest agrees named.file.rows rows in
     let none = none_at spec named generation before left right listing has pair c.in_ok-row.field-0 told c.in-None.is in
-    c.none.ensures ∙ sym (ap (λ (ch : Changed). ch.outcome) (removed_missing pair named.file none))
+    c.none.ensures ∙ sym (ap (λ (ch : FileChange). ch.outcome) (removed_missing pair named.file none))
 
 pub returns-in_err-remove_among-clause-damaged : goal.returns-in_err-remove_among-clause-damaged
 returns-in_err-remove_among-clause-damaged g c = λ honest agrees named generation left right has refused.
@@ -70,7 +70,7 @@ returns-in_err-remove_among-clause-damaged g c = λ honest agrees named generati
     let there : List (Option Sector) = (map_now c.find_row.new.pages (g.D.Device.state c.find_row.new.device).disk.present).pages in
     let same_then : there ≡ before = same_pages c.args.pages.now c.find_row.new.pages (g.D.Device.state c.args.device.now) (g.D.Device.state c.find_row.new.device) looks.unchanged still in
     let has_then = subst (λ (p : List (Option Sector)). HasTrees spec named generation p left right listing) (sym same_then) has in
-    let rights : List Planted = (kept_in spec named generation there left right listing has_then).alternates ++ right in
+    let rights : List TreeLevels = (kept_in spec named generation there left right listing has_then).alternates ++ right in
     let entries : List Entry = map (entry_under spec Prime) named.file.rows in
     let stands = prime_stands spec named generation there left right listing has_then c.file_tree-prime.result c.file_tree-prime.ensures.layout c.file_tree-prime.ensures.root in
     let key_is : c.key.result.now ≡ key_under spec Prime pair = c.key.ensures ∙ found.key in
@@ -96,25 +96,25 @@ returns-in_err-listing-clause-room g c = λ honest agrees named generation left 
     let there : List (Option Sector) = (map_now c.find_row.new.pages (g.D.Device.state c.find_row.new.device).disk.present).pages in
     let same_then : there ≡ before = same_pages c.args.pages.now c.find_row.new.pages (g.D.Device.state c.args.device.now) (g.D.Device.state c.find_row.new.device) looks.unchanged still in
     let has_then = subst (λ (p : List (Option Sector)). HasTrees spec named generation p left right listing) (sym same_then) has in
-    let rights : List Planted = (kept_in spec named generation there left right listing has_then).alternates ++ right in
+    let rights : List TreeLevels = (kept_in spec named generation there left right listing has_then).alternates ++ right in
     let entries : List Entry = map (entry_under spec Prime) named.file.rows in
     let stands = prime_stands spec named generation there left right listing has_then c.file_tree-prime.result c.file_tree-prime.ensures.layout c.file_tree-prime.ensures.root in
     let key_is : c.key.result.now ≡ key_under spec Prime pair = c.key.ensures ∙ found.key in
     let arrival : ℕ = c.next_arrival-next.result in
     let same : arrival ≡ named.file.next_arrival = c.next_arrival-next.ensures ∙ arrival_is spec named generation there left right listing has_then in
-    let prime : Rooted = c.remove_among.new.tree in
+    let prime : RootedTree = c.remove_among.new.tree in
     let edits = c.remove_among.ensures.edits in
     let honest_put = edits.only.honest.0 honest_then in
     let agrees_put = edits.agrees honest_then agrees_then in
     let still_put = edits.only.state honest_then in
     let later : List (Option Sector) = (map_now c.remove_among.new.pages (g.D.Device.state c.remove_among.new.device).disk.present).pages in
     let taken = c.in_ok-remove_among.ensures.removed honest_then agrees_then left rights entries stands in
-    let put = subst (λ (k : List ℕ). StandsAmong (map_now c.remove_among.new.pages (g.D.Device.state c.find_row.new.device).disk.present).pages left rights prime (without entries k)) key_is taken in
-    let put_then = subst (λ (s : State). StandsAmong (map_now c.remove_among.new.pages s.disk.present).pages left rights prime (without entries (key_under spec Prime pair))) (sym still_put) put in
+    let put = subst (λ (k : List ℕ). IsTreeAmong (map_now c.remove_among.new.pages (g.D.Device.state c.find_row.new.device).disk.present).pages left rights prime (without_entry entries k)) key_is taken in
+    let put_then = subst (λ (s : State). IsTreeAmong (map_now c.remove_among.new.pages s.disk.present).pages left rights prime (without_entry entries (key_under spec Prime pair))) (sym still_put) put in
     let moved = remove_moving spec named generation there left right listing has_then c.args.file.now.sound pair found.old found.there [] arrival same found.good later prime (c.remove_among.ensures.layout ∙ c.file_tree-prime.ensures.layout) put_then in
     let value_is : row_value found.old ≡ c.value.result.now = sym (c.value.ensures ∙ ap (λ (e : Entry). e.value) found.is) in
-    let moving = subst (λ (r : ℕ). Moving Remove spec named (named_without pair named) generation later left right listing r c.value.result.now [] arrival arrival) (sym c.root-root.ensures)
-    (subst (λ (v : List ℕ). Moving Remove spec named (named_without pair named) generation later left right listing prime.root v [] arrival arrival) value_is moved) in
+    let moving = subst (λ (r : ℕ). HasChangedRows Remove spec named (named_without pair named) generation later left right listing r c.value.result.now [] arrival arrival) (sym c.root-root.ensures)
+    (subst (λ (v : List ℕ). HasChangedRows Remove spec named (named_without pair named) generation later left right listing prime.root v [] arrival arrival) value_is moved) in
     let room = c.move_row.ensures.room honest_put agrees_put named (named_without pair named) generation left right moving refusal in
     let few = c.in_ok-remove_among.ensures.few honest_then agrees_then left rights entries stands in
     let committed = ap free_count (same_volume c.args.pages.now c.find_row.new.pages looks.unchanged.committed) in
@@ -141,25 +141,25 @@ returns-in_err-listing-clause-damaged g c = λ honest agrees named generation le
     let there : List (Option Sector) = (map_now c.find_row.new.pages (g.D.Device.state c.find_row.new.device).disk.present).pages in
     let same_then : there ≡ before = same_pages c.args.pages.now c.find_row.new.pages (g.D.Device.state c.args.device.now) (g.D.Device.state c.find_row.new.device) looks.unchanged still in
     let has_then = subst (λ (p : List (Option Sector)). HasTrees spec named generation p left right listing) (sym same_then) has in
-    let rights : List Planted = (kept_in spec named generation there left right listing has_then).alternates ++ right in
+    let rights : List TreeLevels = (kept_in spec named generation there left right listing has_then).alternates ++ right in
     let entries : List Entry = map (entry_under spec Prime) named.file.rows in
     let stands = prime_stands spec named generation there left right listing has_then c.file_tree-prime.result c.file_tree-prime.ensures.layout c.file_tree-prime.ensures.root in
     let key_is : c.key.result.now ≡ key_under spec Prime pair = c.key.ensures ∙ found.key in
     let arrival : ℕ = c.next_arrival-next.result in
     let same : arrival ≡ named.file.next_arrival = c.next_arrival-next.ensures ∙ arrival_is spec named generation there left right listing has_then in
-    let prime : Rooted = c.remove_among.new.tree in
+    let prime : RootedTree = c.remove_among.new.tree in
     let edits = c.remove_among.ensures.edits in
     let honest_put = edits.only.honest.0 honest_then in
     let agrees_put = edits.agrees honest_then agrees_then in
     let still_put = edits.only.state honest_then in
     let later : List (Option Sector) = (map_now c.remove_among.new.pages (g.D.Device.state c.remove_among.new.device).disk.present).pages in
     let taken = c.in_ok-remove_among.ensures.removed honest_then agrees_then left rights entries stands in
-    let put = subst (λ (k : List ℕ). StandsAmong (map_now c.remove_among.new.pages (g.D.Device.state c.find_row.new.device).disk.present).pages left rights prime (without entries k)) key_is taken in
-    let put_then = subst (λ (s : State). StandsAmong (map_now c.remove_among.new.pages s.disk.present).pages left rights prime (without entries (key_under spec Prime pair))) (sym still_put) put in
+    let put = subst (λ (k : List ℕ). IsTreeAmong (map_now c.remove_among.new.pages (g.D.Device.state c.find_row.new.device).disk.present).pages left rights prime (without_entry entries k)) key_is taken in
+    let put_then = subst (λ (s : State). IsTreeAmong (map_now c.remove_among.new.pages s.disk.present).pages left rights prime (without_entry entries (key_under spec Prime pair))) (sym still_put) put in
     let moved = remove_moving spec named generation there left right listing has_then c.args.file.now.sound pair found.old found.there [] arrival same found.good later prime (c.remove_among.ensures.layout ∙ c.file_tree-prime.ensures.layout) put_then in
     let value_is : row_value found.old ≡ c.value.result.now = sym (c.value.ensures ∙ ap (λ (e : Entry). e.value) found.is) in
-    let moving = subst (λ (r : ℕ). Moving Remove spec named (named_without pair named) generation later left right listing r c.value.result.now [] arrival arrival) (sym c.root-root.ensures)
-    (subst (λ (v : List ℕ). Moving Remove spec named (named_without pair named) generation later left right listing prime.root v [] arrival arrival) value_is moved) in
+    let moving = subst (λ (r : ℕ). HasChangedRows Remove spec named (named_without pair named) generation later left right listing r c.value.result.now [] arrival arrival) (sym c.root-root.ensures)
+    (subst (λ (v : List ℕ). HasChangedRows Remove spec named (named_without pair named) generation later left right listing prime.root v [] arrival arrival) value_is moved) in
     let may = subst (λ (v : List ℕ). PairsMayMove Remove named.file v [] arrival) value_is (removed_may spec named generation there left right listing has_then c.args.file.now.sound pair found.old found.there [] arrival) in
     c.move_row.ensures.damaged honest_put agrees_put named (named_without pair named) generation left right moving may refusal
 
@@ -172,7 +172,7 @@ returns-clause-outcome g c = λ honest agrees named generation left right has.
     let rows = prime_rows spec named generation before left right listing has c.file_tree-prime.result c.file_tree-prime.ensures.layout c.file_tree-prime.ensures.root in
     let told = c.in_ok-row.ensures.found honest agrees named.file.rows rows in
     let found = found_at spec named generation before left right listing has pair c.in_ok-row.field-0 told c.in-Some.row c.in-Some.is in
-    sym (ap (λ (ch : Changed). ch.outcome) (removed_done pair named.file found.old found.there))
+    sym (ap (λ (ch : FileChange). ch.outcome) (removed_done pair named.file found.old found.there))
 
 pub returns-clause-placed : goal.returns-clause-placed
 returns-clause-placed g c = λ honest agrees named generation left right has change.
@@ -190,29 +190,29 @@ returns-clause-placed g c = λ honest agrees named generation left right has cha
     let there : List (Option Sector) = (map_now c.find_row.new.pages (g.D.Device.state c.find_row.new.device).disk.present).pages in
     let same_then : there ≡ before = same_pages c.args.pages.now c.find_row.new.pages (g.D.Device.state c.args.device.now) (g.D.Device.state c.find_row.new.device) looks.unchanged still in
     let has_then = subst (λ (p : List (Option Sector)). HasTrees spec named generation p left right listing) (sym same_then) has in
-    let rights : List Planted = (kept_in spec named generation there left right listing has_then).alternates ++ right in
+    let rights : List TreeLevels = (kept_in spec named generation there left right listing has_then).alternates ++ right in
     let entries : List Entry = map (entry_under spec Prime) named.file.rows in
     let stands = prime_stands spec named generation there left right listing has_then c.file_tree-prime.result c.file_tree-prime.ensures.layout c.file_tree-prime.ensures.root in
     let key_is : c.key.result.now ≡ key_under spec Prime pair = c.key.ensures ∙ found.key in
     let arrival : ℕ = c.next_arrival-next.result in
     let same : arrival ≡ named.file.next_arrival = c.next_arrival-next.ensures ∙ arrival_is spec named generation there left right listing has_then in
-    let prime : Rooted = c.remove_among.new.tree in
+    let prime : RootedTree = c.remove_among.new.tree in
     let edits = c.remove_among.ensures.edits in
     let honest_put = edits.only.honest.0 honest_then in
     let agrees_put = edits.agrees honest_then agrees_then in
     let still_put = edits.only.state honest_then in
     let later : List (Option Sector) = (map_now c.remove_among.new.pages (g.D.Device.state c.remove_among.new.device).disk.present).pages in
     let taken = c.in_ok-remove_among.ensures.removed honest_then agrees_then left rights entries stands in
-    let put = subst (λ (k : List ℕ). StandsAmong (map_now c.remove_among.new.pages (g.D.Device.state c.find_row.new.device).disk.present).pages left rights prime (without entries k)) key_is taken in
-    let put_then = subst (λ (s : State). StandsAmong (map_now c.remove_among.new.pages s.disk.present).pages left rights prime (without entries (key_under spec Prime pair))) (sym still_put) put in
+    let put = subst (λ (k : List ℕ). IsTreeAmong (map_now c.remove_among.new.pages (g.D.Device.state c.find_row.new.device).disk.present).pages left rights prime (without_entry entries k)) key_is taken in
+    let put_then = subst (λ (s : State). IsTreeAmong (map_now c.remove_among.new.pages s.disk.present).pages left rights prime (without_entry entries (key_under spec Prime pair))) (sym still_put) put in
     let moved = remove_moving spec named generation there left right listing has_then c.args.file.now.sound pair found.old found.there [] arrival same found.good later prime (c.remove_among.ensures.layout ∙ c.file_tree-prime.ensures.layout) put_then in
     let value_is : row_value found.old ≡ c.value.result.now = sym (c.value.ensures ∙ ap (λ (e : Entry). e.value) found.is) in
-    let moving = subst (λ (r : ℕ). Moving Remove spec named (named_without pair named) generation later left right listing r c.value.result.now [] arrival arrival) (sym c.root-root.ensures)
-    (subst (λ (v : List ℕ). Moving Remove spec named (named_without pair named) generation later left right listing prime.root v [] arrival arrival) value_is moved) in
+    let moving = subst (λ (r : ℕ). HasChangedRows Remove spec named (named_without pair named) generation later left right listing r c.value.result.now [] arrival arrival) (sym c.root-root.ensures)
+    (subst (λ (v : List ℕ). HasChangedRows Remove spec named (named_without pair named) generation later left right listing prime.root v [] arrival arrival) value_is moved) in
     let placed = c.in_ok-listing.ensures.placed honest_put agrees_put named (named_without pair named) generation left right moving in
     let last : List (Option Sector) = (map_now c.move_row.new.pages (g.D.Device.state c.args.device.now).disk.present).pages in
-    let here = subst (λ (s : State). Placed (named_without pair named) (generation + 1) (map_now c.move_row.new.pages s.disk.present).pages left right c.in_ok-listing.listing.items) (still_put ∙ still) placed in
-    subst (λ (ch : Changed). Placed (named_after named ch) (generation + 1) last left right c.in_ok-listing.listing.items) (sym (removed_done pair named.file found.old found.there)) here
+    let here = subst (λ (s : State). HasFileTrees (named_without pair named) (generation + 1) (map_now c.move_row.new.pages s.disk.present).pages left right c.in_ok-listing.listing.items) (still_put ∙ still) placed in
+    subst (λ (ch : FileChange). HasFileTrees (named_after named ch) (generation + 1) last left right c.in_ok-listing.listing.items) (sym (removed_done pair named.file found.old found.there)) here
 
 pub returns-clause-few : goal.returns-clause-few
 returns-clause-few g c = λ honest agrees named generation left right has.
@@ -230,25 +230,25 @@ returns-clause-few g c = λ honest agrees named generation left right has.
     let there : List (Option Sector) = (map_now c.find_row.new.pages (g.D.Device.state c.find_row.new.device).disk.present).pages in
     let same_then : there ≡ before = same_pages c.args.pages.now c.find_row.new.pages (g.D.Device.state c.args.device.now) (g.D.Device.state c.find_row.new.device) looks.unchanged still in
     let has_then = subst (λ (p : List (Option Sector)). HasTrees spec named generation p left right listing) (sym same_then) has in
-    let rights : List Planted = (kept_in spec named generation there left right listing has_then).alternates ++ right in
+    let rights : List TreeLevels = (kept_in spec named generation there left right listing has_then).alternates ++ right in
     let entries : List Entry = map (entry_under spec Prime) named.file.rows in
     let stands = prime_stands spec named generation there left right listing has_then c.file_tree-prime.result c.file_tree-prime.ensures.layout c.file_tree-prime.ensures.root in
     let key_is : c.key.result.now ≡ key_under spec Prime pair = c.key.ensures ∙ found.key in
     let arrival : ℕ = c.next_arrival-next.result in
     let same : arrival ≡ named.file.next_arrival = c.next_arrival-next.ensures ∙ arrival_is spec named generation there left right listing has_then in
-    let prime : Rooted = c.remove_among.new.tree in
+    let prime : RootedTree = c.remove_among.new.tree in
     let edits = c.remove_among.ensures.edits in
     let honest_put = edits.only.honest.0 honest_then in
     let agrees_put = edits.agrees honest_then agrees_then in
     let still_put = edits.only.state honest_then in
     let later : List (Option Sector) = (map_now c.remove_among.new.pages (g.D.Device.state c.remove_among.new.device).disk.present).pages in
     let taken = c.in_ok-remove_among.ensures.removed honest_then agrees_then left rights entries stands in
-    let put = subst (λ (k : List ℕ). StandsAmong (map_now c.remove_among.new.pages (g.D.Device.state c.find_row.new.device).disk.present).pages left rights prime (without entries k)) key_is taken in
-    let put_then = subst (λ (s : State). StandsAmong (map_now c.remove_among.new.pages s.disk.present).pages left rights prime (without entries (key_under spec Prime pair))) (sym still_put) put in
+    let put = subst (λ (k : List ℕ). IsTreeAmong (map_now c.remove_among.new.pages (g.D.Device.state c.find_row.new.device).disk.present).pages left rights prime (without_entry entries k)) key_is taken in
+    let put_then = subst (λ (s : State). IsTreeAmong (map_now c.remove_among.new.pages s.disk.present).pages left rights prime (without_entry entries (key_under spec Prime pair))) (sym still_put) put in
     let moved = remove_moving spec named generation there left right listing has_then c.args.file.now.sound pair found.old found.there [] arrival same found.good later prime (c.remove_among.ensures.layout ∙ c.file_tree-prime.ensures.layout) put_then in
     let value_is : row_value found.old ≡ c.value.result.now = sym (c.value.ensures ∙ ap (λ (e : Entry). e.value) found.is) in
-    let moving = subst (λ (r : ℕ). Moving Remove spec named (named_without pair named) generation later left right listing r c.value.result.now [] arrival arrival) (sym c.root-root.ensures)
-    (subst (λ (v : List ℕ). Moving Remove spec named (named_without pair named) generation later left right listing prime.root v [] arrival arrival) value_is moved) in
+    let moving = subst (λ (r : ℕ). HasChangedRows Remove spec named (named_without pair named) generation later left right listing r c.value.result.now [] arrival arrival) (sym c.root-root.ensures)
+    (subst (λ (v : List ℕ). HasChangedRows Remove spec named (named_without pair named) generation later left right listing prime.root v [] arrival arrival) value_is moved) in
     let few = c.in_ok-remove_among.ensures.few honest_then agrees_then left rights entries stands in
     let more = c.in_ok-listing.ensures.few honest_put agrees_put named (named_without pair named) generation left right moving in
     let changed = ap (λ (l : List ℕ). length l) looks.unchanged.changed_pages in
@@ -294,7 +294,7 @@ returns-in_err-remove_among-clause-full g c = λ honest agrees named generation 
     let rows = prime_rows spec named generation before left right listing has c.file_tree-prime.result c.file_tree-prime.ensures.layout c.file_tree-prime.ensures.root in
     let told = c.in_ok-row.ensures.found honest agrees named.file.rows rows in
     let found = found_at spec named generation before left right listing has pair c.in_ok-row.field-0 told c.in-Some.row c.in-Some.is in
-    ap (λ (ch : Changed). is_change ch.outcome) (removed_done pair named.file found.old found.there)
+    ap (λ (ch : FileChange). is_change ch.outcome) (removed_done pair named.file found.old found.there)
 
 pub returns-in_err-listing-clause-full : goal.returns-in_err-listing-clause-full
 returns-in_err-listing-clause-full g c = λ honest agrees named generation left right has refused.
@@ -305,7 +305,7 @@ returns-in_err-listing-clause-full g c = λ honest agrees named generation left 
     let rows = prime_rows spec named generation before left right listing has c.file_tree-prime.result c.file_tree-prime.ensures.layout c.file_tree-prime.ensures.root in
     let told = c.in_ok-row.ensures.found honest agrees named.file.rows rows in
     let found = found_at spec named generation before left right listing has pair c.in_ok-row.field-0 told c.in-Some.row c.in-Some.is in
-    ap (λ (ch : Changed). is_change ch.outcome) (removed_done pair named.file found.old found.there)
+    ap (λ (ch : FileChange). is_change ch.outcome) (removed_done pair named.file found.old found.there)
 
 pub returns-in_err-row-clause-full : goal.returns-in_err-row-clause-full
 returns-in_err-row-clause-full g c = λ honest agrees named generation left right has refused.

@@ -5,8 +5,8 @@ use Rattle.station.specs.Disk.{Sector}
 use Rattle.station.specs.State.{State}
 use Rattle.pages.specs.Use.{free_count}
 use Rattle.pages.specs.Pages.{map_now}
-use Rattle.tree_pages.specs.declared.row_layout.RowLayout.{RowLayout}
-use Rattle.btree.specs.Rooted.{Rooted}
+use Rattle.btree_pages.specs.declared.row_layout.RowLayout.{RowLayout}
+use Rattle.btree.specs.Rooted.{RootedTree}
 use Rattle.btree.specs.Entries.{Entry, HasLengths, entry_with, with_value}
 use Rattle.btree.proofs.Frames.{same_pages, unchanged_on}
 use Rattle.records.specs.declared.fault.StoreFault.TheVariants.{Device, Full, Damaged}
@@ -14,16 +14,16 @@ use Rattle.records.specs.declared.file_spec.KeyPlace.{KeyPlace}
 use Rattle.records.specs.declared.key.KeyOfReference.TheVariants.{Prime}
 use Rattle.records.specs.Spec.{Spec}
 use Rattle.records.specs.Rows.{Row, Pair, part, place_of, named_pair}
-use Rattle.records.specs.Changes.{Changed, changed_row, row_at, changes, without, is_duplicate}
-use Rattle.records.specs.Files.{Named}
+use Rattle.records.specs.Changes.{FileChange, changed_row, row_at, changes, without_pair, is_duplicate}
+use Rattle.records.specs.Files.{NamedFile}
 use Rattle.records.specs.Stores.{spec_of, pair_of, is_change}
-use Rattle.file_trees.specs.Trees.{entry_under, key_under, layout_under, row_value}
-use Rattle.file_trees.specs.Pairs.{IsPair}
-use Rattle.file_trees.specs.Forest.{Planted}
-use Rattle.file_trees.specs.Grows.{StandsAmong}
+use Rattle.volume_format.specs.Trees.{entry_under, key_under, layout_under, row_value}
+use Rattle.volume_format.specs.Pairs.{IsPair}
+use Rattle.volume_format.specs.Forest.{TreeLevels}
+use Rattle.volume_format.specs.Grows.{IsTreeAmong}
 use Rattle.alternate_keys.specs.declared.row_verb.RowVerb.TheVariants.{Replace}
-use Rattle.alternate_keys.specs.Moved.{Moving, PairsMayMove, named_after}
-use Rattle.alternate_keys.specs.Placed.{Placed, HasTrees}
+use Rattle.alternate_keys.specs.Moved.{HasChangedRows, PairsMayMove, named_after}
+use Rattle.alternate_keys.specs.Placed.{HasFileTrees, HasTrees}
 use Rattle.alternate_keys.proofs.Faults.{never_device, never_full}
 use Rattle.alternate_keys.proofs.Calling.{looks_edits, edits_blamed, edits_last}
 use Rattle.alternate_keys.proofs.FileTrees.{kept_in, arrival_few, arrival_is, prime_stands, prime_rows, all_pairs}
@@ -65,13 +65,13 @@ returns-in-None-clause-outcome g c = λ honest agrees named generation left righ
     let told = c.in_ok-row.ensures.found honest agrees named.file.rows rows ∙ ap (λ (p : Pair). option_map (entry_under spec Prime) (row_at spec.organization p named.file.rows)) pair_is in
     let none = none_at spec named generation before left right listing has pair c.in_ok-row.field-0 told c.in-None.is in
     let there_none = ap (λ (s : Spec). row_at named.file.spec.organization (named_pair s.organization number bytes) named.file.rows) has.spec_is ∙ none in
-    c.none.ensures ∙ sym (ap (λ (ch : Changed). ch.outcome) (replaced_missing number bytes named.file there_none))
+    c.none.ensures ∙ sym (ap (λ (ch : FileChange). ch.outcome) (replaced_missing number bytes named.file there_none))
 
 pub returns-in_err-outcome-clause-damaged : goal.returns-in_err-outcome-clause-damaged
 returns-in_err-outcome-clause-damaged g c = λ honest agrees named generation left right has refused.
     let from = rw refused at c.from_residual-in_err-outcome.ensures.1 in
     let fault : c.in_err-outcome.field-0.0 ≡ Damaged = sym from in
-    let refusal : c.look_at_values.result ≡ Err Damaged = c.in_err-outcome.was ∙ ap Err fault in
+    let refusal : c.find_duplicate_key.result ≡ Err Damaged = c.in_err-outcome.was ∙ ap Err fault in
     let spec : Spec = spec_of c.args.file.now in
     let listing : List ℕ = c.args.listing.now in
     let bytes : List ℕ = c.args.bytes.now in
@@ -94,7 +94,7 @@ returns-in_err-outcome-clause-damaged g c = λ honest agrees named generation le
     let same_found : there_found ≡ before = same_pages c.args.pages.now c.find_row.new.pages (g.D.Device.state c.args.device.now) (g.D.Device.state c.find_row.new.device) finds.unchanged still_found in
     let has_found = subst (λ (p : List (Option Sector)). HasTrees spec named generation p left right listing) (sym same_found) has in
     let pairs = all_pairs spec named generation there_found left right listing has_found in
-    c.look_at_values.ensures.damaged honest_found agrees_found named.file.rows pairs refusal
+    c.find_duplicate_key.ensures.damaged honest_found agrees_found named.file.rows pairs refusal
 
 pub returns-then-not-is_done-clause-outcome : goal.returns-then-not-is_done-clause-outcome
 returns-then-not-is_done-clause-outcome g c = λ honest agrees named generation left right has.
@@ -124,7 +124,7 @@ returns-then-not-is_done-clause-outcome g c = λ honest agrees named generation 
     let done_is : is_change c.in_ok-outcome.outcome ≡ false = sym c.is_done.ensures ∙ c.if-not-is_done.true in
     let full = look_full spec named generation there_found left right listing has_found number bytes found.old there_at found.row_is c.value-old.result.now value_is c.in_ok-outcome.outcome looked done_is in
     let own = look_taken spec named generation there_found left right listing has_found number bytes found.old there_at found.row_is c.value-old.result.now value_is c.in_ok-outcome.outcome looked done_is in
-    c.none-then-not-is_done.ensures ∙ own ∙ sym (ap (λ (ch : Changed). ch.outcome) (replaced_taken number bytes named.file found.old there_at full))
+    c.none-then-not-is_done.ensures ∙ own ∙ sym (ap (λ (ch : FileChange). ch.outcome) (replaced_taken number bytes named.file found.old there_at full))
 
 pub returns-then-arrival-clause-damaged : goal.returns-then-arrival-clause-damaged
 returns-then-arrival-clause-damaged g c = λ honest agrees named generation left right has refused.
@@ -170,16 +170,16 @@ returns-in_err-replace_among-clause-damaged g c = λ honest agrees named generat
     let same_found : there_found ≡ before = same_pages c.args.pages.now c.find_row.new.pages (g.D.Device.state c.args.device.now) (g.D.Device.state c.find_row.new.device) finds.unchanged still_found in
     let has_found = subst (λ (p : List (Option Sector)). HasTrees spec named generation p left right listing) (sym same_found) has in
     let pairs = all_pairs spec named generation there_found left right listing has_found in
-    let looks = c.look_at_values.ensures.looks in
+    let looks = c.find_duplicate_key.ensures.looks in
     let honest_then = looks.only.honest.0 honest_found in
     let agrees_then = looks.agrees honest_found agrees_found in
     let still = looks.only.state honest_found in
-    let there : List (Option Sector) = (map_now c.look_at_values.new.pages (g.D.Device.state c.look_at_values.new.device).disk.present).pages in
-    let same_then : there ≡ there_found = same_pages c.find_row.new.pages c.look_at_values.new.pages (g.D.Device.state c.find_row.new.device) (g.D.Device.state c.look_at_values.new.device) looks.unchanged still in
+    let there : List (Option Sector) = (map_now c.find_duplicate_key.new.pages (g.D.Device.state c.find_duplicate_key.new.device).disk.present).pages in
+    let same_then : there ≡ there_found = same_pages c.find_row.new.pages c.find_duplicate_key.new.pages (g.D.Device.state c.find_row.new.device) (g.D.Device.state c.find_duplicate_key.new.device) looks.unchanged still in
     let has_then = subst (λ (p : List (Option Sector)). HasTrees spec named generation p left right listing) (sym same_then) has_found in
     let arrival : ℕ = c.next_arrival-arrival.result in
     let same : arrival ≡ named.file.next_arrival = c.next_arrival-arrival.ensures ∙ arrival_is spec named generation there left right listing has_then in
-    let rights : List Planted = (kept_in spec named generation there left right listing has_then).alternates ++ right in
+    let rights : List TreeLevels = (kept_in spec named generation there left right listing has_then).alternates ++ right in
     let entries : List Entry = map (entry_under spec Prime) named.file.rows in
     let stands = prime_stands spec named generation there left right listing has_then c.file_tree-prime.result c.file_tree-prime.ensures.layout c.file_tree-prime.ensures.root in
     let key_is : c.key.result.now ≡ key_under spec Prime pair = c.key.ensures ∙ found.key in
@@ -215,20 +215,20 @@ returns-in_err-listing-clause-room g c = λ honest agrees named generation left 
     let pairs = all_pairs spec named generation there_found left right listing has_found in
     let looked = c.in_ok-outcome.ensures.told honest_found agrees_found named.file.rows pairs in
     let done_is : is_change c.in_ok-outcome.outcome ≡ true = sym c.is_done.ensures ∙ c.if-not-is_done.false in
-    let looks = c.look_at_values.ensures.looks in
+    let looks = c.find_duplicate_key.ensures.looks in
     let honest_then = looks.only.honest.0 honest_found in
     let agrees_then = looks.agrees honest_found agrees_found in
     let still = looks.only.state honest_found in
-    let there : List (Option Sector) = (map_now c.look_at_values.new.pages (g.D.Device.state c.look_at_values.new.device).disk.present).pages in
-    let same_then : there ≡ there_found = same_pages c.find_row.new.pages c.look_at_values.new.pages (g.D.Device.state c.find_row.new.device) (g.D.Device.state c.look_at_values.new.device) looks.unchanged still in
+    let there : List (Option Sector) = (map_now c.find_duplicate_key.new.pages (g.D.Device.state c.find_duplicate_key.new.device).disk.present).pages in
+    let same_then : there ≡ there_found = same_pages c.find_row.new.pages c.find_duplicate_key.new.pages (g.D.Device.state c.find_row.new.device) (g.D.Device.state c.find_duplicate_key.new.device) looks.unchanged still in
     let has_then = subst (λ (p : List (Option Sector)). HasTrees spec named generation p left right listing) (sym same_then) has_found in
     let arrival : ℕ = c.next_arrival-arrival.result in
     let same : arrival ≡ named.file.next_arrival = c.next_arrival-arrival.ensures ∙ arrival_is spec named generation there left right listing has_then in
-    let rights : List Planted = (kept_in spec named generation there left right listing has_then).alternates ++ right in
+    let rights : List TreeLevels = (kept_in spec named generation there left right listing has_then).alternates ++ right in
     let entries : List Entry = map (entry_under spec Prime) named.file.rows in
     let stands = prime_stands spec named generation there left right listing has_then c.file_tree-prime.result c.file_tree-prime.ensures.layout c.file_tree-prime.ensures.root in
     let key_is : c.key.result.now ≡ key_under spec Prime pair = c.key.ensures ∙ found.key in
-    let prime : Rooted = c.replace_among.new.tree in
+    let prime : RootedTree = c.replace_among.new.tree in
     let edits = c.replace_among.ensures.edits in
     let honest_put = edits.only.honest.0 honest_then in
     let agrees_put = edits.agrees honest_then agrees_then in
@@ -238,22 +238,22 @@ returns-in_err-listing-clause-room g c = λ honest agrees named generation left 
     let new : Row = changed_row named.file bytes found.old in
     let entry = entry_changed spec named generation there left right listing has_then number bytes found.old there_at found.row_is c.value-old.result.now value_is c.in_ok-outcome.outcome looked arrival same c.key.result.now c.deref.result.now key_is
     (c.deref.ensures.value ∙ c.in_ok-value.ensures.value found.old found.row_is value_is) in
-    let put = subst (λ (e : Entry). StandsAmong (map_now c.replace_among.new.pages (g.D.Device.state c.look_at_values.new.device).disk.present).pages left rights prime (with_value entries e)) entry taken in
-    let put_then = subst (λ (s : State). StandsAmong (map_now c.replace_among.new.pages s.disk.present).pages left rights prime (with_value entries (entry_under spec Prime new))) (sym still_put) put in
+    let put = subst (λ (e : Entry). IsTreeAmong (map_now c.replace_among.new.pages (g.D.Device.state c.find_duplicate_key.new.device).disk.present).pages left rights prime (with_value entries e)) entry taken in
+    let put_then = subst (λ (s : State). IsTreeAmong (map_now c.replace_among.new.pages s.disk.present).pages left rights prime (with_value entries (entry_under spec Prime new))) (sym still_put) put in
     let here_pair : Pair = named_pair named.file.spec.organization number bytes in
     let next : ℕ = c.arrival_next-next.result in
     let next_is = next_told spec named generation there left right listing has_then number bytes found.old there_at found.row_is c.value-old.result.now value_is c.in_ok-outcome.outcome looked arrival next same c.arrival_next-next.ensures in
-    let after : Named = named_changed here_pair bytes found.old named in
+    let after : NamedFile = named_changed here_pair bytes found.old named in
     let good : IsPair spec Prime here_pair = subst (λ (p : Pair). IsPair spec Prime p) (ap (λ (s : Spec). named_pair s.organization number bytes) (sym has.spec_is)) found.good in
-    let layout_put : prime.layout ≡ layout_under spec Prime = ap (λ (t : Rooted). t.layout) c.replace_among.ensures.tree ∙ c.file_tree-prime.ensures.layout in
+    let layout_put : prime.layout ≡ layout_under spec Prime = ap (λ (t : RootedTree). t.layout) c.replace_among.ensures.tree ∙ c.file_tree-prime.ensures.layout in
     let moved = replace_moving spec named generation there left right listing has_then c.args.file.now.sound number bytes found.old there_at arrival next same next_is good later prime layout_put put_then in
-    let moving = subst (λ (r : ℕ). Moving Replace spec named after generation later left right listing r c.value-old.result.now bytes arrival next) (sym c.root-root.ensures)
-    (subst (λ (v : List ℕ). Moving Replace spec named after generation later left right listing prime.root v bytes arrival next) (sym value_is) moved) in
+    let moving = subst (λ (r : ℕ). HasChangedRows Replace spec named after generation later left right listing r c.value-old.result.now bytes arrival next) (sym c.root-root.ensures)
+    (subst (λ (v : List ℕ). HasChangedRows Replace spec named after generation later left right listing prime.root v bytes arrival next) (sym value_is) moved) in
     let room = c.move_row.ensures.room honest_put agrees_put named after generation left right moving refusal in
     let few = c.in_ok-replace_among.ensures.few in
     let committed = ap free_count (same_volume c.args.pages.now c.find_row.new.pages finds.unchanged.committed) in
-    let committed_then = ap free_count (same_volume c.find_row.new.pages c.look_at_values.new.pages looks.unchanged.committed) in
-    let committed_put = ap free_count (same_volume c.look_at_values.new.pages c.replace_among.new.pages edits.committed) in
+    let committed_then = ap free_count (same_volume c.find_row.new.pages c.find_duplicate_key.new.pages looks.unchanged.committed) in
+    let committed_put = ap free_count (same_volume c.find_duplicate_key.new.pages c.replace_among.new.pages edits.committed) in
     let changed = ap (λ (l : List ℕ). length l) finds.unchanged.changed_pages in
     let changed_then = ap (λ (l : List ℕ). length l) looks.unchanged.changed_pages in
     omega (arith, room, few, committed, committed_then, committed_put, changed, changed_then)
@@ -287,20 +287,20 @@ returns-in_err-listing-clause-damaged g c = λ honest agrees named generation le
     let pairs = all_pairs spec named generation there_found left right listing has_found in
     let looked = c.in_ok-outcome.ensures.told honest_found agrees_found named.file.rows pairs in
     let done_is : is_change c.in_ok-outcome.outcome ≡ true = sym c.is_done.ensures ∙ c.if-not-is_done.false in
-    let looks = c.look_at_values.ensures.looks in
+    let looks = c.find_duplicate_key.ensures.looks in
     let honest_then = looks.only.honest.0 honest_found in
     let agrees_then = looks.agrees honest_found agrees_found in
     let still = looks.only.state honest_found in
-    let there : List (Option Sector) = (map_now c.look_at_values.new.pages (g.D.Device.state c.look_at_values.new.device).disk.present).pages in
-    let same_then : there ≡ there_found = same_pages c.find_row.new.pages c.look_at_values.new.pages (g.D.Device.state c.find_row.new.device) (g.D.Device.state c.look_at_values.new.device) looks.unchanged still in
+    let there : List (Option Sector) = (map_now c.find_duplicate_key.new.pages (g.D.Device.state c.find_duplicate_key.new.device).disk.present).pages in
+    let same_then : there ≡ there_found = same_pages c.find_row.new.pages c.find_duplicate_key.new.pages (g.D.Device.state c.find_row.new.device) (g.D.Device.state c.find_duplicate_key.new.device) looks.unchanged still in
     let has_then = subst (λ (p : List (Option Sector)). HasTrees spec named generation p left right listing) (sym same_then) has_found in
     let arrival : ℕ = c.next_arrival-arrival.result in
     let same : arrival ≡ named.file.next_arrival = c.next_arrival-arrival.ensures ∙ arrival_is spec named generation there left right listing has_then in
-    let rights : List Planted = (kept_in spec named generation there left right listing has_then).alternates ++ right in
+    let rights : List TreeLevels = (kept_in spec named generation there left right listing has_then).alternates ++ right in
     let entries : List Entry = map (entry_under spec Prime) named.file.rows in
     let stands = prime_stands spec named generation there left right listing has_then c.file_tree-prime.result c.file_tree-prime.ensures.layout c.file_tree-prime.ensures.root in
     let key_is : c.key.result.now ≡ key_under spec Prime pair = c.key.ensures ∙ found.key in
-    let prime : Rooted = c.replace_among.new.tree in
+    let prime : RootedTree = c.replace_among.new.tree in
     let edits = c.replace_among.ensures.edits in
     let honest_put = edits.only.honest.0 honest_then in
     let agrees_put = edits.agrees honest_then agrees_then in
@@ -310,17 +310,17 @@ returns-in_err-listing-clause-damaged g c = λ honest agrees named generation le
     let new : Row = changed_row named.file bytes found.old in
     let entry = entry_changed spec named generation there left right listing has_then number bytes found.old there_at found.row_is c.value-old.result.now value_is c.in_ok-outcome.outcome looked arrival same c.key.result.now c.deref.result.now key_is
     (c.deref.ensures.value ∙ c.in_ok-value.ensures.value found.old found.row_is value_is) in
-    let put = subst (λ (e : Entry). StandsAmong (map_now c.replace_among.new.pages (g.D.Device.state c.look_at_values.new.device).disk.present).pages left rights prime (with_value entries e)) entry taken in
-    let put_then = subst (λ (s : State). StandsAmong (map_now c.replace_among.new.pages s.disk.present).pages left rights prime (with_value entries (entry_under spec Prime new))) (sym still_put) put in
+    let put = subst (λ (e : Entry). IsTreeAmong (map_now c.replace_among.new.pages (g.D.Device.state c.find_duplicate_key.new.device).disk.present).pages left rights prime (with_value entries e)) entry taken in
+    let put_then = subst (λ (s : State). IsTreeAmong (map_now c.replace_among.new.pages s.disk.present).pages left rights prime (with_value entries (entry_under spec Prime new))) (sym still_put) put in
     let here_pair : Pair = named_pair named.file.spec.organization number bytes in
     let next : ℕ = c.arrival_next-next.result in
     let next_is = next_told spec named generation there left right listing has_then number bytes found.old there_at found.row_is c.value-old.result.now value_is c.in_ok-outcome.outcome looked arrival next same c.arrival_next-next.ensures in
-    let after : Named = named_changed here_pair bytes found.old named in
+    let after : NamedFile = named_changed here_pair bytes found.old named in
     let good : IsPair spec Prime here_pair = subst (λ (p : Pair). IsPair spec Prime p) (ap (λ (s : Spec). named_pair s.organization number bytes) (sym has.spec_is)) found.good in
-    let layout_put : prime.layout ≡ layout_under spec Prime = ap (λ (t : Rooted). t.layout) c.replace_among.ensures.tree ∙ c.file_tree-prime.ensures.layout in
+    let layout_put : prime.layout ≡ layout_under spec Prime = ap (λ (t : RootedTree). t.layout) c.replace_among.ensures.tree ∙ c.file_tree-prime.ensures.layout in
     let moved = replace_moving spec named generation there left right listing has_then c.args.file.now.sound number bytes found.old there_at arrival next same next_is good later prime layout_put put_then in
-    let moving = subst (λ (r : ℕ). Moving Replace spec named after generation later left right listing r c.value-old.result.now bytes arrival next) (sym c.root-root.ensures)
-    (subst (λ (v : List ℕ). Moving Replace spec named after generation later left right listing prime.root v bytes arrival next) (sym value_is) moved) in
+    let moving = subst (λ (r : ℕ). HasChangedRows Replace spec named after generation later left right listing r c.value-old.result.now bytes arrival next) (sym c.root-root.ensures)
+    (subst (λ (v : List ℕ). HasChangedRows Replace spec named after generation later left right listing prime.root v bytes arrival next) (sym value_is) moved) in
     let may = subst (λ (v : List ℕ). PairsMayMove Replace named.file v bytes arrival) (sym value_is) (replaced_may spec named generation there left right listing has_then c.args.file.now.sound number bytes found.old there_at arrival same) in
     c.move_row.ensures.damaged honest_put agrees_put named after generation left right moving may refusal
 
@@ -352,7 +352,7 @@ returns-clause-outcome g c = λ honest agrees named generation left right has.
     let done_is : is_change c.in_ok-outcome.outcome ≡ true = sym c.is_done.ensures ∙ c.if-not-is_done.false in
     let free = look_free spec named generation there_found left right listing has_found number bytes found.old there_at found.row_is c.value-old.result.now value_is c.in_ok-outcome.outcome looked done_is in
     look_done spec named generation there_found left right listing has_found number bytes found.old there_at found.row_is c.value-old.result.now value_is c.in_ok-outcome.outcome looked done_is
-    ∙ sym (ap (λ (ch : Changed). ch.outcome) (replaced_done number bytes named.file found.old there_at free))
+    ∙ sym (ap (λ (ch : FileChange). ch.outcome) (replaced_done number bytes named.file found.old there_at free))
 
 pub returns-clause-placed : goal.returns-clause-placed
 returns-clause-placed g c = λ honest agrees named generation left right has change.
@@ -380,20 +380,20 @@ returns-clause-placed g c = λ honest agrees named generation left right has cha
     let pairs = all_pairs spec named generation there_found left right listing has_found in
     let looked = c.in_ok-outcome.ensures.told honest_found agrees_found named.file.rows pairs in
     let done_is : is_change c.in_ok-outcome.outcome ≡ true = sym c.is_done.ensures ∙ c.if-not-is_done.false in
-    let looks = c.look_at_values.ensures.looks in
+    let looks = c.find_duplicate_key.ensures.looks in
     let honest_then = looks.only.honest.0 honest_found in
     let agrees_then = looks.agrees honest_found agrees_found in
     let still = looks.only.state honest_found in
-    let there : List (Option Sector) = (map_now c.look_at_values.new.pages (g.D.Device.state c.look_at_values.new.device).disk.present).pages in
-    let same_then : there ≡ there_found = same_pages c.find_row.new.pages c.look_at_values.new.pages (g.D.Device.state c.find_row.new.device) (g.D.Device.state c.look_at_values.new.device) looks.unchanged still in
+    let there : List (Option Sector) = (map_now c.find_duplicate_key.new.pages (g.D.Device.state c.find_duplicate_key.new.device).disk.present).pages in
+    let same_then : there ≡ there_found = same_pages c.find_row.new.pages c.find_duplicate_key.new.pages (g.D.Device.state c.find_row.new.device) (g.D.Device.state c.find_duplicate_key.new.device) looks.unchanged still in
     let has_then = subst (λ (p : List (Option Sector)). HasTrees spec named generation p left right listing) (sym same_then) has_found in
     let arrival : ℕ = c.next_arrival-arrival.result in
     let same : arrival ≡ named.file.next_arrival = c.next_arrival-arrival.ensures ∙ arrival_is spec named generation there left right listing has_then in
-    let rights : List Planted = (kept_in spec named generation there left right listing has_then).alternates ++ right in
+    let rights : List TreeLevels = (kept_in spec named generation there left right listing has_then).alternates ++ right in
     let entries : List Entry = map (entry_under spec Prime) named.file.rows in
     let stands = prime_stands spec named generation there left right listing has_then c.file_tree-prime.result c.file_tree-prime.ensures.layout c.file_tree-prime.ensures.root in
     let key_is : c.key.result.now ≡ key_under spec Prime pair = c.key.ensures ∙ found.key in
-    let prime : Rooted = c.replace_among.new.tree in
+    let prime : RootedTree = c.replace_among.new.tree in
     let edits = c.replace_among.ensures.edits in
     let honest_put = edits.only.honest.0 honest_then in
     let agrees_put = edits.agrees honest_then agrees_then in
@@ -403,22 +403,22 @@ returns-clause-placed g c = λ honest agrees named generation left right has cha
     let new : Row = changed_row named.file bytes found.old in
     let entry = entry_changed spec named generation there left right listing has_then number bytes found.old there_at found.row_is c.value-old.result.now value_is c.in_ok-outcome.outcome looked arrival same c.key.result.now c.deref.result.now key_is
     (c.deref.ensures.value ∙ c.in_ok-value.ensures.value found.old found.row_is value_is) in
-    let put = subst (λ (e : Entry). StandsAmong (map_now c.replace_among.new.pages (g.D.Device.state c.look_at_values.new.device).disk.present).pages left rights prime (with_value entries e)) entry taken in
-    let put_then = subst (λ (s : State). StandsAmong (map_now c.replace_among.new.pages s.disk.present).pages left rights prime (with_value entries (entry_under spec Prime new))) (sym still_put) put in
+    let put = subst (λ (e : Entry). IsTreeAmong (map_now c.replace_among.new.pages (g.D.Device.state c.find_duplicate_key.new.device).disk.present).pages left rights prime (with_value entries e)) entry taken in
+    let put_then = subst (λ (s : State). IsTreeAmong (map_now c.replace_among.new.pages s.disk.present).pages left rights prime (with_value entries (entry_under spec Prime new))) (sym still_put) put in
     let here_pair : Pair = named_pair named.file.spec.organization number bytes in
     let next : ℕ = c.arrival_next-next.result in
     let next_is = next_told spec named generation there left right listing has_then number bytes found.old there_at found.row_is c.value-old.result.now value_is c.in_ok-outcome.outcome looked arrival next same c.arrival_next-next.ensures in
-    let after : Named = named_changed here_pair bytes found.old named in
+    let after : NamedFile = named_changed here_pair bytes found.old named in
     let good : IsPair spec Prime here_pair = subst (λ (p : Pair). IsPair spec Prime p) (ap (λ (s : Spec). named_pair s.organization number bytes) (sym has.spec_is)) found.good in
-    let layout_put : prime.layout ≡ layout_under spec Prime = ap (λ (t : Rooted). t.layout) c.replace_among.ensures.tree ∙ c.file_tree-prime.ensures.layout in
+    let layout_put : prime.layout ≡ layout_under spec Prime = ap (λ (t : RootedTree). t.layout) c.replace_among.ensures.tree ∙ c.file_tree-prime.ensures.layout in
     let moved = replace_moving spec named generation there left right listing has_then c.args.file.now.sound number bytes found.old there_at arrival next same next_is good later prime layout_put put_then in
-    let moving = subst (λ (r : ℕ). Moving Replace spec named after generation later left right listing r c.value-old.result.now bytes arrival next) (sym c.root-root.ensures)
-    (subst (λ (v : List ℕ). Moving Replace spec named after generation later left right listing prime.root v bytes arrival next) (sym value_is) moved) in
+    let moving = subst (λ (r : ℕ). HasChangedRows Replace spec named after generation later left right listing r c.value-old.result.now bytes arrival next) (sym c.root-root.ensures)
+    (subst (λ (v : List ℕ). HasChangedRows Replace spec named after generation later left right listing prime.root v bytes arrival next) (sym value_is) moved) in
     let free = look_free spec named generation there_found left right listing has_found number bytes found.old there_at found.row_is c.value-old.result.now value_is c.in_ok-outcome.outcome looked done_is in
     let placed = c.in_ok-listing.ensures.placed honest_put agrees_put named after generation left right moving in
     let last : List (Option Sector) = (map_now c.move_row.new.pages (g.D.Device.state c.args.device.now).disk.present).pages in
-    let here = subst (λ (s : State). Placed after (generation + 1) (map_now c.move_row.new.pages s.disk.present).pages left right c.in_ok-listing.listing.items) (still_put ∙ still ∙ still_found) placed in
-    subst (λ (ch : Changed). Placed (named_after named ch) (generation + 1) last left right c.in_ok-listing.listing.items) (sym (replaced_done number bytes named.file found.old there_at free)) here
+    let here = subst (λ (s : State). HasFileTrees after (generation + 1) (map_now c.move_row.new.pages s.disk.present).pages left right c.in_ok-listing.listing.items) (still_put ∙ still ∙ still_found) placed in
+    subst (λ (ch : FileChange). HasFileTrees (named_after named ch) (generation + 1) last left right c.in_ok-listing.listing.items) (sym (replaced_done number bytes named.file found.old there_at free)) here
 
 pub returns-clause-few : goal.returns-clause-few
 returns-clause-few g c = λ honest agrees named generation left right has.
@@ -446,20 +446,20 @@ returns-clause-few g c = λ honest agrees named generation left right has.
     let pairs = all_pairs spec named generation there_found left right listing has_found in
     let looked = c.in_ok-outcome.ensures.told honest_found agrees_found named.file.rows pairs in
     let done_is : is_change c.in_ok-outcome.outcome ≡ true = sym c.is_done.ensures ∙ c.if-not-is_done.false in
-    let looks = c.look_at_values.ensures.looks in
+    let looks = c.find_duplicate_key.ensures.looks in
     let honest_then = looks.only.honest.0 honest_found in
     let agrees_then = looks.agrees honest_found agrees_found in
     let still = looks.only.state honest_found in
-    let there : List (Option Sector) = (map_now c.look_at_values.new.pages (g.D.Device.state c.look_at_values.new.device).disk.present).pages in
-    let same_then : there ≡ there_found = same_pages c.find_row.new.pages c.look_at_values.new.pages (g.D.Device.state c.find_row.new.device) (g.D.Device.state c.look_at_values.new.device) looks.unchanged still in
+    let there : List (Option Sector) = (map_now c.find_duplicate_key.new.pages (g.D.Device.state c.find_duplicate_key.new.device).disk.present).pages in
+    let same_then : there ≡ there_found = same_pages c.find_row.new.pages c.find_duplicate_key.new.pages (g.D.Device.state c.find_row.new.device) (g.D.Device.state c.find_duplicate_key.new.device) looks.unchanged still in
     let has_then = subst (λ (p : List (Option Sector)). HasTrees spec named generation p left right listing) (sym same_then) has_found in
     let arrival : ℕ = c.next_arrival-arrival.result in
     let same : arrival ≡ named.file.next_arrival = c.next_arrival-arrival.ensures ∙ arrival_is spec named generation there left right listing has_then in
-    let rights : List Planted = (kept_in spec named generation there left right listing has_then).alternates ++ right in
+    let rights : List TreeLevels = (kept_in spec named generation there left right listing has_then).alternates ++ right in
     let entries : List Entry = map (entry_under spec Prime) named.file.rows in
     let stands = prime_stands spec named generation there left right listing has_then c.file_tree-prime.result c.file_tree-prime.ensures.layout c.file_tree-prime.ensures.root in
     let key_is : c.key.result.now ≡ key_under spec Prime pair = c.key.ensures ∙ found.key in
-    let prime : Rooted = c.replace_among.new.tree in
+    let prime : RootedTree = c.replace_among.new.tree in
     let edits = c.replace_among.ensures.edits in
     let honest_put = edits.only.honest.0 honest_then in
     let agrees_put = edits.agrees honest_then agrees_then in
@@ -469,25 +469,25 @@ returns-clause-few g c = λ honest agrees named generation left right has.
     let new : Row = changed_row named.file bytes found.old in
     let entry = entry_changed spec named generation there left right listing has_then number bytes found.old there_at found.row_is c.value-old.result.now value_is c.in_ok-outcome.outcome looked arrival same c.key.result.now c.deref.result.now key_is
     (c.deref.ensures.value ∙ c.in_ok-value.ensures.value found.old found.row_is value_is) in
-    let put = subst (λ (e : Entry). StandsAmong (map_now c.replace_among.new.pages (g.D.Device.state c.look_at_values.new.device).disk.present).pages left rights prime (with_value entries e)) entry taken in
-    let put_then = subst (λ (s : State). StandsAmong (map_now c.replace_among.new.pages s.disk.present).pages left rights prime (with_value entries (entry_under spec Prime new))) (sym still_put) put in
+    let put = subst (λ (e : Entry). IsTreeAmong (map_now c.replace_among.new.pages (g.D.Device.state c.find_duplicate_key.new.device).disk.present).pages left rights prime (with_value entries e)) entry taken in
+    let put_then = subst (λ (s : State). IsTreeAmong (map_now c.replace_among.new.pages s.disk.present).pages left rights prime (with_value entries (entry_under spec Prime new))) (sym still_put) put in
     let here_pair : Pair = named_pair named.file.spec.organization number bytes in
     let next : ℕ = c.arrival_next-next.result in
     let next_is = next_told spec named generation there left right listing has_then number bytes found.old there_at found.row_is c.value-old.result.now value_is c.in_ok-outcome.outcome looked arrival next same c.arrival_next-next.ensures in
-    let after : Named = named_changed here_pair bytes found.old named in
+    let after : NamedFile = named_changed here_pair bytes found.old named in
     let good : IsPair spec Prime here_pair = subst (λ (p : Pair). IsPair spec Prime p) (ap (λ (s : Spec). named_pair s.organization number bytes) (sym has.spec_is)) found.good in
-    let layout_put : prime.layout ≡ layout_under spec Prime = ap (λ (t : Rooted). t.layout) c.replace_among.ensures.tree ∙ c.file_tree-prime.ensures.layout in
+    let layout_put : prime.layout ≡ layout_under spec Prime = ap (λ (t : RootedTree). t.layout) c.replace_among.ensures.tree ∙ c.file_tree-prime.ensures.layout in
     let moved = replace_moving spec named generation there left right listing has_then c.args.file.now.sound number bytes found.old there_at arrival next same next_is good later prime layout_put put_then in
-    let moving = subst (λ (r : ℕ). Moving Replace spec named after generation later left right listing r c.value-old.result.now bytes arrival next) (sym c.root-root.ensures)
-    (subst (λ (v : List ℕ). Moving Replace spec named after generation later left right listing prime.root v bytes arrival next) (sym value_is) moved) in
+    let moving = subst (λ (r : ℕ). HasChangedRows Replace spec named after generation later left right listing r c.value-old.result.now bytes arrival next) (sym c.root-root.ensures)
+    (subst (λ (v : List ℕ). HasChangedRows Replace spec named after generation later left right listing prime.root v bytes arrival next) (sym value_is) moved) in
     let few = c.in_ok-replace_among.ensures.few in
     let more = c.in_ok-listing.ensures.few honest_put agrees_put named after generation left right moving in
     let changed = ap (λ (l : List ℕ). length l) finds.unchanged.changed_pages in
     let changed_then = ap (λ (l : List ℕ). length l) looks.unchanged.changed_pages in
     omega (arith, few, more, changed, changed_then)
 
-pub look_at_values-requires-clause-values : goal.look_at_values-requires-clause-values
-look_at_values-requires-clause-values g c =
+pub find_duplicate_key-requires-clause-values : goal.find_duplicate_key-requires-clause-values
+find_duplicate_key-requires-clause-values g c =
     let some : IfSome c.in_ok-row.field-0 (HasLengths c.file_tree-prime.result.layout) = c.in_ok-row.ensures.lengths in
     let own : HasLengths c.file_tree-prime.result.layout c.in-Some.row = subst (λ (o : Option Entry). IfSome o (HasLengths c.file_tree-prime.result.layout)) c.in-Some.is some in
     let long : length c.value-old.result.now ≡ c.args.file.now.record_length + 8 * length c.args.file.now.alternates.items =
@@ -521,46 +521,46 @@ returns-in-None-clause-edits g c =
 pub returns-in_err-outcome-clause-edits : goal.returns-in_err-outcome-clause-edits
 returns-in_err-outcome-clause-edits g c =
     let e0 = looks_edits g.D.Device (c.find_row.result ≡ Err Device) c.args.pages.now c.find_row.new.pages c.args.device.now c.find_row.new.device c.find_row.ensures.looks in
-    edits_last g.D.Device (c.find_row.result ≡ Err Device) (c.look_at_values.result ≡ Err Device) _ c.args.pages.now c.find_row.new.pages c.look_at_values.new.pages c.args.device.now c.find_row.new.device c.look_at_values.new.device (λ is. let from = rw is at c.from_residual-in_err-outcome.ensures.1 in let fault : c.in_err-outcome.field-0.0 ≡ Device = sym from in let told : c.look_at_values.result ≡ Err Device = c.in_err-outcome.was ∙ ap Err fault in told) e0 (looks_edits g.D.Device (c.look_at_values.result ≡ Err Device) c.find_row.new.pages c.look_at_values.new.pages c.find_row.new.device c.look_at_values.new.device c.look_at_values.ensures.looks)
+    edits_last g.D.Device (c.find_row.result ≡ Err Device) (c.find_duplicate_key.result ≡ Err Device) _ c.args.pages.now c.find_row.new.pages c.find_duplicate_key.new.pages c.args.device.now c.find_row.new.device c.find_duplicate_key.new.device (λ is. let from = rw is at c.from_residual-in_err-outcome.ensures.1 in let fault : c.in_err-outcome.field-0.0 ≡ Device = sym from in let told : c.find_duplicate_key.result ≡ Err Device = c.in_err-outcome.was ∙ ap Err fault in told) e0 (looks_edits g.D.Device (c.find_duplicate_key.result ≡ Err Device) c.find_row.new.pages c.find_duplicate_key.new.pages c.find_row.new.device c.find_duplicate_key.new.device c.find_duplicate_key.ensures.looks)
 
 pub returns-then-not-is_done-clause-edits : goal.returns-then-not-is_done-clause-edits
 returns-then-not-is_done-clause-edits g c =
     let e0 = looks_edits g.D.Device (c.find_row.result ≡ Err Device) c.args.pages.now c.find_row.new.pages c.args.device.now c.find_row.new.device c.find_row.ensures.looks in
-    edits_last g.D.Device (c.find_row.result ≡ Err Device) (c.look_at_values.result ≡ Err Device) _ c.args.pages.now c.find_row.new.pages c.look_at_values.new.pages c.args.device.now c.find_row.new.device c.look_at_values.new.device (λ is. absurd cc) e0 (looks_edits g.D.Device (c.look_at_values.result ≡ Err Device) c.find_row.new.pages c.look_at_values.new.pages c.find_row.new.device c.look_at_values.new.device c.look_at_values.ensures.looks)
+    edits_last g.D.Device (c.find_row.result ≡ Err Device) (c.find_duplicate_key.result ≡ Err Device) _ c.args.pages.now c.find_row.new.pages c.find_duplicate_key.new.pages c.args.device.now c.find_row.new.device c.find_duplicate_key.new.device (λ is. absurd cc) e0 (looks_edits g.D.Device (c.find_duplicate_key.result ≡ Err Device) c.find_row.new.pages c.find_duplicate_key.new.pages c.find_row.new.device c.find_duplicate_key.new.device c.find_duplicate_key.ensures.looks)
 
 pub returns-then-arrival-clause-edits : goal.returns-then-arrival-clause-edits
 returns-then-arrival-clause-edits g c =
     let e0 = looks_edits g.D.Device (c.find_row.result ≡ Err Device) c.args.pages.now c.find_row.new.pages c.args.device.now c.find_row.new.device c.find_row.ensures.looks in
-    edits_last g.D.Device (c.find_row.result ≡ Err Device) (c.look_at_values.result ≡ Err Device) _ c.args.pages.now c.find_row.new.pages c.look_at_values.new.pages c.args.device.now c.find_row.new.device c.look_at_values.new.device (λ is. absurd cc) e0 (looks_edits g.D.Device (c.look_at_values.result ≡ Err Device) c.find_row.new.pages c.look_at_values.new.pages c.find_row.new.device c.look_at_values.new.device c.look_at_values.ensures.looks)
+    edits_last g.D.Device (c.find_row.result ≡ Err Device) (c.find_duplicate_key.result ≡ Err Device) _ c.args.pages.now c.find_row.new.pages c.find_duplicate_key.new.pages c.args.device.now c.find_row.new.device c.find_duplicate_key.new.device (λ is. absurd cc) e0 (looks_edits g.D.Device (c.find_duplicate_key.result ≡ Err Device) c.find_row.new.pages c.find_duplicate_key.new.pages c.find_row.new.device c.find_duplicate_key.new.device c.find_duplicate_key.ensures.looks)
 
 pub returns-in_err-value-clause-edits : goal.returns-in_err-value-clause-edits
 returns-in_err-value-clause-edits g c =
     let e0 = looks_edits g.D.Device (c.find_row.result ≡ Err Device) c.args.pages.now c.find_row.new.pages c.args.device.now c.find_row.new.device c.find_row.ensures.looks in
-    edits_last g.D.Device (c.find_row.result ≡ Err Device) (c.look_at_values.result ≡ Err Device) _ c.args.pages.now c.find_row.new.pages c.look_at_values.new.pages c.args.device.now c.find_row.new.device c.look_at_values.new.device (λ is. absurd (never_device c.value_after.result c.value_after.ensures.memory (let from = rw is at c.from_residual-in_err-value.ensures.1 in let fault : c.in_err-value.field-0.0 ≡ Device = sym from in let told : c.value_after.result ≡ Err Device = c.in_err-value.was ∙ ap Err fault in told))) e0 (looks_edits g.D.Device (c.look_at_values.result ≡ Err Device) c.find_row.new.pages c.look_at_values.new.pages c.find_row.new.device c.look_at_values.new.device c.look_at_values.ensures.looks)
+    edits_last g.D.Device (c.find_row.result ≡ Err Device) (c.find_duplicate_key.result ≡ Err Device) _ c.args.pages.now c.find_row.new.pages c.find_duplicate_key.new.pages c.args.device.now c.find_row.new.device c.find_duplicate_key.new.device (λ is. absurd (never_device c.value_after.result c.value_after.ensures.memory (let from = rw is at c.from_residual-in_err-value.ensures.1 in let fault : c.in_err-value.field-0.0 ≡ Device = sym from in let told : c.value_after.result ≡ Err Device = c.in_err-value.was ∙ ap Err fault in told))) e0 (looks_edits g.D.Device (c.find_duplicate_key.result ≡ Err Device) c.find_row.new.pages c.find_duplicate_key.new.pages c.find_row.new.device c.find_duplicate_key.new.device c.find_duplicate_key.ensures.looks)
 
 pub returns-in_err-replace_among-clause-edits : goal.returns-in_err-replace_among-clause-edits
 returns-in_err-replace_among-clause-edits g c =
     let e0 = looks_edits g.D.Device (c.find_row.result ≡ Err Device) c.args.pages.now c.find_row.new.pages c.args.device.now c.find_row.new.device c.find_row.ensures.looks in
-    let e1 = edits_last g.D.Device (c.find_row.result ≡ Err Device) (c.look_at_values.result ≡ Err Device) (c.look_at_values.result ≡ Err Device) c.args.pages.now c.find_row.new.pages c.look_at_values.new.pages c.args.device.now c.find_row.new.device c.look_at_values.new.device (λ is. is) e0 (looks_edits g.D.Device (c.look_at_values.result ≡ Err Device) c.find_row.new.pages c.look_at_values.new.pages c.find_row.new.device c.look_at_values.new.device c.look_at_values.ensures.looks) in
-    edits_last g.D.Device (c.look_at_values.result ≡ Err Device) (c.replace_among.result ≡ Err Device) _ c.args.pages.now c.look_at_values.new.pages c.replace_among.new.pages c.args.device.now c.look_at_values.new.device c.replace_among.new.device (λ is. let from = rw is at c.from_residual-in_err-replace_among.ensures.1 in let fault : c.in_err-replace_among.field-0.0 ≡ Device = sym from in let told : c.replace_among.result ≡ Err Device = c.in_err-replace_among.was ∙ ap Err fault in told) e1 c.replace_among.ensures.edits
+    let e1 = edits_last g.D.Device (c.find_row.result ≡ Err Device) (c.find_duplicate_key.result ≡ Err Device) (c.find_duplicate_key.result ≡ Err Device) c.args.pages.now c.find_row.new.pages c.find_duplicate_key.new.pages c.args.device.now c.find_row.new.device c.find_duplicate_key.new.device (λ is. is) e0 (looks_edits g.D.Device (c.find_duplicate_key.result ≡ Err Device) c.find_row.new.pages c.find_duplicate_key.new.pages c.find_row.new.device c.find_duplicate_key.new.device c.find_duplicate_key.ensures.looks) in
+    edits_last g.D.Device (c.find_duplicate_key.result ≡ Err Device) (c.replace_among.result ≡ Err Device) _ c.args.pages.now c.find_duplicate_key.new.pages c.replace_among.new.pages c.args.device.now c.find_duplicate_key.new.device c.replace_among.new.device (λ is. let from = rw is at c.from_residual-in_err-replace_among.ensures.1 in let fault : c.in_err-replace_among.field-0.0 ≡ Device = sym from in let told : c.replace_among.result ≡ Err Device = c.in_err-replace_among.was ∙ ap Err fault in told) e1 c.replace_among.ensures.edits
 
 pub returns-in_err-listing-clause-edits : goal.returns-in_err-listing-clause-edits
 returns-in_err-listing-clause-edits g c =
     let e0 = looks_edits g.D.Device (c.find_row.result ≡ Err Device) c.args.pages.now c.find_row.new.pages c.args.device.now c.find_row.new.device c.find_row.ensures.looks in
-    let e1 = edits_last g.D.Device (c.find_row.result ≡ Err Device) (c.look_at_values.result ≡ Err Device) (c.look_at_values.result ≡ Err Device) c.args.pages.now c.find_row.new.pages c.look_at_values.new.pages c.args.device.now c.find_row.new.device c.look_at_values.new.device (λ is. is) e0 (looks_edits g.D.Device (c.look_at_values.result ≡ Err Device) c.find_row.new.pages c.look_at_values.new.pages c.find_row.new.device c.look_at_values.new.device c.look_at_values.ensures.looks) in
-    let e2 = edits_last g.D.Device (c.look_at_values.result ≡ Err Device) (c.replace_among.result ≡ Err Device) (c.replace_among.result ≡ Err Device) c.args.pages.now c.look_at_values.new.pages c.replace_among.new.pages c.args.device.now c.look_at_values.new.device c.replace_among.new.device (λ is. is) e1 c.replace_among.ensures.edits in
+    let e1 = edits_last g.D.Device (c.find_row.result ≡ Err Device) (c.find_duplicate_key.result ≡ Err Device) (c.find_duplicate_key.result ≡ Err Device) c.args.pages.now c.find_row.new.pages c.find_duplicate_key.new.pages c.args.device.now c.find_row.new.device c.find_duplicate_key.new.device (λ is. is) e0 (looks_edits g.D.Device (c.find_duplicate_key.result ≡ Err Device) c.find_row.new.pages c.find_duplicate_key.new.pages c.find_row.new.device c.find_duplicate_key.new.device c.find_duplicate_key.ensures.looks) in
+    let e2 = edits_last g.D.Device (c.find_duplicate_key.result ≡ Err Device) (c.replace_among.result ≡ Err Device) (c.replace_among.result ≡ Err Device) c.args.pages.now c.find_duplicate_key.new.pages c.replace_among.new.pages c.args.device.now c.find_duplicate_key.new.device c.replace_among.new.device (λ is. is) e1 c.replace_among.ensures.edits in
     edits_last g.D.Device (c.replace_among.result ≡ Err Device) (c.move_row.result ≡ Err Device) _ c.args.pages.now c.replace_among.new.pages c.move_row.new.pages c.args.device.now c.replace_among.new.device c.move_row.new.device (λ is. let from = rw is at c.from_residual-in_err-listing.ensures.1 in let fault : c.in_err-listing.field-0.0 ≡ Device = sym from in let told : c.move_row.result ≡ Err Device = c.in_err-listing.was ∙ ap Err fault in told) e2 c.move_row.ensures.edits
 
 pub returns-clause-edits : goal.returns-clause-edits
 returns-clause-edits g c =
     let e0 = looks_edits g.D.Device (c.find_row.result ≡ Err Device) c.args.pages.now c.find_row.new.pages c.args.device.now c.find_row.new.device c.find_row.ensures.looks in
-    let e1 = edits_last g.D.Device (c.find_row.result ≡ Err Device) (c.look_at_values.result ≡ Err Device) (c.look_at_values.result ≡ Err Device) c.args.pages.now c.find_row.new.pages c.look_at_values.new.pages c.args.device.now c.find_row.new.device c.look_at_values.new.device (λ is. is) e0 (looks_edits g.D.Device (c.look_at_values.result ≡ Err Device) c.find_row.new.pages c.look_at_values.new.pages c.find_row.new.device c.look_at_values.new.device c.look_at_values.ensures.looks) in
-    let e2 = edits_last g.D.Device (c.look_at_values.result ≡ Err Device) (c.replace_among.result ≡ Err Device) (c.replace_among.result ≡ Err Device) c.args.pages.now c.look_at_values.new.pages c.replace_among.new.pages c.args.device.now c.look_at_values.new.device c.replace_among.new.device (λ is. is) e1 c.replace_among.ensures.edits in
+    let e1 = edits_last g.D.Device (c.find_row.result ≡ Err Device) (c.find_duplicate_key.result ≡ Err Device) (c.find_duplicate_key.result ≡ Err Device) c.args.pages.now c.find_row.new.pages c.find_duplicate_key.new.pages c.args.device.now c.find_row.new.device c.find_duplicate_key.new.device (λ is. is) e0 (looks_edits g.D.Device (c.find_duplicate_key.result ≡ Err Device) c.find_row.new.pages c.find_duplicate_key.new.pages c.find_row.new.device c.find_duplicate_key.new.device c.find_duplicate_key.ensures.looks) in
+    let e2 = edits_last g.D.Device (c.find_duplicate_key.result ≡ Err Device) (c.replace_among.result ≡ Err Device) (c.replace_among.result ≡ Err Device) c.args.pages.now c.find_duplicate_key.new.pages c.replace_among.new.pages c.args.device.now c.find_duplicate_key.new.device c.replace_among.new.device (λ is. is) e1 c.replace_among.ensures.edits in
     edits_last g.D.Device (c.replace_among.result ≡ Err Device) (c.move_row.result ≡ Err Device) _ c.args.pages.now c.replace_among.new.pages c.move_row.new.pages c.args.device.now c.replace_among.new.device c.move_row.new.device (λ is. absurd cc) e2 c.move_row.ensures.edits
 
 pub returns-then-not-is_done-clause-same : goal.returns-then-not-is_done-clause-same
 returns-then-not-is_done-clause-same g c =
-    λ none. unchanged_on c.args.pages.now c.find_row.new.pages c.look_at_values.new.pages c.find_row.ensures.looks.unchanged c.look_at_values.ensures.looks.unchanged
+    λ none. unchanged_on c.args.pages.now c.find_row.new.pages c.find_duplicate_key.new.pages c.find_row.ensures.looks.unchanged c.find_duplicate_key.ensures.looks.unchanged
 
 pub returns-in_err-replace_among-clause-full : goal.returns-in_err-replace_among-clause-full
 returns-in_err-replace_among-clause-full g c = λ honest agrees named generation left right has refused.
@@ -589,8 +589,8 @@ returns-in_err-replace_among-clause-full g c = λ honest agrees named generation
     let looked = c.in_ok-outcome.ensures.told honest_found agrees_found named.file.rows pairs in
     let done_is : is_change c.in_ok-outcome.outcome ≡ true = sym c.is_done.ensures ∙ c.if-not-is_done.false in
     let free = look_free spec named generation there_found left right listing has_found number bytes found.old there_at found.row_is c.value-old.result.now value_is c.in_ok-outcome.outcome looked done_is in
-    ap (λ (ch : Changed). is_change ch.outcome) (replaced_done number bytes named.file found.old there_at free)
-    ∙ done_changes (is_duplicate (filter (changes found.old.bytes bytes) named.file.spec.alternates) (without named.file.spec.organization (named_pair named.file.spec.organization number bytes) named.file.rows) bytes)
+    ap (λ (ch : FileChange). is_change ch.outcome) (replaced_done number bytes named.file found.old there_at free)
+    ∙ done_changes (is_duplicate (filter (changes found.old.bytes bytes) named.file.spec.alternates) (without_pair named.file.spec.organization (named_pair named.file.spec.organization number bytes) named.file.rows) bytes)
 
 pub returns-in_err-listing-clause-full : goal.returns-in_err-listing-clause-full
 returns-in_err-listing-clause-full g c = λ honest agrees named generation left right has refused.
@@ -619,8 +619,8 @@ returns-in_err-listing-clause-full g c = λ honest agrees named generation left 
     let looked = c.in_ok-outcome.ensures.told honest_found agrees_found named.file.rows pairs in
     let done_is : is_change c.in_ok-outcome.outcome ≡ true = sym c.is_done.ensures ∙ c.if-not-is_done.false in
     let free = look_free spec named generation there_found left right listing has_found number bytes found.old there_at found.row_is c.value-old.result.now value_is c.in_ok-outcome.outcome looked done_is in
-    ap (λ (ch : Changed). is_change ch.outcome) (replaced_done number bytes named.file found.old there_at free)
-    ∙ done_changes (is_duplicate (filter (changes found.old.bytes bytes) named.file.spec.alternates) (without named.file.spec.organization (named_pair named.file.spec.organization number bytes) named.file.rows) bytes)
+    ap (λ (ch : FileChange). is_change ch.outcome) (replaced_done number bytes named.file found.old there_at free)
+    ∙ done_changes (is_duplicate (filter (changes found.old.bytes bytes) named.file.spec.alternates) (without_pair named.file.spec.organization (named_pair named.file.spec.organization number bytes) named.file.rows) bytes)
 
 pub returns-in_err-row-clause-full : goal.returns-in_err-row-clause-full
 returns-in_err-row-clause-full g c = λ honest agrees named generation left right has refused.
@@ -633,5 +633,5 @@ pub returns-in_err-outcome-clause-full : goal.returns-in_err-outcome-clause-full
 returns-in_err-outcome-clause-full g c = λ honest agrees named generation left right has refused.
     let from = rw refused at c.from_residual-in_err-outcome.ensures.1 in
     let fault : c.in_err-outcome.field-0.0 ≡ Full = sym from in
-    let refusal : c.look_at_values.result ≡ Err Full = c.in_err-outcome.was ∙ ap Err fault in
-    absurd (never_full c.look_at_values.result c.look_at_values.ensures.cause refusal)
+    let refusal : c.find_duplicate_key.result ≡ Err Full = c.in_err-outcome.was ∙ ap Err fault in
+    absurd (never_full c.find_duplicate_key.result c.find_duplicate_key.ensures.cause refusal)

@@ -5,8 +5,8 @@ use Rattle.pages.specs.Pages.{map_now}
 use Rattle.records.specs.declared.fault.StoreFault.TheVariants.{Full, Damaged}
 use Rattle.records.specs.Spec.{Spec}
 use Rattle.records.specs.Stores.{spec_of}
-use Rattle.file_trees.specs.Catalog.{Listing, spelled}
-use Rattle.file_trees.proofs.Listings.{long}
+use Rattle.volume_format.specs.Catalog.{Listing, listing_bytes}
+use Rattle.volume_format.proofs.Listings.{long}
 use Rattle.alternate_keys.proofs.Rooting.{placed_by}
 use Rattle.alternate_keys.proofs.row_trees.move_row.Goals as goal
 
@@ -29,7 +29,7 @@ returns-clause-placed g c = λ honest agrees held after generation left right m.
     let spec : Spec = spec_of c.args.file.now in
     let pages : List (Option Sector) = (map_now c.move_pairs.new.pages (g.D.Device.state c.args.device.now).disk.present).pages in
     let become = c.in_ok-roots.ensures.came honest agrees held.file (left ++ m.prime ∷ []) right m.trees m.spec_is m.indexes after.file (m.spec_then ∙ sym m.spec_is) m.pairs in
-    let says = c.in_ok-new.ensures.bytes ∙ ap (λ (l : List ℕ). spelled (record { spec = spec; prime = c.args.root; alternates = l; next_arrival = c.args.next })) c.deref.ensures.value in
+    let says = c.in_ok-new.ensures.bytes ∙ ap (λ (l : List ℕ). listing_bytes (record { spec = spec; prime = c.args.root; alternates = l; next_arrival = c.args.next })) c.deref.ensures.value in
     placed_by spec after generation pages left right m.prime m.trees c.in_ok-roots.roots.items c.in_ok-new.new.items c.args.root c.args.next become m.layout m.root_is m.rows m.spec_then m.next_is m.low
     (m.indexes.count ∙ ap (λ (s : Spec). length s.alternates) m.spec_is) says
 

@@ -8,12 +8,12 @@ use Rattle.pages.specs.declared.error.PagesError.TheVariants as pages
 use Rattle.records.specs.declared.fault.StoreFault.TheVariants.{Damaged}
 use Rattle.records.specs.declared.key.KeyOfReference.TheVariants.{Prime}
 use Rattle.records.specs.Spec.{Spec}
-use Rattle.records.specs.Order.{Bound}
+use Rattle.records.specs.Order.{RowBound}
 use Rattle.records.specs.Files.{file_at}
-use Rattle.records.specs.Stores.{spec_of, bound}
-use Rattle.tree_pages.specs.declared.row_layout.RowLayout.{RowLayout}
+use Rattle.records.specs.Stores.{spec_of, bound_at}
+use Rattle.btree_pages.specs.declared.row_layout.RowLayout.{RowLayout}
 use Rattle.btree.proofs.Frames.{unchanged_on, same_pages}
-use Rattle.btree.specs.Rooted.{Rooted}
+use Rattle.btree.specs.Rooted.{RootedTree}
 use Rattle.alternate_keys.specs.Aims.{IsBound}
 use Rattle.alternate_keys.specs.Listed.{IsListed, root_in}
 use Rattle.alternate_keys.specs.Seen.{IsSought}
@@ -60,9 +60,9 @@ returns-in-Ok-clause-found g c = λ honest agrees files held holds has.
     let m : Map = map_now c.args.pages.now (g.D.Device.state c.args.device.now).disk.present in
     let name : List ℕ = c.args.file.now.name.items in
     let spec : Spec = spec_of c.args.file.now in
-    let b : Bound = bound c.args.side c.args.value.now c.args.number in
-    let prime : Rooted = c.file_tree-prime.result in
-    let under : Rooted = c.file_tree-under.result in
+    let b : RowBound = bound_at c.args.side c.args.value.now c.args.number in
+    let prime : RootedTree = c.file_tree-prime.result in
+    let under : RootedTree = c.file_tree-under.result in
     let at : List ℕ = c.deref-2.result.now in
     let bounds = c.map_bounds.ensures.open c.args.pages.now (g.D.Device.state c.args.device.now).disk.present c.requires.open c.requires.unspent in
     let knows : Knows m (file_at name files) held spec c.args.key c.in_ok-entry.field-0 c.in-Some.entry prime under = record {
@@ -80,9 +80,9 @@ returns-in-Ok-clause-found g c = λ honest agrees files held holds has.
       under_root = c.file_tree-under.ensures.root ∙ ap (root_in c.args.key) c.value-2.ensures;
     } in
     let bounded : IsBound spec c.args.key b = record { value = c.requires.value; number = let low = c.ranges.number.fits in omega arith } in
-    let way = sought_in m (file_at name files) held spec c.args.key b c.in_ok-entry.field-0 c.in-Some.entry prime under c.aim_for-aim.result at knows bounded c.aim_for-aim.ensures (c.deref-2.ensures.value ∙ c.in_ok-at.ensures.bytes) in
+    let way = sought_in m (file_at name files) held spec c.args.key b c.in_ok-entry.field-0 c.in-Some.entry prime under c.search_start_for-aim.result at knows bounded c.search_start_for-aim.ensures (c.deref-2.ensures.value ∙ c.in_ok-at.ensures.bytes) in
     let same = same_pages c.args.pages.now c.find_listing.new.pages (g.D.Device.state c.args.device.now) (g.D.Device.state c.find_listing.new.device) c.find_listing.ensures.unchanged (c.find_listing.ensures.only.state honest) in
-    let here = subst (λ (p : List (Option Sector)). IsSought spec c.args.key b p held.rows prime under c.aim_for-aim.result at) (sym same) way in
+    let here = subst (λ (p : List (Option Sector)). IsSought spec c.args.key b p held.rows prime under c.search_start_for-aim.result at) (sym same) way in
     let honest_then = c.find_listing.ensures.only.honest.0 honest in
     let agrees_then = c.find_listing.ensures.agrees honest agrees in
     c.in-Ok.ensures.found honest_then agrees_then b held.rows here
@@ -92,9 +92,9 @@ returns-in-Ok-clause-bytes g c = λ honest agrees files held holds has.
     let m : Map = map_now c.args.pages.now (g.D.Device.state c.args.device.now).disk.present in
     let name : List ℕ = c.args.file.now.name.items in
     let spec : Spec = spec_of c.args.file.now in
-    let b : Bound = bound c.args.side c.args.value.now c.args.number in
-    let prime : Rooted = c.file_tree-prime.result in
-    let under : Rooted = c.file_tree-under.result in
+    let b : RowBound = bound_at c.args.side c.args.value.now c.args.number in
+    let prime : RootedTree = c.file_tree-prime.result in
+    let under : RootedTree = c.file_tree-under.result in
     let at : List ℕ = c.deref-2.result.now in
     let bounds = c.map_bounds.ensures.open c.args.pages.now (g.D.Device.state c.args.device.now).disk.present c.requires.open c.requires.unspent in
     let knows : Knows m (file_at name files) held spec c.args.key c.in_ok-entry.field-0 c.in-Some.entry prime under = record {
@@ -112,9 +112,9 @@ returns-in-Ok-clause-bytes g c = λ honest agrees files held holds has.
       under_root = c.file_tree-under.ensures.root ∙ ap (root_in c.args.key) c.value-2.ensures;
     } in
     let bounded : IsBound spec c.args.key b = record { value = c.requires.value; number = let low = c.ranges.number.fits in omega arith } in
-    let way = sought_in m (file_at name files) held spec c.args.key b c.in_ok-entry.field-0 c.in-Some.entry prime under c.aim_for-aim.result at knows bounded c.aim_for-aim.ensures (c.deref-2.ensures.value ∙ c.in_ok-at.ensures.bytes) in
+    let way = sought_in m (file_at name files) held spec c.args.key b c.in_ok-entry.field-0 c.in-Some.entry prime under c.search_start_for-aim.result at knows bounded c.search_start_for-aim.ensures (c.deref-2.ensures.value ∙ c.in_ok-at.ensures.bytes) in
     let same = same_pages c.args.pages.now c.find_listing.new.pages (g.D.Device.state c.args.device.now) (g.D.Device.state c.find_listing.new.device) c.find_listing.ensures.unchanged (c.find_listing.ensures.only.state honest) in
-    let here = subst (λ (p : List (Option Sector)). IsSought spec c.args.key b p held.rows prime under c.aim_for-aim.result at) (sym same) way in
+    let here = subst (λ (p : List (Option Sector)). IsSought spec c.args.key b p held.rows prime under c.search_start_for-aim.result at) (sym same) way in
     let honest_then = c.find_listing.ensures.only.honest.0 honest in
     let agrees_then = c.find_listing.ensures.agrees honest agrees in
     c.in-Ok.ensures.bytes honest_then agrees_then b held.rows here c.requires.bytes
@@ -127,9 +127,9 @@ returns-clause-damaged g c = λ honest agrees files held holds has is.
     let m : Map = map_now c.args.pages.now (g.D.Device.state c.args.device.now).disk.present in
     let name : List ℕ = c.args.file.now.name.items in
     let spec : Spec = spec_of c.args.file.now in
-    let b : Bound = bound c.args.side c.args.value.now c.args.number in
-    let prime : Rooted = c.file_tree-prime.result in
-    let under : Rooted = c.file_tree-under.result in
+    let b : RowBound = bound_at c.args.side c.args.value.now c.args.number in
+    let prime : RootedTree = c.file_tree-prime.result in
+    let under : RootedTree = c.file_tree-under.result in
     let at : List ℕ = c.deref-2.result.now in
     let bounds = c.map_bounds.ensures.open c.args.pages.now (g.D.Device.state c.args.device.now).disk.present c.requires.open c.requires.unspent in
     let knows : Knows m (file_at name files) held spec c.args.key c.in_ok-entry.field-0 c.in-Some.entry prime under = record {
@@ -147,9 +147,9 @@ returns-clause-damaged g c = λ honest agrees files held holds has is.
       under_root = c.file_tree-under.ensures.root ∙ ap (root_in c.args.key) c.value-2.ensures;
     } in
     let bounded : IsBound spec c.args.key b = record { value = c.requires.value; number = let low = c.ranges.number.fits in omega arith } in
-    let way = sought_in m (file_at name files) held spec c.args.key b c.in_ok-entry.field-0 c.in-Some.entry prime under c.aim_for-aim.result at knows bounded c.aim_for-aim.ensures (c.deref-2.ensures.value ∙ c.in_ok-at.ensures.bytes) in
+    let way = sought_in m (file_at name files) held spec c.args.key b c.in_ok-entry.field-0 c.in-Some.entry prime under c.search_start_for-aim.result at knows bounded c.search_start_for-aim.ensures (c.deref-2.ensures.value ∙ c.in_ok-at.ensures.bytes) in
     let same = same_pages c.args.pages.now c.find_listing.new.pages (g.D.Device.state c.args.device.now) (g.D.Device.state c.find_listing.new.device) c.find_listing.ensures.unchanged (c.find_listing.ensures.only.state honest) in
-    let here = subst (λ (p : List (Option Sector)). IsSought spec c.args.key b p held.rows prime under c.aim_for-aim.result at) (sym same) way in
+    let here = subst (λ (p : List (Option Sector)). IsSought spec c.args.key b p held.rows prime under c.search_start_for-aim.result at) (sym same) way in
     let honest_then = c.find_listing.ensures.only.honest.0 honest in
     let agrees_then = c.find_listing.ensures.agrees honest agrees in
     let told : c.to_fault.result ≡ Damaged = cc in

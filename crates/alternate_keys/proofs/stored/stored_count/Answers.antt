@@ -1,6 +1,6 @@
 use Rattle.std.proofs.Common.{List, ℕ, ap, ◌∙◌, arith}
 use Rattle.std.specs.Prelude.{slice_index}
-use Rattle.file_trees.proofs.Small.{few_alternates}
+use Rattle.volume_format.proofs.Small.{few_alternates}
 use Rattle.alternate_keys.proofs.Heads.{count_at}
 use Rattle.alternate_keys.proofs.stored.stored_count.Goals as goal
 

@@ -1,7 +1,7 @@
 use Rattle.std.proofs.Common.{◌≡◌, true, false, sym, subst, ◌∙◌}
-use Rattle.tree_pages.specs.declared.row_layout.RowLayout.{RowLayout}
-use Rattle.tree_pages.specs.RowLayouts.{IsRowLayout}
-use Rattle.file_trees.proofs.Small.{layouts_fit}
+use Rattle.btree_pages.specs.declared.row_layout.RowLayout.{RowLayout}
+use Rattle.btree_pages.specs.RowLayouts.{IsRowLayout}
+use Rattle.volume_format.proofs.Small.{layouts_fit}
 use Rattle.alternate_keys.proofs.stored.stored_tree.Goals as goal
 
 pub returns-then-not-is_possible-clause-damaged : goal.returns-then-not-is_possible-clause-damaged

@@ -10,10 +10,10 @@ use Rattle.records.specs.declared.fault.StoreFault.TheVariants.{Device, Damaged}
 use Rattle.records.specs.declared.key.KeyOfReference.TheVariants.{Prime}
 use Rattle.records.specs.Spec.{Spec}
 use Rattle.records.specs.Rows.{named_pair}
-use Rattle.records.specs.Changes.{Changed, has_prime, new_row, new_number, is_taken}
+use Rattle.records.specs.Changes.{FileChange, has_prime, new_row, new_number, is_taken}
 use Rattle.records.specs.Files.{IsByte}
 use Rattle.records.specs.Stores.{spec_of, is_change}
-use Rattle.file_trees.specs.Trees.{entry_under, prime_key}
+use Rattle.volume_format.specs.Trees.{entry_under, prime_key}
 use Rattle.alternate_keys.specs.Placed.{HasTrees}
 use Rattle.alternate_keys.proofs.Bytes.{all_bytes}
 use Rattle.alternate_keys.proofs.Calling.{looks_blamed, looks_then}
@@ -25,21 +25,21 @@ use Rattle.alternate_keys.proofs.taken_row.look_at_new_row.Goals as goal
 
 pub returns-in_err-outcome-clause-looks : goal.returns-in_err-outcome-clause-looks
 returns-in_err-outcome-clause-looks g c =
-    looks_blamed g.D.Device (c.look_at_values.result ≡ Err Device) _ c.args.pages.now c.look_at_values.new.pages c.args.device.now c.look_at_values.new.device
-    (λ is. let from = rw is at c.from_residual.ensures.1 in let fault : c.in_err-outcome.field-0.0 ≡ Device = sym from in let told : c.look_at_values.result ≡ Err Device = c.in_err-outcome.was ∙ ap Err fault in told)
-    c.look_at_values.ensures.looks
+    looks_blamed g.D.Device (c.find_duplicate_key.result ≡ Err Device) _ c.args.pages.now c.find_duplicate_key.new.pages c.args.device.now c.find_duplicate_key.new.device
+    (λ is. let from = rw is at c.from_residual.ensures.1 in let fault : c.in_err-outcome.field-0.0 ≡ Device = sym from in let told : c.find_duplicate_key.result ≡ Err Device = c.in_err-outcome.was ∙ ap Err fault in told)
+    c.find_duplicate_key.ensures.looks
 
 pub returns-in_err-outcome-clause-damaged : goal.returns-in_err-outcome-clause-damaged
 returns-in_err-outcome-clause-damaged g c = λ honest agrees named generation left right has refused.
     let from = rw refused at c.from_residual.ensures.1 in
     let fault : c.in_err-outcome.field-0.0 ≡ Damaged = sym from in
-    let refusal : c.look_at_values.result ≡ Err Damaged = c.in_err-outcome.was ∙ ap Err fault in
+    let refusal : c.find_duplicate_key.result ≡ Err Damaged = c.in_err-outcome.was ∙ ap Err fault in
     let before : List (Option Sector) = (map_now c.args.pages.now (g.D.Device.state c.args.device.now).disk.present).pages in
-    c.look_at_values.ensures.damaged honest agrees named.file.rows (all_pairs (spec_of c.args.file.now) named generation before left right c.args.listing.now has) refusal
+    c.find_duplicate_key.ensures.damaged honest agrees named.file.rows (all_pairs (spec_of c.args.file.now) named generation before left right c.args.listing.now has) refusal
 
 pub returns-then-not-is_done-clause-looks : goal.returns-then-not-is_done-clause-looks
 returns-then-not-is_done-clause-looks g c =
-    looks_blamed g.D.Device (c.look_at_values.result ≡ Err Device) _ c.args.pages.now c.look_at_values.new.pages c.args.device.now c.look_at_values.new.device (λ is. absurd cc) c.look_at_values.ensures.looks
+    looks_blamed g.D.Device (c.find_duplicate_key.result ≡ Err Device) _ c.args.pages.now c.find_duplicate_key.new.pages c.args.device.now c.find_duplicate_key.new.device (λ is. absurd cc) c.find_duplicate_key.ensures.looks
 
 pub returns-then-not-is_done-clause-taken : goal.returns-then-not-is_done-clause-taken
 returns-then-not-is_done-clause-taken g c = λ honest agrees named generation left right has none.
@@ -48,11 +48,11 @@ returns-then-not-is_done-clause-taken g c = λ honest agrees named generation le
     let before : List (Option Sector) = (map_now c.args.pages.now (g.D.Device.state c.args.device.now).disk.present).pages in
     let told = c.in_ok-outcome.ensures.told honest agrees named.file.rows (all_pairs spec named generation before left right c.args.listing.now has) in
     let full = look_full spec named.file has.spec_is [] bytes c.in_ok-outcome.outcome told none in
-    look_taken spec named.file has.spec_is [] bytes c.in_ok-outcome.outcome told none ∙ sym (ap (λ (ch : Changed). ch.outcome) (inserted_taken c.args.number bytes named.file full))
+    look_taken spec named.file has.spec_is [] bytes c.in_ok-outcome.outcome told none ∙ sym (ap (λ (ch : FileChange). ch.outcome) (inserted_taken c.args.number bytes named.file full))
 
 pub returns-then-not-is_scarce-clause-looks : goal.returns-then-not-is_scarce-clause-looks
 returns-then-not-is_scarce-clause-looks g c =
-    looks_blamed g.D.Device (c.look_at_values.result ≡ Err Device) _ c.args.pages.now c.look_at_values.new.pages c.args.device.now c.look_at_values.new.device (λ is. absurd cc) c.look_at_values.ensures.looks
+    looks_blamed g.D.Device (c.find_duplicate_key.result ≡ Err Device) _ c.args.pages.now c.find_duplicate_key.new.pages c.args.device.now c.find_duplicate_key.new.device (λ is. absurd cc) c.find_duplicate_key.ensures.looks
 
 pub returns-then-not-is_scarce-clause-told : goal.returns-then-not-is_scarce-clause-told
 returns-then-not-is_scarce-clause-told g c = λ honest agrees named generation left right has done_is.
@@ -61,8 +61,8 @@ returns-then-not-is_scarce-clause-told g c = λ honest agrees named generation l
 
 pub returns-then-not-is_scarce-clause-free : goal.returns-then-not-is_scarce-clause-free
 returns-then-not-is_scarce-clause-free g c = λ unspent honest agrees named generation left right has done_is few.
-    let unchanged = c.look_at_values.ensures.looks.unchanged in
-    let committed = ap free_count (same_volume c.args.pages.now c.look_at_values.new.pages unchanged.committed) in
+    let unchanged = c.find_duplicate_key.ensures.looks.unchanged in
+    let committed = ap free_count (same_volume c.args.pages.now c.find_duplicate_key.new.pages unchanged.committed) in
     let changed = ap (λ (l : List ℕ). length l) unchanged.changed_pages in
     let scarce = c.is_scarce.ensures (unchanged.committed.spent ∙ unspent) (omega (arith, few, committed, changed)) in
     let clash : true ≡ false = sym scarce ∙ c.if-not-is_scarce.true in
@@ -70,9 +70,9 @@ returns-then-not-is_scarce-clause-free g c = λ unspent honest agrees named gene
 
 pub returns-in_err-is_row_there-clause-looks : goal.returns-in_err-is_row_there-clause-looks
 returns-in_err-is_row_there-clause-looks g c =
-    looks_then g.D.Device (c.look_at_values.result ≡ Err Device) (c.is_row_there.result ≡ Err Device) _ c.args.pages.now c.look_at_values.new.pages c.is_row_there.new.pages c.args.device.now c.look_at_values.new.device c.is_row_there.new.device
+    looks_then g.D.Device (c.find_duplicate_key.result ≡ Err Device) (c.is_row_there.result ≡ Err Device) _ c.args.pages.now c.find_duplicate_key.new.pages c.is_row_there.new.pages c.args.device.now c.find_duplicate_key.new.device c.is_row_there.new.device
     (λ is. inr (let from = rw is at c.from_residual-in_err-is_row_there.ensures.1 in let fault : c.in_err-is_row_there.field-0.0 ≡ Device = sym from in let told : c.is_row_there.result ≡ Err Device = c.in_err-is_row_there.was ∙ ap Err fault in told))
-    c.look_at_values.ensures.looks c.is_row_there.ensures.looks
+    c.find_duplicate_key.ensures.looks c.is_row_there.ensures.looks
 
 pub returns-in_err-is_row_there-clause-damaged : goal.returns-in_err-is_row_there-clause-damaged
 returns-in_err-is_row_there-clause-damaged g c = λ honest agrees named generation left right has refused.
@@ -82,17 +82,17 @@ returns-in_err-is_row_there-clause-damaged g c = λ honest agrees named generati
     let spec : Spec = spec_of c.args.file.now in
     let listing : List ℕ = c.args.listing.now in
     let before : List (Option Sector) = (map_now c.args.pages.now (g.D.Device.state c.args.device.now).disk.present).pages in
-    let looks = c.look_at_values.ensures.looks in
-    let there : List (Option Sector) = (map_now c.look_at_values.new.pages (g.D.Device.state c.look_at_values.new.device).disk.present).pages in
-    let same_then : there ≡ before = same_pages c.args.pages.now c.look_at_values.new.pages (g.D.Device.state c.args.device.now) (g.D.Device.state c.look_at_values.new.device) looks.unchanged (looks.only.state honest) in
+    let looks = c.find_duplicate_key.ensures.looks in
+    let there : List (Option Sector) = (map_now c.find_duplicate_key.new.pages (g.D.Device.state c.find_duplicate_key.new.device).disk.present).pages in
+    let same_then : there ≡ before = same_pages c.args.pages.now c.find_duplicate_key.new.pages (g.D.Device.state c.args.device.now) (g.D.Device.state c.find_duplicate_key.new.device) looks.unchanged (looks.only.state honest) in
     let has_then = subst (λ (p : List (Option Sector)). HasTrees spec named generation p left right listing) (sym same_then) has in
     let rows = prime_rows spec named generation there left right listing has_then c.file_tree-prime.result c.file_tree-prime.ensures.layout c.file_tree-prime.ensures.root in
     c.is_row_there.ensures.damaged (looks.only.honest.0 honest) (looks.agrees honest agrees) named.file.rows rows refusal
 
 pub returns-then-branch-clause-looks : goal.returns-then-branch-clause-looks
 returns-then-branch-clause-looks g c =
-    looks_then g.D.Device (c.look_at_values.result ≡ Err Device) (c.is_row_there.result ≡ Err Device) _ c.args.pages.now c.look_at_values.new.pages c.is_row_there.new.pages c.args.device.now c.look_at_values.new.device c.is_row_there.new.device
-    (λ is. absurd cc) c.look_at_values.ensures.looks c.is_row_there.ensures.looks
+    looks_then g.D.Device (c.find_duplicate_key.result ≡ Err Device) (c.is_row_there.result ≡ Err Device) _ c.args.pages.now c.find_duplicate_key.new.pages c.is_row_there.new.pages c.args.device.now c.find_duplicate_key.new.device c.is_row_there.new.device
+    (λ is. absurd cc) c.find_duplicate_key.ensures.looks c.is_row_there.ensures.looks
 
 pub returns-then-branch-clause-taken : goal.returns-then-branch-clause-taken
 returns-then-branch-clause-taken g c = λ honest agrees named generation left right has none.
@@ -100,9 +100,9 @@ returns-then-branch-clause-taken g c = λ honest agrees named generation left ri
     let listing : List ℕ = c.args.listing.now in
     let bytes : List ℕ = c.args.bytes.now in
     let before : List (Option Sector) = (map_now c.args.pages.now (g.D.Device.state c.args.device.now).disk.present).pages in
-    let looks = c.look_at_values.ensures.looks in
-    let there : List (Option Sector) = (map_now c.look_at_values.new.pages (g.D.Device.state c.look_at_values.new.device).disk.present).pages in
-    let same_then : there ≡ before = same_pages c.args.pages.now c.look_at_values.new.pages (g.D.Device.state c.args.device.now) (g.D.Device.state c.look_at_values.new.device) looks.unchanged (looks.only.state honest) in
+    let looks = c.find_duplicate_key.ensures.looks in
+    let there : List (Option Sector) = (map_now c.find_duplicate_key.new.pages (g.D.Device.state c.find_duplicate_key.new.device).disk.present).pages in
+    let same_then : there ≡ before = same_pages c.args.pages.now c.find_duplicate_key.new.pages (g.D.Device.state c.args.device.now) (g.D.Device.state c.find_duplicate_key.new.device) looks.unchanged (looks.only.state honest) in
     let has_then = subst (λ (p : List (Option Sector)). HasTrees spec named generation p left right listing) (sym same_then) has in
     let rows = prime_rows spec named generation there left right listing has_then c.file_tree-prime.result c.file_tree-prime.ensures.layout c.file_tree-prime.ensures.root in
     let arrival : ℕ = c.next_arrival.result in
@@ -114,12 +114,12 @@ returns-then-branch-clause-taken g c = λ honest agrees named generation left ri
     let named_there = ap (λ (n : ℕ). is_some (entry_with entries (prime_key spec.organization (named_pair spec.organization n bytes)))) own_is in
     let prime = prime_there spec named generation there left right listing has_then c.args.number arrival bytes same c.args.file.now.sound c.requires.bytes all c.requires.number in
     let is : has_prime named.file (new_row named.file c.args.number bytes) ≡ true = sym (seen ∙ named_there ∙ prime) ∙ c.if-branch.true in
-    sym (ap (λ (ch : Changed). ch.outcome) (inserted_there c.args.number bytes named.file is))
+    sym (ap (λ (ch : FileChange). ch.outcome) (inserted_there c.args.number bytes named.file is))
 
 pub returns-clause-looks : goal.returns-clause-looks
 returns-clause-looks g c =
-    looks_then g.D.Device (c.look_at_values.result ≡ Err Device) (c.is_row_there.result ≡ Err Device) _ c.args.pages.now c.look_at_values.new.pages c.is_row_there.new.pages c.args.device.now c.look_at_values.new.device c.is_row_there.new.device
-    (λ is. absurd cc) c.look_at_values.ensures.looks c.is_row_there.ensures.looks
+    looks_then g.D.Device (c.find_duplicate_key.result ≡ Err Device) (c.is_row_there.result ≡ Err Device) _ c.args.pages.now c.find_duplicate_key.new.pages c.is_row_there.new.pages c.args.device.now c.find_duplicate_key.new.device c.is_row_there.new.device
+    (λ is. absurd cc) c.find_duplicate_key.ensures.looks c.is_row_there.ensures.looks
 
 pub returns-clause-told : goal.returns-clause-told
 returns-clause-told g c = λ honest agrees named generation left right has done_is.
@@ -133,9 +133,9 @@ returns-clause-free g c = λ unspent honest agrees named generation left right h
     let bytes : List ℕ = c.args.bytes.now in
     let before : List (Option Sector) = (map_now c.args.pages.now (g.D.Device.state c.args.device.now).disk.present).pages in
     let told = c.in_ok-outcome.ensures.told honest agrees named.file.rows (all_pairs spec named generation before left right listing has) in
-    let looks = c.look_at_values.ensures.looks in
-    let there : List (Option Sector) = (map_now c.look_at_values.new.pages (g.D.Device.state c.look_at_values.new.device).disk.present).pages in
-    let same_then : there ≡ before = same_pages c.args.pages.now c.look_at_values.new.pages (g.D.Device.state c.args.device.now) (g.D.Device.state c.look_at_values.new.device) looks.unchanged (looks.only.state honest) in
+    let looks = c.find_duplicate_key.ensures.looks in
+    let there : List (Option Sector) = (map_now c.find_duplicate_key.new.pages (g.D.Device.state c.find_duplicate_key.new.device).disk.present).pages in
+    let same_then : there ≡ before = same_pages c.args.pages.now c.find_duplicate_key.new.pages (g.D.Device.state c.args.device.now) (g.D.Device.state c.find_duplicate_key.new.device) looks.unchanged (looks.only.state honest) in
     let has_then = subst (λ (p : List (Option Sector)). HasTrees spec named generation p left right listing) (sym same_then) has in
     let rows = prime_rows spec named generation there left right listing has_then c.file_tree-prime.result c.file_tree-prime.ensures.layout c.file_tree-prime.ensures.root in
     let arrival : ℕ = c.next_arrival.result in

@@ -1,5 +1,5 @@
 use Rattle.std.proofs.Common.{ℕ, subst, drop, arith}
-use Rattle.tree_pages.specs.Keys.{AllAbove}
+use Rattle.btree_pages.specs.Keys.{AllAbove}
 use Rattle.btree.proofs.TreeNodes.{chosen_at, chosen_first, chosen_before}
 use Rattle.btree.proofs.child.child_place.Goals as goal
 

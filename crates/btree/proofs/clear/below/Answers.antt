@@ -4,8 +4,8 @@ use Rattle.std.specs.List.{All}
 use Rattle.std.proofs.lemmas.Result.{err_from_is_err_and, IfOk-weaker}
 use Rattle.station.specs.Disk.{Sector}
 use Rattle.pages.specs.declared.error.PagesError.TheVariants.{Damaged, Spent}
-use Rattle.tree_pages.specs.declared.row_layout.Kind.TheVariants.{Leaf, Inner}
-use Rattle.btree.specs.Tree.{rows_of, Stands}
+use Rattle.btree_pages.specs.declared.row_layout.Kind.TheVariants.{Leaf, Inner}
+use Rattle.btree.specs.Tree.{rows_of, IsOnPage}
 use Rattle.btree.specs.Clears.{HasPages, levels_below}
 use Rattle.btree.specs.Changes.{pages_of_map}
 use Rattle.btree.proofs.Frames.{unchanged_on, same_pages, ok_or_err}
@@ -39,7 +39,7 @@ returns-in-Inner-clause-below g c = λ honest agrees levels few down.
     let top = below_inner c.args.layout pages c.args.numbers.now levels c.in_ok-first.first c.requires.some down (c.in_ok-first.ensures.node honest agrees) inner in
     IfOk-weaker c.children_of.result _ (λ children. HasPages children.items (levels_below levels)) (λ children is. subst (λ (xs : List ℕ). HasPages xs (levels_below levels)) (sym is) (top.next few))
     (c.children_of.ensures.children (read.only.honest.0 honest) (read.agrees honest agrees) top.level
-    (subst (λ (p : List (Option Sector)). All (Stands c.args.layout p Inner) top.level) (sym same) top.stand) top.is)
+    (subst (λ (p : List (Option Sector)). All (IsOnPage c.args.layout p Inner) top.level) (sym same) top.stand) top.is)
 
 pub returns-in-Inner-clause-damaged : goal.returns-in-Inner-clause-damaged
 returns-in-Inner-clause-damaged g c = λ honest agrees is levels down.
@@ -49,7 +49,7 @@ returns-in-Inner-clause-damaged g c = λ honest agrees is levels down.
     let inner : c.in_ok-first.first.kind ≡ Inner = search rules in
     let top = below_inner c.args.layout pages c.args.numbers.now levels c.in_ok-first.first c.requires.some down (c.in_ok-first.ensures.node honest agrees) inner in
     c.children_of.ensures.damaged (read.only.honest.0 honest) (read.agrees honest agrees) is top.level
-    (subst (λ (p : List (Option Sector)). All (Stands c.args.layout p Inner) top.level) (sym same) top.stand) top.is
+    (subst (λ (p : List (Option Sector)). All (IsOnPage c.args.layout p Inner) top.level) (sym same) top.stand) top.is
     (subst (λ (p : List (Option Sector)). length (rows_of top.level) ≤ length p) (sym same) top.few)
 
 pub returns-in-Inner-clause-spent : goal.returns-in-Inner-clause-spent

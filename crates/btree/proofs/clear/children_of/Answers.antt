@@ -4,10 +4,10 @@ use Rattle.std.proofs.lemmas.Result.{err_from_is_err_and}
 use Rattle.station.specs.Disk.{Sector}
 use Rattle.station.proofs.Calls.{reads_then}
 use Rattle.pages.specs.declared.error.PagesError.TheVariants.{Damaged}
-use Rattle.tree_pages.specs.declared.row_layout.RowLayout.{RowLayout}
-use Rattle.tree_pages.specs.declared.row_layout.Kind.TheVariants.{Leaf, Inner}
-use Rattle.tree_pages.specs.Keys.{child_of}
-use Rattle.btree.specs.Tree.{TreeNode, Stands, node_at}
+use Rattle.btree_pages.specs.declared.row_layout.RowLayout.{RowLayout}
+use Rattle.btree_pages.specs.declared.row_layout.Kind.TheVariants.{Leaf, Inner}
+use Rattle.btree_pages.specs.Keys.{child_of}
+use Rattle.btree.specs.Tree.{TreeNode, IsOnPage, node_at}
 use Rattle.btree.specs.Propagates.{node_with}
 use Rattle.btree.specs.Changes.{pages_of_map}
 use Rattle.btree.proofs.Frames.{unchanged_on, same_pages}
@@ -30,7 +30,7 @@ returns-in_err-node-clause-damaged g c = λ honest agrees is level stand numbers
     let test = c.loop-place-test.true in
     let low : loop.place < length level = omega arith in
     c.read_node.ensures.damaged (loop.invariant.only.honest.0 honest) (loop.invariant.agrees honest agrees) damaged Inner here (page_at level c.args.numbers.now loop.place none numbers low)
-    (subst (λ (p : List (Option Sector)). Stands c.args.layout p Inner here) (sym same) (stand loop.place none low))
+    (subst (λ (p : List (Option Sector)). IsOnPage c.args.layout p Inner here) (sym same) (stand loop.place none low))
 
 pub returns-then-ne-clause-unchanged : goal.returns-then-ne-clause-unchanged
 returns-then-ne-clause-unchanged g c = unchanged_on c.args.pages.now c.loop-place.pages c.read_node.new.pages c.loop-place.invariant.unchanged c.read_node.ensures.unchanged

@@ -1,5 +1,5 @@
 use Rattle.std.proofs.Common.{◌≡◌, ◌++◌, map, take}
-use Rattle.tree_pages.specs.Keys.{child_of}
+use Rattle.btree_pages.specs.Keys.{child_of}
 use Rattle.btree.proofs.clear.push_children.Given as goal
 
 abbrev pub invariant-loop-place : goal.invariant-loop-place

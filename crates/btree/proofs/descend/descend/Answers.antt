@@ -4,8 +4,8 @@ use Rattle.std.proofs.lemmas.Result.{err_from_is_err_and}
 use Rattle.station.specs.Disk.{Sector}
 use Rattle.pages.specs.Pages.{map_now}
 use Rattle.pages.specs.declared.error.PagesError.TheVariants.{Damaged}
-use Rattle.tree_pages.specs.declared.row_layout.Kind.TheVariants.{Leaf, Inner}
-use Rattle.btree.specs.Tree.{node_at, Stands}
+use Rattle.btree_pages.specs.declared.row_layout.Kind.TheVariants.{Leaf, Inner}
+use Rattle.btree.specs.Tree.{node_at, IsOnPage}
 use Rattle.btree.specs.Path.{EndsAt}
 use Rattle.btree.specs.Steps.{LeadsTo}
 use Rattle.btree.specs.Propagates.{node_with}
@@ -26,7 +26,7 @@ returns-in_err-leaf-clause-damaged g c = λ h a is levels tree.
     let from = err_from_is_err_and c.from_residual-in_err-leaf.result c.from_residual-in_err-leaf.ensures.1 in
     let damaged : c.read_node.result ≡ Err Damaged = cc in
     c.read_node.ensures.damaged (c.follow.ensures.only.honest.0 h) (c.follow.ensures.agrees h a) damaged Leaf (node_with way.page leads.rows) refl
-    (subst (λ (p : List (Option Sector)). Stands c.args.layout p Leaf (node_with way.page leads.rows)) (sym same) leads.stands)
+    (subst (λ (p : List (Option Sector)). IsOnPage c.args.layout p Leaf (node_with way.page leads.rows)) (sym same) leads.stands)
 
 pub returns-then-ne-clause-unchanged : goal.returns-then-ne-clause-unchanged
 returns-then-ne-clause-unchanged g c =

@@ -6,7 +6,7 @@ use Rattle.station.specs.Disk.{Sector}
 use Rattle.station.proofs.Calls.{reads_nothing, reads_then}
 use Rattle.pages.specs.Pages.{map_now, is_spent, page_count}
 use Rattle.pages.specs.declared.error.PagesError.TheVariants.{Damaged, Spent}
-use Rattle.btree.specs.Tree.{Stands}
+use Rattle.btree.specs.Tree.{IsOnPage}
 use Rattle.btree.specs.Path.{PathStep}
 use Rattle.btree.proofs.Descents.{Along, start, too_deep, along_stands}
 use Rattle.btree.proofs.Frames.{unchanged_still, unchanged_on, same_pages, false_unless, ok_or_err}
@@ -45,7 +45,7 @@ returns-in_err-child-clause-damaged g c = λ h a is levels tree.
     (c.loop-depth.invariant.way unspent h a levels tree) in
     let same = same_pages c.args.pages.now c.loop-depth.pages (g.D.Device.state c.args.device.now) (g.D.Device.state c.loop-depth.device) c.loop-depth.invariant.unchanged (c.loop-depth.invariant.only.state h) in
     c.step_at.ensures.damaged (c.loop-depth.invariant.only.honest.0 h) (c.loop-depth.invariant.agrees h a) damaged stands.kind stands.node stands.same
-    (subst (λ (pages : List (Option Sector)). Stands c.args.layout pages stands.kind stands.node) (sym same) stands.stands)
+    (subst (λ (pages : List (Option Sector)). IsOnPage c.args.layout pages stands.kind stands.node) (sym same) stands.stands)
 
 pub returns-in-None-clause-unchanged : goal.returns-in-None-clause-unchanged
 returns-in-None-clause-unchanged g c = unchanged_on c.args.pages.now c.loop-depth.pages c.step_at.new.pages c.loop-depth.invariant.unchanged c.step_at.ensures.unchanged

@@ -1,6 +1,6 @@
 use Rattle.std.proofs.Common.{◌≡◌, ◌<◌, List, length, false}
 use Rattle.station.specs.Calls.{OnlyReads}
-use Rattle.pages.specs.Pages.{map_now, is_spent, Agrees, IsOpen, Unchanged}
+use Rattle.pages.specs.Pages.{map_now, is_spent, Agrees, IsOpen, IsUnchanged}
 use Rattle.btree.specs.Tree.{TreeNode, IsTree}
 use Rattle.btree.proofs.Descents.{Along}
 use Rattle.btree.proofs.descend.follow.Given as goal
@@ -8,7 +8,7 @@ use Rattle.btree.proofs.descend.follow.Given as goal
 abbrev pub invariant-loop-depth : goal.invariant-loop-depth
 invariant-loop-depth g l = record {
   only : OnlyReads g.D.Device ⊥ l.fn.device l.device;
-  unchanged : Unchanged l.fn.pages l.pages;
+  unchanged : IsUnchanged l.fn.pages l.pages;
   agrees : g.D.Device.is_honest l.fn.device → Agrees l.fn.pages (g.D.Device.state l.fn.device).disk → Agrees l.pages (g.D.Device.state l.device).disk;
   is_open : IsOpen l.pages;
   spent : 0 < l._depth → is_spent l.fn.pages ≡ false;

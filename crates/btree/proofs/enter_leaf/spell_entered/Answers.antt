@@ -1,8 +1,8 @@
 use Rattle.std.proofs.Common.{◌≡◌, ◌++◌, subst, arith, rules}
 use Rattle.std.specs.Prelude.{Some}
-use Rattle.tree_pages.specs.declared.row_layout.RowLayout.{RowLayout}
-use Rattle.tree_pages.specs.Node.{node_in}
-use Rattle.tree_pages.specs.Edits.{inserted}
+use Rattle.btree_pages.specs.declared.row_layout.RowLayout.{RowLayout}
+use Rattle.btree_pages.specs.Node.{node_in}
+use Rattle.btree_pages.specs.Edits.{node_with_row}
 use Rattle.btree.proofs.enter_leaf.spell_entered.Goals as goal
 
 pub returns : goal.returns
@@ -19,5 +19,5 @@ returns c = λ _.
       some = omega (arith, c.if-place-eq0.false);
       low = c.in-Err-find.ensures.missing;
       around = c.in-Err-find.ensures.around;
-      spelled = subst (λ (layout : RowLayout). node_in layout c.spell_inserted.new.spelled ≡ Some (inserted node place row)) c.in-Ok.ensures.shape.0 c.spell_inserted.ensures.reads;
+      spelled = subst (λ (layout : RowLayout). node_in layout c.spell_inserted.new.spelled ≡ Some (node_with_row node place row)) c.in-Ok.ensures.shape.0 c.spell_inserted.ensures.reads;
     }

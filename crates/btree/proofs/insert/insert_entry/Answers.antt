@@ -4,8 +4,8 @@ use Rattle.station.specs.Disk.{Sector}
 use Rattle.station.specs.State.{State}
 use Rattle.pages.specs.Image.{Map}
 use Rattle.pages.specs.declared.page_map.PageMap.{PageMap}
-use Rattle.pages.specs.Pages.{Unchanged, changed_pages_of, filled_of}
-use Rattle.btree.specs.Tree.{Holds}
+use Rattle.pages.specs.Pages.{IsUnchanged, changed_pages_of, filled_of}
+use Rattle.btree.specs.Tree.{IsTreeOrEmpty}
 use Rattle.btree.specs.Changes.{pages_of_map, Inserts}
 use Rattle.btree.specs.Entering.{EntersOn}
 use Rattle.btree.proofs.Frames.{holds_tree, pages_yet, unchanged_on}
@@ -49,7 +49,7 @@ returns-clause-inserted g c = λ honest agrees levels holds.
     let same : c.enter_leaf.new.pages ≡ c.follow.new.pages = c.enter_leaf.ensures.same (c.in_ok-enter_leaf.was ∙ ap Ok c.if-branch.false) in
     let pages_are = pages_yet c.args.pages.now c.follow.new.pages c.enter_leaf.new.pages old now c.follow.ensures.unchanged same state in
     let agreed = c.enter_leaf.ensures.keeps.agrees now.disk (c.follow.ensures.agrees honest agrees) in
-    let held = subst (λ (pages : List (Option Sector)). Holds c.args.layout pages c.args.root levels) (sym pages_are) holds in
+    let held = subst (λ (pages : List (Option Sector)). IsTreeOrEmpty c.args.layout pages c.args.root levels) (sym pages_are) holds in
     let raw = c.insert_slowly-2.ensures.inserted (c.follow.ensures.only.honest.0 honest) agreed levels held in
     let from_before = subst (λ (pages : List (Option Sector)). IfOk result (Inserts c.args.layout pages levels (pages_of_map c.insert_slowly-2.new.pages now.disk.present) key value)) pages_are raw in
     subst (λ (s : State). IfOk result (Inserts c.args.layout before levels (pages_of_map c.insert_slowly-2.new.pages s.disk.present) key value)) state from_before
@@ -61,14 +61,14 @@ returns-clause-damaged g c = λ honest agrees is levels holds.
     let same : c.enter_leaf.new.pages ≡ c.follow.new.pages = c.enter_leaf.ensures.same (c.in_ok-enter_leaf.was ∙ ap Ok c.if-branch.false) in
     let pages_are = pages_yet c.args.pages.now c.follow.new.pages c.enter_leaf.new.pages old now c.follow.ensures.unchanged same (c.follow.ensures.only.state honest) in
     let agreed = c.enter_leaf.ensures.keeps.agrees now.disk (c.follow.ensures.agrees honest agrees) in
-    let held = subst (λ (pages : List (Option Sector)). Holds c.args.layout pages c.args.root levels) (sym pages_are) holds in
+    let held = subst (λ (pages : List (Option Sector)). IsTreeOrEmpty c.args.layout pages c.args.root levels) (sym pages_are) holds in
     c.insert_slowly-2.ensures.damaged (c.follow.ensures.only.honest.0 honest) agreed is levels held
 
 pub returns-clause-there : goal.returns-clause-there
 returns-clause-there g c = λ is.
     let same : c.enter_leaf.new.pages ≡ c.follow.new.pages = c.enter_leaf.ensures.same (c.in_ok-enter_leaf.was ∙ ap Ok c.if-branch.false) in
     unchanged_on c.args.pages.now c.follow.new.pages c.insert_slowly-2.new.pages c.follow.ensures.unchanged
-    (subst (λ (p : PageMap). Unchanged p c.insert_slowly-2.new.pages) same (c.insert_slowly-2.ensures.there is))
+    (subst (λ (p : PageMap). IsUnchanged p c.insert_slowly-2.new.pages) same (c.insert_slowly-2.ensures.there is))
 
 pub returns-clause-changed_pages : goal.returns-clause-changed_pages
 returns-clause-changed_pages g c = λ honest agrees levels holds.
@@ -77,7 +77,7 @@ returns-clause-changed_pages g c = λ honest agrees levels holds.
     let same : c.enter_leaf.new.pages ≡ c.follow.new.pages = c.enter_leaf.ensures.same (c.in_ok-enter_leaf.was ∙ ap Ok c.if-branch.false) in
     let pages_are = pages_yet c.args.pages.now c.follow.new.pages c.enter_leaf.new.pages old now c.follow.ensures.unchanged same (c.follow.ensures.only.state honest) in
     let agreed = c.enter_leaf.ensures.keeps.agrees now.disk (c.follow.ensures.agrees honest agrees) in
-    let held = subst (λ (pages : List (Option Sector)). Holds c.args.layout pages c.args.root levels) (sym pages_are) holds in
+    let held = subst (λ (pages : List (Option Sector)). IsTreeOrEmpty c.args.layout pages c.args.root levels) (sym pages_are) holds in
     let few = c.insert_slowly-2.ensures.changed_pages (c.follow.ensures.only.honest.0 honest) agreed levels held in
     let count = ap (λ (p : PageMap). length (changed_pages_of p)) same in
     let still = ap length c.follow.ensures.unchanged.changed_pages in
@@ -90,7 +90,7 @@ returns-clause-filled g c = λ honest agrees levels holds.
     let same : c.enter_leaf.new.pages ≡ c.follow.new.pages = c.enter_leaf.ensures.same (c.in_ok-enter_leaf.was ∙ ap Ok c.if-branch.false) in
     let pages_are = pages_yet c.args.pages.now c.follow.new.pages c.enter_leaf.new.pages old now c.follow.ensures.unchanged same (c.follow.ensures.only.state honest) in
     let agreed = c.enter_leaf.ensures.keeps.agrees now.disk (c.follow.ensures.agrees honest agrees) in
-    let held = subst (λ (pages : List (Option Sector)). Holds c.args.layout pages c.args.root levels) (sym pages_are) holds in
+    let held = subst (λ (pages : List (Option Sector)). IsTreeOrEmpty c.args.layout pages c.args.root levels) (sym pages_are) holds in
     let few = c.insert_slowly-2.ensures.filled (c.follow.ensures.only.honest.0 honest) agreed levels held in
     let count = ap (λ (p : PageMap). filled_of p) same in
     let still = c.follow.ensures.unchanged.filled in

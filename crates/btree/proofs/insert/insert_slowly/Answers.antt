@@ -3,8 +3,8 @@ use Rattle.std.specs.Prelude.{Option, false, slice_index_or}
 use Rattle.station.specs.Disk.{Sector}
 use Rattle.station.specs.State.{State}
 use Rattle.pages.specs.Image.{Map}
-use Rattle.tree_pages.specs.declared.row_layout.RowLayout.{RowLayout}
-use Rattle.tree_pages.specs.Keys.{key_of}
+use Rattle.btree_pages.specs.declared.row_layout.RowLayout.{RowLayout}
+use Rattle.btree_pages.specs.Keys.{key_of}
 use Rattle.btree.specs.Tree.{TreeNode, IsTree}
 use Rattle.btree.specs.Path.{PathStep, EndsAt}
 use Rattle.btree.specs.Changes.{pages_of_map, InsertsIntoLeaf}

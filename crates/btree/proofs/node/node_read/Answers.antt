@@ -3,7 +3,7 @@ use Rattle.std.specs.Prelude.{Option, Some, None, Result, IfOk, OnErr, slice_ind
 use Rattle.station.specs.Disk.{Sector}
 use Rattle.pages.specs.Pages.{map_now}
 use Rattle.pages.specs.declared.error.PagesError.{PagesError}
-use Rattle.tree_pages.specs.Node.{Node}
+use Rattle.btree_pages.specs.Node.{Node}
 use Rattle.btree.specs.Reading.{SpellsNoNode}
 use Rattle.btree.proofs.TreeNodes.{node_seen, spells_none, read_none}
 use Rattle.btree.proofs.node.node_read.Goals as goal

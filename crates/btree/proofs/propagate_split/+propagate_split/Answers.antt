@@ -5,9 +5,9 @@ use Rattle.byteorder.specs.Endian.{big_bytes}
 use Rattle.station.specs.Disk.{Sector}
 use Rattle.station.specs.State.{State}
 use Rattle.pages.specs.Image.{Map}
-use Rattle.tree_pages.specs.Keys.{rest_of}
+use Rattle.btree_pages.specs.Keys.{rest_of}
 use Rattle.btree.specs.declared.split_result.SplitResult.{SplitResult}
-use Rattle.btree.specs.Tree.{node_at, Stands}
+use Rattle.btree.specs.Tree.{node_at, IsOnPage}
 use Rattle.btree.specs.Path.{PathStep}
 use Rattle.btree.specs.Propagates.{run_of}
 use Rattle.btree.specs.Changes.{pages_of_map, IsIn, CanStand, UpdatesParent, PropagatesBy, NeverPropagates}
@@ -49,7 +49,7 @@ returns-in_err-node-clause-damaged g t c = λ honest agrees is.
     let none = c.in_err-node.ensures.damaged (c.propagate_split.ensures.only.honest.0 honest) (c.propagate_split.ensures.agrees honest agrees) (cc told) in
     subst (λ (path : List PathStep). NeverPropagates c.args.layout path before (Some c.args.split)) (sym c.in-Some.ensures.cases.0)
     (never_read c.args.layout before two step rest (Some c.args.split) c.in-Some-2.told propagated
-    (λ kind node page stands. none kind node page (subst (λ (pages : List (Option Sector)). Stands c.args.layout pages kind node) (sym same) stands)))
+    (λ kind node page stands. none kind node page (subst (λ (pages : List (Option Sector)). IsOnPage c.args.layout pages kind node) (sym same) stands)))
 
 pub returns-in_err-node-clause-catalog : goal.returns-in_err-node-clause-catalog
 returns-in_err-node-clause-catalog g t c = ap (λ (m : Map). m.catalog) (c.read_node.ensures.unchanged.map []) ∙ c.propagate_split.ensures.catalog

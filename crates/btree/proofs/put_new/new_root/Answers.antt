@@ -2,12 +2,12 @@ use Rattle.std.proofs.Common.{List, ℕ, [], ◌∷◌, ◌++◌, length, length
 use Rattle.std.specs.Prelude.{slice_index_or}
 use Rattle.std.proofs.lemmas.List.Elements.{All-cons, All-nil}
 use Rattle.byteorder.specs.Endian.{big_bytes}
-use Rattle.tree_pages.specs.declared.row_layout.RowLayout.{RowLayout}
-use Rattle.tree_pages.specs.declared.row_layout.Kind.TheVariants.{Inner}
-use Rattle.tree_pages.specs.RowLayouts.{row_length}
-use Rattle.tree_pages.specs.Keys.{key_of}
-use Rattle.tree_pages.specs.Node.{Node}
-use Rattle.tree_pages.specs.Edits.{inserted}
+use Rattle.btree_pages.specs.declared.row_layout.RowLayout.{RowLayout}
+use Rattle.btree_pages.specs.declared.row_layout.Kind.TheVariants.{Inner}
+use Rattle.btree_pages.specs.RowLayouts.{row_length}
+use Rattle.btree_pages.specs.Keys.{key_of}
+use Rattle.btree_pages.specs.Node.{Node}
+use Rattle.btree_pages.specs.Edits.{node_with_row}
 use Rattle.btree.specs.Tree.{row_of}
 use Rattle.btree.specs.Propagates.{node_with}
 use Rattle.btree.specs.Changes.{pages_of_map}
@@ -27,8 +27,8 @@ returns-clause-pages c = λ image.
     let one_length : length c.key.result.now ≡ layout.key_length = c.key.ensures.length ∙ ap (λ (f : RowLayout). f.key_length) c.requires.left_layout in
     let two_length : length c.key-2.result.now ≡ layout.key_length = c.key-2.ensures.length ∙ ap (λ (f : RowLayout). f.key_length) c.requires.right_layout in
     put_node layout Inner c.insert_child-2.new.self (one ∷ two ∷ []) c.in_ok-page.page (pages_of_map c.args.pages.now image) (pages_of_map c.put_new.new.pages image)
-    (c.insert_child-2.ensures ∙ ap (λ (n : Node). inserted n 1 (c.key-2.result.now ++ big_bytes 4 right.page)) (c.insert_child.ensures ∙ ap (λ (n : Node). inserted n 0 (c.key.result.now ++ big_bytes 4 left.page)) c.new-top.ensures ∙ ap (λ (k : List ℕ). inserted (record { layout = layout; kind = Inner; rows = [] }) 0 (k ++ big_bytes 4 left.page)) one_key)
-    ∙ ap (λ (k : List ℕ). inserted (record { layout = layout; kind = Inner; rows = one ∷ [] }) 1 (k ++ big_bytes 4 right.page)) two_key)
+    (c.insert_child-2.ensures ∙ ap (λ (n : Node). node_with_row n 1 (c.key-2.result.now ++ big_bytes 4 right.page)) (c.insert_child.ensures ∙ ap (λ (n : Node). node_with_row n 0 (c.key.result.now ++ big_bytes 4 left.page)) c.new-top.ensures ∙ ap (λ (k : List ℕ). node_with_row (record { layout = layout; kind = Inner; rows = [] }) 0 (k ++ big_bytes 4 left.page)) one_key)
+    ∙ ap (λ (k : List ℕ). node_with_row (record { layout = layout; kind = Inner; rows = one ∷ [] }) 1 (k ++ big_bytes 4 right.page)) two_key)
     (c.in_ok-page.ensures.pages image)
     (All-cons P one (two ∷ []) (omega (arith, length-append (key_of layout (slice_index_or left.left.rows 0 [])) (big_bytes 4 left.page), ap length one_key, one_length))
     (All-cons P two [] (omega (arith, length-append (key_of layout (slice_index_or right.node.rows 0 [])) (big_bytes 4 right.page), ap length two_key, two_length)) (All-nil P))) (omega arith)

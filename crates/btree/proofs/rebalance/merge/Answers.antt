@@ -1,7 +1,7 @@
 use Rattle.std.proofs.Common.{List, length, length-append, set, inl, refl, ◌∙◌, ap, arith}
 use Rattle.std.specs.Prelude.{Option, None}
 use Rattle.station.specs.Disk.{Sector}
-use Rattle.tree_pages.specs.Node.{Node}
+use Rattle.btree_pages.specs.Node.{Node}
 use Rattle.btree.specs.Changes.{pages_of_map}
 use Rattle.btree.proofs.Sharing.{write_joined, spells_two}
 use Rattle.btree.proofs.rebalance.merge.Goals as goal

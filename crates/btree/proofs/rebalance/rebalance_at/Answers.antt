@@ -2,8 +2,8 @@ use Rattle.std.proofs.Common.{◌≡◌, ◌-◌, ◌++◌, false, refl, sym, �
 use Rattle.pages.specs.declared.error.PagesError.TheVariants.{Spent}
 use Rattle.pages.specs.Image.{Map}
 use Rattle.pages.specs.Pages.{is_spent, page_count}
-use Rattle.tree_pages.specs.declared.row_layout.Kind.{Kind}
-use Rattle.btree.specs.Tree.{Stands}
+use Rattle.btree_pages.specs.declared.row_layout.Kind.{Kind}
+use Rattle.btree.specs.Tree.{IsOnPage}
 use Rattle.btree.specs.Changes.{pages_of_map}
 use Rattle.btree.specs.Outcomes.{Joins}
 use Rattle.btree.proofs.Frames.{false_unless, ok_or_err}
@@ -26,7 +26,7 @@ returns-in_err-right-clause-damaged g c = λ honest agrees is left right inner l
     let near = first_near (pages_of_map c.args.pages.now image) c.args.layout c.args.lone.node.kind c.args.node c.args.step.page c.args.step.place c.args.lone.page left right
     (record { few = few_pages (pages_of_map c.args.pages.now image) (page_count c.args.pages.now) (page_count c.args.pages.now) (c.leads.ensures.count image) refl (c.leads.ensures.few c.requires.open unspent); layout_is = c.requires.node; inner = inner; is_node = c.count.ensures.node }) c.if-step-eq0.true pair in
     c.in_err-right.ensures.damaged honest agrees (cc told) right (sym (c.child.ensures ∙ near.near_is))
-    (subst (λ (kind : Kind). Stands c.args.layout (pages_of_map c.args.pages.now image) kind right) (sym c.kind-kind.ensures) near.stands)
+    (subst (λ (kind : Kind). IsOnPage c.args.layout (pages_of_map c.args.pages.now image) kind right) (sym c.kind-kind.ensures) near.stands)
 
 pub returns-in_err-first-clause-damaged : goal.returns-in_err-first-clause-damaged
 returns-in_err-first-clause-damaged g c = λ honest agrees is left right inner low some left_some right_some pair.
@@ -64,7 +64,7 @@ returns-in_err-left-clause-damaged g c = λ honest agrees is left right inner lo
     let near = other_near (pages_of_map c.args.pages.now image) c.args.layout c.args.lone.node.kind c.args.node c.args.step.page c.args.step.place c.args.lone.page left right
     (record { few = few_pages (pages_of_map c.args.pages.now image) (page_count c.args.pages.now) (page_count c.args.pages.now) (c.leads.ensures.count image) refl (c.leads.ensures.few c.requires.open unspent); layout_is = c.requires.node; inner = inner; is_node = c.count.ensures.node }) c.if-step-eq0.false pair in
     c.in_err-left.ensures.damaged honest agrees (cc told) left (sym (c.child-2.ensures ∙ near.near_is))
-    (subst (λ (kind : Kind). Stands c.args.layout (pages_of_map c.args.pages.now image) kind left) (sym c.kind-kind.ensures) near.stands)
+    (subst (λ (kind : Kind). IsOnPage c.args.layout (pages_of_map c.args.pages.now image) kind left) (sym c.kind-kind.ensures) near.stands)
 
 pub returns-in_err-outcome-clause-damaged : goal.returns-in_err-outcome-clause-damaged
 returns-in_err-outcome-clause-damaged g c = λ honest agrees is left right inner low some left_some right_some pair.

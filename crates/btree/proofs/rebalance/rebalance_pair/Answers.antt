@@ -1,7 +1,7 @@
 use Rattle.std.proofs.Common.{◌≡◌, ℕ, List, [], ◌∷◌, sym, ◌∙◌, subst}
 use Rattle.std.specs.Prelude.{IfSome}
-use Rattle.tree_pages.specs.declared.row_layout.RowLayout.{RowLayout}
-use Rattle.btree.specs.Moves.{Replaced}
+use Rattle.btree_pages.specs.declared.row_layout.RowLayout.{RowLayout}
+use Rattle.btree.specs.Moves.{ReplacesNodes}
 use Rattle.btree.specs.Propagates.{node_with, run_of}
 use Rattle.btree.specs.Changes.{pages_of_map}
 use Rattle.btree.specs.Outcomes.{AreTwo, Joins}
@@ -23,10 +23,10 @@ returns-clause-joins c = λ image one two pair one_is two_is.
     let mid = pages_of_map c.rebalance.new.pages image in
     let after = pages_of_map c.write_back.new.pages image in
     let both : AreTwo before c.args.left.page c.args.right.page = subst (λ (q : ℕ). AreTwo before c.args.left.page q) two_is (subst (λ (q : ℕ). AreTwo before q two.page) one_is pair.two) in
-    let replaced : Replaced node.layout kind before (one ∷ two ∷ []) mid (run_of joined) =
-    subst (λ (layout : RowLayout). Replaced layout kind before (one ∷ two ∷ []) mid (run_of joined)) c.requires.layout
-    (subst (λ (q : ℕ). Replaced c.args.left.node.layout kind before (one ∷ node_with q two.rows ∷ []) mid (run_of joined)) (sym two_is)
-    (subst (λ (q : ℕ). Replaced c.args.left.node.layout kind before (node_with q one.rows ∷ node_with c.args.right.page two.rows ∷ []) mid (run_of joined)) (sym one_is)
+    let replaced : ReplacesNodes node.layout kind before (one ∷ two ∷ []) mid (run_of joined) =
+    subst (λ (layout : RowLayout). ReplacesNodes layout kind before (one ∷ two ∷ []) mid (run_of joined)) c.requires.layout
+    (subst (λ (q : ℕ). ReplacesNodes c.args.left.node.layout kind before (one ∷ node_with q two.rows ∷ []) mid (run_of joined)) (sym two_is)
+    (subst (λ (q : ℕ). ReplacesNodes c.args.left.node.layout kind before (node_with q one.rows ∷ node_with c.args.right.page two.rows ∷ []) mid (run_of joined)) (sym one_is)
     (c.in_ok-joined.ensures.pages image one.rows two.rows both))) in
     subst (λ (rows : List (List ℕ)). Joins node.layout kind before after c.args.page node.rows c.args.place rows one two c.in_ok-outcome.outcome) c.in_ok-joined.ensures.rows
     (joins_so kind before mid after c.args.page c.args.place node c.name_pair.new.node one two joined c.in_ok-outcome.outcome pair

@@ -2,7 +2,7 @@ use Rattle.std.proofs.Common.{◌≡◌, ◌≤◌, ◌^◌, length, refl, sym, 
 use Rattle.std.specs.Prelude.{false}
 use Rattle.pages.specs.Pages.{IsPage, is_spent, page_count}
 use Rattle.pages.specs.declared.error.PagesError.TheVariants.{Spent}
-use Rattle.tree_pages.specs.declared.row_layout.Kind.TheVariants.{Inner}
+use Rattle.btree_pages.specs.declared.row_layout.Kind.TheVariants.{Inner}
 use Rattle.btree.specs.Changes.{pages_of_map}
 use Rattle.btree.proofs.Frames.{false_unless, ok_or_err}
 use Rattle.btree.proofs.TreeNodes.{few_pages}

@@ -1,6 +1,6 @@
 use Rattle.std.proofs.Common.{◌≡◌, length, refl, arith}
 use Rattle.pages.specs.Pages.{IsPage, page_count}
-use Rattle.tree_pages.specs.declared.row_layout.Kind.TheVariants.{Leaf}
+use Rattle.btree_pages.specs.declared.row_layout.Kind.TheVariants.{Leaf}
 use Rattle.btree.specs.Changes.{pages_of_map}
 use Rattle.btree.proofs.Writes.{write_one}
 use Rattle.btree.proofs.Sharing.{spells_some}

@@ -5,11 +5,11 @@ use Rattle.station.specs.State.{State}
 use Rattle.pages.specs.Image.{Map}
 use Rattle.pages.specs.Pages.{is_spent, page_count, changed_pages_of, filled_of}
 use Rattle.pages.specs.declared.error.PagesError.TheVariants.{Spent}
-use Rattle.tree_pages.specs.declared.row_layout.RowLayout.{RowLayout}
-use Rattle.tree_pages.specs.declared.row_layout.Kind.TheVariants.{Leaf}
+use Rattle.btree_pages.specs.declared.row_layout.RowLayout.{RowLayout}
+use Rattle.btree_pages.specs.declared.row_layout.Kind.TheVariants.{Leaf}
 use Rattle.btree.specs.Path.{PathStep}
 use Rattle.btree.specs.Changes.{pages_of_map, IsIn, CanStand}
-use Rattle.btree.specs.Outcomes.{Fares, spare}
+use Rattle.btree.specs.Outcomes.{IsRemovalResult, spare}
 use Rattle.btree.specs.Shrinks.{ShrinksBy, NeverShrinks}
 use Rattle.btree.proofs.Frames.{holds_tree, false_unless, ok_or_err}
 use Rattle.btree.proofs.TreeNodes.{few_pages}
@@ -55,10 +55,10 @@ pub returns-in_err-outcome-clause-catalog : goal.returns-in_err-outcome-clause-c
 returns-in_err-outcome-clause-catalog g c = c.shrink.ensures.catalog ∙ c.take_out.ensures.keeps.catalog ∙ ap (λ (m : Map). m.catalog) (c.descend.ensures.unchanged.map [])
 
 pub returns-in_err-new-clause-catalog : goal.returns-in_err-new-clause-catalog
-returns-in_err-new-clause-catalog g c = c.settle_shrunk.ensures.keeps.catalog ∙ c.shrink.ensures.catalog ∙ c.take_out.ensures.keeps.catalog ∙ ap (λ (m : Map). m.catalog) (c.descend.ensures.unchanged.map [])
+returns-in_err-new-clause-catalog g c = c.root_after_removal.ensures.keeps.catalog ∙ c.shrink.ensures.catalog ∙ c.take_out.ensures.keeps.catalog ∙ ap (λ (m : Map). m.catalog) (c.descend.ensures.unchanged.map [])
 
 pub returns-clause-catalog : goal.returns-clause-catalog
-returns-clause-catalog g c = c.settle_shrunk.ensures.keeps.catalog ∙ c.shrink.ensures.catalog ∙ c.take_out.ensures.keeps.catalog ∙ ap (λ (m : Map). m.catalog) (c.descend.ensures.unchanged.map [])
+returns-clause-catalog g c = c.root_after_removal.ensures.keeps.catalog ∙ c.shrink.ensures.catalog ∙ c.take_out.ensures.keeps.catalog ∙ ap (λ (m : Map). m.catalog) (c.descend.ensures.unchanged.map [])
 
 pub returns-in_err-outcome-clause-damaged : goal.returns-in_err-outcome-clause-damaged
 returns-in_err-outcome-clause-damaged g c = λ honest agrees is levels holds.
@@ -76,7 +76,7 @@ returns-in_err-outcome-clause-damaged g c = λ honest agrees is levels holds.
       low = c.in-Ok.ensures.found.0;
       here = c.in-Ok.ensures.found.1;
       finds = c.in-Ok.ensures.around;
-      fares = subst (λ (pages : List (Option Sector)). CanStand pages d.page d.leaf → Fares d.leaf.layout Leaf pages one d.page d.leaf.rows (take place d.leaf.rows ++ drop (place + 1) d.leaf.rows) out) same (c.in_ok-out.ensures.pages image);
+      fares = subst (λ (pages : List (Option Sector)). CanStand pages d.page d.leaf → IsRemovalResult d.leaf.layout Leaf pages one d.page d.leaf.rows (take place d.leaf.rows ++ drop (place + 1) d.leaf.rows) out) same (c.in_ok-out.ensures.pages image);
     } in
     let told = rw is at c.from_residual-in_err-outcome.ensures.1 in
     let disk = (g.D.Device.state c.descend.new.device).disk in
@@ -103,7 +103,7 @@ returns-in_err-new-clause-damaged g c = λ honest agrees is levels holds.
       low = c.in-Ok.ensures.found.0;
       here = c.in-Ok.ensures.found.1;
       finds = c.in-Ok.ensures.around;
-      fares = subst (λ (pages : List (Option Sector)). CanStand pages d.page d.leaf → Fares d.leaf.layout Leaf pages one d.page d.leaf.rows (take place d.leaf.rows ++ drop (place + 1) d.leaf.rows) out) same (c.in_ok-out.ensures.pages image);
+      fares = subst (λ (pages : List (Option Sector)). CanStand pages d.page d.leaf → IsRemovalResult d.leaf.layout Leaf pages one d.page d.leaf.rows (take place d.leaf.rows ++ drop (place + 1) d.leaf.rows) out) same (c.in_ok-out.ensures.pages image);
     } in
     let told = rw is at c.from_residual-in_err-new.ensures.1 in
     let disk = (g.D.Device.state c.descend.new.device).disk in
@@ -119,7 +119,7 @@ returns-clause-removed g c = λ honest agrees levels holds.
     let before = pages_of_map c.args.pages.now image in
     let one = pages_of_map c.take_out.new.pages image in
     let two = pages_of_map c.shrink.new.pages image in
-    let after = pages_of_map c.settle_shrunk.new.pages image in
+    let after = pages_of_map c.root_after_removal.new.pages image in
     let d = c.in_ok-descent.descent in
     let out = c.in_ok-out.out in
     let outcome = c.in_ok-outcome.outcome in
@@ -132,7 +132,7 @@ returns-clause-removed g c = λ honest agrees levels holds.
       low = c.in-Ok.ensures.found.0;
       here = c.in-Ok.ensures.found.1;
       finds = c.in-Ok.ensures.around;
-      fares = subst (λ (pages : List (Option Sector)). CanStand pages d.page d.leaf → Fares d.leaf.layout Leaf pages one d.page d.leaf.rows (take place d.leaf.rows ++ drop (place + 1) d.leaf.rows) out) same (c.in_ok-out.ensures.pages image);
+      fares = subst (λ (pages : List (Option Sector)). CanStand pages d.page d.leaf → IsRemovalResult d.leaf.layout Leaf pages one d.page d.leaf.rows (take place d.leaf.rows ++ drop (place + 1) d.leaf.rows) out) same (c.in_ok-out.ensures.pages image);
     } in
     let disk = (g.D.Device.state c.descend.new.device).disk in
     let raw = c.in_ok-outcome.ensures.shrinks (c.descend.ensures.only.honest.0 honest) (c.take_out.ensures.keeps.agrees disk (c.descend.ensures.agrees honest agrees)) in
@@ -151,7 +151,7 @@ returns-clause-changed_pages g c = λ honest agrees levels holds.
     let unspent : is_spent c.args.pages.now ≡ false = false_unless (is_spent c.args.pages.now) (λ spent. ok_or_err d Spent (sym c.in_ok-descent.was ∙ c.descend.ensures.spent.1 spent)) in
     let small = few_pages before (page_count c.args.pages.now) c.page_count-page_count.result (c.page_count-page_count.ensures.pages image) c.page_count-page_count.ensures.count (c.page_count-page_count.ensures.few c.requires.open unspent) in
     let few : length levels ≤ 20 = few_levels c.args.layout before c.args.root levels small tree in
-    few_changed (length (changed_pages_of c.args.pages.now)) (length (changed_pages_of c.descend.new.pages)) (length (changed_pages_of c.take_out.new.pages)) (length (changed_pages_of c.shrink.new.pages)) (length (changed_pages_of c.settle_shrunk.new.pages))
+    few_changed (length (changed_pages_of c.args.pages.now)) (length (changed_pages_of c.descend.new.pages)) (length (changed_pages_of c.take_out.new.pages)) (length (changed_pages_of c.shrink.new.pages)) (length (changed_pages_of c.root_after_removal.new.pages))
     (spare c.in_ok-out.out) (spare c.in_ok-outcome.outcome) (length c.as_slice.result.now) (length d.path.items) (length levels)
     (ap length c.descend.ensures.unchanged.changed_pages) c.in_ok-out.ensures.changed_pages c.in_ok-outcome.ensures.changed_pages c.in_ok-new.ensures.changed_pages
     (ap length c.as_slice.ensures) (turns_count c.args.layout c.args.key.now levels d.path.items ends.reaches.top ends.reaches.below ends.reaches.leads) few
@@ -166,7 +166,7 @@ returns-clause-filled g c = λ honest agrees levels holds.
     let unspent : is_spent c.args.pages.now ≡ false = false_unless (is_spent c.args.pages.now) (λ spent. ok_or_err d Spent (sym c.in_ok-descent.was ∙ c.descend.ensures.spent.1 spent)) in
     let small = few_pages before (page_count c.args.pages.now) c.page_count-page_count.result (c.page_count-page_count.ensures.pages image) c.page_count-page_count.ensures.count (c.page_count-page_count.ensures.few c.requires.open unspent) in
     let few : length levels ≤ 20 = few_levels c.args.layout before c.args.root levels small tree in
-    few_changed (filled_of c.args.pages.now) (filled_of c.descend.new.pages) (filled_of c.take_out.new.pages) (filled_of c.shrink.new.pages) (filled_of c.settle_shrunk.new.pages)
+    few_changed (filled_of c.args.pages.now) (filled_of c.descend.new.pages) (filled_of c.take_out.new.pages) (filled_of c.shrink.new.pages) (filled_of c.root_after_removal.new.pages)
     (spare c.in_ok-out.out) (spare c.in_ok-outcome.outcome) (length c.as_slice.result.now) (length d.path.items) (length levels)
     (c.descend.ensures.unchanged.filled) c.in_ok-out.ensures.filled c.in_ok-outcome.ensures.filled c.in_ok-new.ensures.filled
     (ap length c.as_slice.ensures) (turns_count c.args.layout c.args.key.now levels d.path.items ends.reaches.top ends.reaches.below ends.reaches.leads) few

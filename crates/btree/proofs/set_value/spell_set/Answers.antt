@@ -1,8 +1,8 @@
 use Rattle.std.proofs.Common.{◌≡◌, subst, rules}
 use Rattle.std.specs.Prelude.{Some}
-use Rattle.tree_pages.specs.declared.row_layout.RowLayout.{RowLayout}
-use Rattle.tree_pages.specs.Node.{node_in}
-use Rattle.tree_pages.specs.Edits.{with_rest}
+use Rattle.btree_pages.specs.declared.row_layout.RowLayout.{RowLayout}
+use Rattle.btree_pages.specs.Node.{node_in}
+use Rattle.btree_pages.specs.Edits.{with_rest}
 use Rattle.btree.proofs.set_value.spell_set.Goals as goal
 
 pub returns : goal.returns

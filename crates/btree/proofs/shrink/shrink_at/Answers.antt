@@ -5,14 +5,14 @@ use Rattle.byteorder.specs.Endian.{big_bytes}
 use Rattle.station.specs.Disk.{Sector}
 use Rattle.station.specs.State.{State}
 use Rattle.pages.specs.Image.{Map}
-use Rattle.tree_pages.specs.declared.row_layout.Kind.TheVariants.{Inner}
-use Rattle.tree_pages.specs.Keys.{rest_of}
+use Rattle.btree_pages.specs.declared.row_layout.Kind.TheVariants.{Inner}
+use Rattle.btree_pages.specs.Keys.{rest_of}
 use Rattle.btree.specs.declared.removal_outcome.RemovalOutcome.{RemovalOutcome}
 use Rattle.btree.specs.declared.removal_outcome.RemovalOutcome.TheVariants.{Kept}
 use Rattle.btree.specs.Tree.{row_of}
 use Rattle.btree.specs.Propagates.{node_with}
 use Rattle.btree.specs.Changes.{pages_of_map, IsIn, CanStand}
-use Rattle.btree.specs.Outcomes.{Fares, IsPair}
+use Rattle.btree.specs.Outcomes.{IsRemovalResult, IsPair}
 use Rattle.btree.specs.Shrinks.{ShrinksOn, NeverShrinksOn}
 use Rattle.btree.proofs.Upward.{ReadNode}
 use Rattle.btree.proofs.Downward.{Rebalances, kept_on, renamed_on, gone_on, lone_on, never_read, never_led, never_rebalanced}
@@ -52,7 +52,7 @@ returns-in-Renamed-clause-shrinks g c = λ honest agrees.
     subst (λ (below : RemovalOutcome). ShrinksOn c.args.layout step two three below up) (sym c.in-Renamed.is)
     (renamed_on c.args.layout two three step child up node read
     (subst (λ (pages : List (Option Sector)). CanStand pages step.page node → rest_of node.layout (slice_index_or node.rows step.place []) ≡ big_bytes 4 child.page
-    → Fares node.layout Inner pages three step.page node.rows (take step.place node.rows ++ (row_of node.layout (node_with child.page child.node.rows) ∷ drop (step.place + 1) node.rows)) up) still (fares image))))
+    → IsRemovalResult node.layout Inner pages three step.page node.rows (take step.place node.rows ++ (row_of node.layout (node_with child.page child.node.rows) ∷ drop (step.place + 1) node.rows)) up) still (fares image))))
     c.rename_at.ensures.pages
 
 pub returns-in-Renamed-clause-damaged : goal.returns-in-Renamed-clause-damaged
@@ -80,7 +80,7 @@ returns-in-Gone-clause-shrinks g c = λ honest agrees.
     (λ up fares.
     subst (λ (below : RemovalOutcome). ShrinksOn c.args.layout step two three below up) (sym c.in-Gone.is)
     (gone_on c.args.layout two three step up node read
-    (subst (λ (pages : List (Option Sector)). CanStand pages step.page node → Fares node.layout Inner pages three step.page node.rows (take step.place node.rows ++ drop (step.place + 1) node.rows) up) still (fares image))))
+    (subst (λ (pages : List (Option Sector)). CanStand pages step.page node → IsRemovalResult node.layout Inner pages three step.page node.rows (take step.place node.rows ++ drop (step.place + 1) node.rows) up) still (fares image))))
     c.lose_at.ensures.pages
 
 pub returns-in-Gone-clause-damaged : goal.returns-in-Gone-clause-damaged

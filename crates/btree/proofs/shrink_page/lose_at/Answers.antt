@@ -1,5 +1,5 @@
 use Rattle.std.proofs.Common.{◌+◌, drop}
-use Rattle.tree_pages.specs.declared.row_layout.Kind.TheVariants.{Inner}
+use Rattle.btree_pages.specs.declared.row_layout.Kind.TheVariants.{Inner}
 use Rattle.pages.specs.Pages.{page_count}
 use Rattle.btree.specs.Changes.{pages_of_map}
 use Rattle.btree.proofs.Lessening.{front_fares, removed_rows, has_room, true_or_false}

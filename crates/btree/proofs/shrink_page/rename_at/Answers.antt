@@ -1,5 +1,5 @@
 use Rattle.std.proofs.Common.{◌+◌, ◌∷◌, drop}
-use Rattle.tree_pages.specs.declared.row_layout.Kind.TheVariants.{Inner}
+use Rattle.btree_pages.specs.declared.row_layout.Kind.TheVariants.{Inner}
 use Rattle.btree.specs.Tree.{row_of}
 use Rattle.btree.specs.Propagates.{node_with}
 use Rattle.pages.specs.Pages.{page_count}

@@ -1,6 +1,6 @@
 use Rattle.std.proofs.Common.{◌+◌, drop}
 use Rattle.std.proofs.lemmas.Result.{IfOk-weaker}
-use Rattle.tree_pages.specs.declared.row_layout.Kind.TheVariants.{Leaf}
+use Rattle.btree_pages.specs.declared.row_layout.Kind.TheVariants.{Leaf}
 use Rattle.btree.specs.Changes.{pages_of_map}
 use Rattle.btree.proofs.Lessening.{front_fares, removed_rows}
 use Rattle.btree.proofs.shrink_page.take_out.Goals as goal

@@ -2,7 +2,7 @@ use Rattle.std.proofs.Common.{◌≤◌, ℕ, List, [], ◌∷◌, length, refl,
 use Rattle.std.proofs.lemmas.List.{nil_from_length}
 use Rattle.station.specs.Disk.{Sector}
 use Rattle.btree.specs.Tree.{fewest}
-use Rattle.btree.specs.Moves.{Replaced}
+use Rattle.btree.specs.Moves.{ReplacesNodes}
 use Rattle.btree.specs.Propagates.{node_with}
 use Rattle.btree.specs.Changes.{pages_of_map, IsIn}
 use Rattle.btree.proofs.Writes.{write_one, is_low, spells_node}
@@ -18,7 +18,7 @@ returns-then-count-eq0-clause-pages c = λ image old is_in keeps.
     )
 
 written : (c : In_ok-edit) (image : List Sector) (old : List (List ℕ)) → IsIn (pages_of_map c.args.pages.now image) c.args.page
-    → Replaced c.args.node.layout c.args.node.kind (pages_of_map c.args.pages.now image) (node_with c.args.page old ∷ []) (pages_of_map c.edit.new.self image) (node_with c.args.page c.args.node.rows ∷ [])
+    → ReplacesNodes c.args.node.layout c.args.node.kind (pages_of_map c.args.pages.now image) (node_with c.args.page old ∷ []) (pages_of_map c.edit.new.self image) (node_with c.args.page c.args.node.rows ∷ [])
 written c image old is_in =
     let node = c.args.node in
     let pages = pages_of_map c.args.pages.now image in

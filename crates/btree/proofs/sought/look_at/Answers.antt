@@ -3,7 +3,7 @@ use Rattle.std.specs.Prelude.{Option, Some, None, slice_index_or, IfOk}
 use Rattle.station.specs.Disk.{Sector}
 use Rattle.pages.specs.Image.{Map}
 use Rattle.pages.specs.Pages.{map_now, page_of}
-use Rattle.btree.specs.Tree.{Stands}
+use Rattle.btree.specs.Tree.{IsOnPage}
 use Rattle.btree.specs.Sought.{LooksIn, LooksAt}
 use Rattle.btree.proofs.Frames.{unchanged_on}
 use Rattle.btree.proofs.TreeNodes.{spells_none}
@@ -48,4 +48,4 @@ returns-clause-damaged g c = λ honest agrees is kind node same stands.
     let present = (g.D.Device.state c.args.device.now).disk.present in
     let noted : (map_now c.note_use.new.self present).pages ≡ (map_now c.args.pages.now present).pages = ap (λ (m : Map). m.pages) (c.note_use.ensures.unchanged.map present) in
     let kept = c.note_use.ensures.keeps.agrees (g.D.Device.state c.args.device.now).disk agrees in
-    c.look_loaded.ensures.damaged honest kept is kind node same (subst (λ (p : List (Option Sector)). Stands c.args.layout p kind node) (sym noted) stands)
+    c.look_loaded.ensures.damaged honest kept is kind node same (subst (λ (p : List (Option Sector)). IsOnPage c.args.layout p kind node) (sym noted) stands)

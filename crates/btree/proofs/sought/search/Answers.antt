@@ -6,7 +6,7 @@ use Rattle.station.proofs.Calls.{reads_nothing, reads_then}
 use Rattle.pages.specs.Pages.{map_now, is_spent, page_count}
 use Rattle.pages.specs.declared.error.PagesError.TheVariants.{Damaged, Spent}
 use Rattle.btree.specs.declared.sought.Look.{Look}
-use Rattle.btree.specs.Tree.{Stands}
+use Rattle.btree.specs.Tree.{IsOnPage}
 use Rattle.btree.specs.Sought.{LooksAt}
 use Rattle.btree.proofs.Descents.{along_stands}
 use Rattle.btree.proofs.Descending.{down_start, down_on, down_deep, finds_entry, finds_none}
@@ -41,7 +41,7 @@ returns-in_err-child-clause-damaged g c = λ h a is levels tree.
     let stands = along_stands c.args.layout pages levels c.args.key.now down.steps c.loop-depth.page down.right down.along in
     let same = same_pages c.args.pages.now c.loop-depth.pages (g.D.Device.state c.args.device.now) (g.D.Device.state c.loop-depth.device) c.loop-depth.invariant.unchanged (c.loop-depth.invariant.only.state h) in
     c.look_at.ensures.damaged (c.loop-depth.invariant.only.honest.0 h) (c.loop-depth.invariant.agrees h a) damaged stands.kind stands.node stands.same
-    (subst (λ (p : List (Option Sector)). Stands c.args.layout p stands.kind stands.node) (sym same) stands.stands)
+    (subst (λ (p : List (Option Sector)). IsOnPage c.args.layout p stands.kind stands.node) (sym same) stands.stands)
 
 pub returns-in-Here-clause-unchanged : goal.returns-in-Here-clause-unchanged
 returns-in-Here-clause-unchanged g c = unchanged_on c.args.pages.now c.loop-depth.pages c.look_at.new.pages c.loop-depth.invariant.unchanged c.look_at.ensures.unchanged

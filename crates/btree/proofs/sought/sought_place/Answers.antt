@@ -1,6 +1,6 @@
 use Rattle.std.proofs.Common.{ap, ◌∙◌, arith}
 use Rattle.btree.specs.declared.sought.Sought.{Sought}
-use Rattle.btree.specs.Entries.{listed}
+use Rattle.btree.specs.Entries.{entries_of_rows}
 use Rattle.btree.specs.Sought.{sought_in}
 use Rattle.btree.proofs.Answering.{place_after, gap_with, at_or_from, from_or_after}
 use Rattle.btree.proofs.sought.sought_place.Goals as goal
@@ -8,7 +8,7 @@ use Rattle.btree.proofs.sought.sought_place.Goals as goal
 pub returns-in-After : goal.returns-in-After
 returns-in-After c = λ up.
     let node = c.args.node.now in
-    ap (λ (s : Sought). sought_in s (listed node.layout node.rows) c.args.key.now) c.in-After.is
+    ap (λ (s : Sought). sought_in s (entries_of_rows node.layout node.rows) c.args.key.now) c.in-After.is
     ∙ place_after node.layout c.args.key.now node.rows c.in-Ok.place up c.in-Ok.ensures.found.0 c.in-Ok.ensures.found.1 c.in-Ok.ensures.around
 
 pub returns-in_default : goal.returns-in_default
@@ -20,7 +20,7 @@ pub returns-in-With : goal.returns-in-With
 returns-in-With c = λ up.
     let node = c.args.node.now in
     let count = c.count-count.ensures.rows in
-    ap (λ (s : Sought). sought_in s (listed node.layout node.rows) c.args.key.now) c.in-With.is
+    ap (λ (s : Sought). sought_in s (entries_of_rows node.layout node.rows) c.args.key.now) c.in-With.is
     ∙ gap_with node.layout c.args.key.now node.rows c.in-Err.place c.count-count.result up c.in-Err.ensures.missing c.in-Err.ensures.around (omega arith)
 
 pub returns-in_default-sought : goal.returns-in_default-sought

@@ -1,6 +1,6 @@
 use Rattle.std.proofs.Common.{◌≤◌, ◌-◌, ◌++◌, ℕ, length, take, ◌∙◌, ap, arith}
 use Rattle.std.specs.List.{insert}
-use Rattle.tree_pages.specs.Node.{Node}
+use Rattle.btree_pages.specs.Node.{Node}
 use Rattle.btree.proofs.SplitNodes.{right_insert}
 use Rattle.btree.proofs.split_node.split_end.Goals as goal
 use Rattle.btree.proofs.split_node.split_end.Goals.{in-Leaf, in-Inner}

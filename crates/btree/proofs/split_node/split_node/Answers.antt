@@ -1,6 +1,6 @@
 use Rattle.std.proofs.Common.{◌+◌, ◌-◌, ◌/◌, ◌++◌, take, ◌∙◌, ap, arith}
 use Rattle.std.specs.List.{insert}
-use Rattle.tree_pages.specs.Node.{Node}
+use Rattle.btree_pages.specs.Node.{Node}
 use Rattle.btree.proofs.SplitNodes.{left_insert, right_insert}
 use Rattle.btree.proofs.split_node.split_node.Goals as goal
 

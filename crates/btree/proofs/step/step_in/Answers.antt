@@ -1,5 +1,5 @@
 use Rattle.std.proofs.Common.{◌≡◌, rules}
-use Rattle.tree_pages.specs.declared.row_layout.Kind.TheVariants.{Inner}
+use Rattle.btree_pages.specs.declared.row_layout.Kind.TheVariants.{Inner}
 use Rattle.btree.proofs.step.step_in.Goals as goal
 
 pub returns-clause-step : goal.returns-clause-step

@@ -2,7 +2,7 @@ use Rattle.std.proofs.Common.{List, sym, subst}
 use Rattle.std.specs.Prelude.{Option, IfOk}
 use Rattle.station.specs.Disk.{Sector}
 use Rattle.pages.specs.Pages.{map_now}
-use Rattle.btree.specs.Tree.{Stands}
+use Rattle.btree.specs.Tree.{IsOnPage}
 use Rattle.btree.specs.Steps.{StepsIn, StepsAt}
 use Rattle.btree.proofs.Frames.{unchanged_on, same_pages, seen_before}
 use Rattle.btree.proofs.TreeNodes.{spells_none}
@@ -47,4 +47,4 @@ returns-clause-damaged g c = λ honest agrees is kind node at stands.
     let before = g.D.Device.state c.args.device.now in
     let after = g.D.Device.state c.load.new.device in
     let same = same_pages c.args.pages.now c.load.new.self before after c.in_ok-load.ensures.unchanged (c.in_ok-load.ensures.only.state honest) in
-    c.step_read.ensures.damaged (c.in_ok-load.ensures.only.honest.0 honest) (c.in_ok-load.ensures.agrees honest agrees) is kind node at (subst (λ (p : List (Option Sector)). Stands c.args.layout p kind node) (sym same) stands)
+    c.step_read.ensures.damaged (c.in_ok-load.ensures.only.honest.0 honest) (c.in_ok-load.ensures.agrees honest agrees) is kind node at (subst (λ (p : List (Option Sector)). IsOnPage c.args.layout p kind node) (sym same) stands)

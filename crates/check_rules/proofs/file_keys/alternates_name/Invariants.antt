@@ -1,7 +1,7 @@
 use Rattle.std.proofs.Common.{◌≡◌, drop}
 use Rattle.std.specs.Prelude.{slice_get}
 use Rattle.std.specs.List.{list_any}
-use Rattle.names.specs.Table.{calls_in}
+use Rattle.name_table.specs.Table.{calls_in}
 use Rattle.check_rules.specs.FiledKeys.{alternate_names}
 use Rattle.check_rules.proofs.file_keys.alternates_name.Given as goal
 

@@ -1,5 +1,5 @@
 use Rattle.std.proofs.Common.{arith, sym, ◌∙◌}
-use Rattle.perform_order.specs.Order.{marks}
+use Rattle.perform_graph.specs.Order.{marks}
 use Rattle.check_rules.proofs.Back.{unmarked_more, not_back}
 use Rattle.check_rules.proofs.recursion.leads_back.Goals as goal
 

@@ -1,5 +1,5 @@
 use Rattle.std.proofs.Common.{◌≡◌, ℕ, ◌≤◌, ◌<◌, false}
-use Rattle.perform_order.specs.Order.{marks}
+use Rattle.perform_graph.specs.Order.{marks}
 use Rattle.check_rules.proofs.recursion.leads_back.Given as goal
 
 abbrev pub invariant-loop-paragraph : goal.invariant-loop-paragraph

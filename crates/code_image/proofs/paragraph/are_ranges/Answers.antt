@@ -1,7 +1,7 @@
 use Rattle.std.proofs.Common.{All, subst, refl, arith}
 use Rattle.std.proofs.lemmas.List.{take_all}
 use Rattle.std.proofs.lemmas.List.Elements.{All-more}
-use Rattle.perform_order.specs.Order.{IsRange}
+use Rattle.perform_graph.specs.Order.{IsRange}
 use Rattle.code_image.proofs.paragraph.are_ranges.Goals as goal
 
 pub loop-one-preserved : goal.loop-one-preserved

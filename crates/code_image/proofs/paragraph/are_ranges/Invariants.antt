@@ -1,5 +1,5 @@
 use Rattle.std.proofs.Common.{All, take}
-use Rattle.perform_order.specs.Order.{IsRange}
+use Rattle.perform_graph.specs.Order.{IsRange}
 use Rattle.code_image.proofs.paragraph.are_ranges.Given as goal
 
 abbrev pub invariant-loop-one : goal.invariant-loop-one

@@ -1,6 +1,6 @@
 use Rattle.std.proofs.Common.{◌≡◌, All, ap, length, subst, ◌∙◌}
-use Rattle.perform_order.specs.Order.{IsRange, IsOrder}
-use Rattle.code_image.specs.Demands.{performed}
+use Rattle.perform_graph.specs.Order.{IsRange, IsOrder}
+use Rattle.code_image.specs.Demands.{performed_by_code}
 use Rattle.code_image.proofs.Exclusion.{order_is}
 use Rattle.code_image.proofs.paragraph.has_order.Goals as goal
 
@@ -9,9 +9,9 @@ returns c =
     let code = c.args.code.now in
     let found = c.in_ok-order.order in
     let n = length c.as_slice-count.result.now in
-    let all = performed code.instructions in
+    let all = performed_by_code code.instructions in
     let count : n ≡ length code.starts = ap length c.as_slice-count.ensures in
-    let items = c.in_ok-ranges.ensures ∙ ap performed c.as_slice.ensures in
+    let items = c.in_ok-ranges.ensures ∙ ap performed_by_code c.as_slice.ensures in
     let first : c.deref.result.now ≡ all = c.deref.ensures.value ∙ items in
     let second : c.deref-2.result.now ≡ all = c.deref-2.ensures.value ∙ items in
     let ranges = subst (All (IsRange n)) first (c.are_ranges.ensures.0 c.if-not-are_ranges.false) in

@@ -1,6 +1,6 @@
 use Rattle.std.proofs.Common.{ap, subst, ◌∙◌, arith}
 use Rattle.answers.specs.Answer.{Gives}
-use Rattle.image_tables.specs.Faults.{fault_of}
+use Rattle.data_image.specs.Faults.{fault_of}
 use Rattle.code_image.specs.Reading.{code_at}
 use Rattle.code_image.proofs.Soundness.{is_found, is_spelt}
 use Rattle.code_image.proofs.Completeness.{code_again}

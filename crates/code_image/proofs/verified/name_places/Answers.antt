@@ -1,7 +1,7 @@
 use Rattle.std.proofs.Common.{All, subst, refl, arith}
 use Rattle.std.proofs.lemmas.List.{take_all}
 use Rattle.std.proofs.lemmas.List.Elements.{All-more}
-use Rattle.file_tables.specs.Files.{NamesPlaces}
+use Rattle.file_image.specs.Files.{NamesPlaces}
 use Rattle.code_image.proofs.verified.name_places.Goals as goal
 
 pub loop-file-preserved : goal.loop-file-preserved

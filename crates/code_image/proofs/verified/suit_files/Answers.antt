@@ -1,7 +1,7 @@
 use Rattle.std.proofs.Common.{All, subst, refl, arith}
 use Rattle.std.proofs.lemmas.List.{take_all}
 use Rattle.std.proofs.lemmas.List.Elements.{All-more}
-use Rattle.file_tables.specs.Files.{entries_of}
+use Rattle.file_image.specs.Files.{entries_of}
 use Rattle.code_image.specs.Demands.{SuitsFile}
 use Rattle.code_image.proofs.verified.suit_files.Goals as goal
 

@@ -1,5 +1,5 @@
 use Rattle.std.proofs.Common.{All, take}
-use Rattle.file_tables.specs.Files.{entries_of}
+use Rattle.file_image.specs.Files.{entries_of}
 use Rattle.code_image.specs.Demands.{SuitsFile}
 use Rattle.code_image.proofs.verified.suit_files.Given as goal
 

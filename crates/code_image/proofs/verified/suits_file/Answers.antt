@@ -2,8 +2,8 @@ use Rattle.std.proofs.Common.{◌≡◌, ◌<◌, ◌↔◌, IsTrue, List, lengt
 use Rattle.std.specs.Prelude.{slice_index_or}
 use Rattle.records.specs.Connector.{Entry}
 use Rattle.records.specs.FileStep.{Suits, entry_at}
-use Rattle.file_tables.specs.declared.file.CodeFile.{CodeFile}
-use Rattle.file_tables.specs.Files.{entry_of, entries_of}
+use Rattle.file_image.specs.declared.file.CodeFile.{CodeFile}
+use Rattle.file_image.specs.Files.{entry_of, entries_of}
 use Rattle.code_image.specs.declared.instruction.Instruction.{Instruction}
 use Rattle.code_image.specs.Demands.{NamesFile, SuitsFile}
 use Rattle.code_image.proofs.WellFormed.{entry_within}

@@ -2,7 +2,7 @@ use Rattle.std.proofs.Common.{◌≡◌, ◌+◌, List, [], ◌∷◌, ◌++◌,
 use Rattle.std.specs.List.{AllByRecursion}
 use Rattle.code_image.specs.declared.code.Code.{Code}
 use Rattle.codegen.specs.declared.phrases.Way.{Way}
-use Rattle.codegen.specs.Phrases.{IsWay, met, met_all}
+use Rattle.codegen.specs.Phrases.{IsWay, patched_code, met_all}
 use Rattle.codegen.proofs.Opening.{all_but_last, still_ways, met_longer, last_met}
 use Rattle.codegen.proofs.phrases.emit_meetings.Goals as goal
 
@@ -14,7 +14,7 @@ ways-preserved c =
     let count = length code.instructions in
     let new = c.emit_meeting.new.code in
     let items : c.ways.ways.items ≡ left ++ way ∷ [] = c.in-Some.ensures.items in
-    let is : new ≡ met way.branch way.other code = c.in_ok-emit_meeting.ensures in
+    let is : new ≡ patched_code way.branch way.other code = c.in_ok-emit_meeting.ensures in
     let longer : length new.instructions ≡ count + 1 = ap (λ (k : Code). length k.instructions) is ∙ met_longer way.branch way.other code in
     record {
       same = ap (met_all left) is ∙ sym (last_met left way code) ∙ sym (ap (λ (l : List Way). met_all l code) items) ∙ c.ways.invariant.same;

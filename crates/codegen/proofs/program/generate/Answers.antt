@@ -4,7 +4,7 @@ use Rattle.source_tree.specs.EntryRules.{entry_rules}
 use Rattle.source_tree.specs.Meaning.{meaning}
 use Rattle.source_tree.specs.Setting.{scope}
 use Rattle.source_tree.specs.ProgramFiles as described
-use Rattle.file_tables.specs.Files.{entries_of}
+use Rattle.file_image.specs.Files.{entries_of}
 use Rattle.code_image.specs.declared.code.Code.{Code}
 use Rattle.code_image.specs.Demands.{IsVerified}
 use Rattle.code_image.specs.Table.{Runs}

@@ -1,10 +1,10 @@
 use Rattle.std.proofs.Common.{ap, ◌∙◌}
-use Rattle.codegen.specs.Pieces.{joined}
-use Rattle.codegen.specs.DataCode.{work_piece}
+use Rattle.codegen.specs.Pieces.{append}
+use Rattle.codegen.specs.DataCode.{work_fragment}
 use Rattle.codegen.proofs.Pieces.{is_done}
 use Rattle.codegen.proofs.Works.{works_are}
 use Rattle.codegen.proofs.references.emit_works.Goals as goal
 
 pub returns : goal.returns
 returns c =
-    is_done work_piece c.args.all.now c.loop-one.one-index c.loop-one.code _ c.loop-one-test.false c.loop-one.invariant ∙ ap (joined c.args.code.now) (works_are c.args.all.now c.args.code.now)
+    is_done work_fragment c.args.all.now c.loop-one.one-index c.loop-one.code _ c.loop-one-test.false c.loop-one.invariant ∙ ap (append c.args.code.now) (works_are c.args.all.now c.args.code.now)

@@ -1,7 +1,7 @@
 use Rattle.std.proofs.Common.{◌≡◌, Option, refl, ap, ◌∙◌}
 use Rattle.picture.specs.declared.picture.Picture.{Picture}
 use Rattle.data_instructions.specs.declared.tables.DataItem.{DataItem}
-use Rattle.program_files.specs.Files.{file_in}
+use Rattle.file_descriptions.specs.Files.{file_in}
 use Rattle.declarations.specs.Named.{items_in}
 use Rattle.codegen.specs.FileCode.{sent_entry}
 use Rattle.codegen.specs.Sent.{edits, first_editing}

@@ -1,6 +1,6 @@
 use Rattle.std.proofs.Common.{◌≡◌, ◌++◌, map, length, get_or, ap, ◌∙◌, arith}
 use Rattle.data_instructions.specs.Codes.{data_item}
-use Rattle.program_files.specs.Files.{file_in}
+use Rattle.file_descriptions.specs.Files.{file_in}
 use Rattle.declarations.specs.Named.{items_in, files_in}
 use Rattle.codegen.specs.FileCode.{sent_entry}
 use Rattle.codegen.proofs.StorageItems.{mapped_more, sent_all}

@@ -1,5 +1,5 @@
 use Rattle.std.proofs.Common.{◌≡◌, take}
-use Rattle.names.specs.Table.{names_of}
+use Rattle.name_table.specs.Table.{names_of}
 use Rattle.source_tree.specs.FileRules.{description_names}
 use Rattle.declarations.proofs.file_names.description_names.Given as goal
 

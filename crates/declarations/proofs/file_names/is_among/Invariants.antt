@@ -1,5 +1,5 @@
 use Rattle.std.proofs.Common.{◌≡◌, drop}
-use Rattle.names.specs.Table.{names_of}
+use Rattle.name_table.specs.Table.{names_of}
 use Rattle.source_tree.specs.PerformRules.{is_among}
 use Rattle.declarations.proofs.file_names.is_among.Given as goal
 

@@ -1,5 +1,5 @@
 use Rattle.std.proofs.Common.{◌≡◌, [], take, drop}
-use Rattle.names.specs.Table.{names_of}
+use Rattle.name_table.specs.Table.{names_of}
 use Rattle.source_tree.specs.PerformRules.{given_once}
 use Rattle.declarations.proofs.file_names.once_rules.Given as goal
 

@@ -3,7 +3,7 @@ use Rattle.std.proofs.lemmas.Result.{err_from_is_err_and}
 use Rattle.source_tree.specs.Clauses.{nothing_around}
 use Rattle.source_tree.specs.EntryRules as rules
 use Rattle.source_tree.specs.EntryRules.{forest_rules, outermost}
-use Rattle.source_tree.specs.Levels.{leading, nested}
+use Rattle.source_tree.specs.Levels.{leading_conditions, forest_of}
 use Rattle.source_tree.specs.Rooms.{longest}
 use Rattle.entry_rules.specs.Checks.{fault_of}
 use Rattle.entry_rules.specs.Trees.{extent}
@@ -17,24 +17,24 @@ pub returns-in_err-bytes-clause-rules : goal.returns-in_err-bytes-clause-rules
 returns-in_err-bytes-clause-rules c =
     let p = err_from_is_err_and c.from_residual.result c.from_residual.ensures.1 in
     let one = c.in-Some.one in
-    rw (p.1, p.2) (found_in c.outermost.result (redefinable_of c.items.last) (nested c.items.rest.now) one.entry.now (leading one.inner.now) (nested one.inner.now) (nested one.next.now) (forest_rules (outermost true) None (nested c.args.entries.now)) (fault_of c.in_err-bytes.field-0.0)
-    c.in-Some.ensures.0 (c.items.invariant.rules ∙ ap (λ at. forest_rules at (redefinable_of c.items.last) (nested c.items.rest.now)) (sym c.outermost.ensures)) c.in_err-bytes.ensures.rules)
+    rw (p.1, p.2) (found_in c.outermost.result (redefinable_of c.items.last) (forest_of c.items.rest.now) one.entry.now (leading_conditions one.inner.now) (forest_of one.inner.now) (forest_of one.next.now) (forest_rules (outermost true) None (forest_of c.args.entries.now)) (fault_of c.in_err-bytes.field-0.0)
+    c.in-Some.ensures.0 (c.items.invariant.rules ∙ ap (λ at. forest_rules at (redefinable_of c.items.last) (forest_of c.items.rest.now)) (sym c.outermost.ensures)) c.in_err-bytes.ensures.rules)
 
 pub items-preserved : goal.items-preserved
 items-preserved c =
     let one = c.in-Some.one in
     let e = c.in-Some.ensures.0 in
-    let parts = levels_tree (nested c.items.rest.now) one.entry.now (leading one.inner.now) (nested one.inner.now) (nested one.next.now) e c.items.invariant.levels in
+    let parts = levels_tree (forest_of c.items.rest.now) one.entry.now (leading_conditions one.inner.now) (forest_of one.inner.now) (forest_of one.next.now) e c.items.invariant.levels in
     let around = ap (λ (at : rules.Position). at.around) c.outermost.ensures in
-    let bytes = c.in_ok-bytes.ensures.bytes ∙ ap (λ a. extent a one.entry.now (nested one.inner.now)) around in
+    let bytes = c.in_ok-bytes.ensures.bytes ∙ ap (λ a. extent a one.entry.now (forest_of one.inner.now)) around in
     record {
       levels = parts.2;
       last = known_remembered one.entry.now c.in_ok-bytes.bytes (redefinable_of c.items.last) (redefinable_of c.remembered-last.result) parts.0 c.items.invariant.last c.remembered-last.ensures;
       shorter = omega (arith, c.in-Some.ensures.1, c.items.invariant.shorter);
-      rules = none_in c.outermost.result (redefinable_of c.items.last) (redefinable_of c.remembered-last.result) (nested c.items.rest.now) one.entry.now (leading one.inner.now) (nested one.inner.now) (nested one.next.now) (forest_rules (outermost true) None (nested c.args.entries.now)) c.in_ok-bytes.bytes
-          e (c.items.invariant.rules ∙ ap (λ at. forest_rules at (redefinable_of c.items.last) (nested c.items.rest.now)) (sym c.outermost.ensures)) c.in_ok-bytes.ensures.rules c.in_ok-bytes.ensures.bytes c.remembered-last.ensures
-          ∙ ap (λ at. forest_rules at (redefinable_of c.remembered-last.result) (nested one.next.now)) c.outermost.ensures;
-      longest = longest_tree (longest nothing_around (nested c.args.entries.now)) c.items.longest c.in_ok-bytes.bytes (nested c.items.rest.now) one.entry.now (leading one.inner.now) (nested one.inner.now) (nested one.next.now) e c.items.invariant.longest bytes
-          ∙ ap (λ n. max n (longest nothing_around (nested one.next.now))) (sym c.max-longest.ensures);
+      rules = none_in c.outermost.result (redefinable_of c.items.last) (redefinable_of c.remembered-last.result) (forest_of c.items.rest.now) one.entry.now (leading_conditions one.inner.now) (forest_of one.inner.now) (forest_of one.next.now) (forest_rules (outermost true) None (forest_of c.args.entries.now)) c.in_ok-bytes.bytes
+          e (c.items.invariant.rules ∙ ap (λ at. forest_rules at (redefinable_of c.items.last) (forest_of c.items.rest.now)) (sym c.outermost.ensures)) c.in_ok-bytes.ensures.rules c.in_ok-bytes.ensures.bytes c.remembered-last.ensures
+          ∙ ap (λ at. forest_rules at (redefinable_of c.remembered-last.result) (forest_of one.next.now)) c.outermost.ensures;
+      longest = longest_tree (longest nothing_around (forest_of c.args.entries.now)) c.items.longest c.in_ok-bytes.bytes (forest_of c.items.rest.now) one.entry.now (leading_conditions one.inner.now) (forest_of one.inner.now) (forest_of one.next.now) e c.items.invariant.longest bytes
+          ∙ ap (λ n. max n (longest nothing_around (forest_of one.next.now))) (sym c.max-longest.ensures);
       bound = omega (arith, c.items.invariant.bound, c.in_ok-bytes.ensures.bound, c.max-longest.ensures);
     }

@@ -3,15 +3,15 @@ use Rattle.std.specs.Prelude.{Option}
 use Rattle.std.proofs.lemmas.Result.{on_ok_weaker}
 use Rattle.station.specs.Disk.{Sector}
 use Rattle.pages.specs.Pages.{map_now}
-use Rattle.tree_pages.specs.declared.row_layout.RowLayout.{RowLayout}
+use Rattle.btree_pages.specs.declared.row_layout.RowLayout.{RowLayout}
 use Rattle.btree.specs.Entries.{entries_of}
-use Rattle.btree.specs.Rooted.{Rooted}
-use Rattle.btree.specs.Tree.{Holds}
+use Rattle.btree.specs.Rooted.{RootedTree}
+use Rattle.btree.specs.Tree.{IsTreeOrEmpty}
 use Rattle.records.specs.declared.fault.StoreFault.TheVariants.{Device, Damaged}
 use Rattle.records.specs.declared.key.KeyOfReference.TheVariants.{Alternate}
 use Rattle.records.specs.Stores.{spec_of}
-use Rattle.file_trees.specs.Trees.{AreOf, layout_under}
-use Rattle.file_trees.specs.Volume.{planted}
+use Rattle.volume_format.specs.Trees.{AreOf, layout_under}
+use Rattle.volume_format.specs.Volume.{tree_levels}
 use Rattle.file_recovery.specs.Stored.{rows_of}
 use Rattle.file_recovery.proofs.Calling.{looks_then, pages_kept}
 use Rattle.file_recovery.proofs.alternates.check_alternate.Goals as goal
@@ -25,15 +25,15 @@ pub returns-clause-index : goal.returns-clause-index
 returns-clause-index g c = λ up honest agrees.
     let spec = spec_of c.args.file.now in
     let rows = rows_of c.args.rows.now in
-    let tree : Rooted = c.new-tree.result in
+    let tree : RootedTree = c.new-tree.result in
     let layout : tree.layout ≡ layout_under spec (Alternate c.args.key) = c.new-tree.ensures.layout ∙ c.tree_layout-layout.ensures.layout in
     let found = c.in_ok-check_pages.ensures.holds honest agrees in
     let looks = c.check_pages.ensures.looks in
     let same = pages_kept g.D.Device (c.check_pages.result ≡ Err Device) c.args.pages.now c.check_pages.new.pages c.args.device.now c.check_pages.new.device looks honest in
-    let there_now = subst (λ (p : List (Option Sector)). Holds tree.layout p tree.root found.levels) (sym same) found.holds in
+    let there_now = subst (λ (p : List (Option Sector)). IsTreeOrEmpty tree.layout p tree.root found.levels) (sym same) found.holds in
     on_ok_weaker c.check_index.result
     (λ pairs. record {
-      tree = planted tree found.levels;
+      tree = tree_levels tree found.levels;
       is = record { layout = layout; pairs = pairs };
       rooted = c.new-tree.ensures.root ∙ c.alternate_root.ensures;
       grows = found.holds;
@@ -44,15 +44,15 @@ returns-clause-index g c = λ up honest agrees.
 pub returns-clause-damaged : goal.returns-clause-damaged
 returns-clause-damaged g c = λ up honest agrees told own is rooted grows can.
     let spec = spec_of c.args.file.now in
-    let tree : Rooted = c.new-tree.result in
+    let tree : RootedTree = c.new-tree.result in
     let layout : own.tree.layout ≡ tree.layout = is.layout ∙ sym (c.new-tree.ensures.layout ∙ c.tree_layout-layout.ensures.layout) in
     let root : own.tree.root ≡ tree.root = rooted ∙ sym (c.new-tree.ensures.root ∙ c.alternate_root.ensures) in
     let before : List (Option Sector) = (map_now c.args.pages.now (g.D.Device.state c.args.device.now).disk.present).pages in
-    let there : Holds tree.layout before tree.root own.levels =
-    subst (λ (l : RowLayout). Holds l before tree.root own.levels) layout (subst (λ r. Holds own.tree.layout before r own.levels) root grows) in
+    let there : IsTreeOrEmpty tree.layout before tree.root own.levels =
+    subst (λ (l : RowLayout). IsTreeOrEmpty l before tree.root own.levels) layout (subst (λ r. IsTreeOrEmpty own.tree.layout before r own.levels) root grows) in
     let looks = c.check_pages.ensures.looks in
     let same = pages_kept g.D.Device (c.check_pages.result ≡ Err Device) c.args.pages.now c.check_pages.new.pages c.args.device.now c.check_pages.new.device looks honest in
-    let there_now = subst (λ (p : List (Option Sector)). Holds tree.layout p tree.root own.levels) (sym same) there in
+    let there_now = subst (λ (p : List (Option Sector)). IsTreeOrEmpty tree.layout p tree.root own.levels) (sym same) there in
     c.check_index.ensures.damaged up (looks.only.honest.0 honest) (looks.agrees honest agrees) own.levels there_now told
     (subst (λ (l : RowLayout). AreOf spec (Alternate c.args.key) (rows_of c.args.rows.now) (entries_of l own.levels)) layout is.pairs)
 
@@ -61,10 +61,10 @@ returns-in_err-check_pages-clause-damaged g c = λ up honest agrees refused own 
     let from = rw refused at c.from_residual.ensures.1 in
     let fault : c.in_err-check_pages.field-0.0 ≡ Damaged = sym from in
     let told : c.check_pages.result ≡ Err Damaged = c.in_err-check_pages.was ∙ ap Err fault in
-    let tree : Rooted = c.new-tree.result in
+    let tree : RootedTree = c.new-tree.result in
     let layout : own.tree.layout ≡ tree.layout = is.layout ∙ sym (c.new-tree.ensures.layout ∙ c.tree_layout-layout.ensures.layout) in
     let root : own.tree.root ≡ tree.root = rooted ∙ sym (c.new-tree.ensures.root ∙ c.alternate_root.ensures) in
     let before : List (Option Sector) = (map_now c.args.pages.now (g.D.Device.state c.args.device.now).disk.present).pages in
-    let there : Holds tree.layout before tree.root own.levels =
-    subst (λ (l : RowLayout). Holds l before tree.root own.levels) layout (subst (λ r. Holds own.tree.layout before r own.levels) root grows) in
+    let there : IsTreeOrEmpty tree.layout before tree.root own.levels =
+    subst (λ (l : RowLayout). IsTreeOrEmpty l before tree.root own.levels) layout (subst (λ r. IsTreeOrEmpty own.tree.layout before r own.levels) root grows) in
     c.check_pages.ensures.damaged honest agrees told own.levels there can.unmarked

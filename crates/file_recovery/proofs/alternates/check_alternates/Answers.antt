@@ -4,7 +4,7 @@ use Rattle.station.specs.Disk.{Sector}
 use Rattle.pages.specs.Pages.{map_now}
 use Rattle.records.specs.declared.fault.StoreFault.TheVariants.{Device, Damaged}
 use Rattle.records.specs.Stores.{spec_of}
-use Rattle.file_trees.proofs.Small.{few_alternates}
+use Rattle.volume_format.proofs.Small.{few_alternates}
 use Rattle.file_recovery.specs.Found.{FindsIndex, FindsIndexes, NoIndex}
 use Rattle.file_recovery.specs.Stored.{rows_of}
 use Rattle.file_recovery.proofs.Calling.{looks_nowhere, looks_then, pages_kept}

@@ -1,10 +1,10 @@
 use Rattle.std.proofs.Common.{◌≡◌, ◌+◌, inr, ℕ, suc, List, Err, length, take, sym, ap, subst, ◌∙◌, arith}
 use Rattle.std.specs.Prelude.{Option, Some, None, IfSome}
 use Rattle.station.specs.Disk.{Sector}
-use Rattle.tree_pages.specs.declared.row_layout.RowLayout.{RowLayout}
+use Rattle.btree_pages.specs.declared.row_layout.RowLayout.{RowLayout}
 use Rattle.btree.specs.Calls.{pages_on}
 use Rattle.btree.specs.Entries.{Entry, HasLengths, entries_of}
-use Rattle.btree.specs.Tree.{Holds}
+use Rattle.btree.specs.Tree.{IsTreeOrEmpty}
 use Rattle.btree.proofs.There.{tree_ascends}
 use Rattle.half_store.specs.declared.stored.StoredFile.{StoredFile}
 use Rattle.records.specs.declared.fault.StoreFault.TheVariants.{Device, Damaged}
@@ -50,7 +50,7 @@ loop-turn-preserved g c =
       next_is = λ honest agrees levels holds.
           let entries : List Entry = entries_of layout levels in
           let same = pages_kept g.D.Device ⊥ c.args.pages.now c.add_file.new.pages c.args.device.now c.add_file.new.device till honest in
-          let there_now = subst (λ (p : List (Option Sector)). Holds layout p root levels) (sym same) holds in
+          let there_now = subst (λ (p : List (Option Sector)). IsTreeOrEmpty layout p root levels) (sym same) holds in
           let is : entry_at loop._turn entries ≡ Some c.in-Some.entry = sym (loop.invariant.next_is honest agrees levels holds) ∙ c.in-Some.is in
           let ascend = tree_ascends layout before root levels holds in
           c.in_ok-next-in-Some.ensures.entry (till.only.honest.0 honest) (till.agrees honest agrees) levels there_now
@@ -126,7 +126,7 @@ returns-in_err-next-in-Some-clause-damaged g c = λ honest agrees levels holds r
     let loop = c.loop-turn in
     let till = looks_then g.D.Device ⊥ (c.add_file.result ≡ Err Device) ⊥ c.args.pages.now loop.pages c.add_file.new.pages c.args.device.now loop.device c.add_file.new.device (λ is. absurd is) loop.invariant.looks c.add_file.ensures.looks in
     let same = pages_kept g.D.Device ⊥ c.args.pages.now c.add_file.new.pages c.args.device.now c.add_file.new.device till honest in
-    let there_now = subst (λ (p : List (Option Sector)). Holds c.args.catalog.now.layout p c.args.catalog.now.root levels) (sym same) holds in
+    let there_now = subst (λ (p : List (Option Sector)). IsTreeOrEmpty c.args.catalog.now.layout p c.args.catalog.now.root levels) (sym same) holds in
     c.next_in.ensures.damaged (till.only.honest.0 honest) (till.agrees honest agrees) told levels there_now
 
 pub returns-in-Some-next-clause-damaged : goal.returns-in-Some-next-clause-damaged

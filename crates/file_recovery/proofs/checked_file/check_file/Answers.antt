@@ -4,11 +4,11 @@ use Rattle.std.specs.List.{All}
 use Rattle.byteorder.specs.Endian.{big_number}
 use Rattle.station.specs.Disk.{Sector}
 use Rattle.pages.specs.Pages.{map_now}
-use Rattle.tree_pages.specs.Keys.{Ascend}
+use Rattle.btree_pages.specs.Keys.{Ascend}
 use Rattle.btree.specs.Entries.{Entry, entries_of}
 use Rattle.btree.specs.Laws.{keys_listed}
-use Rattle.btree.specs.Rooted.{Rooted}
-use Rattle.btree.specs.Tree.{Holds}
+use Rattle.btree.specs.Rooted.{RootedTree}
+use Rattle.btree.specs.Tree.{IsTreeOrEmpty}
 use Rattle.btree.proofs.There.{tree_ascends}
 use Rattle.records.specs.declared.fault.StoreFault.TheVariants.{Device, Damaged}
 use Rattle.records.specs.declared.file_spec.FileSpec.{FileSpec}
@@ -16,8 +16,8 @@ use Rattle.records.specs.declared.key.KeyOfReference.TheVariants.{Prime}
 use Rattle.records.specs.Stores.{spec_of}
 use Rattle.half_store.specs.declared.stored.StoredRow.{StoredRow}
 use Rattle.records.specs.Laws.{RowsAscend}
-use Rattle.file_trees.specs.Trees.{entry_under, layout_under}
-use Rattle.file_trees.specs.Volume.{planted}
+use Rattle.volume_format.specs.Trees.{entry_under, layout_under}
+use Rattle.volume_format.specs.Volume.{tree_levels}
 use Rattle.file_recovery.specs.Found.{FindsIndexes, NoIndexes}
 use Rattle.file_recovery.specs.Rows.{IsSized}
 use Rattle.file_recovery.specs.Stored.{rows_of}
@@ -57,14 +57,14 @@ returns-clause-file g c = λ honest agrees.
     let spec = spec_of file in
     let before : List (Option Sector) = (map_now c.args.pages.now (g.D.Device.state c.args.device.now).disk.present).pages in
     let heading = heading_read entry c.key.result.now c.value-value.result.now c.key.ensures c.value-value.ensures c.args.generation c.in_ok-file.field-0 file c.next_arrival-next.result c.in-Some.is c.in_ok-file.ensures.some c.next_arrival-next.ensures (c.is_next.ensures.yes c.if-not-is_next.false) in
-    let tree : Rooted = c.new-tree.result in
+    let tree : RootedTree = c.new-tree.result in
     let layout : tree.layout ≡ layout_under spec Prime = c.new-tree.ensures.layout ∙ c.tree_layout-layout.ensures.layout in
     let found = c.in_ok-check_pages.ensures.holds honest agrees in
     let one = c.check_pages.ensures.looks in
     let two = c.read_rows.ensures.looks in
     let same = pages_kept g.D.Device (c.check_pages.result ≡ Err Device) c.args.pages.now c.check_pages.new.pages c.args.device.now c.check_pages.new.device one honest in
     let same_too = pages_kept g.D.Device (c.read_rows.result ≡ Err Device) c.check_pages.new.pages c.read_rows.new.pages c.check_pages.new.device c.read_rows.new.device two (one.only.honest.0 honest) in
-    let there_now = subst (λ (p : List (Option Sector)). Holds tree.layout p tree.root found.levels) (sym same) found.holds in
+    let there_now = subst (λ (p : List (Option Sector)). IsTreeOrEmpty tree.layout p tree.root found.levels) (sym same) found.holds in
     let rows = rows_of c.in_ok-rows.rows.items in
     let listed : entries_of tree.layout found.levels ≡ map (entry_under spec Prime) rows = c.in_ok-rows.ensures.rows (one.only.honest.0 honest) (one.agrees honest agrees) found.levels there_now in
     let up : Ascend (keys_listed (map (entry_under spec Prime) rows)) = subst (λ (es : List Entry). Ascend (keys_listed es)) listed (tree_ascends tree.layout before tree.root found.levels found.holds) in
@@ -74,7 +74,7 @@ returns-clause-file g c = λ honest agrees.
     let there = subst (λ (v : List ℕ). FindsIndexes before spec rows v (length spec.alternates) c.check_pages.new.seen c.check_alternates.new.seen) c.value-value.ensures
     (subst (λ (l : List StoredRow). FindsIndexes before spec (rows_of l) c.value-value.result.now (length spec.alternates) c.check_pages.new.seen c.check_alternates.new.seen) c.deref.ensures.value
     (subst (λ (p : List (Option Sector)). FindsIndexes p spec (rows_of c.deref.result.now) c.value-value.result.now (length spec.alternates) c.check_pages.new.seen c.check_alternates.new.seen) (same_too ∙ same) indexes)) in
-    finds_file before c.args.generation entry file.name.items spec rows c.next_arrival-next.result (planted tree found.levels) c.args.seen.now c.check_pages.new.seen c.check_alternates.new.seen heading layout
+    finds_file before c.args.generation entry file.name.items spec rows c.next_arrival-next.result (tree_levels tree found.levels) c.args.seen.now c.check_pages.new.seen c.check_alternates.new.seen heading layout
     (root_told entry c.key.result.now c.value-value.result.now c.key.ensures c.value-value.ensures tree.root (c.new-tree.ensures.root ∙ c.prime_root.ensures))
     found.holds found.marks listed c.in_ok-rows.ensures.are ascend there
 
@@ -87,7 +87,7 @@ returns-in_err-check_pages-clause-damaged g c = λ honest agrees refused.
     let few = (c.map_bounds.ensures.open c.args.pages.now (g.D.Device.state c.args.device.now).disk.present c.requires.open c.requires.unspent).1 in
     let small : length before ≤ 2 ^ 20 = omega (arith, few) in
     let heading = heading_read entry c.key.result.now c.value-value.result.now c.key.ensures c.value-value.ensures c.args.generation c.in_ok-file.field-0 file c.next_arrival-next.result c.in-Some.is c.in_ok-file.ensures.some c.next_arrival-next.ensures (c.is_next.ensures.yes c.if-not-is_next.false) in
-    let tree : Rooted = c.new-tree.result in
+    let tree : RootedTree = c.new-tree.result in
     let layout : tree.layout ≡ layout_under spec Prime = c.new-tree.ensures.layout ∙ c.tree_layout-layout.ensures.layout in
     let root = root_told entry c.key.result.now c.value-value.result.now c.key.ensures c.value-value.ensures tree.root (c.new-tree.ensures.root ∙ c.prime_root.ensures) in
     let from = rw refused at c.from_residual-in_err-check_pages.ensures.1 in
@@ -105,7 +105,7 @@ returns-in_err-rows-clause-damaged g c = λ honest agrees refused.
     let few = (c.map_bounds.ensures.open c.args.pages.now (g.D.Device.state c.args.device.now).disk.present c.requires.open c.requires.unspent).1 in
     let small : length before ≤ 2 ^ 20 = omega (arith, few) in
     let heading = heading_read entry c.key.result.now c.value-value.result.now c.key.ensures c.value-value.ensures c.args.generation c.in_ok-file.field-0 file c.next_arrival-next.result c.in-Some.is c.in_ok-file.ensures.some c.next_arrival-next.ensures (c.is_next.ensures.yes c.if-not-is_next.false) in
-    let tree : Rooted = c.new-tree.result in
+    let tree : RootedTree = c.new-tree.result in
     let layout : tree.layout ≡ layout_under spec Prime = c.new-tree.ensures.layout ∙ c.tree_layout-layout.ensures.layout in
     let root = root_told entry c.key.result.now c.value-value.result.now c.key.ensures c.value-value.ensures tree.root (c.new-tree.ensures.root ∙ c.prime_root.ensures) in
     let from = rw refused at c.from_residual-in_err-rows.ensures.1 in
@@ -115,7 +115,7 @@ returns-in_err-rows-clause-damaged g c = λ honest agrees refused.
     let same = pages_kept g.D.Device (c.check_pages.result ≡ Err Device) c.args.pages.now c.check_pages.new.pages c.args.device.now c.check_pages.new.device one honest in
     no_rows_there before c.args.generation entry small c.requires.generation file.name.items spec c.next_arrival-next.result heading tree layout root c.args.seen.now
     (λ levels holds.
-    let there_now = subst (λ (p : List (Option Sector)). Holds tree.layout p tree.root levels) (sym same) holds in
+    let there_now = subst (λ (p : List (Option Sector)). IsTreeOrEmpty tree.layout p tree.root levels) (sym same) holds in
     c.read_rows.ensures.damaged (one.only.honest.0 honest) (one.agrees honest agrees) levels there_now told)
 
 pub returns-in_err-check_alternates-clause-damaged : goal.returns-in_err-check_alternates-clause-damaged
@@ -127,7 +127,7 @@ returns-in_err-check_alternates-clause-damaged g c = λ honest agrees refused.
     let few = (c.map_bounds.ensures.open c.args.pages.now (g.D.Device.state c.args.device.now).disk.present c.requires.open c.requires.unspent).1 in
     let small : length before ≤ 2 ^ 20 = omega (arith, few) in
     let heading = heading_read entry c.key.result.now c.value-value.result.now c.key.ensures c.value-value.ensures c.args.generation c.in_ok-file.field-0 file c.next_arrival-next.result c.in-Some.is c.in_ok-file.ensures.some c.next_arrival-next.ensures (c.is_next.ensures.yes c.if-not-is_next.false) in
-    let tree : Rooted = c.new-tree.result in
+    let tree : RootedTree = c.new-tree.result in
     let layout : tree.layout ≡ layout_under spec Prime = c.new-tree.ensures.layout ∙ c.tree_layout-layout.ensures.layout in
     let root = root_told entry c.key.result.now c.value-value.result.now c.key.ensures c.value-value.ensures tree.root (c.new-tree.ensures.root ∙ c.prime_root.ensures) in
     let from = rw refused at c.from_residual-in_err-check_alternates.ensures.1 in
@@ -138,7 +138,7 @@ returns-in_err-check_alternates-clause-damaged g c = λ honest agrees refused.
     let found = c.in_ok-check_pages.ensures.holds honest agrees in
     let two = c.read_rows.ensures.looks in
     let same_too = pages_kept g.D.Device (c.read_rows.result ≡ Err Device) c.check_pages.new.pages c.read_rows.new.pages c.check_pages.new.device c.read_rows.new.device two (one.only.honest.0 honest) in
-    let there_now = subst (λ (p : List (Option Sector)). Holds tree.layout p tree.root found.levels) (sym same) found.holds in
+    let there_now = subst (λ (p : List (Option Sector)). IsTreeOrEmpty tree.layout p tree.root found.levels) (sym same) found.holds in
     let rows = rows_of c.in_ok-rows.rows.items in
     let listed : entries_of tree.layout found.levels ≡ map (entry_under spec Prime) rows = c.in_ok-rows.ensures.rows (one.only.honest.0 honest) (one.agrees honest agrees) found.levels there_now in
     let up : Ascend (keys_listed (map (entry_under spec Prime) rows)) = subst (λ (es : List Entry). Ascend (keys_listed es)) listed (tree_ascends tree.layout before tree.root found.levels found.holds) in

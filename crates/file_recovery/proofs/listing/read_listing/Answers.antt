@@ -3,7 +3,7 @@ use Rattle.std.specs.Prelude.{Option, Ok}
 use Rattle.records.specs.declared.file_spec.FileSpec.{FileSpec}
 use Rattle.records.specs.Spec.{Spec}
 use Rattle.records.specs.Stores.{spec_of}
-use Rattle.file_trees.specs.Catalog.{padded, spelled}
+use Rattle.volume_format.specs.Catalog.{padded_name, listing_bytes}
 use Rattle.file_recovery.specs.Read.{IfRead, listing_in}
 use Rattle.file_recovery.proofs.ReadBack.{from_none, listing_back}
 use Rattle.file_recovery.proofs.listing.read_listing.Goals as goal
@@ -15,6 +15,6 @@ pub returns-then-not-is_own-clause-none : goal.returns-then-not-is_own-clause-no
 returns-then-not-is_own-clause-none c = λ told name l named is key value.
     let read = subst (λ (o : Option FileSpec). IfRead (Ok o) (λ f. (f.name.items ≡ name) × (spec_of f ≡ l.spec))) c.in-Some.is (c.in_ok-file.ensures.spec name l named is.spec key value) in
     let again : listing_in (spec_of c.in-Some.file) c.args.value.now ≡ l = ap (λ (s : Spec). listing_in s c.args.value.now) read.1 ∙ listing_back l c.args.value.now is value in
-    let own = c.in_ok-is_own.ensures.no (key ∙ ap padded (sym read.0)) (value ∙ ap spelled (sym again)) in
+    let own = c.in_ok-is_own.ensures.no (key ∙ ap padded_name (sym read.0)) (value ∙ ap listing_bytes (sym again)) in
     let both : true ≡ false = sym own ∙ c.if-not-is_own.true in
     absurd {0} cc

@@ -5,7 +5,7 @@ use Rattle.std.proofs.lemmas.List.{length-map}
 use Rattle.station.specs.Disk.{Sector}
 use Rattle.pages.specs.Pages.{map_now}
 use Rattle.btree.specs.Entries.{Entry, entries_of}
-use Rattle.btree.specs.Tree.{Holds}
+use Rattle.btree.specs.Tree.{IsTreeOrEmpty}
 use Rattle.btree.proofs.There.{tree_ascends}
 use Rattle.records.specs.declared.fault.StoreFault.TheVariants.{Device, Damaged}
 use Rattle.records.specs.Stores.{spec_of}
@@ -36,7 +36,7 @@ loop-turn-preserved g c =
           let root = c.args.tree.now.root in
           let entries : List Entry = entries_of layout levels in
           let same = pages_kept g.D.Device ⊥ c.args.pages.now loop.pages c.args.device.now loop.device looks honest in
-          let there_now = subst (λ (p : List (Option Sector)). Holds layout p root levels) (sym same) holds in
+          let there_now = subst (λ (p : List (Option Sector)). IsTreeOrEmpty layout p root levels) (sym same) holds in
           let is : entry_at loop.turn entries ≡ Some c.in-Some.entry = sym (loop.invariant.next_is honest agrees levels holds) ∙ c.in-Some.is in
           let ascend = tree_ascends layout (map_now c.args.pages.now (g.D.Device.state c.args.device.now).disk.present).pages root levels holds in
           c.in_ok-next-in-Some.ensures.entry (looks.only.honest.0 honest) (looks.agrees honest agrees) levels there_now
@@ -90,7 +90,7 @@ returns-in_err-next-in-Some-clause-damaged g c = λ up honest agrees levels hold
     let told : c.next_in.result ≡ Err Damaged = c.in_err-next-in-Some.was ∙ ap Err fault in
     let looks = c.loop-turn.invariant.looks in
     let same = pages_kept g.D.Device ⊥ c.args.pages.now c.loop-turn.pages c.args.device.now c.loop-turn.device looks honest in
-    let there_now = subst (λ (p : List (Option Sector)). Holds c.args.tree.now.layout p c.args.tree.now.root levels) (sym same) holds in
+    let there_now = subst (λ (p : List (Option Sector)). IsTreeOrEmpty c.args.tree.now.layout p c.args.tree.now.root levels) (sym same) holds in
     c.next_in.ensures.damaged (looks.only.honest.0 honest) (looks.agrees honest agrees) told levels there_now
 
 pub returns-in-Some-next-clause-damaged : goal.returns-in-Some-next-clause-damaged

@@ -4,16 +4,16 @@ use Rattle.std.specs.List.{AllByRecursion}
 use Rattle.std.proofs.lemmas.List.{map-append}
 use Rattle.station.specs.Disk.{Sector}
 use Rattle.pages.specs.Pages.{map_now}
-use Rattle.tree_pages.specs.declared.row_layout.RowLayout.{RowLayout}
+use Rattle.btree_pages.specs.declared.row_layout.RowLayout.{RowLayout}
 use Rattle.btree.specs.Entries.{Entry, HasLengths, entries_of}
-use Rattle.btree.specs.Tree.{Holds}
+use Rattle.btree.specs.Tree.{IsTreeOrEmpty}
 use Rattle.btree.proofs.There.{tree_ascends}
 use Rattle.records.specs.declared.fault.StoreFault.TheVariants.{Device, Damaged}
 use Rattle.records.specs.declared.key.KeyOfReference.TheVariants.{Prime}
 use Rattle.records.specs.Files.{IsRow}
 use Rattle.records.specs.Rows.{Row}
 use Rattle.records.specs.Stores.{spec_of}
-use Rattle.file_trees.specs.Trees.{entry_under}
+use Rattle.volume_format.specs.Trees.{entry_under}
 use Rattle.file_recovery.specs.Stored.{rows_of}
 use Rattle.file_recovery.proofs.Calling.{looks_blamed, looks_then, pages_kept}
 use Rattle.file_recovery.proofs.Entered.{all_behind}
@@ -51,7 +51,7 @@ loop-turn-preserved g c =
           let root = c.args.tree.now.root in
           let entries : List Entry = entries_of layout levels in
           let same = pages_kept g.D.Device ⊥ c.args.pages.now loop.pages c.args.device.now loop.device looks honest in
-          let there_now = subst (λ (p : List (Option Sector)). Holds layout p root levels) (sym same) holds in
+          let there_now = subst (λ (p : List (Option Sector)). IsTreeOrEmpty layout p root levels) (sym same) holds in
           let is : entry_at loop._turn entries ≡ Some c.in-Some.entry = sym (loop.invariant.next_is honest agrees levels holds) ∙ c.in-Some.is in
           let ascend = tree_ascends layout (map_now c.args.pages.now (g.D.Device.state c.args.device.now).disk.present).pages root levels holds in
           c.in_ok-next-in-Some.ensures.entry (looks.only.honest.0 honest) (looks.agrees honest agrees) levels there_now
@@ -102,5 +102,5 @@ returns-in_err-next-in-Some-clause-damaged g c = λ honest agrees levels holds r
     let told : c.next_in.result ≡ Err Damaged = c.in_err-next-in-Some.was ∙ ap Err fault in
     let looks = c.loop-turn.invariant.looks in
     let same = pages_kept g.D.Device ⊥ c.args.pages.now c.loop-turn.pages c.args.device.now c.loop-turn.device looks honest in
-    let there_now = subst (λ (p : List (Option Sector)). Holds c.args.tree.now.layout p c.args.tree.now.root levels) (sym same) holds in
+    let there_now = subst (λ (p : List (Option Sector)). IsTreeOrEmpty c.args.tree.now.layout p c.args.tree.now.root levels) (sym same) holds in
     c.next_in.ensures.damaged (looks.only.honest.0 honest) (looks.agrees honest agrees) told levels there_now

@@ -6,7 +6,7 @@ use Rattle.btree.specs.Entries.{HasLengths, entries_of}
 use Rattle.records.specs.declared.key.KeyOfReference.TheVariants.{Prime}
 use Rattle.records.specs.Files.{IsRow}
 use Rattle.records.specs.Stores.{spec_of}
-use Rattle.file_trees.specs.Trees.{entry_under}
+use Rattle.volume_format.specs.Trees.{entry_under}
 use Rattle.file_recovery.specs.Calls.{LooksAt}
 use Rattle.file_recovery.specs.Stored.{rows_of}
 use Rattle.file_recovery.proofs.Walks.{entry_at}

@@ -2,7 +2,7 @@ use Rattle.std.proofs.Common.{inr, List, sym, subst}
 use Rattle.station.specs.Disk.{Sector}
 use Rattle.pages.specs.Layout.{IsForeign}
 use Rattle.half_store.specs.Half.{Holds as HoldsHalf}
-use Rattle.half_store.specs.Opened.{Refused as RefusedHalf}
+use Rattle.half_store.specs.Opened.{IsOpenRefusal as RefusedHalf}
 use Rattle.std.specs.Prelude.{IfErr}
 use Rattle.file_recovery.specs.Recovered.{RefusedTrees}
 use Rattle.file_recovery.specs.Stored.{files_of}

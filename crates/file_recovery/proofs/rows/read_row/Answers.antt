@@ -3,7 +3,7 @@ use Rattle.records.specs.declared.key.KeyOfReference.TheVariants.{Prime}
 use Rattle.records.specs.Files.{IsRow}
 use Rattle.records.specs.Rows.{Row, pair_under}
 use Rattle.records.specs.Stores.{spec_of}
-use Rattle.file_trees.specs.Trees.{key_under, row_value}
+use Rattle.volume_format.specs.Trees.{key_under, row_value}
 use Rattle.file_recovery.specs.Stored.{row_of}
 use Rattle.file_recovery.proofs.ReadBack.{row_back}
 use Rattle.file_recovery.proofs.rows.read_row.Goals as goal

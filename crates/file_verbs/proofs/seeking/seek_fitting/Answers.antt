@@ -1,7 +1,7 @@
 use Rattle.std.proofs.Common.{◌≡◌, true, false, sym, ◌∙◌, ap, List, ℕ}
 use Rattle.records.specs.Rows.{Pair}
 use Rattle.records.specs.Stores.{spec_of}
-use Rattle.records.specs.Steps.{named, if_fits}
+use Rattle.records.specs.Steps.{area_pair, if_fits}
 use Rattle.records.specs.FileStep.{area}
 use Rattle.file_verbs.specs.Links.{number_of}
 use Rattle.file_verbs.proofs.Told.{bound_is, told_none, told_some, named_is}
@@ -10,7 +10,7 @@ use Rattle.file_verbs.proofs.seeking.seek_fitting.Goals as goal
 pub returns-in_default-clause-found : goal.returns-in_default-clause-found
 returns-in_default-clause-found g c = λ files held stands has.
     let s = spec_of c.args.file.now in
-    let place = named s s.organization c.args.key c.args.count (area c.args.bytes.now c.args.number) in
+    let place = area_pair s s.organization c.args.key c.args.count (area c.args.bytes.now c.args.number) in
     told_none s c.args.key held.rows c.args.relation place c.seek.new.bytes _
     (bound_is s c.args.key c.args.relation c.args.count c.args.bytes.now c.args.number c.side_for-side.result c.key_bytes-value.result.now c.number_named-from.result c.args.file.now.sound c.requires.key c.requires.count c.side_for-side.ensures c.key_bytes-value.ensures c.number_named-from.ensures)
     (sym c.in_default.is ∙ c.in_ok-found.ensures.found files held stands has)
@@ -18,7 +18,7 @@ returns-in_default-clause-found g c = λ files held stands has.
 pub returns-then-is_fitting-clause-found : goal.returns-then-is_fitting-clause-found
 returns-then-is_fitting-clause-found g c = λ files held stands has.
     let s = spec_of c.args.file.now in
-    let place = named s s.organization c.args.key c.args.count (area c.args.bytes.now c.args.number) in
+    let place = area_pair s s.organization c.args.key c.args.count (area c.args.bytes.now c.args.number) in
     let same : place ≡ record { value = c.key_bytes-value.result.now; number = c.number_named-from.result } =
     named_is s c.args.key c.args.count c.args.bytes.now c.args.number c.args.file.now.sound c.requires.key c.requires.count
     ∙ ap (λ (v : List ℕ). let p : Pair = record { value = v; number = number_of s.organization c.args.number } in p) (sym c.key_bytes-value.ensures)
@@ -32,7 +32,7 @@ returns-then-is_fitting-clause-found g c = λ files held stands has.
 pub returns-else-is_fitting-clause-found : goal.returns-else-is_fitting-clause-found
 returns-else-is_fitting-clause-found g c = λ files held stands has.
     let s = spec_of c.args.file.now in
-    let place = named s s.organization c.args.key c.args.count (area c.args.bytes.now c.args.number) in
+    let place = area_pair s s.organization c.args.key c.args.count (area c.args.bytes.now c.args.number) in
     let same : place ≡ record { value = c.key_bytes-value.result.now; number = c.number_named-from.result } =
     named_is s c.args.key c.args.count c.args.bytes.now c.args.number c.args.file.now.sound c.requires.key c.requires.count
     ∙ ap (λ (v : List ℕ). let p : Pair = record { value = v; number = number_of s.organization c.args.number } in p) (sym c.key_bytes-value.ensures)

@@ -3,7 +3,7 @@ use Rattle.std.proofs.lemmas.List.{get_or_read}
 use Rattle.records.specs.declared.file_spec.Organization.{Organization}
 use Rattle.half_store.specs.Changing.{Becomes}
 use Rattle.records.specs.Files.{File}
-use Rattle.records.specs.Changes.{removed}
+use Rattle.records.specs.Changes.{removal}
 use Rattle.records.specs.Laws.{RowsAscend}
 use Rattle.records.specs.Spec.{Spec}
 use Rattle.records.specs.Stores.{pair_of}
@@ -24,5 +24,5 @@ returns-in-Some-clause-becomes c = λ held has are.
     let is : held ≡ file_of old = held_is files c.args.spec.now place old held here found has in
     let ascend : RowsAscend old.spec.organization (map row_of old.rows.items) = subst (λ (f : File). RowsAscend f.spec.organization f.rows) is (there_is_file c.args.spec.now.name.items held (files_of files) are has.there).ascend in
     let same : old.spec.organization ≡ c.args.spec.now.organization = ap (λ (f : File). f.spec.organization) (sym is) ∙ ap (λ (s : Spec). s.organization) has.spec in
-    becomes_in files c.args.spec.now place old c.remove_row.new.file held c.remove_row.result (λ (f : File). removed (pair_of c.args.spec.now.organization c.args.key.now c.args.number) f) lt here found has are
-    (subst (λ (o : Organization). Becomes c.remove_row.result (removed (pair_of o c.args.key.now c.args.number) (file_of old)) old c.remove_row.new.file) same (c.remove_row.ensures.becomes ascend))
+    becomes_in files c.args.spec.now place old c.remove_row.new.file held c.remove_row.result (λ (f : File). removal (pair_of c.args.spec.now.organization c.args.key.now c.args.number) f) lt here found has are
+    (subst (λ (o : Organization). Becomes c.remove_row.result (removal (pair_of o c.args.key.now c.args.number) (file_of old)) old c.remove_row.new.file) same (c.remove_row.ensures.becomes ascend))

@@ -1,7 +1,7 @@
 use Rattle.std.proofs.Common.{◌≡◌, ◌<◌, List, length, get_or, map, sym, subst}
 use Rattle.std.proofs.lemmas.List.{get_or_read}
 use Rattle.records.specs.Files.{File}
-use Rattle.records.specs.Changes.{replaced}
+use Rattle.records.specs.Changes.{replacement}
 use Rattle.records.specs.Laws.{RowsAscend}
 use Rattle.records.proofs.Changed.{there_is_file}
 use Rattle.half_store.specs.Stored.{row_of, file_of, files_of}
@@ -19,4 +19,4 @@ returns-in-Some-clause-becomes c = λ held has are.
     let found = found_there files c.deref.result.now c.args.spec.now.name.items c.deref-2.result.now place old c.deref.ensures.value c.deref-2.ensures.value (c.in-Some.ensures.found old) in
     let is : held ≡ file_of old = held_is files c.args.spec.now place old held here found has in
     let ascend : RowsAscend old.spec.organization (map row_of old.rows.items) = subst (λ (f : File). RowsAscend f.spec.organization f.rows) is (there_is_file c.args.spec.now.name.items held (files_of files) are has.there).ascend in
-    becomes_in files c.args.spec.now place old c.replace_row.new.file held c.replace_row.result (λ (f : File). replaced c.args.number c.args.bytes.now f) lt here found has are (c.replace_row.ensures.becomes ascend)
+    becomes_in files c.args.spec.now place old c.replace_row.new.file held c.replace_row.result (λ (f : File). replacement c.args.number c.args.bytes.now f) lt here found has are (c.replace_row.ensures.becomes ascend)

@@ -2,7 +2,7 @@ use Rattle.std.proofs.Common.{◌≡◌, ◌+◌, ◌∙◌, false, true, ℕ, s
 use Rattle.station.specs.Disk.{sector_at}
 use Rattle.station.specs.State.{State}
 use Rattle.station.proofs.Calls.{reads_then}
-use Rattle.half_store.specs.Half.{joined}
+use Rattle.half_store.specs.Half.{bytes_of_sectors}
 use Rattle.half_store.proofs.opening.read_sectors.Goals as goal
 
 pub overflow_add-from : goal.overflow_add-from
@@ -20,6 +20,6 @@ loop-sector-preserved g c =
       bytes = λ honest.
           c.in_ok-extend_from_slice.ensures.items
           ∙ ap (λ (l : List ℕ). l ++ c.in_ok-part.part) (before.bytes honest)
-          ∙ ap (λ (l : List ℕ). joined (state c.args.device.now).disk.present from k ++ l) (c.in_ok-part.ensures.bytes (before.only.honest.0 honest) ∙ ap (λ (s : State). sector_at s.disk.present (from + k)) (before.only.state honest))
-          ∙ ap (joined (state c.args.device.now).disk.present from) (let e : suc k ≡ k + 1 = omega arith in e);
+          ∙ ap (λ (l : List ℕ). bytes_of_sectors (state c.args.device.now).disk.present from k ++ l) (c.in_ok-part.ensures.bytes (before.only.honest.0 honest) ∙ ap (λ (s : State). sector_at s.disk.present (from + k)) (before.only.state honest))
+          ∙ ap (bytes_of_sectors (state c.args.device.now).disk.present from) (let e : suc k ≡ k + 1 = omega arith in e);
     }

@@ -4,7 +4,7 @@ use Rattle.std.specs.declared.alloc.Global.{Global}
 use Rattle.station.specs.State.{State}
 use Rattle.records.specs.Files.{AreFiles}
 use Rattle.half_store.specs.Half.{named_bytes, AreEarly}
-use Rattle.half_store.specs.Spelled.{spelled}
+use Rattle.half_store.specs.Spelled.{files_bytes}
 use Rattle.half_store.specs.Stored.{files_of}
 use Rattle.half_store.specs.declared.stored.StoredFile.{StoredFile}
 use Rattle.half_store.proofs.Rested.{is_none}
@@ -35,6 +35,6 @@ returns-clause-holds g c = λ honest.
     let honest' = c.in_ok-roots.ensures.only.honest.0 honest in
     let bytes = c.in_ok-bytes.bytes.items in
     let named = c.in_ok-bytes.ensures.bytes honest' ∙ ap (λ (s : State). named_bytes s.disk.present roots.newest) (c.in_ok-roots.ensures.only.state honest) in
-    let some = subst (λ (o : Option (Vec StoredFile Global)). IfSome o (λ files. (c.deref.result.now ≡ spelled (files_of files.items)) × AreFiles (files_of files.items) × AreEarly roots.newest.generation (files_of files.items))) c.in-Some.is c.in_ok-files.ensures.some in
+    let some = subst (λ (o : Option (Vec StoredFile Global)). IfSome o (λ files. (c.deref.result.now ≡ files_bytes (files_of files.items)) × AreFiles (files_of files.items) × AreEarly roots.newest.generation (files_of files.items))) c.in-Some.is c.in_ok-files.ensures.some in
     holds_now (g.D.Device.state c.args.device.now).disk.present roots bytes (files_of c.in-Some.files.items) (c.in_ok-roots.ensures.roots honest)
     (c.are_half_roots.ensures.yes c.if-not-are_half_roots.false) named c.in_ok-bytes.ensures.long (sym c.deref.ensures.value ∙ some.0, some.1, some.2)

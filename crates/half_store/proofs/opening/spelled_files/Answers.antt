@@ -6,7 +6,7 @@ use Rattle.records.proofs.Maps.{bytes_same, same_itself}
 use Rattle.half_store.specs.Read.{IfRead}
 use Rattle.half_store.specs.Half.{AreEarly}
 use Rattle.records.specs.Files.{AreFiles}
-use Rattle.half_store.specs.Spelled.{spelled}
+use Rattle.half_store.specs.Spelled.{files_bytes}
 use Rattle.half_store.specs.Stored.{files_of}
 use Rattle.half_store.specs.declared.stored.StoredFile.{StoredFile}
 use Rattle.half_store.proofs.Rested.{from_none, readable}
@@ -27,7 +27,7 @@ pub returns-then-not-is_same-clause-none : goal.returns-then-not-is_same-clause-
 returns-then-not-is_same-clause-none c = λ told files is are early.
     let read = subst (λ (o : Option (Vec StoredFile Global)). IfRead (Ok o) (λ found. files_of found.items ≡ files)) c.in-Some.is
     (c.in_ok-files.ensures.files files (readable c.args.generation files c.requires are.each early) is) in
-    let again : c.deref-3.result.now ≡ c.args.bytes.now = c.deref-3.ensures.value ∙ c.in_ok-again.ensures.bytes ∙ ap (λ (l : List StoredFile). spelled (files_of l)) c.deref-2.ensures.value ∙ ap spelled read ∙ sym is in
+    let again : c.deref-3.result.now ≡ c.args.bytes.now = c.deref-3.ensures.value ∙ c.in_ok-again.ensures.bytes ∙ ap (λ (l : List StoredFile). files_bytes (files_of l)) c.deref-2.ensures.value ∙ ap files_bytes read ∙ sym is in
     let both : true ≡ false = sym (ap (λ (l : List ℕ). same_bytes l c.args.bytes.now) again ∙ same_itself c.args.bytes.now) ∙ sym c.is_same.ensures ∙ c.if-not-is_same.true in
     absurd {0} cc
 
@@ -35,7 +35,7 @@ pub returns-clause-some : goal.returns-clause-some
 returns-clause-some c =
     let yes = c.are_files.ensures.yes c.if-not-are_files.false in
     let same = c.deref.ensures.value in (
-      sym (bytes_same c.deref-3.result.now c.args.bytes.now (sym c.is_same.ensures ∙ c.if-not-is_same.false)) ∙ c.deref-3.ensures.value ∙ c.in_ok-again.ensures.bytes ∙ ap (λ (l : List StoredFile). spelled (files_of l)) c.deref-2.ensures.value,
+      sym (bytes_same c.deref-3.result.now c.args.bytes.now (sym c.is_same.ensures ∙ c.if-not-is_same.false)) ∙ c.deref-3.ensures.value ∙ c.in_ok-again.ensures.bytes ∙ ap (λ (l : List StoredFile). files_bytes (files_of l)) c.deref-2.ensures.value,
       subst (λ (l : List StoredFile). AreFiles (files_of l)) same yes.0,
       subst (λ (l : List StoredFile). AreEarly c.args.generation (files_of l)) same yes.1,
     )

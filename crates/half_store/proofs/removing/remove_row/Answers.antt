@@ -2,7 +2,7 @@ use Rattle.std.proofs.Common.{◌≡◌, ◌<◌, ◌∙◌, List, length, get_o
 use Rattle.std.specs.Prelude.{Ok}
 use Rattle.records.specs.declared.answer.Outcome.TheVariants.{Done}
 use Rattle.records.specs.Rows.{Row}
-use Rattle.records.specs.Changes.{Changed}
+use Rattle.records.specs.Changes.{FileChange}
 use Rattle.records.specs.Stores.{pair_of}
 use Rattle.half_store.specs.Changing.{Becomes}
 use Rattle.half_store.specs.Stored.{row_of, file_of}
@@ -22,7 +22,7 @@ returns-in-Some-clause-becomes c = λ ascend.
     let here : get_or rows place old ≡ old = sym c.remove.ensures.value in
     let found = found_row o pair pair rows c.deref.result.now place old c.deref.ensures.value refl here (c.in-Some.ensures.found old) in
     let new = record file { rows = c.remove.new.self } in
-    subst (λ (changed : Changed). Becomes (Ok Done) changed file new) (sym (removed_done (file_of file) pair (row_of old) found.0)) (record {
+    subst (λ (changed : FileChange). Becomes (Ok Done) changed file new) (sym (removed_done (file_of file) pair (row_of old) found.0)) (record {
       outcome = refl;
       after = ap (λ (l : List Row). record (file_of file) { rows = l }) (ap (map row_of) c.remove.ensures.items ∙ without_at o pair rows place old lt ascend found.1);
       spec = refl;

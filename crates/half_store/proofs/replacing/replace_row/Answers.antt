@@ -5,7 +5,7 @@ use Rattle.std.proofs.lemmas.List.{get_or_read}
 use Rattle.records.specs.declared.file_spec.AlternateKey.{AlternateKey}
 use Rattle.records.specs.declared.answer.Outcome.TheVariants.{Taken}
 use Rattle.records.specs.Rows.{Row, Pair, named_pair}
-use Rattle.records.specs.Changes.{Changed, done, is_taken, is_duplicate, changes, without, in_place, changed_row, arrivals_after}
+use Rattle.records.specs.Changes.{FileChange, done_outcome, is_taken, is_duplicate, changes, without_pair, in_place, changed_row, arrivals_after}
 use Rattle.records.specs.Stores.{is_change, pair_of}
 use Rattle.half_store.specs.Changing.{Becomes}
 use Rattle.half_store.specs.Stored.{row_of, file_of}
@@ -29,10 +29,10 @@ returns-then-has_other_taken-clause-becomes c = λ ascend.
     let lt : place < length rows = subst (λ (l : List StoredRow). place < length l) c.deref.ensures.value c.in-Some.ensures.bound in
     let here : get_or rows place old ≡ old = sym (get_or_read rows place old lt c.index-old.ensures old) in
     let found = found_row o seen pair rows c.deref.result.now place old c.deref.ensures.value named here (c.in-Some.ensures.found old) in
-    let T : List ℕ → List AlternateKey → Pair → List StoredRow → Bool = λ old keys pair rows. is_taken (filter (changes old bytes) keys) (without o pair (map row_of rows)) bytes in
+    let T : List ℕ → List AlternateKey → Pair → List StoredRow → Bool = λ old keys pair rows. is_taken (filter (changes old bytes) keys) (without_pair o pair (map row_of rows)) bytes in
     let taken : T old.bytes.items file.spec.alternates.items pair rows ≡ true = sym (c.has_other_taken.ensures ∙ four T c.deref-3.result.now old.bytes.items c.as_slice-keys.result.now file.spec.alternates.items seen pair c.deref-2.result.now rows
     c.deref-3.ensures.value c.as_slice-keys.ensures.value named c.deref-2.ensures.value) ∙ c.if-has_other_taken.true in
-    subst (λ (changed : Changed). Becomes (Ok Taken) changed file file) (sym (replaced_taken (file_of file) c.args.number bytes (row_of old) found.0 taken)) (record {
+    subst (λ (changed : FileChange). Becomes (Ok Taken) changed file file) (sym (replaced_taken (file_of file) c.args.number bytes (row_of old) found.0 taken)) (record {
       outcome = refl;
       after = refl;
       spec = refl;
@@ -59,8 +59,8 @@ returns-clause-becomes c = λ ascend.
     let lt : place < length rows = subst (λ (l : List StoredRow). place < length l) c.deref.ensures.value c.in-Some.ensures.bound in
     let here : get_or rows place old ≡ old = sym (get_or_read rows place old lt c.index-old.ensures old) in
     let found = found_row o seen pair rows c.deref.result.now place old c.deref.ensures.value named here (c.in-Some.ensures.found old) in
-    let T : List ℕ → List AlternateKey → Pair → List StoredRow → Bool = λ old keys pair rows. is_taken (filter (changes old bytes) keys) (without o pair (map row_of rows)) bytes in
-    let D : List ℕ → List AlternateKey → Pair → List StoredRow → Bool = λ old keys pair rows. is_duplicate (filter (changes old bytes) keys) (without o pair (map row_of rows)) bytes in
+    let T : List ℕ → List AlternateKey → Pair → List StoredRow → Bool = λ old keys pair rows. is_taken (filter (changes old bytes) keys) (without_pair o pair (map row_of rows)) bytes in
+    let D : List ℕ → List AlternateKey → Pair → List StoredRow → Bool = λ old keys pair rows. is_duplicate (filter (changes old bytes) keys) (without_pair o pair (map row_of rows)) bytes in
     let free : T old.bytes.items keys pair rows ≡ false = sym (c.has_other_taken.ensures ∙ four T c.deref-3.result.now old.bytes.items c.as_slice-keys.result.now keys seen pair c.deref-2.result.now rows
     c.deref-3.ensures.value c.as_slice-keys.ensures.value named c.deref-2.ensures.value) ∙ c.if-has_other_taken.false in
     let twice : c.has_other_duplicate-duplicate.result ≡ D old.bytes.items keys pair rows = c.has_other_duplicate-duplicate.ensures ∙ four D c.deref-5.result.now old.bytes.items c.as_slice-keys.result.now keys seen pair c.deref-4.result.now rows
@@ -70,9 +70,9 @@ returns-clause-becomes c = λ ascend.
     ∙ ap (λ (l : List ℕ). C l c.as_slice-keys.result.now) c.deref-6.ensures.value ∙ ap (C old.bytes.items) c.as_slice-keys.ensures.value in
     let is : row_of row ≡ changed_row (file_of file) bytes (row_of old) = c.in_ok-row.ensures.row
     ∙ ap (λ (l : List AlternateKey). let r : Row = record { number = old.number; bytes = bytes; arrivals = arrivals_after old.bytes.items bytes next l old.arrivals.items } in r) c.as_slice-keys.ensures.value in
-    let told : c.outcome_of.result ≡ done (D old.bytes.items keys pair rows) = c.outcome_of.ensures ∙ ap done twice in
+    let told : c.outcome_of.result ≡ done_outcome (D old.bytes.items keys pair rows) = c.outcome_of.ensures ∙ ap done_outcome twice in
     let new : StoredFile = record file { rows = with_item file.rows place row; next_arrival = c.next_after-file.result } in
-    subst (λ (changed : Changed). Becomes (Ok c.outcome_of.result) changed file new) (sym (replaced_done (file_of file) c.args.number bytes (row_of old) found.0 free)) (record {
+    subst (λ (changed : FileChange). Becomes (Ok c.outcome_of.result) changed file new) (sym (replaced_done (file_of file) c.args.number bytes (row_of old) found.0 free)) (record {
       outcome = told;
       after = ap (λ (l : List Row). record (file_of file) { rows = l; next_arrival = c.next_after-file.result })
           (in_place_at o pair rows place old row lt ascend found.1 ∙ ap (λ (r : Row). in_place o pair r (map row_of rows)) is)

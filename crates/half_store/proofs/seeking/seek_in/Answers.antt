@@ -3,19 +3,19 @@ use Rattle.half_store.proofs.Sought.{long_at}
 use Rattle.std.proofs.lemmas.List.{get_or_read}
 use Rattle.std.proofs.Common.{◌≡◌, length, get_or, arith, map, sym, ◌∙◌, ap}
 use Rattle.std.specs.Option.{option_map}
-use Rattle.records.specs.Order.{found}
-use Rattle.records.specs.Stores.{spec_of, bound, record_of}
+use Rattle.records.specs.Order.{found_row}
+use Rattle.records.specs.Stores.{spec_of, bound_at, record_of}
 use Rattle.half_store.specs.Stored.{row_of}
 use Rattle.half_store.proofs.Sought.{none_from}
 use Rattle.half_store.proofs.seeking.seek_in.Goals as goal
 
 pub returns-in-None-clause-found : goal.returns-in-None-clause-found
-returns-in-None-clause-found c = λ ascend. sym (ap (option_map (found (spec_of c.args.spec.now) c.args.key (map row_of c.args.rows.now)))
-    (none_from (spec_of c.args.spec.now) c.args.key (bound c.args.side c.args.value.now c.args.number) c.args.rows.now (c.in-None.ensures.row ascend)))
+returns-in-None-clause-found c = λ ascend. sym (ap (option_map (found_row (spec_of c.args.spec.now) c.args.key (map row_of c.args.rows.now)))
+    (none_from (spec_of c.args.spec.now) c.args.key (bound_at c.args.side c.args.value.now c.args.number) c.args.rows.now (c.in-None.ensures.row ascend)))
 
 pub returns-in-None-clause-bytes : goal.returns-in-None-clause-bytes
 returns-in-None-clause-bytes c = λ ascend. sym (ap (record_of c.args.bytes.now)
-    (none_from (spec_of c.args.spec.now) c.args.key (bound c.args.side c.args.value.now c.args.number) c.args.rows.now (c.in-None.ensures.row ascend)))
+    (none_from (spec_of c.args.spec.now) c.args.key (bound_at c.args.side c.args.value.now c.args.number) c.args.rows.now (c.in-None.ensures.row ascend)))
 
 pub returns-then-len-bytes-clause-sound : goal.returns-then-len-bytes-clause-sound
 returns-then-len-bytes-clause-sound c = λ all.

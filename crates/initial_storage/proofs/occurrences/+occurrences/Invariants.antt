@@ -1,5 +1,5 @@
 use Rattle.std.proofs.Common.{◌≡◌, ◌≤◌, length, ◌+◌, ◌*◌, ◌++◌}
-use Rattle.source_tree.specs.Levels.{nested}
+use Rattle.source_tree.specs.Levels.{forest_of}
 use Rattle.source_tree.specs.Rooms.{room}
 use Rattle.source_tree.specs.Starts.{start}
 use Rattle.initial_storage.specs.Fits.{Fits}
@@ -19,10 +19,10 @@ decreases-put_group l = 4 * length l.entries.now
 
 abbrev pub invariant-put_group-items : goal.invariant-put_group-items
 invariant-put_group-items l = record {
-  fits : Fits l.around (nested l.rest);
+  fits : Fits l.around (forest_of l.rest);
   shorter : length l.rest ≤ length l.entries;
-  bytes : l.out.items ++ start l.around (nested l.rest) ≡ l.initial.out.items ++ start l.around (nested l.entries);
-  room : length l.out.items + room l.around (nested l.rest) ≡ length l.initial.out.items + room l.around (nested l.entries);
+  bytes : l.out.items ++ start l.around (forest_of l.rest) ≡ l.initial.out.items ++ start l.around (forest_of l.entries);
+  room : length l.out.items + room l.around (forest_of l.rest) ≡ length l.initial.out.items + room l.around (forest_of l.entries);
 }
 
 abbrev pub decreases-put_group-items : goal.decreases-put_group-items

@@ -1,6 +1,6 @@
 use Rattle.std.proofs.Common.{◌≡◌, length}
 use Rattle.std.specs.Prelude.{slice_get}
-use Rattle.source_tree.specs.Levels.{nested}
+use Rattle.source_tree.specs.Levels.{forest_of}
 use Rattle.source_tree.specs.Clauses.{nothing_around}
 use Rattle.initial_storage.specs.Fits.{Fits}
 use Rattle.initial_storage.specs.Formed.{AreFormed}
@@ -9,9 +9,9 @@ use Rattle.initial_storage.proofs.outlines.item_at.Given as goal
 
 abbrev pub invariant-items : goal.invariant-items
 invariant-items l = record {
-  fits : Fits l.around (nested l.rest);
-  formed : AreFormed l.around (nested l.rest);
-  same : slice_get (outlines l.around (nested l.rest)) l.left ≡ slice_get (outlines nothing_around (nested l.entries)) l.number;
+  fits : Fits l.around (forest_of l.rest);
+  formed : AreFormed l.around (forest_of l.rest);
+  same : slice_get (outlines l.around (forest_of l.rest)) l.left ≡ slice_get (outlines nothing_around (forest_of l.entries)) l.number;
 }
 
 abbrev pub decreases-items : goal.decreases-items

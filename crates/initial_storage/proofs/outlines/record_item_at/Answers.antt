@@ -1,7 +1,7 @@
 use Rattle.std.proofs.Common.{◌+◌, ◌-◌, ◌<◌, ◌≤◌, length, drop, subst, sym, ap, ◌∙◌}
 use Rattle.std.specs.Prelude.{slice_get}
 use Rattle.std.specs.List.{AllByRecursion}
-use Rattle.source_tree.specs.Levels.{nested}
+use Rattle.source_tree.specs.Levels.{forest_of}
 use Rattle.source_tree.specs.Clauses.{nothing_around}
 use Rattle.initial_storage.specs.Fits.{FitsFile}
 use Rattle.initial_storage.specs.Formed.{FormsFile}
@@ -16,10 +16,10 @@ returns-then-left-within c =
     let one = c.file-item.result in
     let left = c.loop-file.left in
     let rest = rest_at files i one c.loop-file-test.true c.file-item.is in
-    let own = outlines nothing_around (nested one.entries) in
-    let same = ap (λ l. outlines nothing_around (nested l)) c.as_slice-entries.ensures in
+    let own = outlines nothing_around (forest_of one.entries) in
+    let same = ap (λ l. outlines nothing_around (forest_of l)) c.as_slice-entries.ensures in
     let few : left < length own = subst (λ n. left < n) (c.count_items-within.ensures nothing_around ∙ ap length same) c.if-left-within.true in
-    found_if (file_outlines files) (outlines nothing_around (nested c.as_slice-entries.result.now)) c.args.number left c.item_at.result
+    found_if (file_outlines files) (outlines nothing_around (forest_of c.as_slice-entries.result.now)) c.args.number left c.item_at.result
     (sym c.loop-file.invariant.same ∙ ap (λ l. slice_get (file_outlines l) left) rest ∙ in_first own (file_outlines (drop (i + 1) files)) left few ∙ ap (λ l. slice_get l left) (sym same))
     c.item_at.ensures
 
@@ -30,9 +30,9 @@ loop-file-preserved c =
     let one = c.file-item.result in
     let left = c.loop-file.left in
     let rest = rest_at files i one c.loop-file-test.true c.file-item.is in
-    let own = outlines nothing_around (nested one.entries) in
+    let own = outlines nothing_around (forest_of one.entries) in
     let more = file_outlines (drop (i + 1) files) in
-    let same = ap (λ l. outlines nothing_around (nested l)) c.as_slice-entries.ensures in
+    let same = ap (λ l. outlines nothing_around (forest_of l)) c.as_slice-entries.ensures in
     let within = c.count_items-within.ensures nothing_around ∙ ap length same in
     let many : length own ≤ left = subst (λ n. n ≤ left) within c.if-left-within.false in
     let fits = subst (AllByRecursion FitsFile) rest c.loop-file.invariant.fits in

@@ -1,5 +1,5 @@
 use Rattle.std.proofs.Common.{◌≡◌, ◌≤◌, length, ◌+◌, ◌*◌, ◌++◌}
-use Rattle.source_tree.specs.Levels.{nested}
+use Rattle.source_tree.specs.Levels.{forest_of}
 use Rattle.source_tree.specs.Initializing.{entries_pattern}
 use Rattle.initial_storage.specs.Fits.{Fits}
 use Rattle.initial_storage.specs.Formed.{AreFormed}
@@ -19,10 +19,10 @@ decreases-put_within l = 4 * length l.entries.now
 
 abbrev pub invariant-put_within-items : goal.invariant-put_within-items
 invariant-put_within-items l = record {
-  fits : Fits l.around (nested l.rest);
-  formed : AreFormed l.around (nested l.rest);
+  fits : Fits l.around (forest_of l.rest);
+  formed : AreFormed l.around (forest_of l.rest);
   shorter : length l.rest ≤ length l.entries;
-  bytes : l.out.items ++ entries_pattern l.around (nested l.rest) ≡ l.initial.out.items ++ entries_pattern l.around (nested l.entries);
+  bytes : l.out.items ++ entries_pattern l.around (forest_of l.rest) ≡ l.initial.out.items ++ entries_pattern l.around (forest_of l.entries);
 }
 
 abbrev pub decreases-put_within-items : goal.decreases-put_within-items

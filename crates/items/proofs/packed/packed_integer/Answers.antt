@@ -1,7 +1,7 @@
 use Rattle.std.proofs.Common.{rules, ◌+◌, ◌-◌, ◌*◌, ◌/◌, ◌<◌, ◌^◌, true, false, length, get_or, ap, sym, ◌∙◌, Some, ℤ, arith}
 use Rattle.std.specs.Int.{w128}
 use Rattle.std.proofs.Math.Facts.{to_z-of_z}
-use Rattle.decimal18.specs.Fraction.{signed}
+use Rattle.decimal18.specs.Fraction.{signed_integer}
 use Rattle.items.proofs.Digits.{none_found, some_found}
 use Rattle.items.proofs.Halves.{front_small, no_front, no_last, both_last, no_sign_last}
 use Rattle.items.proofs.packed.packed_integer.Goals as goal
@@ -26,16 +26,16 @@ pub returns-then-half-sign_half : goal.returns-then-half-sign_half
 returns-then-half-sign_half c =
     let front = some_found _ _ _ c.in_ok-front.ensures.value in
     ap (λ (z : ℤ). Some z) (to_z-of_z {w = w128} (search rules) ∙ c.signed_number.ensures)
-    ∙ ap (λ d. Some (signed false (10 * c.in_ok-front.front + d))) c.from.ensures
-    ∙ ap (λ n. Some (signed false (10 * n + get_or c.args.bytes.now (length c.args.bytes.now - 1) 0 / 16))) front.1
+    ∙ ap (λ d. Some (signed_integer false (10 * c.in_ok-front.front + d))) c.from.ensures
+    ∙ ap (λ n. Some (signed_integer false (10 * n + get_or c.args.bytes.now (length c.args.bytes.now - 1) 0 / 16))) front.1
     ∙ sym (both_last c.args.signed false c.args.bytes.now c.requires.some front.0 c.if-digit-gt9.false (c.if-half-sign_half.true ∙ c.sign_half.ensures.value) (λ e. absurd (cc)))
 
 pub returns-then-half-sign_half-2 : goal.returns-then-half-sign_half-2
 returns-then-half-sign_half-2 c =
     let front = some_found _ _ _ c.in_ok-front.ensures.value in
     ap (λ (z : ℤ). Some z) (to_z-of_z {w = w128} (search rules) ∙ c.signed_number-then-half-sign_half-2.ensures)
-    ∙ ap (λ d. Some (signed true (10 * c.in_ok-front.front + d))) c.from.ensures
-    ∙ ap (λ n. Some (signed true (10 * n + get_or c.args.bytes.now (length c.args.bytes.now - 1) 0 / 16))) front.1
+    ∙ ap (λ d. Some (signed_integer true (10 * c.in_ok-front.front + d))) c.from.ensures
+    ∙ ap (λ n. Some (signed_integer true (10 * n + get_or c.args.bytes.now (length c.args.bytes.now - 1) 0 / 16))) front.1
     ∙ sym (both_last c.args.signed true c.args.bytes.now c.requires.some front.0 c.if-digit-gt9.false
     (c.if-half-sign_half-2.true ∙ c.sign_half-else-half-sign_half.ensures.value) (λ e same. c.if-half-sign_half.false (same ∙ sym c.sign_half.ensures.value)))
 

@@ -1,12 +1,12 @@
 use Rattle.std.proofs.Common.{◌≡◌, ◌≤◌, ◌/◌, ◌-◌, ◌*◌, ◌^◌, drop, length}
-use Rattle.items.specs.Packed.{joined, digit_halves}
+use Rattle.items.specs.Packed.{bytes_of_halves, digit_halves}
 use Rattle.items.proofs.packed.put_pairs.Given as goal
 
 abbrev pub invariant-loop-at : goal.invariant-loop-at
 invariant-loop-at l = record {
   within : l.at ≤ length l.bytes;
   rest : l.rest ≡ l.fn.magnitude / 10 ^ (2 * (length l.bytes - l.at));
-  written : drop l.at l.bytes ≡ joined (digit_halves (2 * (length l.bytes - l.at)) l.fn.magnitude);
+  written : drop l.at l.bytes ≡ bytes_of_halves (digit_halves (2 * (length l.bytes - l.at)) l.fn.magnitude);
 }
 
 abbrev pub decreases-loop-at : goal.decreases-loop-at

@@ -1,6 +1,6 @@
 use Rattle.std.proofs.Common.{◌+◌, ◌≤◌, ◌++◌, length, drop, subst, sym, ap, ◌∙◌, refl, arith}
 use Rattle.std.proofs.lemmas.List.{drop_all}
-use Rattle.source_tree.specs.Levels.{nested}
+use Rattle.source_tree.specs.Levels.{forest_of}
 use Rattle.source_tree.specs.Clauses.{nothing_around}
 use Rattle.source_tree.specs.EntryRules.{most_entries}
 use Rattle.layout.specs.Fits.{Fits}
@@ -14,7 +14,7 @@ place_records-requires-clause-fits c =
     let i = c.loop-file.file-index in
     let one = c.file-item.result in
     let rest = rest_at files i one c.loop-file-test.true c.file-item.is in
-    subst (λ l. Fits nothing_around (nested l)) (sym c.as_slice.ensures) (fits_first (drop i files) (drop (i + 1) files) one rest c.loop-file.invariant.fits).0.entries
+    subst (λ l. Fits nothing_around (forest_of l)) (sym c.as_slice.ensures) (fits_first (drop i files) (drop (i + 1) files) one rest c.loop-file.invariant.fits).0.entries
 
 pub place_records-requires-clause-most : goal.place_records-requires-clause-most
 place_records-requires-clause-most c =
@@ -37,7 +37,7 @@ loop-file-preserved c =
       fits = (fits_first (drop i files) (drop (i + 1) files) one rest c.loop-file.invariant.fits).1;
       area_is = omega arith;
       placed = file_step c.place_records.new.out.items old _ area (area + 1) (drop i files) (drop (i + 1) files) one rest refl
-          (c.in_ok-place_records.ensures ∙ ap (λ l. old ++ record_items area (nested l)) c.as_slice.ensures) c.loop-file.invariant.placed;
+          (c.in_ok-place_records.ensures ∙ ap (λ l. old ++ record_items area (forest_of l)) c.as_slice.ensures) c.loop-file.invariant.placed;
     }
 
 pub returns : goal.returns

@@ -1,5 +1,5 @@
 use Rattle.std.proofs.Common.{◌≡◌, ◌≤◌, ◌++◌, length}
-use Rattle.source_tree.specs.Levels.{nested}
+use Rattle.source_tree.specs.Levels.{forest_of}
 use Rattle.source_tree.specs.Clauses.{nothing_around}
 use Rattle.layout.specs.Fits.{Fits}
 use Rattle.layout.specs.Placing.{record_items}
@@ -7,9 +7,9 @@ use Rattle.layout.proofs.file_records.place_records.Given as goal
 
 abbrev pub invariant-records : goal.invariant-records
 invariant-records l = record {
-  fits : Fits nothing_around (nested l.rest);
+  fits : Fits nothing_around (forest_of l.rest);
   shorter : length l.rest ≤ length l.entries;
-  placed : l.out.items ++ record_items l.area (nested l.rest) ≡ l.initial.out.items ++ record_items l.area (nested l.entries);
+  placed : l.out.items ++ record_items l.area (forest_of l.rest) ≡ l.initial.out.items ++ record_items l.area (forest_of l.entries);
 }
 
 abbrev pub decreases-records : goal.decreases-records

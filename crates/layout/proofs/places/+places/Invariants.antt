@@ -1,5 +1,5 @@
 use Rattle.std.proofs.Common.{◌≡◌, ◌≤◌, length, ◌+◌, ◌*◌, ◌++◌}
-use Rattle.source_tree.specs.Levels.{nested}
+use Rattle.source_tree.specs.Levels.{forest_of}
 use Rattle.source_tree.specs.Rooms.{room}
 use Rattle.layout.specs.Fits.{Fits}
 use Rattle.layout.specs.Placing.{group_items}
@@ -13,12 +13,12 @@ decreases-place_group l = 2 * length l.entries.now
 
 abbrev pub invariant-place_group-items : goal.invariant-place_group-items
 invariant-place_group-items l = record {
-  fits : Fits l.around.around (nested l.rest);
-  room : l.here + room l.around.around (nested l.rest) ≤ l.start + 65535;
+  fits : Fits l.around.around (forest_of l.rest);
+  room : l.here + room l.around.around (forest_of l.rest) ≤ l.start + 65535;
   last : l.last ≤ l.start + 65535;
   shorter : length l.rest ≤ length l.entries;
-  placed : l.out.items ++ group_items l.around.around l.around.area l.around.dimensions.now l.last l.here (nested l.rest)
-      ≡ l.initial.out.items ++ group_items l.around.around l.around.area l.around.dimensions.now l.start l.start (nested l.entries);
+  placed : l.out.items ++ group_items l.around.around l.around.area l.around.dimensions.now l.last l.here (forest_of l.rest)
+      ≡ l.initial.out.items ++ group_items l.around.around l.around.area l.around.dimensions.now l.start l.start (forest_of l.entries);
 }
 
 abbrev pub decreases-place_group-items : goal.decreases-place_group-items

@@ -1,5 +1,5 @@
 use Rattle.std.proofs.Common.{◌≡◌, ◌≤◌, length, ◌+◌, ◌*◌}
-use Rattle.source_tree.specs.Levels.{nested}
+use Rattle.source_tree.specs.Levels.{forest_of}
 use Rattle.source_tree.specs.Rooms.{room}
 use Rattle.layout.specs.Fits.{Fits}
 use Rattle.layout.proofs.rooms.+rooms.Given as goal
@@ -12,8 +12,8 @@ decreases-room l = 2 * length l.entries.now
 
 abbrev pub invariant-room-items : goal.invariant-room-items
 invariant-room-items l = record {
-  fits : Fits l.around (nested l.rest);
-  sum : l.bytes + room l.around (nested l.rest) ≡ room l.around (nested l.entries);
+  fits : Fits l.around (forest_of l.rest);
+  sum : l.bytes + room l.around (forest_of l.rest) ≡ room l.around (forest_of l.entries);
   shorter : length l.rest ≤ length l.entries;
 }
 

@@ -1,5 +1,5 @@
 use Rattle.std.proofs.Common.{◌≡◌, ◌+◌, ◌≤◌, ◌++◌, length}
-use Rattle.source_tree.specs.Levels.{nested}
+use Rattle.source_tree.specs.Levels.{forest_of}
 use Rattle.source_tree.specs.Clauses.{nothing_around}
 use Rattle.source_tree.specs.EntryRules.{most_entries}
 use Rattle.layout.specs.Fits.{Fits}
@@ -8,9 +8,9 @@ use Rattle.layout.proofs.storage.place_storage.Given as goal
 
 abbrev pub invariant-items : goal.invariant-items
 invariant-items l = record {
-  fits : Fits nothing_around (nested l.rest);
+  fits : Fits nothing_around (forest_of l.rest);
   few : l.areas + length l.rest ≤ most_entries;
-  placed : l.out.items ++ storage_items l.areas (nested l.rest) ≡ l.initial.out.items ++ storage_items 0 (nested l.entries);
+  placed : l.out.items ++ storage_items l.areas (forest_of l.rest) ≡ l.initial.out.items ++ storage_items 0 (forest_of l.entries);
 }
 
 abbrev pub decreases-items : goal.decreases-items

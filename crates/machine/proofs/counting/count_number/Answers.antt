@@ -1,7 +1,7 @@
 use Rattle.std.proofs.Common.{length, refl, ap, arith}
 use Rattle.std.specs.Vec.{with_items}
-use Rattle.run_time_data.specs.Comes.{Keeps}
-use Rattle.run_time_data.specs.declared.data.Data.{Data}
+use Rattle.data_machine.specs.Comes.{KeepsRoom}
+use Rattle.data_machine.specs.declared.data.Data.{Data}
 use Rattle.machine.proofs.Counters.{begun_now, as_many_begun}
 use Rattle.machine.proofs.Standing.{number_to_count, stands_after_number}
 use Rattle.machine.proofs.Leads.{number_counted_from}
@@ -23,7 +23,7 @@ pub returns-in-Ok-clause-stands : goal.returns-in-Ok-clause-stands
 returns-in-Ok-clause-stands c =
     let r = c.args.registers.now in
     let worked : Data = record r.scratch { numbers = c.pop-newest.new.self; truth = c.begin_turns-registers.result } in
-    let keeps : Keeps r.scratch worked =
+    let keeps : KeepsRoom r.scratch worked =
     record { areas = refl; numbers = c.pop-newest.ensures.room; places = refl; sender = refl; line = refl; inspecting = record { progress = refl; counts = refl; text = refl }; taken = λ holds. holds } in
     stands_after_number c.args.code.now r c.args.address c.requires.stands c.args.counter c.requires.here
     (record r { counters = with_items r.counters c.begin_turns-registers.new.counters; scratch = worked })

@@ -4,10 +4,10 @@ use Rattle.std.specs.Vec.{with_items}
 use Rattle.code_image.specs.declared.instruction.Instruction.TheVariants.{Branch, Jump, Join, Turn, Back, TestStatus}
 use Rattle.code_image.specs.Points.{Return}
 use Rattle.code_image.proofs.WellFormed.{well_formed}
-use Rattle.run_time_data.specs.Held.{Held}
+use Rattle.data_machine.specs.Held.{StackView}
 use Rattle.machine.specs.declared.registers.Registers.{Registers}
-use Rattle.machine.specs.Standing.{Stands}
-use Rattle.machine.specs.Progress.{Running}
+use Rattle.machine.specs.Standing.{IsReadyAt}
+use Rattle.machine.specs.Progress.{IsRunning}
 use Rattle.machine.specs.Ahead.{ahead}
 use Rattle.machine.proofs.Counters.{lowered_now, same_now}
 use Rattle.machine.proofs.Moments.{either_way}
@@ -23,7 +23,7 @@ pub returns-in-Data-clause-nearer : goal.returns-in-Data-clause-nearer
 returns-in-Data-clause-nearer c =
     worked_nearer c.args.code.now c.args.address c.in-Data.one (c.requires.here ∙ ap Some c.in-Data.is)
     (length c.args.registers.now.returns.newest_first) (length c.work_alone.new.registers.returns.newest_first)
-    (ap (λ (h : Held Return). length h.newest_first) c.work_alone.ensures.returns) c.work_alone.result c.work_alone.ensures.later
+    (ap (λ (h : StackView Return). length h.newest_first) c.work_alone.ensures.returns) c.work_alone.result c.work_alone.ensures.later
 
 -- ---- a branch
 
@@ -51,14 +51,14 @@ returns-in-Branch-clause-stands c =
     let r = c.args.registers.now in
     let here = c.requires.here ∙ ap Some c.in-Branch.is in
     let is = branched_from code c.requires.verified c.args.address c.in-Branch.to here in
-    subst (Stands code r) (sym c.branch-registers.ensures)
+    subst (IsReadyAt code r) (sym c.branch-registers.ensures)
     (stands_after_branch code r c.args.address c.requires.stands c.requires.verified c.in-Branch.to here is.1 r.scratch.truth)
 
 pub returns-in-Branch-clause-on : goal.returns-in-Branch-clause-on
 returns-in-Branch-clause-on c = λ day run before files connectors left now so_far.
     let code = c.args.code.now in
     let r = c.args.registers.now in
-    subst (λ n. Running code day run before files connectors n left r now) (sym c.branch-registers.ensures)
+    subst (λ n. IsRunning code day run before files connectors n left r now) (sym c.branch-registers.ensures)
     (after_branch code day run before files connectors c.args.address left r now so_far c.in-Branch.to (c.requires.here ∙ ap Some c.in-Branch.is))
 
 -- ---- the end of a code paragraph

@@ -4,7 +4,7 @@ use Rattle.std.specs.Map.{lookup}
 use Rattle.station.specs.Disk.{Sector}
 use Rattle.lru.specs.LruCache.{LruCache}
 use Rattle.pages.specs.Image.{pages_in}
-use Rattle.pages.specs.Cache.{IsCacheOf, Keeps}
+use Rattle.pages.specs.Cache.{IsCacheOf, CachesPage}
 use Rattle.pages.proofs.Caches.{hit_page, after_promoted, after_kept, recalls_kept}
 use Rattle.pages.proofs.cache.recall_page.Goals as goal
 
@@ -21,7 +21,7 @@ pub returns-in-Some-found-clause-right : goal.returns-in-Some-found-clause-right
 returns-in-Some-found-clause-right g c = λ changed away honest is.
     let pages = pages_in (g.D.Device.state c.args.device.now).disk.present c.args.table.now in
     let same : c.cached_page.new.cache ≡ c.args.cache.now = c.in_default.ensures.none in
-    let kept : Keeps c.args.page c.in-Some-found.bytes c.args.cache.now c.keep_page.new.cache = subst (λ (l : LruCache ℕ Sector). Keeps c.args.page c.in-Some-found.bytes l c.keep_page.new.cache) same c.keep_page.ensures in
+    let kept : CachesPage c.args.page c.in-Some-found.bytes c.args.cache.now c.keep_page.new.cache = subst (λ (l : LruCache ℕ Sector). CachesPage c.args.page c.in-Some-found.bytes l c.keep_page.new.cache) same c.keep_page.ensures in
     let here : get_or pages c.args.page None ≡ Some c.in-Some-found.bytes = sym (c.in_ok-found.ensures.page honest) ∙ c.in-Some-found.is in
     after_kept pages changed c.args.cache.now c.keep_page.new.cache c.args.page c.in-Some-found.bytes here away is kept
 
@@ -30,4 +30,4 @@ returns-in-Some-found-clause-recalls g c =
     let same : c.cached_page.new.cache ≡ c.args.cache.now = c.in_default.ensures.none in
     let none : lookup (nat_eq c.args.page) c.args.cache.now.entries ≡ None = sym c.in_default.ensures.value in
     recalls_kept c.args.cache.now c.keep_page.new.cache c.args.page c.in-Some-found.bytes none
-    (subst (λ (l : LruCache ℕ Sector). Keeps c.args.page c.in-Some-found.bytes l c.keep_page.new.cache) same c.keep_page.ensures)
+    (subst (λ (l : LruCache ℕ Sector). CachesPage c.args.page c.in-Some-found.bytes l c.keep_page.new.cache) same c.keep_page.ensures)

@@ -1,11 +1,11 @@
 use Rattle.std.proofs.Common.{◌≡◌, ◌<◌, inl, inr, List, length, refl, sym, ◌∙◌, ap, subst, arith}
 use Rattle.std.specs.Prelude.{Option, IfSome}
-use Rattle.pages.specs.Needed.{filled, Fills}
+use Rattle.pages.specs.Needed.{filled_count, Fills}
 use Rattle.std.specs.List.{HoldsAt}
 use Rattle.std.proofs.lemmas.List.{map_push}
 use Rattle.station.specs.Disk.{Sector}
 use Rattle.pages.specs.Image.{NamesOnce}
-use Rattle.pages.specs.Changes.{changed, changed_pages}
+use Rattle.pages.specs.Changes.{pages_after, changed_pages}
 use Rattle.pages.specs.declared.change.Change.{Change}
 use Rattle.pages.proofs.Edits.{Away, is_only, only_set, same_changed, push_changed, away_changed, changed_at}
 use Rattle.pages.proofs.Staging.{applied_more}
@@ -40,7 +40,7 @@ returns-in-Some-clause-changes_page c =
 pub returns-in-None-clause-changed : goal.returns-in-None-clause-changed
 returns-in-None-clause-changed c = λ once.
     let new : Change = record { page = c.args.page; bytes = c.args.bytes } in
-    on_ok c.push_change.result (λ items pages. ap (changed pages) items ∙ applied_more (λ (o : Option Sector). o) pages c.args.changes.now.items new) c.push_change.ensures.ok
+    on_ok c.push_change.result (λ items pages. ap (pages_after pages) items ∙ applied_more (λ (o : Option Sector). o) pages c.args.changes.now.items new) c.push_change.ensures.ok
 
 pub returns-in-None-clause-once : goal.returns-in-None-clause-once
 returns-in-None-clause-once c = λ once.
@@ -71,8 +71,8 @@ pub returns-in-None-clause-filled : goal.returns-in-None-clause-filled
 returns-in-None-clause-filled c = λ once.
     let new : Change = record { page = c.args.page; bytes = c.args.bytes } in
     either_way c.push_change.result c.push_change.ensures.ok c.push_change.ensures.err
-    (λ items. omega (arith, ap filled items, filled_pushed c.args.changes.now.items new))
-    (λ same. omega (arith, ap filled same))
+    (λ items. omega (arith, ap filled_count items, filled_pushed c.args.changes.now.items new))
+    (λ same. omega (arith, ap filled_count same))
 
 pub returns-in-None-clause-fills : goal.returns-in-None-clause-fills
 returns-in-None-clause-fills c = λ once.

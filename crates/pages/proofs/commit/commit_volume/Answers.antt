@@ -5,7 +5,7 @@ use Rattle.station.proofs.Spans.{stays, weakens}
 use Rattle.pages.specs.Image.{names}
 use Rattle.pages.specs.Plan.{IsPlan}
 use Rattle.pages.specs.Changes.{next_map}
-use Rattle.pages.specs.Use.{IsUse, turned}
+use Rattle.pages.specs.Use.{IsUse, use_after}
 use Rattle.pages.specs.Image.{map_of}
 use Rattle.pages.specs.Volumes.{volume_of}
 use Rattle.pages.proofs.Committed.{at_rest, amid_maps_as, now_committed, now_is_as}
@@ -62,7 +62,7 @@ returns-clause-map g c = λ honest rests.
 pub returns-clause-sound : goal.returns-clause-sound
 returns-clause-sound g c =
     let after = c.in_ok-draft.ensures.sound in
-    let marked : c.mark_turns.new.used ≡ turned c.next_volume.new.volume.used c.in_ok-draft.draft.turns.items = c.mark_turns.ensures.used ∙ ap (turned c.next_volume.new.volume.used) c.deref-2.ensures.value in
+    let marked : c.mark_turns.new.used ≡ use_after c.next_volume.new.volume.used c.in_ok-draft.draft.turns.items = c.mark_turns.ensures.used ∙ ap (use_after c.next_volume.new.volume.used) c.deref-2.ensures.value in
     record {
       generation = after.generation;
       least = after.least;

@@ -1,5 +1,5 @@
 use Rattle.std.proofs.Common.{◌∙◌, ℕ, set, ap, subst}
-use Rattle.station.specs.Disk.{settled}
+use Rattle.station.specs.Disk.{idle_disk}
 use Rattle.station.specs.State.{State}
 use Rattle.station.proofs.TwoPhase.{on_ok}
 use Rattle.pages.specs.Empty.{empty_volume}
@@ -16,7 +16,7 @@ returns-clause-empty g c = λ honest.
     let honest'' = c.in_ok-write-2.ensures.honest.0 honest' in
     let spells : SpellsRoot (empty_volume (g.D.Device.sectors c.args.device.now)).root root = subst (λ (n : ℕ). SpellsRoot (empty_volume n).root root) c.count.ensures c.empty_root-root.ensures in
     on_ok c.sync.result (λ is. empty_images old.disk.present (g.D.Device.sectors c.args.device.now) root (g.met.D.Device.all_present c.args.device.now honest) c.requires.least spells (state c.sync.new.self)
-    (ap (λ (s : State). s.disk) is ∙ ap (λ (s : State). settled s.disk.present) (c.in_ok-write-2.ensures.wrote honest') ∙ ap (λ (s : State). settled (set s.disk.present 0 root)) (c.in_ok-write.ensures.wrote honest)))
+    (ap (λ (s : State). s.disk) is ∙ ap (λ (s : State). idle_disk s.disk.present) (c.in_ok-write-2.ensures.wrote honest') ∙ ap (λ (s : State). idle_disk (set s.disk.present 0 root)) (c.in_ok-write.ensures.wrote honest)))
     (c.sync.ensures.synced honest'')
 
 pub returns-clause-committed : goal.returns-clause-committed
@@ -28,5 +28,5 @@ returns-clause-committed g c = λ honest.
     let honest'' = c.in_ok-write-2.ensures.honest.0 honest' in
     let spells : SpellsRoot (empty_volume (g.D.Device.sectors c.args.device.now)).root root = subst (λ (n : ℕ). SpellsRoot (empty_volume n).root root) c.count.ensures c.empty_root-root.ensures in
     on_ok c.sync.result (λ is. empty_committed old.disk.present (g.D.Device.sectors c.args.device.now) root (g.met.D.Device.all_present c.args.device.now honest) c.requires.least spells (state c.sync.new.self).disk
-    (ap (λ (s : State). s.disk) is ∙ ap (λ (s : State). settled s.disk.present) (c.in_ok-write-2.ensures.wrote honest') ∙ ap (λ (s : State). settled (set s.disk.present 0 root)) (c.in_ok-write.ensures.wrote honest)))
+    (ap (λ (s : State). s.disk) is ∙ ap (λ (s : State). idle_disk s.disk.present) (c.in_ok-write-2.ensures.wrote honest') ∙ ap (λ (s : State). idle_disk (set s.disk.present 0 root)) (c.in_ok-write.ensures.wrote honest)))
     (c.sync.ensures.synced honest'')

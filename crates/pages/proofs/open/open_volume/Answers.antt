@@ -3,7 +3,7 @@ use Rattle.std.specs.Prelude.{IfOk, IfErr}
 use Rattle.station.proofs.Opens.{opens}
 use Rattle.station.proofs.Spans.{unseen}
 use Rattle.station.specs.State.{State}
-use Rattle.pages.specs.Errors.{Refuses}
+use Rattle.pages.specs.Errors.{RefusesImage}
 use Rattle.pages.specs.Image.{Reads}
 use Rattle.pages.specs.Volumes.{volume_of}
 use Rattle.pages.proofs.Refused.{map_opens, foreign_told, damage_told}
@@ -22,7 +22,7 @@ returns-clause-moments g c = λ honest.
 
 pub returns-clause-refused : goal.returns-clause-refused
 returns-clause-refused g c = λ honest.
-    subst (λ (s : State). IfErr c.read_volume.result (λ error. Refuses s.disk.present error)) (c.in_ok-sync.ensures.synced honest) (c.read_volume.ensures.refused (c.in_ok-sync.ensures.honest.0 honest))
+    subst (λ (s : State). IfErr c.read_volume.result (λ error. RefusesImage s.disk.present error)) (c.in_ok-sync.ensures.synced honest) (c.read_volume.ensures.refused (c.in_ok-sync.ensures.honest.0 honest))
 
 pub returns-clause-opens : goal.returns-clause-opens
 returns-clause-opens g c = λ honest m holds. map_opens (g.D.Device.state c.args.device.now).disk.present m c.read_volume.result (returns-clause-refused g c honest) holds

@@ -1,7 +1,7 @@
 use Rattle.std.proofs.Common.{◌≡◌, ◌∙◌, ◌+◌, ◌<◌, inl, ⊎_elim, ℕ, Bool, List, length, refl, ap, subst, arith}
 use Rattle.pages.specs.Volumes.{volume_of, unused_below, IsFresh, IsMappedDraft, IsCounted}
 use Rattle.pages.specs.Use.{free_count}
-use Rattle.pages.specs.Needed.{filled, written_below}
+use Rattle.pages.specs.Needed.{filled_count, written_below}
 use Rattle.pages.specs.declared.volume.VolumeMap.{VolumeMap}
 use Rattle.pages.proofs.Drafts.{same_size_then}
 use Rattle.pages.proofs.Plans.{started, maps_started, is_plan, is_sound_after}
@@ -60,7 +60,7 @@ returns-in_err-stage_maps-clause-full c = λ full.
     let passed : unused_below c.stage_changes.new.volume.used c.stage_changes.new.draft.start ≡ unused_below m.used start =
     ap (λ (u : List Bool). unused_below u c.stage_changes.new.draft.start) c.in_ok-stage_changes.ensures.size.used ∙ ap (unused_below m.used) (c.in_ok-stage_changes.ensures.start ∙ fresh.start) in
     inl (short_start m c.args.changes.now start (unused_below c.stage_changes.new.volume.used c.stage_changes.new.draft.start) c.requires.sound may passed
-    (subst (λ (n : ℕ). free_count (volume_of m) < unused_below c.stage_changes.new.volume.used c.stage_changes.new.draft.start + (filled c.args.changes.now + written_below (volume_of m) c.args.changes.now n)) c.in_ok-stage_changes.ensures.size.maps here))
+    (subst (λ (n : ℕ). free_count (volume_of m) < unused_below c.stage_changes.new.volume.used c.stage_changes.new.draft.start + (filled_count c.args.changes.now + written_below (volume_of m) c.args.changes.now n)) c.in_ok-stage_changes.ensures.size.maps here))
 
 pub returns-clause-room : goal.returns-clause-room
 returns-clause-room c = λ short.

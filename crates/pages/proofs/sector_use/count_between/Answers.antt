@@ -1,5 +1,5 @@
 use Rattle.std.proofs.Common.{arith}
-use Rattle.pages.specs.Runs.{marked}
+use Rattle.pages.specs.Runs.{used_flags}
 use Rattle.pages.proofs.Runs.{room_counted, below_all}
 use Rattle.pages.proofs.sector_use.count_between.Goals as goal
 
@@ -9,4 +9,4 @@ returns-in-Some c =
     omega (arith, room_counted c.args.used.now c.in-Some.sectors.now c.args.start c.args.end got.2, c.count_bytes.ensures)
 
 pub returns-in-None : goal.returns-in-None
-returns-in-None c = omega (arith, below_all (marked c.args.used.now) c.args.start)
+returns-in-None c = omega (arith, below_all (used_flags c.args.used.now) c.args.start)

@@ -1,13 +1,13 @@
 use Rattle.std.proofs.Common.{◌≡◌, ◌+◌, ◌-◌, Some, sym, ap, ◌∙◌, rules, arith}
 use Rattle.std.proofs.lemmas.Grind.{common_steps}
 use Rattle.picture.specs.Faults.{or_no_form}
-use Rattle.picture.specs.Runs.{total}
+use Rattle.picture.specs.Runs.{symbol_count}
 use Rattle.picture.specs.Text.{run_at, runs_from}
 use Rattle.picture.proofs.Turns.{total-append, turn_takes, turn_refuses, turns_end, short_enough}
 use Rattle.picture.proofs.text.runs_of.Goals as goal
 
 pub loop-turn-init : goal.loop-turn-init
-unfolding total
+unfolding symbol_count
 loop-turn-init c = first_of (search rules, grind (arith, common_steps))
 
 pub returns-in_default-clause-value : goal.returns-in_default-clause-value
@@ -21,7 +21,7 @@ loop-turn-preserved c =
     let full = sym c.is_empty.ensures ∙ c.if-is_empty.false in
     let is : run_at c.loop-turn.rest.now ≡ Some (c.in-Some.run', c.in-Some.more.now) = sym c.in-Some.ensures.value in
     let pushed = c.in_ok-push.ensures.ok in
-    let sum = ap total pushed ∙ total-append c.loop-turn.runs c.in-Some.run' in
+    let sum = ap symbol_count pushed ∙ total-append c.loop-turn.runs c.in-Some.run' in
     let bound = c.in-Some.ensures.bound in
     let within = c.in-Some.ensures.within in
     record {

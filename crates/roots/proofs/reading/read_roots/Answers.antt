@@ -1,5 +1,5 @@
 use Rattle.std.proofs.Common.{ℕ, sym, subst, arith}
-use Rattle.roots.specs.Root.{IsWithin, IfValid}
+use Rattle.roots.specs.Root.{IsWithinVolume, IfValid}
 use Rattle.roots.proofs.Next.{too_few}
 use Rattle.roots.proofs.Within.{both_each}
 use Rattle.roots.proofs.reading.read_roots.Goals as goal
@@ -10,5 +10,5 @@ returns-then-count-lt2-clause-roots g c = λ honest.
 
 pub returns-in-Ok-clause-within : goal.returns-in-Ok-clause-within
 returns-in-Ok-clause-within g c =
-    let second = subst (λ (n : ℕ). IfValid c.in_ok-second.second (IsWithin n)) c.in_ok-first.ensures.only.sectors c.in_ok-second.ensures.within in
-    both_each (IsWithin (g.D.Device.sectors c.args.device.now)) c.args.own c.in_ok-first.first c.in_ok-second.second c.in-Ok.roots c.in_ok-first.ensures.within second (sym c.in-Ok.ensures)
+    let second = subst (λ (n : ℕ). IfValid c.in_ok-second.second (IsWithinVolume n)) c.in_ok-first.ensures.only.sectors c.in_ok-second.ensures.within in
+    both_each (IsWithinVolume (g.D.Device.sectors c.args.device.now)) c.args.own c.in_ok-first.first c.in_ok-second.second c.in-Ok.roots c.in_ok-first.ensures.within second (sym c.in-Ok.ensures)

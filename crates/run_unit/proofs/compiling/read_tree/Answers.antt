@@ -2,7 +2,7 @@ use Rattle.std.proofs.Common.{◌≡◌, Ok, sym, subst}
 use Rattle.std.proofs.lemmas.Result.{err_from_is_err_and}
 use Rattle.tokens.specs.Tokens.{TokensOf}
 use Rattle.statements.specs.Spelling.{max_nesting}
-use Rattle.divisions.specs.Spelling.{Spells}
+use Rattle.divisions.specs.Spelling.{SpellsProgram}
 use Rattle.divisions.specs.Faults.{parse_of}
 use Rattle.run_unit.proofs.Stages.{spelled_by, tokens_refusal, tree_refusal, rules_left}
 use Rattle.run_unit.proofs.compiling.read_tree.Goals as goal
@@ -17,7 +17,7 @@ pub returns-in_err-tree-clause-only : goal.returns-in_err-tree-clause-only
 returns-in_err-tree-clause-only c =
     let p = err_from_is_err_and c.from_residual-in_err-tree.result c.from_residual-in_err-tree.ensures.1 in
     rw (p.1, p.2) (λ tree is. tree_refusal tree is.formed c.in_err-tree.field-0.0 (c.in_err-tree.ensures.only max_nesting tree
-    (subst (λ t. Spells max_nesting tree t) (sym c.as_slice.ensures)
+    (subst (λ t. SpellsProgram max_nesting tree t) (sym c.as_slice.ensures)
     (spelled_by c.reference_format.ensures.only c.laws.ensures.only c.args.source.now tree is c.in_ok-lines.lines c.in_ok-tokens.tokens c.in_ok-lines.ensures c.in_ok-tokens.ensures))))
 
 pub returns-clause-tree : goal.returns-clause-tree
@@ -37,5 +37,5 @@ returns-clause-rules c =
 
 pub returns-clause-only : goal.returns-clause-only
 returns-clause-only c = λ tree is. c.in_ok-tree.ensures.only max_nesting tree
-    (subst (λ t. Spells max_nesting tree t) (sym c.as_slice.ensures)
+    (subst (λ t. SpellsProgram max_nesting tree t) (sym c.as_slice.ensures)
     (spelled_by c.reference_format.ensures.only c.laws.ensures.only c.args.source.now tree is c.in_ok-lines.lines c.in_ok-tokens.tokens c.in_ok-lines.ensures c.in_ok-tokens.ensures))

@@ -3,7 +3,7 @@ use Rattle.station.specs.Disk.{Disk}
 use Rattle.records.specs.Files.{Files}
 use Rattle.file_verbs.specs.contracts.connectors.ConnectorsKeeps.TheImpl as keeps
 use Rattle.file_verbs.specs.contracts.connectors.ConnectorsFileVerbs.TheImpl as verbs
-use Rattle.file_tables.specs.Files.{entries_of}
+use Rattle.file_image.specs.Files.{entries_of}
 use Rattle.run_unit.proofs.Connecting.{closed_ones}
 use Rattle.run_unit.proofs.over.connect.Given as goal
 

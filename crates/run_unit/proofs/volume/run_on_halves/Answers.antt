@@ -1,12 +1,12 @@
 use Rattle.std.proofs.Common.{◌∙◌, sym, subst, ap}
 use Rattle.records.specs.Files.{Files}
 use Rattle.half_store.specs.Half.{Holds}
-use Rattle.half_store.specs.Stands.{Stands}
+use Rattle.half_store.specs.Stands.{Represents}
 use Rattle.half_store.specs.Stored.{files_of}
-use Rattle.source_tree.specs.Given.{Given}
-use Rattle.file_tables.specs.Files.{entries_of}
+use Rattle.source_tree.specs.Given.{RunInput}
+use Rattle.file_image.specs.Files.{entries_of}
 use Rattle.code_image.specs.Table.{Runs}
-use Rattle.machine.specs.Ends.{LacksRoom}
+use Rattle.machine.specs.Ends.{LacksRoomForChange}
 use Rattle.run_unit.specs.declared.ended.Ended.TheVariants.{Refused}
 use Rattle.run_unit.specs.Volume.{Unopened, NotOpened, HeldFiles, lacks_half}
 use Rattle.run_unit.proofs.Opening.{read_cause, left_closed, given_after, ran_on}
@@ -18,13 +18,13 @@ returns-in-Ok-clause-volume g c = λ honest files held run runs.
     let mid = g.S.Device.state c.open.new.device in
     let same = given_after files s mid c.args.day c.args.budget (c.in-Ok.ensures.state honest) in
     let own = c.one_list_of_files.ensures s.disk.present (files_of c.in-Ok.store.files.items) files (c.in-Ok.ensures.holds honest) held in
-    ran_on Holds (LacksRoom lacks_half (entries_of c.args.code.tables c.args.code.files)) run (g.S.Device.history c.args.station.now) (g.S.Device.history c.open.new.device) (g.S.Device.history c.run_over.new.station)
+    ran_on Holds (LacksRoomForChange lacks_half (entries_of c.args.code.tables c.args.code.files)) run (g.S.Device.history c.args.station.now) (g.S.Device.history c.open.new.device) (g.S.Device.history c.run_over.new.station)
     s mid (g.S.Device.state c.run_over.new.station) c.run_over.result
     (c.open.ensures.moments honest) (c.in-Ok.ensures.state honest)
     (c.run_over.ensures.runs files (record {
       honest = c.open.ensures.only.honest.0 honest;
-      there = subst (λ (l : Files). Stands c.in-Ok.store mid.disk l) own (c.in-Ok.ensures.stands honest);
-    }) run (subst (λ (given : Given). Runs c.args.code given run) same runs))
+      there = subst (λ (l : Files). Represents c.in-Ok.store mid.disk l) own (c.in-Ok.ensures.stands honest);
+    }) run (subst (λ (given : RunInput). Runs c.args.code given run) same runs))
 
 pub returns-in-Ok-clause-halves : goal.returns-in-Ok-clause-halves
 returns-in-Ok-clause-halves g c = λ honest run runs.
@@ -33,11 +33,11 @@ returns-in-Ok-clause-halves g c = λ honest run runs.
     let files = files_of c.in-Ok.store.files.items in
     let same = given_after files s mid c.args.day c.args.budget (c.in-Ok.ensures.state honest) in
     HeldFiles files (c.in-Ok.ensures.holds honest)
-    (ran_on Holds (LacksRoom lacks_half (entries_of c.args.code.tables c.args.code.files)) (run files) (g.S.Device.history c.args.station.now) (g.S.Device.history c.open.new.device) (g.S.Device.history c.run_over.new.station)
+    (ran_on Holds (LacksRoomForChange lacks_half (entries_of c.args.code.tables c.args.code.files)) (run files) (g.S.Device.history c.args.station.now) (g.S.Device.history c.open.new.device) (g.S.Device.history c.run_over.new.station)
     s mid (g.S.Device.state c.run_over.new.station) c.run_over.result
     (c.open.ensures.moments honest) (c.in-Ok.ensures.state honest)
     (c.run_over.ensures.runs files (record { honest = c.open.ensures.only.honest.0 honest; there = c.in-Ok.ensures.stands honest }) (run files)
-    (subst (λ (given : Given). Runs c.args.code given (run files)) same (runs files))))
+    (subst (λ (given : RunInput). Runs c.args.code given (run files)) same (runs files))))
 
 pub returns-in-Ok-clause-sound : goal.returns-in-Ok-clause-sound
 returns-in-Ok-clause-sound g c = λ honest files held.

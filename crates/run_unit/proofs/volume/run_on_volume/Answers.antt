@@ -1,15 +1,15 @@
 use Rattle.std.proofs.Common.{◌∙◌, ⊎_elim, List, sym, subst, ap, inl, inr}
 use Rattle.station.specs.Disk.{Sector}
 use Rattle.half_store.specs.Half.{Holds as HoldsHalf}
-use Rattle.file_trees.specs.Volume.{Holds as HoldsTrees}
+use Rattle.volume_format.specs.Volume.{Holds as HoldsTrees}
 use Rattle.file_recovery.specs.Recovered.{HoldsFiles}
 use Rattle.file_recovery.proofs.Foreign.{half_foreign, half_is_foreign}
 use Rattle.file_recovery.proofs.TwoStores.{either_cause}
 use Rattle.half_store.specs.Opened.{IsReadCause}
-use Rattle.source_tree.specs.Given.{Given}
-use Rattle.file_tables.specs.Files.{entries_of}
+use Rattle.source_tree.specs.Given.{RunInput}
+use Rattle.file_image.specs.Files.{entries_of}
 use Rattle.code_image.specs.Table.{Runs}
-use Rattle.machine.specs.Ends.{LacksRoom}
+use Rattle.machine.specs.Ends.{LacksRoomForChange}
 use Rattle.run_unit.specs.declared.ended.Ended.TheVariants.{Refused}
 use Rattle.run_unit.specs.Volume.{Unopened, NotOpened, lacks_half, lacks_either}
 use Rattle.run_unit.proofs.Moments.{room_under}
@@ -24,13 +24,13 @@ returns-in-Ok-clause-volume g c = λ honest files held run runs.
     let same = given_after files s mid c.args.day c.args.budget (c.in-Ok.ensures.state honest) in
     ⊎_elim
     (λ trees.
-    on_either HoldsTrees HoldsFiles (λ image files is. inl is) run (LacksRoom lacks_trees (entries_of c.args.code.tables c.args.code.files)) (LacksRoom lacks_either (entries_of c.args.code.tables c.args.code.files))
+    on_either HoldsTrees HoldsFiles (λ image files is. inl is) run (LacksRoomForChange lacks_trees (entries_of c.args.code.tables c.args.code.files)) (LacksRoomForChange lacks_either (entries_of c.args.code.tables c.args.code.files))
     (room_under lacks_trees lacks_either (λ image is_new name before after lacks. inl lacks) (entries_of c.args.code.tables c.args.code.files) run) (g.S.Device.history c.args.station.now) s c.run_over.result
     (g.S.Device.history c.run_over.new.station) (g.S.Device.state c.run_over.new.station)
-    (ran_on HoldsTrees (LacksRoom lacks_trees (entries_of c.args.code.tables c.args.code.files)) run (g.S.Device.history c.args.station.now) (g.S.Device.history c.open.new.device) (g.S.Device.history c.run_over.new.station)
+    (ran_on HoldsTrees (LacksRoomForChange lacks_trees (entries_of c.args.code.tables c.args.code.files)) run (g.S.Device.history c.args.station.now) (g.S.Device.history c.open.new.device) (g.S.Device.history c.run_over.new.station)
     s mid (g.S.Device.state c.run_over.new.station) c.run_over.result (c.open.ensures.moments honest) (c.in-Ok.ensures.state honest)
     (c.run_over.ensures.runs files (record { honest = c.open.ensures.honest.0 honest; there = c.in-Ok.ensures.stands honest files trees }) run
-    (subst (λ (given : Given). Runs c.args.code given run) same runs))))
+    (subst (λ (given : RunInput). Runs c.args.code given run) same runs))))
     (λ half. absurd (c.in-Ok.ensures.foreign honest (half_is_foreign s.disk.present files half)))
     held
 
@@ -56,13 +56,13 @@ returns-in-Layout-clause-volume g c = λ honest files held run runs.
     ⊎_elim
     (λ trees. absurd (no_layout (subst IsReadCause c.in-Layout.is (c.in-Err.ensures.opens honest files trees))))
     (λ half.
-    on_either HoldsHalf HoldsFiles (λ image files is. inr is) run (LacksRoom lacks_half (entries_of c.args.code.tables c.args.code.files)) (LacksRoom lacks_either (entries_of c.args.code.tables c.args.code.files))
+    on_either HoldsHalf HoldsFiles (λ image files is. inr is) run (LacksRoomForChange lacks_half (entries_of c.args.code.tables c.args.code.files)) (LacksRoomForChange lacks_either (entries_of c.args.code.tables c.args.code.files))
     (room_under lacks_half lacks_either (λ image is_new name before after lacks. inr lacks) (entries_of c.args.code.tables c.args.code.files) run) (g.S.Device.history c.args.station.now) s c.run_on_halves.result
     (g.S.Device.history c.run_on_halves.new.station) (g.S.Device.state c.run_on_halves.new.station)
-    (on_volume_then HoldsHalf (LacksRoom lacks_half (entries_of c.args.code.tables c.args.code.files)) run (g.S.Device.history c.args.station.now) (g.S.Device.history c.open.new.device) (g.S.Device.history c.run_on_halves.new.station)
+    (on_volume_then HoldsHalf (LacksRoomForChange lacks_half (entries_of c.args.code.tables c.args.code.files)) run (g.S.Device.history c.args.station.now) (g.S.Device.history c.open.new.device) (g.S.Device.history c.run_on_halves.new.station)
     s mid (g.S.Device.state c.run_on_halves.new.station) c.run_on_halves.result (c.open.ensures.moments honest) as_was
     (c.run_on_halves.ensures.volume (c.open.ensures.honest.0 honest) files (subst (λ (image : List Sector). HoldsHalf image files) (sym (present_after s mid as_was)) half) run
-    (subst (λ (given : Given). Runs c.args.code given run) (given_later files s mid c.args.day c.args.budget as_was) runs))))
+    (subst (λ (given : RunInput). Runs c.args.code given run) (given_later files s mid c.args.day c.args.budget as_was) runs))))
     held
 
 pub returns-in-Layout-clause-halves : goal.returns-in-Layout-clause-halves
@@ -73,7 +73,7 @@ returns-in-Layout-clause-halves g c = λ honest halves run runs.
     on_halves_then (entries_of c.args.code.tables c.args.code.files) run (g.S.Device.history c.args.station.now) (g.S.Device.history c.open.new.device) (g.S.Device.history c.run_on_halves.new.station)
     s mid (g.S.Device.state c.run_on_halves.new.station) c.run_on_halves.result (c.open.ensures.moments honest) as_was
     (c.run_on_halves.ensures.halves (c.open.ensures.honest.0 honest) run
-    (λ files. subst (λ (given : Given). Runs c.args.code given (run files)) (given_later files s mid c.args.day c.args.budget as_was) (runs files)))
+    (λ files. subst (λ (given : RunInput). Runs c.args.code given (run files)) (given_later files s mid c.args.day c.args.budget as_was) (runs files)))
 
 pub returns-in-Layout-clause-sound : goal.returns-in-Layout-clause-sound
 returns-in-Layout-clause-sound g c = λ honest files held.

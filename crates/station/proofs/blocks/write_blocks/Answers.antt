@@ -2,7 +2,7 @@ use Rattle.std.proofs.Common.{refl, ◌∙◌, ap, subst, inr, arith}
 use Rattle.station.specs.Disk.{Sector}
 use Rattle.station.specs.State.{MayHaveWritten, wrote}
 use Rattle.station.specs.declared.blocks.Block.{Block}
-use Rattle.station.specs.Blocks.{Writing}
+use Rattle.station.specs.Blocks.{IsWriting}
 use Rattle.station.proofs.Spans.{stays, moves_on}
 use Rattle.station.proofs.Writes.{wrote_on, start_writing, writing_on}
 use Rattle.station.proofs.Calls.{writes_nothing, writes, writes_then}
@@ -14,7 +14,7 @@ loop-block-init g c =
     record {
       only = writes_nothing g.D.Device c.args.device.now;
       wrote = λ honest. refl;
-      moments = λ honest disk. stays (g.D.Device.history c.args.device.now) start (Writing start.events start.disk.present c.args.blocks.now) (start_writing start start.disk.present c.args.blocks.now disk);
+      moments = λ honest disk. stays (g.D.Device.history c.args.device.now) start (IsWriting start.events start.disk.present c.args.blocks.now) (start_writing start start.disk.present c.args.blocks.now disk);
     }
 
 pub returns-in_err-write-clause-only : goal.returns-in_err-write-clause-only

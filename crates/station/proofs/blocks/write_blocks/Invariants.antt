@@ -2,7 +2,7 @@ use Rattle.std.proofs.Common.{◌≡◌, take}
 use Rattle.station.specs.Disk.{IsSettled}
 use Rattle.station.specs.Calls.{OnlyWrites}
 use Rattle.station.specs.History.{Through}
-use Rattle.station.specs.Blocks.{Writing, wrote_all}
+use Rattle.station.specs.Blocks.{IsWriting, wrote_all}
 use Rattle.station.proofs.blocks.write_blocks.Given as goal
 
 abbrev pub invariant-loop-block : goal.invariant-loop-block
@@ -13,5 +13,5 @@ invariant-loop-block g l =
       only : OnlyWrites g.D.Device ⊥ l.initial.device l.device;
       wrote : g.D.Device.is_honest l.initial.device → now ≡ wrote_all start (take l.block-index l.blocks);
       moments : g.D.Device.is_honest l.initial.device → IsSettled start.disk →
-          Through (g.D.Device.history l.initial.device) (g.D.Device.history l.device) now (Writing start.events start.disk.present l.blocks);
+          Through (g.D.Device.history l.initial.device) (g.D.Device.history l.device) now (IsWriting start.events start.disk.present l.blocks);
     }

@@ -1,6 +1,6 @@
 use Rattle.std.proofs.Common.{◌∙◌, inr, sym, ap, subst}
 use Rattle.std.specs.Prelude.{slice_set}
-use Rattle.station.specs.Disk.{Disk, settled, IsSettled, IsCrashImage}
+use Rattle.station.specs.Disk.{Disk, idle_disk, IsSettled, IsCrashImage}
 use Rattle.station.specs.Blocks.{SameOutside, OldOrNew, CrashLeaves}
 use Rattle.station.proofs.Spans.{goes, weakens}
 use Rattle.station.proofs.Crash.{settled_image}
@@ -16,7 +16,7 @@ returns-in_err-write_blocks_through-clause-moments g c = λ honest disk.
 pub returns-clause-durable : goal.returns-clause-durable
 returns-clause-durable g c = λ honest.
     let there = c.in_ok-write_blocks_through.ensures.durable honest in
-    on_ok c.write_through.result (λ is. is ∙ ap (λ (d : Disk). settled (slice_set d.present c.args.root c.args.bytes.now)) there) (c.write_through.ensures.durable (c.write_blocks_through.ensures.only.honest.0 honest))
+    on_ok c.write_through.result (λ is. is ∙ ap (λ (d : Disk). idle_disk (slice_set d.present c.args.root c.args.bytes.now)) there) (c.write_through.ensures.durable (c.write_blocks_through.ensures.only.honest.0 honest))
 
 pub returns-clause-only : goal.returns-clause-only
 returns-clause-only g c = writes_then g.D.Device _ _ _ _ _ _ (λ failed. inr failed) c.write_blocks_through.ensures.only c.write_through.ensures.only
@@ -32,7 +32,7 @@ returns-clause-moments g c = λ honest disk.
     let blocks = c.args.blocks.now in
     let there = c.in_ok-write_blocks_through.ensures.durable honest in
     let honest' = c.write_blocks_through.ensures.only.honest.0 honest in
-    let settled_mid : IsSettled mid.disk = there ∙ sym (ap (λ (d : Disk). settled d.present) there) in
+    let settled_mid : IsSettled mid.disk = there ∙ sym (ap (λ (d : Disk). idle_disk d.present) there) in
     goes (history c.args.device.now) (history c.write_blocks_through.new.device) (history c.write_through.new.device) mid new (CrashLeaves old.events (OldOrNew base blocks c.args.root c.args.bytes.now))
     (weakens _ _ mid (CrashLeaves old.events (SameOutside base blocks)) _ (early old.events base blocks c.args.root c.args.bytes.now) (c.write_blocks_through.ensures.moments honest disk))
     (weakens _ _ new _ _ (late old.events mid.events base mid.disk.present blocks c.args.root c.args.bytes.now (c.write_blocks_through.ensures.only.console honest).events

@@ -1,5 +1,5 @@
 use Rattle.std.proofs.Common.{◌∙◌, refl, inr, sym, ap, subst}
-use Rattle.station.specs.Disk.{settled}
+use Rattle.station.specs.Disk.{idle_disk}
 use Rattle.station.specs.State.{State}
 use Rattle.station.specs.Blocks.{WithOrWithout, CrashLeaves}
 use Rattle.station.proofs.Spans.{moved, moves_on, either}
@@ -42,7 +42,7 @@ returns-clause-moments g c = λ honest disk.
     let honest' = c.write.ensures.honest.0 honest in
     let last : P new = either c.sync.result (P new) (c.sync.ensures.synced honest') (c.sync.ensures.unsynced honest')
     (λ is. one_saved old.events base c.args.sector c.args.bytes.now new (ap (λ (s : State). s.events) is ∙ write_events old c.args.sector c.args.bytes.now mid may)
-    (ap (λ (s : State). s.disk) is ∙ ap (λ (s : State). settled s.disk.present) (c.in_ok-write.ensures.wrote honest)))
+    (ap (λ (s : State). s.disk) is ∙ ap (λ (s : State). idle_disk s.disk.present) (c.in_ok-write.ensures.wrote honest)))
     (λ same. subst P (sym same) there) in
     moves_on (history c.args.device.now) (history c.write.new.self) (history c.sync.new.self) mid new P
     (record { spans = moved (history c.args.device.now) old (history c.write.new.self) mid P (c.write.ensures.moves honest) there; now = there })

@@ -1,5 +1,5 @@
 use Rattle.std.proofs.Common.{◌≡◌, length, map, take}
-use Rattle.text_ops.specs.Walk.{begun}
+use Rattle.text_ops.specs.Walk.{initial_progress}
 use Rattle.text_ops.proofs.progress.begin.Given as goal
 
 abbrev pub invariant-loop-number : goal.invariant-loop-number

@@ -2,7 +2,7 @@ use Rattle.std.proofs.Common.{◌≡◌, ℕ, ◌+◌, length, drop, refl, sym, 
 use Rattle.std.proofs.Math.ListN.{drop_of_length-le}
 use Rattle.text_ops.specs.Entries.{fit_length}
 use Rattle.text_ops.specs.Walk.{walk}
-use Rattle.text_ops.specs.Inspect.{with_each, written, replacement}
+use Rattle.text_ops.specs.Inspect.{with_each, text_written_at, replacement}
 use Rattle.text_ops.proofs.Replacements.{written_rest}
 use Rattle.text_ops.proofs.Marking.{still_marked, past_unmarked}
 use Rattle.text_ops.proofs.Walks.{Goes, goes_from, past_fit, past_place, goes_out}
@@ -48,7 +48,7 @@ loop-at-preserved-in-Some c =
       marked = still_marked c.args.texts.now c.beginnings-marks.result c.loop-at.active c.step.new.active c.in-Some.ensures.entries inv.marked;
       all = past.0;
       goes = subst P (sym rest) past.2;
-      written = ap (with_each c.args.texts.now past.0) c.put_replacement.ensures ∙ ap (λ place. with_each c.args.texts.now past.0 (written place (replacement c.args.texts.now entry.by) c.loop-at.subject)) (sym is.at) ∙ ap (λ all. with_each c.args.texts.now all c.loop-at.subject) (sym past.1) ∙ inv.written;
+      written = ap (with_each c.args.texts.now past.0) c.put_replacement.ensures ∙ ap (λ place. with_each c.args.texts.now past.0 (text_written_at place (replacement c.args.texts.now entry.by) c.loop-at.subject)) (sym is.at) ∙ ap (λ all. with_each c.args.texts.now all c.loop-at.subject) (sym past.1) ∙ inv.written;
     }
 
 pub loop-at-preserved : goal.loop-at-preserved

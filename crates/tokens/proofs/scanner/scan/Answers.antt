@@ -1,5 +1,5 @@
 use Rattle.std.proofs.Common.{◌≤◌, ap, ◌∙◌}
-use Rattle.tokens.specs.Contexts.{after}
+use Rattle.tokens.specs.Contexts.{context_after}
 use Rattle.tokens.proofs.Scans.{loop_steps, left_counts}
 use Rattle.tokens.proofs.scanner.scan.Goals as goal
 
@@ -8,7 +8,7 @@ loop-rest-preserved c =
     let one = c.in_ok-kind.field-0 in
     let within = c.in_ok-kind.ensures.within in
     let positive : 1 ≤ one.size = within.0 in
-    let next = c.after-before.ensures ∙ ap (after c.loop-rest.before) c.as_ref.ensures.value in (
+    let next = c.after-before.ensures ∙ ap (context_after c.loop-rest.before) c.as_ref.ensures.value in (
       loop_steps c.loop-rest.tokens c.add.new.tokens c.loop-rest.before c.after-before.result c.loop-rest.start c.loop-rest.rest.now _ one
           c.in-len1-up.len_at_least positive c.in_ok-kind.ensures.value next c.in_ok-add.ensures
           ∙ c.loop-rest.invariant.0,

@@ -4,8 +4,8 @@ use Rattle.records.specs.Files.{Files}
 use Rattle.records.specs.Stores.{files_after}
 use Rattle.alternate_keys.specs.Held.{held_law}
 use Rattle.alternate_keys.specs.Moved.{changed_by}
-use Rattle.alternate_keys.specs.Opened.{Opened}
-use Rattle.alternate_keys.specs.Stands.{Stands}
+use Rattle.alternate_keys.specs.Opened.{OpenedVolume}
+use Rattle.alternate_keys.specs.Stands.{Represents}
 use Rattle.alternate_keys.proofs.store.PagedStore.change.Goals as goal
 
 pub returns-then-self-clause-turns : goal.returns-then-self-clause-turns
@@ -22,7 +22,7 @@ pub returns-in-Err-clause-turns : goal.returns-in-Err-clause-turns
 returns-in-Err-clause-turns g c = λ files held stands has.
     let name = c.args.file.now.name.items in
     let after : Files = files_after name files (changed_by c.args.verb c.args.file.now.organization c.args.number c.args.bytes.now held) in
-    let there = subst (λ (s : Opened). Stands s.pages (g.D.Device.state c.args.device.now).disk files) (sym c.self.view_is) stands.there in
+    let there = subst (λ (s : OpenedVolume). Represents s.pages (g.D.Device.state c.args.device.now).disk files) (sym c.self.view_is) stands.there in
     let turned = c.in-Err.ensures.turned stands.honest files held there has in
     record {
       there = tt;
@@ -33,5 +33,5 @@ returns-in-Err-clause-turns g c = λ files held stands has.
 
 pub returns-in-Err-clause-full : goal.returns-in-Err-clause-full
 returns-in-Err-clause-full g c = λ files held stands has is.
-    let there = subst (λ (s : Opened). Stands s.pages (g.D.Device.state c.args.device.now).disk files) (sym c.self.view_is) stands.there in
+    let there = subst (λ (s : OpenedVolume). Represents s.pages (g.D.Device.state c.args.device.now).disk files) (sym c.self.view_is) stands.there in
     c.in-Err.ensures.full stands.honest files held there has is

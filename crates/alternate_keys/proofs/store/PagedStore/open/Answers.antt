@@ -2,8 +2,8 @@ use Rattle.std.proofs.Common.{◌≡◌, List, sym, ap, subst}
 use Rattle.station.specs.Disk.{Sector}
 use Rattle.station.specs.State.{State}
 use Rattle.records.specs.declared.fault.StoreFault.{StoreFault}
-use Rattle.file_trees.specs.Volume.{Holds}
-use Rattle.alternate_keys.specs.Opened.{HasMap, Refused, IsReadCause}
+use Rattle.volume_format.specs.Volume.{Holds}
+use Rattle.alternate_keys.specs.Opened.{HasMap, IsOpenRefusal, IsReadCause}
 use Rattle.alternate_keys.proofs.OpenedStore.{stands_for, map_there, refused_of, cause_of}
 use Rattle.alternate_keys.proofs.store.PagedStore.open.Goals as goal
 
@@ -17,7 +17,7 @@ returns-in-Ok-clause-stands g c = λ honest files holds.
 pub returns-in-Err-clause-refused : goal.returns-in-Err-clause-refused
 returns-in-Err-clause-refused g c = λ honest.
     let present : List Sector = (g.D.Device.state c.args.device.now).disk.present in
-    subst (λ (f : StoreFault). Refused present f) (sym c.to_fault.ensures) (refused_of present c.in-Err.error (c.in-Err.ensures.refused honest))
+    subst (λ (f : StoreFault). IsOpenRefusal present f) (sym c.to_fault.ensures) (refused_of present c.in-Err.error (c.in-Err.ensures.refused honest))
 
 pub returns-in-Err-clause-opens : goal.returns-in-Err-clause-opens
 returns-in-Err-clause-opens g c = λ honest files holds.

@@ -1,8 +1,8 @@
 use Rattle.std.proofs.Common.{◌≡◌, ◌<◌, ◌++◌, ℕ, List, [], ◌∷◌, false, length, sym, ap, subst, ◌∙◌, arith}
 use Rattle.pages.specs.Pages.{is_spent, page_count}
 use Rattle.pages.specs.declared.error.PagesError.TheVariants.{Damaged, Spent}
-use Rattle.tree_pages.specs.declared.row_layout.RowLayout.{RowLayout}
-use Rattle.btree.specs.Tree.{Holds}
+use Rattle.btree_pages.specs.declared.row_layout.RowLayout.{RowLayout}
+use Rattle.btree.specs.Tree.{IsTreeOrEmpty}
 use Rattle.btree.specs.Laws.{IsSmall}
 use Rattle.btree.specs.Clears.{IsDown}
 use Rattle.btree.specs.Changes.{pages_of_map}
@@ -18,7 +18,7 @@ returns-in_err-clear_levels-clause-damaged g c = λ honest agrees is levels hold
     let pages = pages_of_map c.args.pages.now image in
     let layout = c.layout-layout.result in
     let top = c.root-top.result in
-    let here = subst (λ (f : RowLayout). Holds f pages top levels) (sym c.layout-layout.ensures.is) (subst (λ (r : ℕ). Holds c.args.self.now.layout pages r levels) (sym c.root-top.ensures) holds) in
+    let here = subst (λ (f : RowLayout). IsTreeOrEmpty f pages top levels) (sym c.layout-layout.ensures.is) (subst (λ (r : ℕ). IsTreeOrEmpty c.args.self.now.layout pages r levels) (sym c.root-top.ensures) holds) in
     let tree = holds_tree layout pages top levels here c.if-top-eq0.false in
     let numbers : c.push.new.self.items ≡ top ∷ [] = c.in_ok-push.ensures.items ∙ ap (λ (xs : List ℕ). xs ++ top ∷ []) c.new-numbers.ensures.items in
     let some : 0 < length c.push.new.self.items = let count = ap length numbers in omega arith in
@@ -41,7 +41,7 @@ returns-clause-cleared g c = λ honest agrees levels holds.
     let pages = pages_of_map c.args.pages.now image in
     let layout = c.layout-layout.result in
     let top = c.root-top.result in
-    let here = subst (λ (f : RowLayout). Holds f pages top levels) (sym c.layout-layout.ensures.is) (subst (λ (r : ℕ). Holds c.args.self.now.layout pages r levels) (sym c.root-top.ensures) holds) in
+    let here = subst (λ (f : RowLayout). IsTreeOrEmpty f pages top levels) (sym c.layout-layout.ensures.is) (subst (λ (r : ℕ). IsTreeOrEmpty c.args.self.now.layout pages r levels) (sym c.root-top.ensures) holds) in
     let tree = holds_tree layout pages top levels here c.if-top-eq0.false in
     let numbers : c.push.new.self.items ≡ top ∷ [] = c.in_ok-push.ensures.items ∙ ap (λ (xs : List ℕ). xs ++ top ∷ []) c.new-numbers.ensures.items in
     let some : 0 < length c.push.new.self.items = let count = ap length numbers in omega arith in

@@ -4,9 +4,9 @@ use Rattle.station.specs.Disk.{Sector}
 use Rattle.station.specs.State.{State}
 use Rattle.pages.specs.Image.{Map}
 use Rattle.pages.specs.declared.page_map.PageMap.{PageMap}
-use Rattle.pages.specs.Pages.{Unchanged, changed_pages_of, filled_of}
-use Rattle.tree_pages.specs.declared.row_layout.RowLayout.{RowLayout}
-use Rattle.btree.specs.Tree.{Holds}
+use Rattle.pages.specs.Pages.{IsUnchanged, changed_pages_of, filled_of}
+use Rattle.btree_pages.specs.declared.row_layout.RowLayout.{RowLayout}
+use Rattle.btree.specs.Tree.{IsTreeOrEmpty}
 use Rattle.btree.specs.Entries.{entries_of, entry_with, with_value}
 use Rattle.btree.specs.Changes.{pages_of_map, Becomes}
 use Rattle.btree.specs.Entering.{SetsOn}
@@ -36,7 +36,7 @@ returns-then-branch-clause-replaced g c = λ honest agrees levels holds is.
     let key = c.args.key.now in
     let value = c.args.value.now in
     let way = c.in_ok-way.way in
-    let here = subst (λ (f : RowLayout). Holds f before top levels) (sym c.layout-layout.ensures.is) (subst (λ (r : ℕ). Holds c.args.self.now.layout before r levels) (sym c.root-top.ensures) holds) in
+    let here = subst (λ (f : RowLayout). IsTreeOrEmpty f before top levels) (sym c.layout-layout.ensures.is) (subst (λ (r : ℕ). IsTreeOrEmpty c.args.self.now.layout before r levels) (sym c.root-top.ensures) holds) in
     let tree = holds_tree layout before top levels here c.if-top-eq0.false in
     let done : c.set_value_in.result ≡ Ok true = c.in_ok-set_value_in.was ∙ ap Ok c.if-branch.true in
     let raw = c.set_value_in.ensures.done done (g.D.Device.state c.follow.new.device).disk (c.follow.ensures.agrees honest agrees) in
@@ -60,7 +60,7 @@ returns-clause-replaced g c = λ honest agrees levels holds is.
     let same : c.set_value_in.new.pages ≡ c.follow.new.pages = c.set_value_in.ensures.same (c.in_ok-set_value_in.was ∙ ap Ok c.if-branch.false) in
     let pages_are = pages_yet c.args.pages.now c.follow.new.pages c.set_value_in.new.pages old now c.follow.ensures.unchanged same state in
     let agreed = c.set_value_in.ensures.keeps.agrees now.disk (c.follow.ensures.agrees honest agrees) in
-    let held = subst (λ (pages : List (Option Sector)). Holds layout pages root levels) (sym pages_are) holds in
+    let held = subst (λ (pages : List (Option Sector)). IsTreeOrEmpty layout pages root levels) (sym pages_are) holds in
     let raw = c.replace_slowly.ensures.replaced (c.follow.ensures.only.honest.0 honest) agreed levels held is in
     let from_before = subst (λ (pages : List (Option Sector)). IsSome (entry_with (entries_of layout levels) key) × Becomes layout pages levels (pages_of_map c.replace_slowly.new.pages now.disk.present) root (with_value (entries_of layout levels) (record { key = key; value = value }))) pages_are raw in
     subst (λ (s : State). IsSome (entry_with (entries_of layout levels) key) × Becomes layout before levels (pages_of_map c.replace_slowly.new.pages s.disk.present) root (with_value (entries_of layout levels) (record { key = key; value = value }))) state from_before
@@ -72,7 +72,7 @@ returns-clause-missing g c = λ honest agrees levels holds is.
     let same : c.set_value_in.new.pages ≡ c.follow.new.pages = c.set_value_in.ensures.same (c.in_ok-set_value_in.was ∙ ap Ok c.if-branch.false) in
     let pages_are = pages_yet c.args.pages.now c.follow.new.pages c.set_value_in.new.pages old now c.follow.ensures.unchanged same (c.follow.ensures.only.state honest) in
     let agreed = c.set_value_in.ensures.keeps.agrees now.disk (c.follow.ensures.agrees honest agrees) in
-    let held = subst (λ (pages : List (Option Sector)). Holds c.args.self.now.layout pages c.args.self.now.root levels) (sym pages_are) holds in
+    let held = subst (λ (pages : List (Option Sector)). IsTreeOrEmpty c.args.self.now.layout pages c.args.self.now.root levels) (sym pages_are) holds in
     c.replace_slowly.ensures.missing (c.follow.ensures.only.honest.0 honest) agreed levels held is
 
 pub returns-clause-damaged : goal.returns-clause-damaged
@@ -82,14 +82,14 @@ returns-clause-damaged g c = λ honest agrees is levels holds.
     let same : c.set_value_in.new.pages ≡ c.follow.new.pages = c.set_value_in.ensures.same (c.in_ok-set_value_in.was ∙ ap Ok c.if-branch.false) in
     let pages_are = pages_yet c.args.pages.now c.follow.new.pages c.set_value_in.new.pages old now c.follow.ensures.unchanged same (c.follow.ensures.only.state honest) in
     let agreed = c.set_value_in.ensures.keeps.agrees now.disk (c.follow.ensures.agrees honest agrees) in
-    let held = subst (λ (pages : List (Option Sector)). Holds c.args.self.now.layout pages c.args.self.now.root levels) (sym pages_are) holds in
+    let held = subst (λ (pages : List (Option Sector)). IsTreeOrEmpty c.args.self.now.layout pages c.args.self.now.root levels) (sym pages_are) holds in
     c.replace_slowly.ensures.damaged (c.follow.ensures.only.honest.0 honest) agreed is levels held
 
 pub returns-clause-same : goal.returns-clause-same
 returns-clause-same g c = λ is.
     let same : c.set_value_in.new.pages ≡ c.follow.new.pages = c.set_value_in.ensures.same (c.in_ok-set_value_in.was ∙ ap Ok c.if-branch.false) in
     unchanged_on c.args.pages.now c.follow.new.pages c.replace_slowly.new.pages c.follow.ensures.unchanged
-    (subst (λ (p : PageMap). Unchanged p c.replace_slowly.new.pages) same (c.replace_slowly.ensures.same is))
+    (subst (λ (p : PageMap). IsUnchanged p c.replace_slowly.new.pages) same (c.replace_slowly.ensures.same is))
 
 pub returns-clause-changed_pages : goal.returns-clause-changed_pages
 returns-clause-changed_pages g c =

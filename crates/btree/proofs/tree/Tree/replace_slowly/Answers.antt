@@ -2,11 +2,11 @@ use Rattle.std.proofs.Common.{◌≡◌, ◌++◌, List, ℕ, [], ◌∷◌, sym
 use Rattle.std.specs.Prelude.{Option, None, IsSome, slice_index_or}
 use Rattle.station.specs.Disk.{Sector}
 use Rattle.pages.specs.Image.{Map}
-use Rattle.tree_pages.specs.declared.row_layout.RowLayout.{RowLayout}
-use Rattle.tree_pages.specs.Keys.{key_of}
-use Rattle.btree.specs.Tree.{Holds}
+use Rattle.btree_pages.specs.declared.row_layout.RowLayout.{RowLayout}
+use Rattle.btree_pages.specs.Keys.{key_of}
+use Rattle.btree.specs.Tree.{IsTreeOrEmpty}
 use Rattle.btree.specs.Entries.{entries_of, entry_with, with_value}
-use Rattle.btree.specs.Moves.{Replaced}
+use Rattle.btree.specs.Moves.{ReplacesNodes}
 use Rattle.btree.specs.Propagates.{node_with}
 use Rattle.btree.specs.Changes.{pages_of_map, IsIn, CanStand, Becomes}
 use Rattle.btree.proofs.Frames.{holds_tree}
@@ -34,7 +34,7 @@ returns-in-Err-clause-missing g c = λ honest agrees levels holds is.
     let top = c.root-top.result in
     let d = c.in_ok-descent.descent in
     let key = c.args.key.now in
-    let here = subst (λ (f : RowLayout). Holds f before top levels) (sym c.layout-layout.ensures.is) (subst (λ (r : ℕ). Holds c.args.self.now.layout before r levels) (sym c.root-top.ensures) holds) in
+    let here = subst (λ (f : RowLayout). IsTreeOrEmpty f before top levels) (sym c.layout-layout.ensures.is) (subst (λ (r : ℕ). IsTreeOrEmpty c.args.self.now.layout before r levels) (sym c.root-top.ensures) holds) in
     let tree = holds_tree layout before top levels here c.if-top-eq0.false in
     let leaf = leaf_among layout before top key levels d.path.items d.page d.leaf.rows d.right tree (c.in_ok-descent.ensures.way honest agrees levels tree) in
     subst (λ (f : RowLayout). entry_with (entries_of f levels) key ≡ None) c.layout-layout.ensures.is
@@ -48,7 +48,7 @@ returns-in_err-put_rest-clause-damaged g c = λ honest agrees is levels holds.
     let top = c.root-top.result in
     let d = c.in_ok-descent.descent in
     let key = c.args.key.now in
-    let here = subst (λ (f : RowLayout). Holds f before top levels) (sym c.layout-layout.ensures.is) (subst (λ (r : ℕ). Holds c.args.self.now.layout before r levels) (sym c.root-top.ensures) holds) in
+    let here = subst (λ (f : RowLayout). IsTreeOrEmpty f before top levels) (sym c.layout-layout.ensures.is) (subst (λ (r : ℕ). IsTreeOrEmpty c.args.self.now.layout before r levels) (sym c.root-top.ensures) holds) in
     let tree = holds_tree layout before top levels here c.if-top-eq0.false in
     let end = end_stands layout key before top levels d.path.items d.page d.leaf.rows d.right tree (c.in_ok-descent.ensures.way honest agrees levels tree) in
     let told = rw is at c.from_residual-in_err-put_rest.ensures.1 in
@@ -67,9 +67,9 @@ returns-clause-replaced g c = λ honest agrees levels holds is.
     let place = c.in-Ok.place in
     let key = c.args.key.now in
     let value = c.args.value.now in
-    let here = subst (λ (f : RowLayout). Holds f before top levels) (sym c.layout-layout.ensures.is) (subst (λ (r : ℕ). Holds c.args.self.now.layout before r levels) (sym c.root-top.ensures) holds) in
+    let here = subst (λ (f : RowLayout). IsTreeOrEmpty f before top levels) (sym c.layout-layout.ensures.is) (subst (λ (r : ℕ). IsTreeOrEmpty c.args.self.now.layout before r levels) (sym c.root-top.ensures) holds) in
     let tree = holds_tree layout before top levels here c.if-top-eq0.false in
-    let put = subst (λ (pages : List (Option Sector)). CanStand pages d.page node → Replaced node.layout node.kind pages (node_with d.page node.rows ∷ []) after (node_with d.page (set node.rows place (key_of node.layout (slice_index_or node.rows place []) ++ value)) ∷ []))
+    let put = subst (λ (pages : List (Option Sector)). CanStand pages d.page node → ReplacesNodes node.layout node.kind pages (node_with d.page node.rows ∷ []) after (node_with d.page (set node.rows place (key_of node.layout (slice_index_or node.rows place []) ++ value)) ∷ []))
     (ap (λ (m : Map). m.pages) (c.descend.ensures.unchanged.map image)) (c.in_ok-put_rest.ensures.pages image) in
     let valued = end_valued layout before after top levels d.path.items d.page node d.right place key value tree (c.in_ok-descent.ensures.way honest agrees levels tree) c.in_ok-descent.ensures.leaf.0 c.in_ok-descent.ensures.leaf.1
     c.in-Ok.ensures.found.0 c.in-Ok.ensures.found.1 c.in-Ok.ensures.around put in

@@ -4,11 +4,11 @@ use Rattle.std.proofs.lemmas.Result.{IfOk-weaker, err_from_is_err_and}
 use Rattle.station.specs.Disk.{Sector}
 use Rattle.pages.specs.Pages.{map_now}
 use Rattle.pages.specs.declared.error.PagesError.TheVariants.{Damaged}
-use Rattle.tree_pages.specs.declared.row_layout.RowLayout.{RowLayout}
-use Rattle.tree_pages.specs.declared.row_layout.Kind.TheVariants.{Leaf}
-use Rattle.btree.specs.Tree.{IsTree, Stands}
-use Rattle.btree.specs.Rooted.{Rooted}
-use Rattle.btree.specs.Entries.{Entry, entries_of, listed, first_entry}
+use Rattle.btree_pages.specs.declared.row_layout.RowLayout.{RowLayout}
+use Rattle.btree_pages.specs.declared.row_layout.Kind.TheVariants.{Leaf}
+use Rattle.btree.specs.Tree.{IsTree, IsOnPage}
+use Rattle.btree.specs.Rooted.{RootedTree}
+use Rattle.btree.specs.Entries.{Entry, entries_of, entries_of_rows, first_entry}
 use Rattle.btree.specs.Propagates.{node_with}
 use Rattle.btree.specs.Steps.{LeadsTo}
 use Rattle.btree.specs.Sought.{sought_in, AnswersAt}
@@ -34,29 +34,29 @@ pub returns-in_err-found-clause-damaged : goal.returns-in_err-found-clause-damag
 returns-in_err-found-clause-damaged g c = λ honest agrees told levels holds.
     let from = err_from_is_err_and c.from_residual-in_err-found.result c.from_residual-in_err-found.ensures.1 in
     let damaged : c.entry_at.result ≡ Err Damaged = cc in
-    let view : Rooted = c.args.self.now in
-    let root_is : c.self.inside.root ≡ view.root = ap (λ (t : Rooted). t.root) c.self.view_is in
-    let layout_is : c.self.inside.layout ≡ view.layout = ap (λ (t : Rooted). t.layout) c.self.view_is in
+    let view : RootedTree = c.args.self.now in
+    let root_is : c.self.inside.root ≡ view.root = ap (λ (t : RootedTree). t.root) c.self.view_is in
+    let layout_is : c.self.inside.layout ≡ view.layout = ap (λ (t : RootedTree). t.layout) c.self.view_is in
     let pages : List (Option Sector) = (map_now c.args.pages.now (g.D.Device.state c.args.device.now).disk.present).pages in
     let tree : IsTree view.layout pages view.root levels = holds_tree view.layout pages view.root levels holds (λ none. c.if-self-eq0.false (root_is ∙ none)) in
     let same = same_pages c.args.pages.now c.follow.new.pages (g.D.Device.state c.args.device.now) (g.D.Device.state c.follow.new.device) c.follow.ensures.unchanged (c.follow.ensures.only.state honest) in
     let way = c.in_ok-way.way in
-    let W : Rooted → Type 0 = λ t. IsTree t.layout pages t.root levels → LeadsTo t.layout pages c.args.key.now levels way.path.items way.page way.right in
+    let W : RootedTree → Type 0 = λ t. IsTree t.layout pages t.root levels → LeadsTo t.layout pages c.args.key.now levels way.path.items way.page way.right in
     let leads : LeadsTo view.layout pages c.args.key.now levels way.path.items way.page way.right = subst W c.self.view_is (c.in_ok-way.ensures.way honest agrees levels) tree in
     let here : LeadsTo c.self.inside.layout pages c.args.key.now levels way.path.items way.page way.right = subst (λ (f : RowLayout). LeadsTo f pages c.args.key.now levels way.path.items way.page way.right) (sym layout_is) leads in
     c.entry_at.ensures.damaged (c.follow.ensures.only.honest.0 honest) (c.follow.ensures.agrees honest agrees) damaged (node_with way.page here.rows) refl
-    (subst (λ (p : List (Option Sector)). Stands c.self.inside.layout p Leaf (node_with way.page here.rows)) (sym same) here.stands)
+    (subst (λ (p : List (Option Sector)). IsOnPage c.self.inside.layout p Leaf (node_with way.page here.rows)) (sym same) here.stands)
 
 pub returns-in-Some-clause-entry : goal.returns-in-Some-clause-entry
 returns-in-Some-clause-entry g c = λ honest agrees levels holds.
-    let view : Rooted = c.args.self.now in
-    let root_is : c.self.inside.root ≡ view.root = ap (λ (t : Rooted). t.root) c.self.view_is in
-    let layout_is : c.self.inside.layout ≡ view.layout = ap (λ (t : Rooted). t.layout) c.self.view_is in
+    let view : RootedTree = c.args.self.now in
+    let root_is : c.self.inside.root ≡ view.root = ap (λ (t : RootedTree). t.root) c.self.view_is in
+    let layout_is : c.self.inside.layout ≡ view.layout = ap (λ (t : RootedTree). t.layout) c.self.view_is in
     let pages : List (Option Sector) = (map_now c.args.pages.now (g.D.Device.state c.args.device.now).disk.present).pages in
     let tree : IsTree view.layout pages view.root levels = holds_tree view.layout pages view.root levels holds (λ none. c.if-self-eq0.false (root_is ∙ none)) in
     let same = same_pages c.args.pages.now c.follow.new.pages (g.D.Device.state c.args.device.now) (g.D.Device.state c.follow.new.device) c.follow.ensures.unchanged (c.follow.ensures.only.state honest) in
     let way = c.in_ok-way.way in
-    let W : Rooted → Type 0 = λ t. IsTree t.layout pages t.root levels → LeadsTo t.layout pages c.args.key.now levels way.path.items way.page way.right in
+    let W : RootedTree → Type 0 = λ t. IsTree t.layout pages t.root levels → LeadsTo t.layout pages c.args.key.now levels way.path.items way.page way.right in
     let leads : LeadsTo view.layout pages c.args.key.now levels way.path.items way.page way.right = subst W c.self.view_is (c.in_ok-way.ensures.way honest agrees levels) tree in
     let A : RowLayout → List (Option Sector) → Option Entry → Type 0 = λ f p entry. AnswersAt f p way.page c.args.key.now c.args.sought entry in
     let at_first : A c.self.inside.layout pages c.in_ok-found.field-0 =
@@ -66,14 +66,14 @@ returns-in-Some-clause-entry g c = λ honest agrees levels holds.
 
 pub returns-in-None-clause-entry : goal.returns-in-None-clause-entry
 returns-in-None-clause-entry g c = λ honest agrees levels holds.
-    let view : Rooted = c.args.self.now in
-    let root_is : c.self.inside.root ≡ view.root = ap (λ (t : Rooted). t.root) c.self.view_is in
-    let layout_is : c.self.inside.layout ≡ view.layout = ap (λ (t : Rooted). t.layout) c.self.view_is in
+    let view : RootedTree = c.args.self.now in
+    let root_is : c.self.inside.root ≡ view.root = ap (λ (t : RootedTree). t.root) c.self.view_is in
+    let layout_is : c.self.inside.layout ≡ view.layout = ap (λ (t : RootedTree). t.layout) c.self.view_is in
     let pages : List (Option Sector) = (map_now c.args.pages.now (g.D.Device.state c.args.device.now).disk.present).pages in
     let tree : IsTree view.layout pages view.root levels = holds_tree view.layout pages view.root levels holds (λ none. c.if-self-eq0.false (root_is ∙ none)) in
     let same = same_pages c.args.pages.now c.follow.new.pages (g.D.Device.state c.args.device.now) (g.D.Device.state c.follow.new.device) c.follow.ensures.unchanged (c.follow.ensures.only.state honest) in
     let way = c.in_ok-way.way in
-    let W : Rooted → Type 0 = λ t. IsTree t.layout pages t.root levels → LeadsTo t.layout pages c.args.key.now levels way.path.items way.page way.right in
+    let W : RootedTree → Type 0 = λ t. IsTree t.layout pages t.root levels → LeadsTo t.layout pages c.args.key.now levels way.path.items way.page way.right in
     let leads : LeadsTo view.layout pages c.args.key.now levels way.path.items way.page way.right = subst W c.self.view_is (c.in_ok-way.ensures.way honest agrees levels) tree in
     let A : RowLayout → List (Option Sector) → Option Entry → Type 0 = λ f p entry. AnswersAt f p way.page c.args.key.now c.args.sought entry in
     let at_first : A c.self.inside.layout pages c.in_ok-found.field-0 =
@@ -85,21 +85,21 @@ returns-in-None-clause-entry g c = λ honest agrees levels holds.
     let agrees_then = c.entry_at.ensures.agrees (c.follow.ensures.only.honest.0 honest) (c.follow.ensures.agrees honest agrees) in
     let is = behind view.layout pages view.root c.args.key.now levels way.path.items way.page way.right c.args.sought c.requires.sought tree leads (subst (A view.layout pages) c.in-None.is at_view) in
     IfOk-weaker c.right_entry.result
-    (λ (entry : Option Entry). entry ≡ first_entry (listed view.layout is.after))
+    (λ (entry : Option Entry). entry ≡ first_entry (entries_of_rows view.layout is.after))
     (λ (entry : Option Entry). entry ≡ sought_in c.args.sought (entries_of view.layout levels) c.args.key.now)
     (λ entry first. first ∙ is.is)
     (c.right_entry.ensures.entry honest_then agrees_then levels still is.passed is.after is.around is.beside)
 
 pub returns-in-None-clause-damaged : goal.returns-in-None-clause-damaged
 returns-in-None-clause-damaged g c = λ honest agrees told levels holds.
-    let view : Rooted = c.args.self.now in
-    let root_is : c.self.inside.root ≡ view.root = ap (λ (t : Rooted). t.root) c.self.view_is in
-    let layout_is : c.self.inside.layout ≡ view.layout = ap (λ (t : Rooted). t.layout) c.self.view_is in
+    let view : RootedTree = c.args.self.now in
+    let root_is : c.self.inside.root ≡ view.root = ap (λ (t : RootedTree). t.root) c.self.view_is in
+    let layout_is : c.self.inside.layout ≡ view.layout = ap (λ (t : RootedTree). t.layout) c.self.view_is in
     let pages : List (Option Sector) = (map_now c.args.pages.now (g.D.Device.state c.args.device.now).disk.present).pages in
     let tree : IsTree view.layout pages view.root levels = holds_tree view.layout pages view.root levels holds (λ none. c.if-self-eq0.false (root_is ∙ none)) in
     let same = same_pages c.args.pages.now c.follow.new.pages (g.D.Device.state c.args.device.now) (g.D.Device.state c.follow.new.device) c.follow.ensures.unchanged (c.follow.ensures.only.state honest) in
     let way = c.in_ok-way.way in
-    let W : Rooted → Type 0 = λ t. IsTree t.layout pages t.root levels → LeadsTo t.layout pages c.args.key.now levels way.path.items way.page way.right in
+    let W : RootedTree → Type 0 = λ t. IsTree t.layout pages t.root levels → LeadsTo t.layout pages c.args.key.now levels way.path.items way.page way.right in
     let leads : LeadsTo view.layout pages c.args.key.now levels way.path.items way.page way.right = subst W c.self.view_is (c.in_ok-way.ensures.way honest agrees levels) tree in
     let A : RowLayout → List (Option Sector) → Option Entry → Type 0 = λ f p entry. AnswersAt f p way.page c.args.key.now c.args.sought entry in
     let at_first : A c.self.inside.layout pages c.in_ok-found.field-0 =

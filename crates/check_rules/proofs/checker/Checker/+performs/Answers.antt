@@ -1,9 +1,9 @@
 use Rattle.std.proofs.Common.{◌≡◌, List, Some, sym, ap, subst, arith, ◌∙◌}
-use Rattle.source_tree.specs.declared.evaluate.Selected.{Selected}
+use Rattle.source_tree.specs.declared.evaluate_statement.Selected.{Selected}
 use Rattle.source_tree.specs.declared.statement.Statement.{Statement}
 use Rattle.source_tree.specs.Recursion.{each_performs, selected_performs, statement_performs}
 use Rattle.declarations.specs.Named.{procedures_in}
-use Rattle.check_rules.specs.Performs.{Adds, in_paragraph}
+use Rattle.check_rules.specs.Performs.{AppendsPerforms, in_paragraph}
 use Rattle.declarations.proofs.PerformLayers.{statement_is}
 use Rattle.check_rules.proofs.Adding.{adds_next, nothing_performed, adds_ways, adds_phrases, adds_behind, phrase_none, phrase_some}
 use Rattle.check_rules.proofs.checker.Checker.+performs.Goals as goal
@@ -23,14 +23,14 @@ statement_performs-returns-in_ok-statements_performs-in-Branching-If t c =
     adds_ways c.args.all.now c.statements_performs.new.all c.phrase_performs-in-Branching-If.new.all (procedures_in c.args.self.now.declarations.now) c.args.number c.args.one.now c.phrase_performs-in-Branching-If.result _ c.as_slice.result.now
     c.in_ok-statements_performs-in-Branching-If.ensures c.phrase_performs-in-Branching-If.ensures (grind (arith, statement_is))
 
-pub statement_performs-returns-in-Moving : goal.statement_performs-returns-in-Moving
-statement_performs-returns-in-Moving t c = nothing_performed (procedures_in c.args.self.now.declarations.now) c.args.number c.args.one.now c.args.all.now c.in-Moving.is
+pub statement_performs-returns-in-DataStatement : goal.statement_performs-returns-in-DataStatement
+statement_performs-returns-in-DataStatement t c = nothing_performed (procedures_in c.args.self.now.declarations.now) c.args.number c.args.one.now c.args.all.now c.in-DataStatement.is
 
-pub statement_performs-returns-in-Moving-2 : goal.statement_performs-returns-in-Moving-2
-statement_performs-returns-in-Moving-2 t c = nothing_performed (procedures_in c.args.self.now.declarations.now) c.args.number c.args.one.now c.args.all.now c.in-Moving.is
+pub statement_performs-returns-in-DataStatement-2 : goal.statement_performs-returns-in-DataStatement-2
+statement_performs-returns-in-DataStatement-2 t c = nothing_performed (procedures_in c.args.self.now.declarations.now) c.args.number c.args.one.now c.args.all.now c.in-DataStatement.is
 
-pub statement_performs-returns-in-Moving-3 : goal.statement_performs-returns-in-Moving-3
-statement_performs-returns-in-Moving-3 t c = nothing_performed (procedures_in c.args.self.now.declarations.now) c.args.number c.args.one.now c.args.all.now c.in-Moving.is
+pub statement_performs-returns-in-DataStatement-3 : goal.statement_performs-returns-in-DataStatement-3
+statement_performs-returns-in-DataStatement-3 t c = nothing_performed (procedures_in c.args.self.now.declarations.now) c.args.number c.args.one.now c.args.all.now c.in-DataStatement.is
 
 pub statements_performs-loop-one-preserved : goal.statements_performs-loop-one-preserved
 statements_performs-loop-one-preserved t c =
@@ -42,7 +42,7 @@ selections_performs-loop-one-preserved t c =
     let performs = statement_performs (procedures_in c.args.self.now.declarations.now) in
     adds_next (selected_performs performs) c.args.number c.args.selections.now c.loop-one.one-index c.one-item.result c.loop-one-test.true c.one-item.is
     c.loop-one.invariant
-    (subst (λ (l : List Statement). Adds c.loop-one.all c.statements_performs.new.all (in_paragraph c.args.number (each_performs performs l))) c.as_slice.ensures
+    (subst (λ (l : List Statement). AppendsPerforms c.loop-one.all c.statements_performs.new.all (in_paragraph c.args.number (each_performs performs l))) c.as_slice.ensures
     c.in_ok-statements_performs.ensures)
 
 pub evaluate_performs-returns : goal.evaluate_performs-returns
@@ -50,7 +50,7 @@ evaluate_performs-returns t c =
     let performs = statement_performs (procedures_in c.args.self.now.declarations.now) in
     adds_behind c.args.all.now c.selections_performs.new.all c.phrase_performs.new.all (procedures_in c.args.self.now.declarations.now) c.args.number c.phrase_performs.result
     (each_performs (selected_performs performs) c.args.one.now.selected) c.args.one.now.other
-    (subst (λ (l : List (Selected Statement)). Adds c.args.all.now c.selections_performs.new.all (in_paragraph c.args.number (each_performs (selected_performs performs) l)))
+    (subst (λ (l : List (Selected Statement)). AppendsPerforms c.args.all.now c.selections_performs.new.all (in_paragraph c.args.number (each_performs (selected_performs performs) l)))
     c.as_slice.ensures c.in_ok-selections_performs.ensures)
     c.phrase_performs.ensures
 

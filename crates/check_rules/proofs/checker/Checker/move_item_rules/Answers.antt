@@ -1,9 +1,9 @@
 use Rattle.std.proofs.Common.{ap, sym, subst, ◌∙◌}
 use Rattle.source_tree.specs.declared.expression.Operand.TheVariants.{Item}
 use Rattle.source_tree.specs.Broken.{each}
-use Rattle.source_tree.specs.NameRules.{item_rules, operand_rules}
+use Rattle.source_tree.specs.NameRules.{reference_rules, operand_rules}
 use Rattle.source_tree.specs.MoveRules as spec
-use Rattle.entry_rules.specs.Checks.{Finds}
+use Rattle.entry_rules.specs.Checks.{IsFirstBreach}
 use Rattle.declarations.specs.Named.{items_in}
 use Rattle.check_rules.specs.Asking.{asks}
 use Rattle.declarations.proofs.Firsts.{front_none}
@@ -15,8 +15,8 @@ returns c =
     let items = items_in c.args.self.now.declarations.now in
     let receivers = c.args.receivers.now in
     let sender = Item c.args.sender.now in
-    subst (λ l. Finds c.receivers_rules.result l)
-    (ap (λ s. each (item_rules items (asks s)) receivers) c.asked_by_item.ensures
-    ∙ ap (λ a. each (item_rules items a) receivers) (asks_receives (spec.sent_by items sender))
-    ∙ sym (front_none (operand_rules items sender) (each (item_rules items (spec.receives (spec.sent_by items sender))) receivers) c.in_ok-item_rules.ensures))
+    subst (λ l. IsFirstBreach c.receivers_rules.result l)
+    (ap (λ s. each (reference_rules items (asks s)) receivers) c.asked_by_item.ensures
+    ∙ ap (λ a. each (reference_rules items a) receivers) (asks_receives (spec.sent_by items sender))
+    ∙ sym (front_none (operand_rules items sender) (each (reference_rules items (spec.receives (spec.sent_by items sender))) receivers) c.in_ok-item_rules.ensures))
     c.receivers_rules.ensures

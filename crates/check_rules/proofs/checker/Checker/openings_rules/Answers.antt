@@ -1,6 +1,6 @@
 use Rattle.std.proofs.Common.{sym, ap, ◌∙◌}
 use Rattle.std.proofs.lemmas.Result.{err_from_is_err_and}
-use Rattle.source_tree.specs.declared.filing.Opening.{Opening}
+use Rattle.source_tree.specs.declared.file_statement.Opening.{Opening}
 use Rattle.source_tree.specs.Broken.{each}
 use Rattle.source_tree.specs.FilingRules.{open_rules}
 use Rattle.source_tree.specs.LookUp.{first}

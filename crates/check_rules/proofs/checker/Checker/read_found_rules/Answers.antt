@@ -5,7 +5,7 @@ use Rattle.source_tree.specs.Filing.{is_in_sequence}
 use Rattle.source_tree.specs.FilingRules.{read_key_rules, into_rules}
 use Rattle.source_tree.specs.LookUp.{first}
 use Rattle.entry_rules.specs.Checks.{broken_of}
-use Rattle.program_files.specs.Files.{file_in}
+use Rattle.file_descriptions.specs.Files.{file_in}
 use Rattle.check_rules.specs.Filed.{read_file_rules}
 use Rattle.declarations.specs.Named.{files_in, items_in}
 use Rattle.declarations.proofs.Firsts.{first_front, first_back}

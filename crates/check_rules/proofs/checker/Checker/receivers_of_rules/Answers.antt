@@ -2,7 +2,7 @@ use Rattle.std.proofs.Common.{ap, ◌∙◌}
 use Rattle.std.proofs.lemmas.Result.{err_from_is_err_and}
 use Rattle.source_tree.specs.declared.arithmetic.Operation.{Operation}
 use Rattle.source_tree.specs.LookUp.{first}
-use Rattle.source_tree.specs.NameRules.{item_rules}
+use Rattle.source_tree.specs.NameRules.{reference_rules}
 use Rattle.source_tree.specs.ArithmeticRules.{number_receiver}
 use Rattle.entry_rules.specs.Checks.{broken_of}
 use Rattle.declarations.specs.Named.{items_in}
@@ -15,5 +15,5 @@ returns-in_err-item_rules-in-DivideRemainder c =
     let p = err_from_is_err_and c.from_residual.result c.from_residual.ensures.1 in
     let items = items_in c.args.self.now.declarations.now in
     rw (p.1, p.2) (ap (λ (one : Operation). first (receivers_rules items one)) c.in-DivideRemainder.is
-    ∙ first_front (item_rules items number_receiver c.in-DivideRemainder.quotient.item) (item_rules items number_receiver c.in-DivideRemainder.remainder)
+    ∙ first_front (reference_rules items number_receiver c.in-DivideRemainder.quotient.item) (reference_rules items number_receiver c.in-DivideRemainder.remainder)
     (broken_of c.in_err-item_rules-in-DivideRemainder.field-0.0) c.in_err-item_rules-in-DivideRemainder.ensures)

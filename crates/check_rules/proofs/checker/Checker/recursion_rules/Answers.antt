@@ -1,8 +1,8 @@
 use Rattle.std.proofs.Common.{◌<◌, ◌^◌, List, length, refl, sym, subst, ◌∙◌, arith}
 use Rattle.std.specs.Prelude.{All}
 use Rattle.std.proofs.lemmas.Option.{slice_get_within}
-use Rattle.perform_order.specs.declared.performed.PerformedRange.{PerformedRange}
-use Rattle.perform_order.specs.Order.{IsRange, marks}
+use Rattle.perform_graph.specs.declared.performed.PerformedRange.{PerformedRange}
+use Rattle.perform_graph.specs.Order.{IsRange, marks}
 use Rattle.check_rules.specs.Performs.{HasNext}
 use Rattle.check_rules.proofs.PerformedRanges.{collected, collected_ranges, ranges_end, place_there}
 use Rattle.check_rules.proofs.Back.{some_leads, leads_back, ring_at}

@@ -2,7 +2,7 @@ use Rattle.std.proofs.Common.{◌++◌}
 use Rattle.std.proofs.lemmas.Result.{err_from_is_err_and}
 use Rattle.source_tree.specs.FilingRules.{start_key_rules, phrase_kind_rules}
 use Rattle.entry_rules.specs.Checks.{broken_of}
-use Rattle.program_files.specs.Files.{file_in}
+use Rattle.file_descriptions.specs.Files.{file_in}
 use Rattle.check_rules.specs.Filed.{start_file_rules}
 use Rattle.declarations.specs.Named.{files_in, items_in}
 use Rattle.declarations.proofs.Firsts.{first_front, first_back}

@@ -8,9 +8,9 @@ use Rattle.data_instructions.specs.declared.instruction.DataInstruction.TheVaria
 use Rattle.declarations.specs.Named.{items_in}
 use Rattle.declarations.specs.Chains.{further_rules}
 use Rattle.declarations.proofs.Layers as layers
-use Rattle.codegen.specs.Pieces.{joined, both, in_order}
-use Rattle.codegen.specs.DataCode.{work_piece}
-use Rattle.codegen.specs.ArithmeticCode.{value_piece, expression_piece}
+use Rattle.codegen.specs.Pieces.{append, sequence, in_order}
+use Rattle.codegen.specs.DataCode.{work_fragment}
+use Rattle.codegen.specs.ArithmeticCode.{value_fragment, expression_fragment}
 use Rattle.codegen.proofs.ExpressionForms.{link_piece, operand_is, negated_is, chain_is}
 use Rattle.codegen.proofs.Kept.{front_kept, back_kept, one_kept}
 use Rattle.codegen.proofs.Sequences.{is_so, ends_so}
@@ -55,29 +55,29 @@ pub emit_expression-returns-in-Operand : goal.emit_expression-returns-in-Operand
 emit_expression-returns-in-Operand t c =
     let items = items_in c.args.self.now.declarations.now in
     let old = c.args.code.now in
-    is_so c.emit_value.result c.emit_value.new.code (joined old (value_piece items c.in-Operand.operand old)) (joined old (expression_piece items c.args.one.now old)) c.emit_value.ensures
-    (ap (joined old) (sym (operand_is items c.in-Operand.operand old) ∙ sym (ap (λ (e : Expression). expression_piece items e old) c.in-Operand.is)))
+    is_so c.emit_value.result c.emit_value.new.code (append old (value_fragment items c.in-Operand.operand old)) (append old (expression_fragment items c.args.one.now old)) c.emit_value.ensures
+    (ap (append old) (sym (operand_is items c.in-Operand.operand old) ∙ sym (ap (λ (e : Expression). expression_fragment items e old) c.in-Operand.is)))
 
 pub emit_expression-returns-in_ok-emit_expression-in-Negated : goal.emit_expression-returns-in_ok-emit_expression-in-Negated
 emit_expression-returns-in_ok-emit_expression-in-Negated t c =
     let items = items_in c.args.self.now.declarations.now in
     let old = c.args.code.now in
-    let inner = expression_piece items c.in-Negated.inner in
-    let negate = work_piece (i.Calculate calculation.Negate) in
-    let begun : c.emit_expression.new.code ≡ joined old (inner old) =
-    c.in_ok-emit_expression-in-Negated.ensures ∙ ap (λ (e : Expression). joined old (expression_piece items e old)) c.get.ensures in
-    is_so c.emit_work.result c.emit_work.new.code (joined old (both inner negate old)) (joined old (expression_piece items c.args.one.now old))
+    let inner = expression_fragment items c.in-Negated.inner in
+    let negate = work_fragment (i.Calculate calculation.Negate) in
+    let begun : c.emit_expression.new.code ≡ append old (inner old) =
+    c.in_ok-emit_expression-in-Negated.ensures ∙ ap (λ (e : Expression). append old (expression_fragment items e old)) c.get.ensures in
+    is_so c.emit_work.result c.emit_work.new.code (append old (sequence inner negate old)) (append old (expression_fragment items c.args.one.now old))
     (ends_so c.emit_work.result inner negate old c.emit_expression.new.code c.emit_work.new.code begun c.emit_work.ensures)
-    (ap (joined old) (sym (negated_is items c.in-Negated.inner old) ∙ sym (ap (λ (e : Expression). expression_piece items e old) c.in-Negated.is)))
+    (ap (append old) (sym (negated_is items c.in-Negated.inner old) ∙ sym (ap (λ (e : Expression). expression_fragment items e old) c.in-Negated.is)))
 
 pub emit_expression-returns-in_ok-emit_expression-in-Chain : goal.emit_expression-returns-in_ok-emit_expression-in-Chain
 emit_expression-returns-in_ok-emit_expression-in-Chain t c =
     let items = items_in c.args.self.now.declarations.now in
     let old = c.args.code.now in
-    let first = expression_piece items c.in-Chain.first in
-    let begun : c.emit_expression-in-Chain.new.code ≡ joined old (first old) =
-    c.in_ok-emit_expression-in-Chain.ensures ∙ ap (λ (e : Expression). joined old (expression_piece items e old)) c.get-in-Chain.ensures in
-    is_so c.emit_chain.result c.emit_chain.new.code (joined old (both first (in_order (link_piece items) c.as_slice.result.now) old)) (joined old (expression_piece items c.args.one.now old))
+    let first = expression_fragment items c.in-Chain.first in
+    let begun : c.emit_expression-in-Chain.new.code ≡ append old (first old) =
+    c.in_ok-emit_expression-in-Chain.ensures ∙ ap (λ (e : Expression). append old (expression_fragment items e old)) c.get-in-Chain.ensures in
+    is_so c.emit_chain.result c.emit_chain.new.code (append old (sequence first (in_order (link_piece items) c.as_slice.result.now) old)) (append old (expression_fragment items c.args.one.now old))
     (ends_so c.emit_chain.result first (in_order (link_piece items) c.as_slice.result.now) old c.emit_expression-in-Chain.new.code c.emit_chain.new.code begun c.emit_chain.ensures)
-    (ap (λ (l : List (Operator × Expression)). joined old (both first (in_order (link_piece items) l) old)) c.as_slice.ensures
-    ∙ ap (joined old) (sym (chain_is items c.in-Chain.first c.in-Chain.more old) ∙ sym (ap (λ (e : Expression). expression_piece items e old) c.in-Chain.is)))
+    (ap (λ (l : List (Operator × Expression)). append old (sequence first (in_order (link_piece items) l) old)) c.as_slice.ensures
+    ∙ ap (append old) (sym (chain_is items c.in-Chain.first c.in-Chain.more old) ∙ sym (ap (λ (e : Expression). expression_fragment items e old) c.in-Chain.is)))

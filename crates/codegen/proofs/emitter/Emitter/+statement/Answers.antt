@@ -4,46 +4,46 @@ use Rattle.std.proofs.lemmas.Grind.{common_steps}
 use Rattle.records.specs.declared.verb.Verb.{Verb}
 use Rattle.records.specs.declared.verb.Verb.TheVariants as file_verb
 use Rattle.source_tree.specs.declared.statement.Statement.{Statement, the_lemmas}
-use Rattle.source_tree.specs.declared.filing.Filing.{Filing}
-use Rattle.source_tree.specs.declared.branching.Branching.{Branching}
-use Rattle.source_tree.specs.declared.branching.Branching.TheVariants.{If}
+use Rattle.source_tree.specs.declared.file_statement.FileStatement.{FileStatement}
+use Rattle.source_tree.specs.declared.conditional_statement.ConditionalStatement.{ConditionalStatement}
+use Rattle.source_tree.specs.declared.conditional_statement.ConditionalStatement.TheVariants.{If}
 use Rattle.source_tree.specs.declared.until.TestTime.{TestTime}
 use Rattle.source_tree.specs.declared.condition.Condition.TheVariants.{Any}
-use Rattle.source_tree.specs.declared.evaluate.Subject.{Subject}
-use Rattle.source_tree.specs.declared.evaluate.When.{When}
-use Rattle.source_tree.specs.declared.evaluate.Selected.{Selected}
-use Rattle.source_tree.specs.declared.stringing.Sending.{Sending}
+use Rattle.source_tree.specs.declared.evaluate_statement.Subject.{Subject}
+use Rattle.source_tree.specs.declared.evaluate_statement.When.{When}
+use Rattle.source_tree.specs.declared.evaluate_statement.Selected.{Selected}
+use Rattle.source_tree.specs.declared.string_statement.Sending.{Sending}
 use Rattle.source_tree.specs.Broken.{each}
 use Rattle.source_tree.specs.Evaluate.{asked_each, whens_asked, selected_asked}
 use Rattle.source_tree.specs.EvaluateRules.{when_rules, selected_rules}
 use Rattle.source_tree.specs.Filing as meaning
 use Rattle.source_tree.specs.Filing.{file_with_record, phrases_of}
 use Rattle.source_tree.specs.FilingRules.{delete_rules, file_named_rules, filing_rules, read_rules, record_rules, start_rules}
-use Rattle.source_tree.specs.NameRules.{item_rules}
+use Rattle.source_tree.specs.NameRules.{reference_rules}
 use Rattle.source_tree.specs.ConditionRules.{varying_rules, condition_rules, until_rules}
 use Rattle.source_tree.specs.Rules.{all_permitted, integer_item, verb_rules, arithmetic_rules, stringing_rules, branching_rules, performing_rules, phrases_rules, phrase_rules, file_phrases_rules, performed_rules, turns_rules, evaluate_rules, statement_rules}
 use Rattle.source_tree.specs.ArithmeticRules.{operation_rules}
 use Rattle.source_tree.specs.LookUp.{first, items_named}
 use Rattle.source_tree.specs.ProgramFiles.{ProgramFile, files_named}
 use Rattle.source_tree.specs.StringRules.{sending_rules, receiver_item, only_length, string_rules}
-use Rattle.program_files.specs.Files.{file_in}
+use Rattle.file_descriptions.specs.Files.{file_in}
 use Rattle.declarations.specs.Named.{scope_in}
 use Rattle.declarations.proofs.RuleLayers as layers
 use Rattle.data_instructions.specs.declared.instruction.DataInstruction.TheVariants as i
-use Rattle.file_tables.specs.declared.class.StatusClass.TheVariants.{Successful}
+use Rattle.file_image.specs.declared.class.StatusClass.TheVariants.{Successful}
 use Rattle.code_image.specs.declared.code.Code.{Code}
 use Rattle.code_image.specs.declared.instruction.Instruction.TheVariants.{Jump, Join}
 use Rattle.codegen.specs.declared.phrases.Way.{Way}
-use Rattle.codegen.specs.Pieces.{Piece, joined, both, in_order}
-use Rattle.codegen.specs.Meeting.{branch_code, jump_code, either_piece, nothing_piece}
-use Rattle.codegen.specs.DataCode.{work_piece, taking_piece}
-use Rattle.codegen.specs.ConditionCode.{condition_piece}
-use Rattle.codegen.specs.StringCode.{string_piece}
-use Rattle.codegen.specs.UntilCode.{tick_piece, turning_piece, until_before_piece, until_after_piece, until_from_piece, vary_begin_piece, vary_on_piece, until_piece}
-use Rattle.codegen.specs.FileCode.{file_piece, test_piece, unheard_piece, on_file_piece, into_piece, from_piece, on_name_piece}
-use Rattle.codegen.specs.SubjectCode.{first_object, subjects_piece}
-use Rattle.codegen.specs.Layout.{turn_end, count_begin, counted_turn, counted_piece, turn_piece, phrase_piece, phrases_piece, selecting_piece, branching_piece, taken_piece, success_piece, failure_piece, status_piece, statement_on_piece, alone_piece, filing_piece, statement_piece}
-use Rattle.codegen.specs.Phrases.{met, IsWay, met_all}
+use Rattle.codegen.specs.Pieces.{Fragment, append, sequence, in_order}
+use Rattle.codegen.specs.Meeting.{branch_code, jump_code, either_fragment, nothing_fragment}
+use Rattle.codegen.specs.DataCode.{work_fragment, take_fragment}
+use Rattle.codegen.specs.ConditionCode.{condition_fragment}
+use Rattle.codegen.specs.StringCode.{string_fragment}
+use Rattle.codegen.specs.UntilCode.{tick_fragment, repetition_fragment, until_before_fragment, until_after_fragment, until_from_fragment, vary_begin_fragment, vary_on_fragment, until_fragment}
+use Rattle.codegen.specs.FileCode.{file_fragment, test_fragment, unheard_fragment, on_file_fragment, into_fragment, from_fragment, on_name_fragment}
+use Rattle.codegen.specs.SubjectCode.{first_object, subjects_fragment}
+use Rattle.codegen.specs.Layout.{turn_end, count_begin, counted_turn, counted_fragment, turn_fragment, phrase_fragment, phrases_fragment, selection_fragment, conditional_fragment, taken_fragment, success_fragment, failure_fragment, status_fragment, statement_on_fragment, alone_fragment, file_statement_fragment, statement_fragment}
+use Rattle.codegen.specs.Phrases.{patched_code, IsWay, met_all}
 use Rattle.codegen.proofs.EvaluateKept.{subjects_of, groups_of, other_of}
 use Rattle.codegen.proofs.Opening.{opened_way, opened_longer, with_last, still_ways, groups_go_on, groups_done}
 use Rattle.codegen.proofs.Questions.{whens_rules}
@@ -59,7 +59,7 @@ use Rattle.codegen.proofs.emitter.Emitter.+statement.Goals as goal
 pub emit_statement-emit_moving-requires-clause-rules : goal.emit_statement-emit_moving-requires-clause-rules
 emit_statement-emit_moving-requires-clause-rules t c =
     let scope = scope_in c.args.self.now.declarations.now in
-    sym (ap (verb_rules scope all_permitted (statement_rules scope all_permitted)) c.in-Moving.is) ∙ sym (layers.statement_is scope all_permitted c.args.one.now) ∙ c.requires.rules
+    sym (ap (verb_rules scope all_permitted (statement_rules scope all_permitted)) c.in-DataStatement.is) ∙ sym (layers.statement_is scope all_permitted c.args.one.now) ∙ c.requires.rules
 
 pub emit_statement-emit_calculating-requires : goal.emit_statement-emit_calculating-requires
 emit_statement-emit_calculating-requires t c =
@@ -103,18 +103,18 @@ emit_statement-emit_branching-requires t c =
 pub emit_phrases-returns : goal.emit_phrases-returns
 emit_phrases-returns t c =
     let scope = scope_in c.args.self.now.declarations.now in
-    let inside = statement_piece scope in
+    let inside = statement_fragment scope in
     let old = c.args.code.now in
-    let first = phrase_piece scope inside c.args.one.now.arose in
-    let second = phrase_piece scope inside c.args.one.now.did_not in
+    let first = phrase_fragment scope inside c.args.one.now.arose in
+    let second = phrase_fragment scope inside c.args.one.now.did_not in
     let branch = c.in_ok-branch.branch in
     let other = c.in_ok-other.other in
     let so : c.has_phrase.result ≡ true = first_of (search rules, grind (arith, common_steps)) in
     on_ok c.emit_meeting.result c.emit_meeting.ensures
-    (λ (e : c.emit_meeting.new.code ≡ met branch other c.emit_phrase-2.new.code).
+    (λ (e : c.emit_meeting.new.code ≡ patched_code branch other c.emit_phrase-2.new.code).
     meeting first second old c.emit_branch.new.code c.emit_phrase.new.code c.emit_jump.new.code c.emit_phrase-2.new.code c.emit_meeting.new.code branch other
     c.in_ok-branch.ensures.code c.in_ok-branch.ensures.address c.in_ok-emit_phrase.ensures c.in_ok-other.ensures.code c.in_ok-other.ensures.other c.in_ok-emit_phrase-2.ensures e
-    ∙ ap (joined old) (phrases_stand scope inside c.args.one.now.arose c.args.one.now.did_not old (sym c.has_phrase.ensures ∙ so)))
+    ∙ ap (append old) (phrases_stand scope inside c.args.one.now.arose c.args.one.now.did_not old (sym c.has_phrase.ensures ∙ so)))
 
 pub emit_phrase-emit_statements-requires : goal.emit_phrase-emit_statements-requires
 emit_phrase-emit_statements-requires t c =
@@ -147,7 +147,7 @@ emit_performing-emit_counted-requires t c =
     let one = c.args.one.now in
     let often = turns_rules scope.items one.turns in
     let behind = performed_rules scope.procedures all_permitted (statement_rules scope all_permitted) one.performed in
-    let item : item_rules scope.items integer_item c.in-CountedBy.item ≡ [] = sym (ap (turns_rules scope.items) c.in-CountedBy.is) ∙ front_kept often behind c.requires.rules in
+    let item : reference_rules scope.items integer_item c.in-CountedBy.item ≡ [] = sym (ap (turns_rules scope.items) c.in-CountedBy.is) ∙ front_kept often behind c.requires.rules in
     (search (rules, the_lemmas), (c.requires.declared, (c.requires.entries, (item, back_kept often behind c.requires.rules))))
 
 pub emit_counted-emit_taking-requires-clause-rules : goal.emit_counted-emit_taking-requires-clause-rules
@@ -162,18 +162,18 @@ emit_counted-returns t c =
     let branched = c.emit_branch.new.code in
     let middle = c.emit_jump.new.code in
     let new = c.emit_meeting.new.code in
-    let number = taking_piece scope.items i.Push c.args.item.now in
-    let turn = turn_piece scope (statement_piece scope) c.args.line c.args.one.now in
+    let number = take_fragment scope.items i.Push c.args.item.now in
+    let turn = turn_fragment scope (statement_fragment scope) c.args.line c.args.one.now in
     let first = counted_turn (length found.instructions) turn in
     let branch = c.in_ok-branch.branch in
     let other = c.in_ok-other.other in
-    let inner : c.emit_counted_turn.new.code ≡ joined branched (first branched) =
-    c.in_ok-emit_counted_turn.ensures ∙ ap (λ n. joined branched (counted_turn n turn branched)) c.in_ok-begin.ensures.begin in
+    let inner : c.emit_counted_turn.new.code ≡ append branched (first branched) =
+    c.in_ok-emit_counted_turn.ensures ∙ ap (λ n. append branched (counted_turn n turn branched)) c.in_ok-begin.ensures.begin in
     on_ok c.emit_meeting.result c.emit_meeting.ensures
-    (λ (m : new ≡ met branch other middle).
-    then_piece number (counted_piece turn) old found new c.in_ok-emit_taking.ensures
-    (then_piece count_begin (either_piece first nothing_piece) found begun new c.in_ok-begin.ensures.code
-    (meeting first nothing_piece begun branched c.emit_counted_turn.new.code middle middle new branch other
+    (λ (m : new ≡ patched_code branch other middle).
+    then_piece number (counted_fragment turn) old found new c.in_ok-emit_taking.ensures
+    (then_piece count_begin (either_fragment first nothing_fragment) found begun new c.in_ok-begin.ensures.code
+    (meeting first nothing_fragment begun branched c.emit_counted_turn.new.code middle middle new branch other
     c.in_ok-branch.ensures.code c.in_ok-branch.ensures.address inner c.in_ok-other.ensures.code c.in_ok-other.ensures.other (sym (joined_nothing middle)) m)))
 
 pub emit_counted_turn-returns : goal.emit_counted_turn-returns
@@ -183,10 +183,10 @@ emit_counted_turn-returns t c =
     let result = c.emit_turn_end.result in
     let new = c.emit_turn_end.new.code in
     let begin = c.args.begin in
-    let turn = turn_piece scope (statement_piece scope) c.args.line c.args.one.now in
-    is_so result new (joined old (both turn (λ b. turn_end begin c.len-to.result) old)) (joined old (counted_turn begin turn old))
+    let turn = turn_fragment scope (statement_fragment scope) c.args.line c.args.one.now in
+    is_so result new (append old (sequence turn (λ b. turn_end begin c.len-to.result) old)) (append old (counted_turn begin turn old))
     (ends_so result turn (λ b. turn_end begin c.len-to.result) old c.emit_turn.new.code new c.in_ok-emit_turn.ensures c.emit_turn_end.ensures)
-    (ap (λ n. joined old (both turn (λ b. turn_end begin n) old)) c.len-to.ensures)
+    (ap (λ n. append old (sequence turn (λ b. turn_end begin n) old)) c.len-to.ensures)
 
 pub emit_statement-emit_texts-requires-clause-rules : goal.emit_statement-emit_texts-requires-clause-rules
 emit_statement-emit_texts-requires-clause-rules t c =
@@ -241,26 +241,26 @@ emit_branching-emit_evaluate-requires t c =
 pub emit_branching-returns-in_ok-emit_phrase-in-If : goal.emit_branching-returns-in_ok-emit_phrase-in-If
 emit_branching-returns-in_ok-emit_phrase-in-If t c =
     let scope = scope_in c.args.self.now.declarations.now in
-    let inside = statement_piece scope in
+    let inside = statement_fragment scope in
     let old = c.args.code.now in
     let new = c.emit_meeting.new.code in
-    let tick = tick_piece c.args.line in
-    let test = condition_piece scope.items c.in-If.condition in
+    let tick = tick_fragment c.args.line in
+    let test = condition_fragment scope.items c.in-If.condition in
     let first = in_order inside c.as_slice.result.now in
-    let second = phrase_piece scope inside c.in-If.otherwise in
-    let ways = either_piece first second in
+    let second = phrase_fragment scope inside c.in-If.otherwise in
+    let ways = either_fragment first second in
     let branch = c.in_ok-branch-in-If.branch in
     let other = c.in_ok-other-in-If.other in
     let e : c.args.one.now ≡ If c.in-If.condition c.as_slice.result.now c.in-If.otherwise =
     c.in-If.is ∙ ap (λ (l : List Statement). If c.in-If.condition l c.in-If.otherwise) (sym c.as_slice.ensures) in
     on_ok c.emit_meeting.result c.emit_meeting.ensures
-    (λ (m : new ≡ met branch other c.emit_phrase.new.code).
-    then_piece tick (both test ways) old c.emit_tick.new.code new c.in_ok-emit_tick.ensures
+    (λ (m : new ≡ patched_code branch other c.emit_phrase.new.code).
+    then_piece tick (sequence test ways) old c.emit_tick.new.code new c.in_ok-emit_tick.ensures
     (then_piece test ways c.emit_tick.new.code c.emit_condition.new.code new c.in_ok-emit_condition-in-If.ensures
     (meeting first second c.emit_condition.new.code c.emit_branch.new.code c.emit_statements.new.code c.emit_jump.new.code c.emit_phrase.new.code new branch other
     c.in_ok-branch-in-If.ensures.code c.in_ok-branch-in-If.ensures.address c.in_ok-emit_statements-in-If.ensures c.in_ok-other-in-If.ensures.code
     c.in_ok-other-in-If.ensures.other c.in_ok-emit_phrase-in-If.ensures m))
-    ∙ sym (ap (λ (b : Branching Statement). joined old (branching_piece scope inside c.args.line b old)) e))
+    ∙ sym (ap (λ (b : ConditionalStatement Statement). append old (conditional_fragment scope inside c.args.line b old)) e))
 
 pub emit_selected-emit_whens-requires-clause-rules : goal.emit_selected-emit_whens-requires-clause-rules
 emit_selected-emit_whens-requires-clause-rules t c =
@@ -289,18 +289,18 @@ emit_selected-returns t c =
     let asks = c.emit_whens.new.code in
     let after = c.emit_jump.new.code in
     let done = c.emit_statements.new.code in
-    let test = condition_piece scope.items (selected_asked scope.items c.args.subjects.now one) in
-    let first = in_order (statement_piece scope) one.statements in
-    let branch_piece : Piece = λ now. branch_code 0 in
-    let jump_piece : Piece = λ now. jump_code 0 in
-    let begun : asks ≡ joined old (test old) =
-    c.in_ok-emit_whens.ensures ∙ ap (λ (l : List When). joined old (condition_piece scope.items (Any (whens_asked scope.items c.args.subjects.now l)) old)) c.as_slice.ensures in
-    let inner : done ≡ joined c.emit_branch.new.code (first c.emit_branch.new.code) =
+    let test = condition_fragment scope.items (selected_asked scope.items c.args.subjects.now one) in
+    let first = in_order (statement_fragment scope) one.statements in
+    let branch_piece : Fragment = λ now. branch_code 0 in
+    let jump_piece : Fragment = λ now. jump_code 0 in
+    let begun : asks ≡ append old (test old) =
+    c.in_ok-emit_whens.ensures ∙ ap (λ (l : List When). append old (condition_fragment scope.items (Any (whens_asked scope.items c.args.subjects.now l)) old)) c.as_slice.ensures in
+    let inner : done ≡ append c.emit_branch.new.code (first c.emit_branch.new.code) =
     c.in_ok-emit_statements.ensures
-    ∙ ap (λ (l : List Statement). joined c.emit_branch.new.code (in_order (statement_piece scope) l c.emit_branch.new.code)) c.as_slice-2.ensures in
+    ∙ ap (λ (l : List Statement). append c.emit_branch.new.code (in_order (statement_fragment scope) l c.emit_branch.new.code)) c.as_slice-2.ensures in
     record {
-      code = then_piece test (both branch_piece (both first jump_piece)) old asks after begun
-          (then_piece branch_piece (both first jump_piece) asks c.emit_branch.new.code after c.in_ok-branch.ensures.code
+      code = then_piece test (sequence branch_piece (sequence first jump_piece)) old asks after begun
+          (then_piece branch_piece (sequence first jump_piece) asks c.emit_branch.new.code after c.in_ok-branch.ensures.code
           (then_piece first jump_piece c.emit_branch.new.code done after inner c.in_ok-other.ensures.code));
       branch = c.in_ok-branch.ensures.address ∙ ap (λ (k : Code). length k.instructions) begun;
       other = c.in_ok-other.ensures.other ∙ sym (length-append done.instructions (Jump 0 ∷ Join ∷ []))
@@ -317,7 +317,7 @@ emit_groups-emit_selected-requires t c =
 pub emit_groups-loop-one-preserved : goal.emit_groups-loop-one-preserved
 emit_groups-loop-one-preserved t c =
     let scope = scope_in c.args.self.now.declarations.now in
-    let inside = statement_piece scope in
+    let inside = statement_fragment scope in
     let subjects = c.args.subjects.now in
     let groups = c.args.selected.now in
     let one = c.one-item.result in
@@ -325,13 +325,13 @@ emit_groups-loop-one-preserved t c =
     let way = c.in_ok-way.way in
     let now = c.loop-one.code in
     let next = c.emit_selected.new.code in
-    let test = condition_piece scope.items (selected_asked scope.items subjects one) in
+    let test = condition_fragment scope.items (selected_asked scope.items subjects one) in
     let first = in_order inside one.statements in
     let pushed : c.push.new.self.items ≡ ways ++ way ∷ [] = c.in_ok-push.ensures.items in
     record {
       same = λ other.
-          let rest = selecting_piece scope inside subjects (drop (c.loop-one.one-index + 1) groups) other in
-          ap (λ (l : List Way). met_all l (joined next (rest next))) pushed
+          let rest = selection_fragment scope inside subjects (drop (c.loop-one.one-index + 1) groups) other in
+          ap (λ (l : List Way). met_all l (append next (rest next))) pushed
           ∙ groups_go_on scope inside subjects other ways groups c.loop-one.one-index one one now next _ way c.loop-one-test.true c.one-item.is c.in_ok-way.ensures
           (c.loop-one.invariant.same other);
       within = subst (λ (l : List Way). AllByRecursion (IsWay (length next.instructions)) l) (sym pushed)
@@ -343,12 +343,12 @@ emit_groups-loop-one-preserved t c =
 pub emit_groups-returns : goal.emit_groups-returns
 emit_groups-returns t c =
     let scope = scope_in c.args.self.now.declarations.now in
-    let inside = statement_piece scope in
+    let inside = statement_fragment scope in
     let now = c.loop-one.code in
     record {
       same = λ other.
           groups_done scope inside c.args.subjects.now other c.loop-one.ways.items c.args.selected.now c.loop-one.one-index now
-          (joined now (phrase_piece scope inside other now)) _ c.loop-one-test.false refl (c.loop-one.invariant.same other);
+          (append now (phrase_fragment scope inside other now)) _ c.loop-one-test.false refl (c.loop-one.invariant.same other);
       within = c.loop-one.invariant.within;
     }
 
@@ -377,7 +377,7 @@ emit_evaluate-emit_meetings-requires t c =
     let scope = scope_in c.args.self.now.declarations.now in
     let now = c.emit_groups.new.code in
     let new = c.emit_phrase.new.code in
-    let part = phrase_piece scope (statement_piece scope) c.args.one.now.other now in
+    let part = phrase_fragment scope (statement_fragment scope) c.args.one.now.other now in
     let longer : length new.instructions ≡ length now.instructions + length part.instructions =
     ap (λ (k : Code). length k.instructions) c.in_ok-emit_phrase.ensures ∙ length-append now.instructions part.instructions in
     still_ways c.in_ok-ways.ways.items (length now.instructions) (length new.instructions) (omega (arith, longer)) c.in_ok-ways.ensures.within
@@ -385,18 +385,18 @@ emit_evaluate-emit_meetings-requires t c =
 pub emit_evaluate-returns : goal.emit_evaluate-returns
 emit_evaluate-returns t c =
     let scope = scope_in c.args.self.now.declarations.now in
-    let inside = statement_piece scope in
+    let inside = statement_fragment scope in
     let old = c.args.code.now in
     let one = c.args.one.now in
     let now = c.emit_subjects.new.code in
     let ways = c.in_ok-ways.ways.items in
     on_ok c.emit_meetings.result c.emit_meetings.ensures
     (λ (e : c.emit_meetings.new.code ≡ met_all ways c.emit_phrase.new.code).
-    then_piece (subjects_piece scope.items one.subjects (first_object one.selected)) (selecting_piece scope inside one.subjects one.selected one.other) old now
+    then_piece (subjects_fragment scope.items one.subjects (first_object one.selected)) (selection_fragment scope inside one.subjects one.selected one.other) old now
     c.emit_meetings.new.code c.in_ok-emit_subjects.ensures
     (e ∙ ap (met_all ways) c.in_ok-emit_phrase.ensures ∙ c.in_ok-ways.ensures.same one.other
-    ∙ ap (λ (l : List Subject). joined now (selecting_piece scope inside l c.as_slice-2.result.now one.other now)) c.as_slice.ensures
-    ∙ ap (λ (l : List (Selected Statement)). joined now (selecting_piece scope inside one.subjects l one.other now)) c.as_slice-2.ensures))
+    ∙ ap (λ (l : List Subject). append now (selection_fragment scope inside l c.as_slice-2.result.now one.other now)) c.as_slice.ensures
+    ∙ ap (λ (l : List (Selected Statement)). append now (selection_fragment scope inside one.subjects l one.other now)) c.as_slice-2.ensures))
 
 pub emit_until-emit_vary_begin-requires-clause-rules : goal.emit_until-emit_vary_begin-requires-clause-rules
 emit_until-emit_vary_begin-requires-clause-rules t c =
@@ -408,28 +408,28 @@ emit_until-returns-in-Before t c =
     let scope = scope_in c.args.self.now.declarations.now in
     let one = c.args.one.now in
     let old = c.args.code.now in
-    let begin = vary_begin_piece scope.items one.varying in
-    let test = condition_piece scope.items one.condition in
-    let onward = vary_on_piece scope.items one.varying in
-    let turn = turn_piece scope (statement_piece scope) c.args.line c.args.performed.now in
-    let turns = until_before_piece test onward turn in
-    is_so c.emit_until_before.result c.emit_until_before.new.code (joined old (both begin turns old)) (joined old (until_piece scope.items one turn old))
+    let begin = vary_begin_fragment scope.items one.varying in
+    let test = condition_fragment scope.items one.condition in
+    let onward = vary_on_fragment scope.items one.varying in
+    let turn = turn_fragment scope (statement_fragment scope) c.args.line c.args.performed.now in
+    let turns = until_before_fragment test onward turn in
+    is_so c.emit_until_before.result c.emit_until_before.new.code (append old (sequence begin turns old)) (append old (until_fragment scope.items one turn old))
     (ends_so c.emit_until_before.result begin turns old c.emit_vary_begin.new.code c.emit_until_before.new.code c.in_ok-emit_vary_begin.ensures c.emit_until_before.ensures)
-    (sym (ap (λ (w : TestTime). joined old (both begin (until_from_piece w test onward turn) old)) c.in-Before.is))
+    (sym (ap (λ (w : TestTime). append old (sequence begin (until_from_fragment w test onward turn) old)) c.in-Before.is))
 
 pub emit_until-returns-in-After : goal.emit_until-returns-in-After
 emit_until-returns-in-After t c =
     let scope = scope_in c.args.self.now.declarations.now in
     let one = c.args.one.now in
     let old = c.args.code.now in
-    let begin = vary_begin_piece scope.items one.varying in
-    let test = condition_piece scope.items one.condition in
-    let onward = vary_on_piece scope.items one.varying in
-    let turn = turn_piece scope (statement_piece scope) c.args.line c.args.performed.now in
-    let turns = until_after_piece test onward turn in
-    is_so c.emit_until_after.result c.emit_until_after.new.code (joined old (both begin turns old)) (joined old (until_piece scope.items one turn old))
+    let begin = vary_begin_fragment scope.items one.varying in
+    let test = condition_fragment scope.items one.condition in
+    let onward = vary_on_fragment scope.items one.varying in
+    let turn = turn_fragment scope (statement_fragment scope) c.args.line c.args.performed.now in
+    let turns = until_after_fragment test onward turn in
+    is_so c.emit_until_after.result c.emit_until_after.new.code (append old (sequence begin turns old)) (append old (until_fragment scope.items one turn old))
     (ends_so c.emit_until_after.result begin turns old c.emit_vary_begin.new.code c.emit_until_after.new.code c.in_ok-emit_vary_begin.ensures c.emit_until_after.ensures)
-    (sym (ap (λ (w : TestTime). joined old (both begin (until_from_piece w test onward turn) old)) c.in-After.is))
+    (sym (ap (λ (w : TestTime). append old (sequence begin (until_from_fragment w test onward turn) old)) c.in-After.is))
 
 pub emit_until_before-emit_condition-requires-clause-rules : goal.emit_until_before-emit_condition-requires-clause-rules
 emit_until_before-emit_condition-requires-clause-rules t c =
@@ -441,14 +441,14 @@ emit_until_before-returns t c =
     let scope = scope_in c.args.self.now.declarations.now in
     let one = c.args.one.now in
     let old = c.args.code.now in
-    let test = condition_piece scope.items one.condition in
-    let turn = turning_piece (turn_piece scope (statement_piece scope) c.args.line c.args.performed.now) (both (vary_on_piece scope.items one.varying) test) in
+    let test = condition_fragment scope.items one.condition in
+    let turn = repetition_fragment (turn_fragment scope (statement_fragment scope) c.args.line c.args.performed.now) (sequence (vary_on_fragment scope.items one.varying) test) in
     let branch = c.in_ok-branch.branch in
     let other = c.in_ok-other.other in
     on_ok c.emit_meeting.result c.emit_meeting.ensures
-    (λ (e : c.emit_meeting.new.code ≡ met branch other c.emit_turn_before.new.code).
-    then_piece test (either_piece nothing_piece turn) old c.emit_condition.new.code c.emit_meeting.new.code c.in_ok-emit_condition.ensures
-    (meeting nothing_piece turn c.emit_condition.new.code c.emit_branch.new.code c.emit_branch.new.code c.emit_jump.new.code c.emit_turn_before.new.code c.emit_meeting.new.code branch other
+    (λ (e : c.emit_meeting.new.code ≡ patched_code branch other c.emit_turn_before.new.code).
+    then_piece test (either_fragment nothing_fragment turn) old c.emit_condition.new.code c.emit_meeting.new.code c.in_ok-emit_condition.ensures
+    (meeting nothing_fragment turn c.emit_condition.new.code c.emit_branch.new.code c.emit_branch.new.code c.emit_jump.new.code c.emit_turn_before.new.code c.emit_meeting.new.code branch other
     c.in_ok-branch.ensures.code c.in_ok-branch.ensures.address (sym (joined_nothing c.emit_branch.new.code)) c.in_ok-other.ensures.code c.in_ok-other.ensures.other c.in_ok-emit_turn_before.ensures e))
 
 pub emit_turn_before-emit_vary_on-requires-clause-rules : goal.emit_turn_before-emit_vary_on-requires-clause-rules
@@ -468,16 +468,16 @@ emit_turn_before-returns t c =
     let old = c.args.code.now in
     let result = c.emit_way_back.result in
     let new = c.emit_way_back.new.code in
-    let test = condition_piece scope.items one.condition in
-    let onward = vary_on_piece scope.items one.varying in
-    let turn = turn_piece scope (statement_piece scope) c.args.line c.args.performed.now in
-    let behind = both onward test in
-    is_so result new (joined old (both (both turn behind) (λ b. branch_code c.len-begin.result) old)) (joined old (turning_piece turn behind old))
-    (ends_so result (both turn behind) (λ b. branch_code c.len-begin.result) old c.emit_condition.new.code new
+    let test = condition_fragment scope.items one.condition in
+    let onward = vary_on_fragment scope.items one.varying in
+    let turn = turn_fragment scope (statement_fragment scope) c.args.line c.args.performed.now in
+    let behind = sequence onward test in
+    is_so result new (append old (sequence (sequence turn behind) (λ b. branch_code c.len-begin.result) old)) (append old (repetition_fragment turn behind old))
+    (ends_so result (sequence turn behind) (λ b. branch_code c.len-begin.result) old c.emit_condition.new.code new
     (then_piece turn behind old c.emit_turn.new.code c.emit_condition.new.code c.in_ok-emit_turn.ensures
     (then_piece onward test c.emit_turn.new.code c.emit_vary_on.new.code c.emit_condition.new.code c.in_ok-emit_vary_on.ensures c.in_ok-emit_condition.ensures))
     c.emit_way_back.ensures)
-    (ap (λ n. joined old (both (both turn behind) (λ b. branch_code n) old)) c.len-begin.ensures)
+    (ap (λ n. append old (sequence (sequence turn behind) (λ b. branch_code n) old)) c.len-begin.ensures)
 
 pub emit_until_after-emit_condition-requires-clause-rules : goal.emit_until_after-emit_condition-requires-clause-rules
 emit_until_after-emit_condition-requires-clause-rules t c =
@@ -496,16 +496,16 @@ emit_until_after-returns t c =
     let old = c.args.code.now in
     let result = c.emit_way_back.result in
     let new = c.emit_way_back.new.code in
-    let test = condition_piece scope.items one.condition in
-    let way = either_piece nothing_piece (both (vary_on_piece scope.items one.varying) (work_piece i.ClearTruth)) in
-    let turn = turn_piece scope (statement_piece scope) c.args.line c.args.performed.now in
-    let behind = both test way in
-    is_so result new (joined old (both (both turn behind) (λ b. branch_code c.len-begin.result) old)) (joined old (turning_piece turn behind old))
-    (ends_so result (both turn behind) (λ b. branch_code c.len-begin.result) old c.emit_onward.new.code new
+    let test = condition_fragment scope.items one.condition in
+    let way = either_fragment nothing_fragment (sequence (vary_on_fragment scope.items one.varying) (work_fragment i.ClearTruth)) in
+    let turn = turn_fragment scope (statement_fragment scope) c.args.line c.args.performed.now in
+    let behind = sequence test way in
+    is_so result new (append old (sequence (sequence turn behind) (λ b. branch_code c.len-begin.result) old)) (append old (repetition_fragment turn behind old))
+    (ends_so result (sequence turn behind) (λ b. branch_code c.len-begin.result) old c.emit_onward.new.code new
     (then_piece turn behind old c.emit_turn.new.code c.emit_onward.new.code c.in_ok-emit_turn.ensures
     (then_piece test way c.emit_turn.new.code c.emit_condition.new.code c.emit_onward.new.code c.in_ok-emit_condition.ensures c.in_ok-emit_onward.ensures))
     c.emit_way_back.ensures)
-    (ap (λ n. joined old (both (both turn behind) (λ b. branch_code n) old)) c.len-begin.ensures)
+    (ap (λ n. append old (sequence (sequence turn behind) (λ b. branch_code n) old)) c.len-begin.ensures)
 
 pub emit_stringing-emit_string-requires-clause-sendings : goal.emit_stringing-emit_string-requires-clause-sendings
 emit_stringing-emit_string-requires-clause-sendings t c =
@@ -529,7 +529,7 @@ emit_filing-emit_read-requires t c =
     let d = rw c.in-Read.is at c.decreases in
     let own : file_named_rules scope.items scope.files c.in-Read.file (read_rules scope.items scope.files c.in-Read.file.place c.in-Read.next c.in-Read.into c.in-Read.key phrases) ≡ [] = sym (ap (filing_rules scope.items scope.files) c.in-Read.is) ∙ c.requires.rules in
     let inner : file_phrases_rules (statement_rules scope all_permitted) phrases ≡ [] =
-    sym (ap (λ (f : Filing Statement). file_phrases_rules (statement_rules scope all_permitted) (phrases_of f)) c.in-Read.is) ∙ c.requires.phrases in
+    sym (ap (λ (f : FileStatement Statement). file_phrases_rules (statement_rules scope all_permitted) (phrases_of f)) c.in-Read.is) ∙ c.requires.phrases in
     (omega (arith, d), (c.requires.declared, (c.requires.entries, (own, inner))))
 
 pub emit_filing-emit_record-requires : goal.emit_filing-emit_record-requires
@@ -539,7 +539,7 @@ emit_filing-emit_record-requires t c =
     let d = rw c.in-Write.is at c.decreases in
     let own : record_rules scope.items scope.files c.in-Write.record c.in-Write.from phrases ≡ [] = sym (ap (filing_rules scope.items scope.files) c.in-Write.is) ∙ c.requires.rules in
     let inner : file_phrases_rules (statement_rules scope all_permitted) phrases ≡ [] =
-    sym (ap (λ (f : Filing Statement). file_phrases_rules (statement_rules scope all_permitted) (phrases_of f)) c.in-Write.is) ∙ c.requires.phrases in
+    sym (ap (λ (f : FileStatement Statement). file_phrases_rules (statement_rules scope all_permitted) (phrases_of f)) c.in-Write.is) ∙ c.requires.phrases in
     (omega (arith, d), (c.requires.declared, (c.requires.entries, (own, inner))))
 
 pub emit_filing-emit_record-requires-in-Rewrite : goal.emit_filing-emit_record-requires-in-Rewrite
@@ -549,7 +549,7 @@ emit_filing-emit_record-requires-in-Rewrite t c =
     let d = rw c.in-Rewrite.is at c.decreases in
     let own : record_rules scope.items scope.files c.in-Rewrite.record c.in-Rewrite.from phrases ≡ [] = sym (ap (filing_rules scope.items scope.files) c.in-Rewrite.is) ∙ c.requires.rules in
     let inner : file_phrases_rules (statement_rules scope all_permitted) phrases ≡ [] =
-    sym (ap (λ (f : Filing Statement). file_phrases_rules (statement_rules scope all_permitted) (phrases_of f)) c.in-Rewrite.is) ∙ c.requires.phrases in
+    sym (ap (λ (f : FileStatement Statement). file_phrases_rules (statement_rules scope all_permitted) (phrases_of f)) c.in-Rewrite.is) ∙ c.requires.phrases in
     (omega (arith, d), (c.requires.declared, (c.requires.entries, (own, inner))))
 
 pub emit_filing-emit_delete-requires : goal.emit_filing-emit_delete-requires
@@ -559,7 +559,7 @@ emit_filing-emit_delete-requires t c =
     let d = rw c.in-Delete.is at c.decreases in
     let own : file_named_rules scope.items scope.files c.in-Delete.file (delete_rules scope.items scope.files c.in-Delete.file.place phrases) ≡ [] = sym (ap (filing_rules scope.items scope.files) c.in-Delete.is) ∙ c.requires.rules in
     let inner : file_phrases_rules (statement_rules scope all_permitted) phrases ≡ [] =
-    sym (ap (λ (f : Filing Statement). file_phrases_rules (statement_rules scope all_permitted) (phrases_of f)) c.in-Delete.is) ∙ c.requires.phrases in
+    sym (ap (λ (f : FileStatement Statement). file_phrases_rules (statement_rules scope all_permitted) (phrases_of f)) c.in-Delete.is) ∙ c.requires.phrases in
     (omega (arith, d), (c.requires.declared, (c.requires.entries, inner)))
 
 pub emit_filing-emit_starting-requires : goal.emit_filing-emit_starting-requires
@@ -569,22 +569,22 @@ emit_filing-emit_starting-requires t c =
     let d = rw c.in-Start.is at c.decreases in
     let own : file_named_rules scope.items scope.files c.in-Start.file (start_rules scope.items scope.files c.in-Start.file.place c.in-Start.key phrases) ≡ [] = sym (ap (filing_rules scope.items scope.files) c.in-Start.is) ∙ c.requires.rules in
     let inner : file_phrases_rules (statement_rules scope all_permitted) phrases ≡ [] =
-    sym (ap (λ (f : Filing Statement). file_phrases_rules (statement_rules scope all_permitted) (phrases_of f)) c.in-Start.is) ∙ c.requires.phrases in
+    sym (ap (λ (f : FileStatement Statement). file_phrases_rules (statement_rules scope all_permitted) (phrases_of f)) c.in-Start.is) ∙ c.requires.phrases in
     (omega (arith, d), (c.requires.declared, (c.requires.entries, (own, inner))))
 
 pub emit_filing-returns-in-Read : goal.emit_filing-returns-in-Read
 emit_filing-returns-in-Read t c =
     let scope = scope_in c.args.self.now.declarations.now in
-    let inside = statement_piece scope in
+    let inside = statement_fragment scope in
     let old = c.args.code.now in
-    let tick = tick_piece c.args.line in
+    let tick = tick_fragment c.args.line in
     let verb = λ (file : ProgramFile). meaning.read_verb scope.items file c.in-Read.next c.in-Read.key in
-    let piece = on_name_piece scope.items scope.files c.in-Read.file (statement_on_piece scope inside c.in-Read.phrases (into_piece scope.items c.in-Read.into) verb) in
+    let piece = on_name_fragment scope.items scope.files c.in-Read.file (statement_on_fragment scope inside c.in-Read.phrases (into_fragment scope.items c.in-Read.into) verb) in
     let result = c.emit_read.result in
     let new = c.emit_read.new.code in
-    is_so result new (joined old (both tick piece old)) (joined old (both tick (filing_piece scope inside c.args.one.now) old))
+    is_so result new (append old (sequence tick piece old)) (append old (sequence tick (file_statement_fragment scope inside c.args.one.now) old))
     (ends_so result tick piece old c.emit_tick.new.code new c.in_ok-emit_tick.ensures c.emit_read.ensures)
-    (sym (ap (λ (one : Filing Statement). joined old (both tick (filing_piece scope inside one) old)) c.in-Read.is))
+    (sym (ap (λ (one : FileStatement Statement). append old (sequence tick (file_statement_fragment scope inside one) old)) c.in-Read.is))
 
 pub emit_read-read_verb-requires-clause-rules : goal.emit_read-read_verb-requires-clause-rules
 emit_read-read_verb-requires-clause-rules t c =
@@ -609,22 +609,22 @@ pub emit_read-returns-in_default : goal.emit_read-returns-in_default
 emit_read-returns-in_default t c =
     let scope = scope_in c.args.self.now.declarations.now in
     let verb = λ (file : ProgramFile). meaning.read_verb scope.items file c.args.next c.args.key.now in
-    none_found (first (files_named scope.files c.args.name.now)) (statement_on_piece scope (statement_piece scope) c.args.phrases.now (into_piece scope.items c.args.into.now) verb)
+    none_found (first (files_named scope.files c.args.name.now)) (statement_on_fragment scope (statement_fragment scope) c.args.phrases.now (into_fragment scope.items c.args.into.now) verb)
     c.args.code.now c.in_default.ensures
 
 pub emit_read-returns : goal.emit_read-returns
 emit_read-returns t c =
     let scope = scope_in c.args.self.now.declarations.now in
-    let inside = statement_piece scope in
+    let inside = statement_fragment scope in
     let old = c.args.code.now in
     let phrases = c.args.phrases.now in
     let known = file_in scope.items c.in-Some.file.now in
     let found = first (files_named scope.files c.args.name.now) in
-    let piece = statement_on_piece scope inside phrases (into_piece scope.items c.args.into.now) (λ (file : ProgramFile). meaning.read_verb scope.items file c.args.next c.args.key.now) in
-    let behind = status_piece scope inside known.places.status phrases (into_piece scope.items c.args.into.now known) in
-    let made = both (file_piece c.in_ok-verb.verb known) behind in
-    is_so c.emit_on_file.result c.emit_on_file.new.code (joined old (made old)) (joined old (on_file_piece found piece old)) c.emit_on_file.ensures
-    (one_found found piece known made old c.in-Some.ensures (ap (λ (verb : Verb). both (file_piece verb known) behind old) c.in_ok-verb.ensures))
+    let piece = statement_on_fragment scope inside phrases (into_fragment scope.items c.args.into.now) (λ (file : ProgramFile). meaning.read_verb scope.items file c.args.next c.args.key.now) in
+    let behind = status_fragment scope inside known.places.status phrases (into_fragment scope.items c.args.into.now known) in
+    let made = sequence (file_fragment c.in_ok-verb.verb known) behind in
+    is_so c.emit_on_file.result c.emit_on_file.new.code (append old (made old)) (append old (on_file_fragment found piece old)) c.emit_on_file.ensures
+    (one_found found piece known made old c.in-Some.ensures (ap (λ (verb : Verb). sequence (file_fragment verb known) behind old) c.in_ok-verb.ensures))
 
 pub emit_record-emit_from-requires-clause-rules : goal.emit_record-emit_from-requires-clause-rules
 emit_record-emit_from-requires-clause-rules t c =
@@ -642,14 +642,14 @@ emit_record-returns-in_default t c =
     let one = c.args.one.now in
     let now = c.emit_from.new.code in
     let found = file_with_record scope.files (first (items_named scope.items one.item)) in
-    let piece = alone_piece scope (statement_piece scope) c.args.phrases.now (λ (file : ProgramFile). c.args.verb) in
-    then_piece (from_piece scope.items one c.args.from.now) (on_file_piece found piece) c.args.code.now now now c.in_ok-emit_from.ensures
+    let piece = alone_fragment scope (statement_fragment scope) c.args.phrases.now (λ (file : ProgramFile). c.args.verb) in
+    then_piece (from_fragment scope.items one c.args.from.now) (on_file_fragment found piece) c.args.code.now now now c.in_ok-emit_from.ensures
     (none_found found piece now c.in_default.ensures)
 
 pub emit_record-returns : goal.emit_record-returns
 emit_record-returns t c =
     let scope = scope_in c.args.self.now.declarations.now in
-    let inside = statement_piece scope in
+    let inside = statement_fragment scope in
     let old = c.args.code.now in
     let now = c.emit_from.new.code in
     let new = c.emit_on_file.new.code in
@@ -658,16 +658,16 @@ emit_record-returns t c =
     let phrases = c.args.phrases.now in
     let known = file_in scope.items c.in-Some.file.now in
     let found = file_with_record scope.files (first (items_named scope.items one.item)) in
-    let piece = alone_piece scope inside phrases (λ (file : ProgramFile). c.args.verb) in
-    let from = from_piece scope.items one c.args.from.now in
-    ends_so result from (on_file_piece found piece) old now new c.in_ok-emit_from.ensures
-    (is_so result new (joined now (piece known now)) (joined now (on_file_piece found piece now)) c.emit_on_file.ensures
+    let piece = alone_fragment scope inside phrases (λ (file : ProgramFile). c.args.verb) in
+    let from = from_fragment scope.items one c.args.from.now in
+    ends_so result from (on_file_fragment found piece) old now new c.in_ok-emit_from.ensures
+    (is_so result new (append now (piece known now)) (append now (on_file_fragment found piece now)) c.emit_on_file.ensures
     (one_found found piece known (piece known) now c.in-Some.ensures refl))
 
 pub emit_delete-returns-in_default : goal.emit_delete-returns-in_default
 emit_delete-returns-in_default t c =
     let scope = scope_in c.args.self.now.declarations.now in
-    none_found (first (files_named scope.files c.args.name.now)) (alone_piece scope (statement_piece scope) c.args.phrases.now (λ (file : ProgramFile). file_verb.Delete))
+    none_found (first (files_named scope.files c.args.name.now)) (alone_fragment scope (statement_fragment scope) c.args.phrases.now (λ (file : ProgramFile). file_verb.Delete))
     c.args.code.now c.in_default.ensures
 
 pub emit_delete-returns : goal.emit_delete-returns
@@ -676,8 +676,8 @@ emit_delete-returns t c =
     let old = c.args.code.now in
     let known = file_in scope.items c.in-Some.file.now in
     let found = first (files_named scope.files c.args.name.now) in
-    let piece = alone_piece scope (statement_piece scope) c.args.phrases.now (λ (file : ProgramFile). file_verb.Delete) in
-    is_so c.emit_on_file.result c.emit_on_file.new.code (joined old (piece known old)) (joined old (on_file_piece found piece old)) c.emit_on_file.ensures
+    let piece = alone_fragment scope (statement_fragment scope) c.args.phrases.now (λ (file : ProgramFile). file_verb.Delete) in
+    is_so c.emit_on_file.result c.emit_on_file.new.code (append old (piece known old)) (append old (on_file_fragment found piece old)) c.emit_on_file.ensures
     (one_found found piece known (piece known) old c.in-Some.ensures refl)
 
 pub emit_starting-start_verb-requires-clause-rules : goal.emit_starting-start_verb-requires-clause-rules
@@ -693,26 +693,26 @@ pub emit_starting-returns-in_default : goal.emit_starting-returns-in_default
 emit_starting-returns-in_default t c =
     let scope = scope_in c.args.self.now.declarations.now in
     let verb = λ (file : ProgramFile). meaning.start_verb scope.items file c.args.key.now in
-    none_found (first (files_named scope.files c.args.name.now)) (alone_piece scope (statement_piece scope) c.args.phrases.now verb) c.args.code.now c.in_default.ensures
+    none_found (first (files_named scope.files c.args.name.now)) (alone_fragment scope (statement_fragment scope) c.args.phrases.now verb) c.args.code.now c.in_default.ensures
 
 pub emit_starting-returns : goal.emit_starting-returns
 emit_starting-returns t c =
     let scope = scope_in c.args.self.now.declarations.now in
-    let inside = statement_piece scope in
+    let inside = statement_fragment scope in
     let old = c.args.code.now in
     let phrases = c.args.phrases.now in
     let known = file_in scope.items c.in-Some.file.now in
     let found = first (files_named scope.files c.args.name.now) in
-    let piece = alone_piece scope inside phrases (λ (file : ProgramFile). meaning.start_verb scope.items file c.args.key.now) in
-    let behind = status_piece scope inside known.places.status phrases nothing_piece in
-    let made = both (file_piece c.in_ok-verb.verb known) behind in
-    is_so c.emit_on_file.result c.emit_on_file.new.code (joined old (made old)) (joined old (on_file_piece found piece old)) c.emit_on_file.ensures
-    (one_found found piece known made old c.in-Some.ensures (ap (λ (verb : Verb). both (file_piece verb known) behind old) c.in_ok-verb.ensures))
+    let piece = alone_fragment scope inside phrases (λ (file : ProgramFile). meaning.start_verb scope.items file c.args.key.now) in
+    let behind = status_fragment scope inside known.places.status phrases nothing_fragment in
+    let made = sequence (file_fragment c.in_ok-verb.verb known) behind in
+    is_so c.emit_on_file.result c.emit_on_file.new.code (append old (made old)) (append old (on_file_fragment found piece old)) c.emit_on_file.ensures
+    (one_found found piece known made old c.in-Some.ensures (ap (λ (verb : Verb). sequence (file_fragment verb known) behind old) c.in_ok-verb.ensures))
 
 pub emit_on_file-returns : goal.emit_on_file-returns
 emit_on_file-returns t c =
     let scope = scope_in c.args.self.now.declarations.now in
-    let inside = statement_piece scope in
+    let inside = statement_fragment scope in
     let old = c.args.code.now in
     let phrases = c.args.phrases.now in
     let known = file_in scope.items c.args.file.now in
@@ -720,18 +720,18 @@ emit_on_file-returns t c =
     let branched = c.emit_branch.new.code in
     let done = c.emit_success.new.code in
     let new = c.emit_meeting.new.code in
-    let file = file_piece c.args.verb known in
-    let test = test_piece Successful in
-    let into = into_piece scope.items c.args.into.now known in
-    let success = success_piece scope inside phrases in
-    let first_way = both into success in
-    let failure = failure_piece scope inside known.places.status phrases in
-    let ways = either_piece first_way failure in
+    let file = file_fragment c.args.verb known in
+    let test = test_fragment Successful in
+    let into = into_fragment scope.items c.args.into.now known in
+    let success = success_fragment scope inside phrases in
+    let first_way = sequence into success in
+    let failure = failure_fragment scope inside known.places.status phrases in
+    let ways = either_fragment first_way failure in
     let branch = c.in_ok-branch.branch in
     let other = c.in_ok-other.other in
     on_ok c.emit_meeting.result c.emit_meeting.ensures
-    (λ (m : new ≡ met branch other c.emit_failure.new.code).
-    then_piece file (both test ways) old c.emit_file.new.code new c.in_ok-emit_file.ensures
+    (λ (m : new ≡ patched_code branch other c.emit_failure.new.code).
+    then_piece file (sequence test ways) old c.emit_file.new.code new c.in_ok-emit_file.ensures
     (then_piece test ways c.emit_file.new.code tested new c.in_ok-emit_test.ensures
     (meeting first_way failure tested branched done c.emit_jump.new.code c.emit_failure.new.code new branch other
     c.in_ok-branch.ensures.code c.in_ok-branch.ensures.address
@@ -777,14 +777,14 @@ emit_class_phrase-returns t c =
     let tested = c.emit_test.new.code in
     let new = c.emit_meeting.new.code in
     let status = (file_in scope.items c.args.file.now).places.status in
-    let test = test_piece c.args.class in
-    let first_way = taken_piece scope (statement_piece scope) status c.args.arose.now in
-    let unheard = unheard_piece status in
+    let test = test_fragment c.args.class in
+    let first_way = taken_fragment scope (statement_fragment scope) status c.args.arose.now in
+    let unheard = unheard_fragment status in
     let branch = c.in_ok-branch.branch in
     let other = c.in_ok-other.other in
     on_ok c.emit_meeting.result c.emit_meeting.ensures
-    (λ (m : new ≡ met branch other c.emit_unheard.new.code).
-    then_piece test (either_piece first_way unheard) old tested new c.in_ok-emit_test.ensures
+    (λ (m : new ≡ patched_code branch other c.emit_unheard.new.code).
+    then_piece test (either_fragment first_way unheard) old tested new c.in_ok-emit_test.ensures
     (meeting first_way unheard tested c.emit_branch.new.code c.emit_phrase_taken.new.code c.emit_jump.new.code c.emit_unheard.new.code new branch other
     c.in_ok-branch.ensures.code c.in_ok-branch.ensures.address c.in_ok-emit_phrase_taken.ensures c.in_ok-other.ensures.code c.in_ok-other.ensures.other
     c.in_ok-emit_unheard.ensures m))
@@ -807,9 +807,9 @@ emit_stringing-returns t c =
     let put = c.emit_string.new.code in
     let new = c.emit_phrases.new.code in
     let result = c.emit_phrases.result in
-    let tick = tick_piece c.args.line in
-    let text = string_piece scope.items one.sendings one.receiver one.pointer in
-    let phrases = phrases_piece scope (statement_piece scope) one.phrases in
-    let is : put ≡ joined ticked (text ticked) =
-    c.in_ok-emit_string.ensures ∙ ap (λ (all : List Sending). joined ticked (string_piece scope.items all one.receiver one.pointer ticked)) c.as_slice.ensures in
-    ends_so result tick (both text phrases) old ticked new c.in_ok-emit_tick.ensures (ends_so result text phrases ticked put new is c.emit_phrases.ensures)
+    let tick = tick_fragment c.args.line in
+    let text = string_fragment scope.items one.sendings one.receiver one.pointer in
+    let phrases = phrases_fragment scope (statement_fragment scope) one.phrases in
+    let is : put ≡ append ticked (text ticked) =
+    c.in_ok-emit_string.ensures ∙ ap (λ (all : List Sending). append ticked (string_fragment scope.items all one.receiver one.pointer ticked)) c.as_slice.ensures in
+    ends_so result tick (sequence text phrases) old ticked new c.in_ok-emit_tick.ensures (ends_so result text phrases ticked put new is c.emit_phrases.ensures)

@@ -1,10 +1,10 @@
 use Rattle.std.proofs.Common.{◌≡◌, drop}
 use Rattle.std.specs.Prelude.{None}
-use Rattle.codegen.specs.StringCode.{sent_piece}
+use Rattle.codegen.specs.StringCode.{sent_fragment}
 use Rattle.declarations.specs.Named.{items_in}
-use Rattle.codegen.specs.Pieces.{joined, in_order}
+use Rattle.codegen.specs.Pieces.{append, in_order}
 use Rattle.codegen.proofs.emitter.Emitter.emit_all_sized.Given as goal
 
 -- what is there, and what is still to come, are the whole
 abbrev pub invariant-loop-one : goal.invariant-loop-one
-invariant-loop-one l = joined l.code (in_order (sent_piece (items_in l.self.declarations.now) None) (drop l.one-index l.all) l.code) ≡ joined l.initial.code (in_order (sent_piece (items_in l.self.declarations.now) None) l.all l.initial.code)
+invariant-loop-one l = append l.code (in_order (sent_fragment (items_in l.self.declarations.now) None) (drop l.one-index l.all) l.code) ≡ append l.initial.code (in_order (sent_fragment (items_in l.self.declarations.now) None) l.all l.initial.code)

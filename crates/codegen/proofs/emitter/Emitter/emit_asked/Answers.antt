@@ -1,11 +1,11 @@
 use Rattle.std.proofs.Common.{ap, ◌∙◌}
 use Rattle.source_tree.specs.declared.condition.Condition.{Condition}
 use Rattle.source_tree.specs.ConditionRules.{condition_rules}
-use Rattle.source_tree.specs.Evaluate.{asked}
+use Rattle.source_tree.specs.Evaluate.{selection_condition}
 use Rattle.declarations.specs.Looking.{question_meant}
 use Rattle.declarations.specs.Named.{items_in}
-use Rattle.codegen.specs.Pieces.{joined}
-use Rattle.codegen.specs.ConditionCode.{condition_piece}
+use Rattle.codegen.specs.Pieces.{append}
+use Rattle.codegen.specs.ConditionCode.{condition_fragment}
 use Rattle.codegen.proofs.Sequences.{is_so}
 use Rattle.codegen.proofs.emitter.Emitter.emit_asked.Goals as goal
 
@@ -16,6 +16,6 @@ pub returns : goal.returns
 returns c =
     let items = items_in c.args.self.now.declarations.now in
     let old = c.args.code.now in
-    is_so c.emit_question.result c.emit_question.new.code (joined old (condition_piece items (question_meant c.question-question.result) old))
-    (joined old (condition_piece items (asked items c.args.subject.now c.args.choice.now) old)) c.emit_question.ensures
-    (ap (λ (one : Condition). joined old (condition_piece items one old)) c.question-question.ensures.asked)
+    is_so c.emit_question.result c.emit_question.new.code (append old (condition_fragment items (question_meant c.question-question.result) old))
+    (append old (condition_fragment items (selection_condition items c.args.subject.now c.args.choice.now) old)) c.emit_question.ensures
+    (ap (λ (one : Condition). append old (condition_fragment items one old)) c.question-question.ensures.asked)

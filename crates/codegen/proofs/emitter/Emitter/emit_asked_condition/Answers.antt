@@ -6,9 +6,9 @@ use Rattle.data_instructions.specs.ConditionCodes.{negation}
 use Rattle.declarations.specs.declared.looked.AskedCondition.{AskedCondition}
 use Rattle.declarations.specs.Looking.{condition_meant}
 use Rattle.declarations.specs.Named.{items_in}
-use Rattle.codegen.specs.Pieces.{Piece, joined, both}
-use Rattle.codegen.specs.DataCode.{works_piece}
-use Rattle.codegen.specs.ConditionCode.{condition_piece}
+use Rattle.codegen.specs.Pieces.{Fragment, append, sequence}
+use Rattle.codegen.specs.DataCode.{works_fragment}
+use Rattle.codegen.specs.ConditionCode.{condition_fragment}
 use Rattle.codegen.proofs.ConditionLayers.{name_is, name_rules}
 use Rattle.codegen.proofs.Questions.{unless_is, told_rules}
 use Rattle.codegen.proofs.Sequences.{is_so, ends_so}
@@ -28,11 +28,11 @@ returns-in_ok-emit_condition_name-in-Name c =
     let result = c.emit_negation.result in
     let new = c.emit_negation.new.code in
     let named = c.in-Name.reference.now in
-    let test = condition_piece items (Name named) in
-    let behind = works_piece (negation c.in-Name.negated) in
-    let begun : c.emit_condition_name.new.code ≡ joined old (test old) =
-    c.in_ok-emit_condition_name-in-Name.ensures ∙ ap (λ (p : Piece). joined old (p old)) (sym (name_is items named)) in
-    is_so result new (joined old (both test behind old)) (joined old (condition_piece items (condition_meant c.args.one) old))
+    let test = condition_fragment items (Name named) in
+    let behind = works_fragment (negation c.in-Name.negated) in
+    let begun : c.emit_condition_name.new.code ≡ append old (test old) =
+    c.in_ok-emit_condition_name-in-Name.ensures ∙ ap (λ (p : Fragment). append old (p old)) (sym (name_is items named)) in
+    is_so result new (append old (sequence test behind old)) (append old (condition_fragment items (condition_meant c.args.one) old))
     (ends_so result test behind old c.emit_condition_name.new.code new begun c.emit_negation.ensures)
-    (ap (joined old) (unless_is items (Name named) c.in-Name.negated old)
-    ∙ sym (ap (λ (one : AskedCondition). joined old (condition_piece items (condition_meant one) old)) c.in-Name.is))
+    (ap (append old) (unless_is items (Name named) c.in-Name.negated old)
+    ∙ sym (ap (λ (one : AskedCondition). append old (condition_fragment items (condition_meant one) old)) c.in-Name.is))

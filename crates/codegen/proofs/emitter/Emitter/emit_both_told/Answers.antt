@@ -2,10 +2,10 @@ use Rattle.std.proofs.Common.{◌≡◌, sym, ap, ◌∙◌}
 use Rattle.source_tree.specs.Evaluate.{told_as}
 use Rattle.declarations.specs.Looking.{condition_meant}
 use Rattle.declarations.specs.Named.{items_in}
-use Rattle.codegen.specs.Pieces.{joined}
-use Rattle.codegen.specs.Meeting.{nothing_piece}
-use Rattle.codegen.specs.ConditionCode.{and_piece, condition_piece}
-use Rattle.codegen.specs.Phrases.{met}
+use Rattle.codegen.specs.Pieces.{append}
+use Rattle.codegen.specs.Meeting.{nothing_fragment}
+use Rattle.codegen.specs.ConditionCode.{and_fragment, condition_fragment}
+use Rattle.codegen.specs.Phrases.{patched_code}
 use Rattle.codegen.proofs.Meeting.{meeting}
 use Rattle.codegen.proofs.Pieces.{joined_nothing}
 use Rattle.codegen.proofs.Questions.{both_are}
@@ -19,14 +19,14 @@ returns c =
     let new = c.emit_meeting.new.code in
     let one = told_as c.args.truth (condition_meant c.args.one) in
     let further = told_as c.args.truth (condition_meant c.args.other) in
-    let first = condition_piece items one in
-    let behind = condition_piece items further in
+    let first = condition_fragment items one in
+    let behind = condition_fragment items further in
     let branch = c.in_ok-branch.branch in
     let second = c.in_ok-second.second in
     on_ok c.emit_meeting.result c.emit_meeting.ensures
-    (λ (e : new ≡ met branch second c.emit_jump.new.code).
-    then_piece first (and_piece behind) old c.emit_told.new.code new c.in_ok-emit_told.ensures
-    (meeting behind nothing_piece c.emit_told.new.code c.emit_branch.new.code c.emit_told-2.new.code c.emit_jump.new.code c.emit_jump.new.code new branch second
+    (λ (e : new ≡ patched_code branch second c.emit_jump.new.code).
+    then_piece first (and_fragment behind) old c.emit_told.new.code new c.in_ok-emit_told.ensures
+    (meeting behind nothing_fragment c.emit_told.new.code c.emit_branch.new.code c.emit_told-2.new.code c.emit_jump.new.code c.emit_jump.new.code new branch second
     c.in_ok-branch.ensures.code c.in_ok-branch.ensures.address c.in_ok-emit_told-2.ensures c.in_ok-second.ensures.code c.in_ok-second.ensures.other
     (sym (joined_nothing c.emit_jump.new.code)) e)
-    ∙ ap (joined old) (both_are items one further old))
+    ∙ ap (append old) (both_are items one further old))

@@ -8,9 +8,9 @@ use Rattle.source_tree.specs.NameRules.{subscript_rules}
 use Rattle.data_instructions.specs.declared.index.ItemIndex.{ItemIndex}
 use Rattle.data_instructions.specs.declared.instruction.DataInstruction.TheVariants as i
 use Rattle.declarations.specs.Named.{data_in, items_in}
-use Rattle.codegen.specs.Pieces.{joined, both}
-use Rattle.codegen.specs.DataCode.{dimensions_of, work_piece, works_piece, subscripts_piece}
-use Rattle.codegen.specs.ConditionCode.{condition_item, values_piece, condition_name_piece}
+use Rattle.codegen.specs.Pieces.{append, sequence}
+use Rattle.codegen.specs.DataCode.{dimensions_of, work_fragment, works_fragment, subscripts_fragment}
+use Rattle.codegen.specs.ConditionCode.{condition_item, values_fragment, condition_name_fragment}
 use Rattle.codegen.specs.Values.{AreFormedValues}
 use Rattle.codegen.proofs.ConditionNames.{values_formed}
 use Rattle.codegen.proofs.ConditionValues.{descriptions_kept}
@@ -39,18 +39,18 @@ returns c =
     let dimensions = c.dimensions_at-dimensions.result.now in
     let written = c.as_slice.result.now in
     let values = c.values_named.result.now in
-    let taking = works_piece (i.Take ∷ i.ClearTruth ∷ []) in
-    let place = work_piece (i.Place index) in
-    let subscripts = subscripts_piece items dimensions written in
-    let behind = both taking (values_piece values) in
+    let taking = works_fragment (i.Take ∷ i.ClearTruth ∷ []) in
+    let place = work_fragment (i.Place index) in
+    let subscripts = subscripts_fragment items dimensions written in
+    let behind = sequence taking (values_fragment values) in
     let named_index = condition_item items c.args.one.now.item in
-    let named = work_piece (i.Place named_index) in
+    let named = work_fragment (i.Place named_index) in
     let named_dimensions = dimensions_of (slice_get items named_index.number) in
-    is_so result new (joined old (both place (both subscripts behind) old)) (joined old (condition_name_piece items c.args.one.now old))
-    (ends_so result place (both subscripts behind) old c.emit_work.new.code new c.in_ok-emit_work.ensures
+    is_so result new (append old (sequence place (sequence subscripts behind) old)) (append old (condition_name_fragment items c.args.one.now old))
+    (ends_so result place (sequence subscripts behind) old c.emit_work.new.code new c.in_ok-emit_work.ensures
     (ends_so result subscripts behind c.emit_work.new.code c.emit_subscripts.new.code new c.in_ok-emit_subscripts.ensures
-    (ends_so result taking (values_piece values) c.emit_subscripts.new.code c.emit_works.new.code new c.in_ok-emit_works.ensures c.emit_values.ensures)))
-    (ap (λ (d : List Dimension). joined old (both place (both (subscripts_piece items d written) behind) old)) c.dimensions_at-dimensions.ensures
-    ∙ ap (λ (x : ItemIndex). joined old (both (work_piece (i.Place x)) (both (subscripts_piece items (dimensions_of (slice_get items x.number)) written) behind) old)) c.in_ok-item.ensures
-    ∙ ap (λ (l : List Subscript). joined old (both named (both (subscripts_piece items named_dimensions l) behind) old)) c.as_slice.ensures
-    ∙ ap (λ (v : List ValueRange). joined old (both named (both (subscripts_piece items named_dimensions c.args.one.now.subscripts) (both taking (values_piece v))) old)) c.values_named.ensures)
+    (ends_so result taking (values_fragment values) c.emit_subscripts.new.code c.emit_works.new.code new c.in_ok-emit_works.ensures c.emit_values.ensures)))
+    (ap (λ (d : List Dimension). append old (sequence place (sequence (subscripts_fragment items d written) behind) old)) c.dimensions_at-dimensions.ensures
+    ∙ ap (λ (x : ItemIndex). append old (sequence (work_fragment (i.Place x)) (sequence (subscripts_fragment items (dimensions_of (slice_get items x.number)) written) behind) old)) c.in_ok-item.ensures
+    ∙ ap (λ (l : List Subscript). append old (sequence named (sequence (subscripts_fragment items named_dimensions l) behind) old)) c.as_slice.ensures
+    ∙ ap (λ (v : List ValueRange). append old (sequence named (sequence (subscripts_fragment items named_dimensions c.args.one.now.subscripts) (sequence taking (values_fragment v))) old)) c.values_named.ensures)

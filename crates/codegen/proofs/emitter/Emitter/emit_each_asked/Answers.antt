@@ -1,11 +1,11 @@
 use Rattle.std.proofs.Common.{List, ◌∷◌, sym, ap, ◌∙◌}
-use Rattle.source_tree.specs.declared.evaluate.Subject.{Subject}
-use Rattle.source_tree.specs.declared.evaluate.Object.{Object}
+use Rattle.source_tree.specs.declared.evaluate_statement.Subject.{Subject}
+use Rattle.source_tree.specs.declared.evaluate_statement.Object.{Object}
 use Rattle.source_tree.specs.Broken.{each}
 use Rattle.source_tree.specs.ConditionRules.{condition_rules}
 use Rattle.source_tree.specs.Evaluate.{asked_each}
 use Rattle.declarations.specs.Named.{items_in}
-use Rattle.codegen.specs.Pieces.{joined, in_order}
+use Rattle.codegen.specs.Pieces.{append, in_order}
 use Rattle.codegen.proofs.Questions.{further_piece, pair_rules, pairs_rules, pairs_go_on}
 use Rattle.codegen.proofs.emitter.Emitter.emit_each_asked.Goals as goal
 
@@ -31,8 +31,8 @@ pairs-preserved c =
     let kept = each (condition_rules items) in
     record {
       same = pairs_go_on items subject more object others now c.emit_and_asked.new.code c.in_ok-emit_and_asked.ensures
-          ∙ sym (ap (λ (l : List Subject). joined now (in_order (further_piece items) (asked_each items l c.pairs.rest.now) now)) c.in-Some.ensures.cases.0
-          ∙ ap (λ (l : List Object). joined now (in_order (further_piece items) (asked_each items (subject ∷ more) l) now)) c.in-Some-split_first.ensures.cases.0)
+          ∙ sym (ap (λ (l : List Subject). append now (in_order (further_piece items) (asked_each items l c.pairs.rest.now) now)) c.in-Some.ensures.cases.0
+          ∙ ap (λ (l : List Object). append now (in_order (further_piece items) (asked_each items (subject ∷ more) l) now)) c.in-Some-split_first.ensures.cases.0)
           ∙ c.pairs.invariant.same;
       rules = pairs_rules items subject more object others
           (sym (ap (λ (l : List Subject). kept (asked_each items l c.pairs.rest.now)) c.in-Some.ensures.cases.0

@@ -1,9 +1,9 @@
 use Rattle.std.proofs.Common.{ap, ◌∙◌}
-use Rattle.source_tree.specs.declared.evaluate.Subject.{Subject}
+use Rattle.source_tree.specs.declared.evaluate_statement.Subject.{Subject}
 use Rattle.source_tree.specs.EvaluateRules.{subject_rules}
 use Rattle.declarations.specs.Named.{items_in}
-use Rattle.codegen.specs.Pieces.{joined, in_order}
-use Rattle.codegen.specs.SubjectCode.{subject_piece}
+use Rattle.codegen.specs.Pieces.{append, in_order}
+use Rattle.codegen.specs.SubjectCode.{subject_fragment}
 use Rattle.codegen.proofs.Kept.{one_kept}
 use Rattle.codegen.proofs.Pieces.{goes_on}
 use Rattle.codegen.proofs.emitter.Emitter.emit_each_subject.Goals as goal
@@ -15,8 +15,8 @@ emit_subject-requires-clause-rules c =
 
 pub loop-one-preserved : goal.loop-one-preserved
 loop-one-preserved c =
-    let piece = subject_piece (items_in c.args.self.now.declarations.now) in
+    let piece = subject_fragment (items_in c.args.self.now.declarations.now) in
     let old = c.loop-one.code in
     goes_on piece c.args.all.now c.loop-one.one-index c.one-item.result old c.emit_subject.new.code
-    (joined c.args.code.now (in_order piece c.args.all.now c.args.code.now)) c.loop-one-test.true
-    (c.in_ok-emit_subject.ensures ∙ ap (λ (one : Subject). joined old (piece one old)) c.one-item.is) c.loop-one.invariant
+    (append c.args.code.now (in_order piece c.args.all.now c.args.code.now)) c.loop-one-test.true
+    (c.in_ok-emit_subject.ensures ∙ ap (λ (one : Subject). append old (piece one old)) c.one-item.is) c.loop-one.invariant

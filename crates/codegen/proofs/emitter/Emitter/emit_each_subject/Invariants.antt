@@ -1,11 +1,11 @@
 use Rattle.std.proofs.Common.{◌≡◌, drop}
 use Rattle.declarations.specs.Named.{items_in}
-use Rattle.codegen.specs.Pieces.{joined, in_order}
-use Rattle.codegen.specs.SubjectCode.{subject_piece}
+use Rattle.codegen.specs.Pieces.{append, in_order}
+use Rattle.codegen.specs.SubjectCode.{subject_fragment}
 use Rattle.codegen.proofs.emitter.Emitter.emit_each_subject.Given as goal
 
 -- what is there, and what is still to come, are the whole
 abbrev pub invariant-loop-one : goal.invariant-loop-one
 invariant-loop-one l =
-    joined l.code (in_order (subject_piece (items_in l.self.declarations.now)) (drop l.one-index l.all) l.code)
-    ≡ joined l.initial.code (in_order (subject_piece (items_in l.self.declarations.now)) l.all l.initial.code)
+    append l.code (in_order (subject_fragment (items_in l.self.declarations.now)) (drop l.one-index l.all) l.code)
+    ≡ append l.initial.code (in_order (subject_fragment (items_in l.self.declarations.now)) l.all l.initial.code)

@@ -1,8 +1,8 @@
 use Rattle.std.proofs.Common.{sym, ap}
 use Rattle.declarations.specs.Named.{items_in}
-use Rattle.codegen.specs.Pieces.{joined, both}
-use Rattle.codegen.specs.ArithmeticCode.{operation_piece}
-use Rattle.codegen.specs.Operations.{values_piece, results_piece}
+use Rattle.codegen.specs.Pieces.{append, sequence}
+use Rattle.codegen.specs.ArithmeticCode.{operation_fragment}
+use Rattle.codegen.specs.Operations.{values_fragment, results_fragment}
 use Rattle.codegen.proofs.Operations.{operation_parts, values_kept, results_kept}
 use Rattle.codegen.proofs.Sequences.{is_so, ends_so}
 use Rattle.codegen.proofs.emitter.Emitter.emit_operation.Goals as goal
@@ -20,8 +20,8 @@ returns c =
     let old = c.args.code.now in
     let result = c.emit_results.result in
     let new = c.emit_results.new.code in
-    let values = values_piece items one in
-    let results = results_piece items c.args.keep one in
-    is_so result new (joined old (both values results old)) (joined old (operation_piece items c.args.keep one old))
+    let values = values_fragment items one in
+    let results = results_fragment items c.args.keep one in
+    is_so result new (append old (sequence values results old)) (append old (operation_fragment items c.args.keep one old))
     (ends_so result values results old c.emit_values.new.code new c.in_ok-emit_values.ensures c.emit_results.ensures)
-    (ap (joined old) (sym (operation_parts items c.args.keep one old)))
+    (ap (append old) (sym (operation_parts items c.args.keep one old)))

@@ -3,9 +3,9 @@ use Rattle.source_tree.specs.ConditionRules.{condition_rules}
 use Rattle.declarations.specs.declared.looked.Question.{Question}
 use Rattle.declarations.specs.Looking.{condition_meant, question_meant}
 use Rattle.declarations.specs.Named.{items_in}
-use Rattle.codegen.specs.Pieces.{Piece, joined}
-use Rattle.codegen.specs.ConditionCode.{condition_piece}
-use Rattle.codegen.specs.EvaluateCode.{constant_piece}
+use Rattle.codegen.specs.Pieces.{Fragment, append}
+use Rattle.codegen.specs.ConditionCode.{condition_fragment}
+use Rattle.codegen.specs.EvaluateCode.{constant_fragment}
 use Rattle.codegen.proofs.Questions.{constant_is, told_rules, one_alike, other_alike}
 use Rattle.codegen.proofs.Sequences.{is_so}
 use Rattle.codegen.proofs.emitter.Emitter.emit_question.Goals as goal
@@ -32,16 +32,16 @@ pub returns-in-Nothing : goal.returns-in-Nothing
 returns-in-Nothing c =
     let items = items_in c.args.self.now.declarations.now in
     let old = c.args.code.now in
-    is_so c.emit_constant.result c.emit_constant.new.code (joined old (constant_piece true old)) (joined old (condition_piece items (question_meant c.args.one) old))
+    is_so c.emit_constant.result c.emit_constant.new.code (append old (constant_fragment true old)) (append old (condition_fragment items (question_meant c.args.one) old))
     c.emit_constant.ensures
-    (ap (λ (p : Piece). joined old (p old)) (sym (constant_is items true))
-    ∙ sym (ap (λ (q : Question). joined old (condition_piece items (question_meant q) old)) c.in-Nothing.is))
+    (ap (λ (p : Fragment). append old (p old)) (sym (constant_is items true))
+    ∙ sym (ap (λ (q : Question). append old (condition_fragment items (question_meant q) old)) c.in-Nothing.is))
 
 pub returns-in-Unfit : goal.returns-in-Unfit
 returns-in-Unfit c =
     let items = items_in c.args.self.now.declarations.now in
     let old = c.args.code.now in
-    is_so c.emit_constant-in-Unfit.result c.emit_constant-in-Unfit.new.code (joined old (constant_piece false old))
-    (joined old (condition_piece items (question_meant c.args.one) old)) c.emit_constant-in-Unfit.ensures
-    (ap (λ (p : Piece). joined old (p old)) (sym (constant_is items false))
-    ∙ sym (ap (λ (q : Question). joined old (condition_piece items (question_meant q) old)) c.in-Unfit.is))
+    is_so c.emit_constant-in-Unfit.result c.emit_constant-in-Unfit.new.code (append old (constant_fragment false old))
+    (append old (condition_fragment items (question_meant c.args.one) old)) c.emit_constant-in-Unfit.ensures
+    (ap (λ (p : Fragment). append old (p old)) (sym (constant_is items false))
+    ∙ sym (ap (λ (q : Question). append old (condition_fragment items (question_meant q) old)) c.in-Unfit.is))

@@ -1,10 +1,10 @@
 use Rattle.std.proofs.Common.{◌≡◌, drop}
 use Rattle.declarations.specs.Named.{items_in}
-use Rattle.codegen.specs.Pieces.{joined, in_order}
+use Rattle.codegen.specs.Pieces.{append, in_order}
 use Rattle.data_instructions.specs.declared.instruction.DataInstruction.TheVariants as i
-use Rattle.codegen.specs.DataCode.{taking_piece}
+use Rattle.codegen.specs.DataCode.{take_fragment}
 use Rattle.codegen.proofs.emitter.Emitter.emit_receivers.Given as goal
 
 -- what is there, and what is still to come, are the whole
 abbrev pub invariant-loop-one : goal.invariant-loop-one
-invariant-loop-one l = joined l.code (in_order (taking_piece (items_in l.self.declarations.now) i.Move) (drop l.one-index l.all) l.code) ≡ joined l.initial.code (in_order (taking_piece (items_in l.self.declarations.now) i.Move) l.all l.initial.code)
+invariant-loop-one l = append l.code (in_order (take_fragment (items_in l.self.declarations.now) i.Move) (drop l.one-index l.all) l.code) ≡ append l.initial.code (in_order (take_fragment (items_in l.self.declarations.now) i.Move) l.all l.initial.code)

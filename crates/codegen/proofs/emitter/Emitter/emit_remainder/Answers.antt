@@ -5,9 +5,9 @@ use Rattle.data_instructions.specs.declared.calculation.Calculation.TheVariants 
 use Rattle.data_instructions.specs.declared.instruction.DataInstruction.TheVariants as i
 use Rattle.data_instructions.specs.ArithmeticCodes.{duplicate}
 use Rattle.declarations.specs.Named.{items_in}
-use Rattle.codegen.specs.Pieces.{joined, both}
-use Rattle.codegen.specs.DataCode.{works_piece, taking_piece}
-use Rattle.codegen.specs.ArithmeticCode.{void_code, give_piece, remainder_piece}
+use Rattle.codegen.specs.Pieces.{append, sequence}
+use Rattle.codegen.specs.DataCode.{works_fragment, take_fragment}
+use Rattle.codegen.specs.ArithmeticCode.{void_code, give_fragment, remainder_fragment}
 use Rattle.codegen.proofs.Kept.{front_kept, back_kept, item_kept}
 use Rattle.codegen.proofs.Sequences.{is_so, ends_so}
 use Rattle.codegen.proofs.emitter.Emitter.emit_remainder.Goals as goal
@@ -26,13 +26,13 @@ returns c =
     let result = c.emit_taking.result in
     let new = c.emit_taking.new.code in
     let scale : ℕ = c.scale_kept.result in
-    let divide = works_piece (duplicate 1 ∷ duplicate 1 ∷ i.Calculate calculation.Divide ∷ []) in
-    let give = give_piece items keep c.args.quotient.now in
-    let cut = works_piece (i.Calculate (calculation.Truncate scale) ∷ i.Calculate calculation.Multiply ∷ i.Calculate calculation.Subtract ∷ void_code keep) in
-    let store = taking_piece items (i.Store false keep) c.args.remainder.now in
-    let begun : c.emit_works.new.code ≡ joined old (divide old) = first_of (search rules, grind (arith, common_steps)) in
-    is_so result new (joined old (both divide (both give (both cut store)) old)) (joined old (remainder_piece items keep c.args.quotient.now c.args.remainder.now old))
-    (ends_so result divide (both give (both cut store)) old c.emit_works.new.code new begun
-    (ends_so result give (both cut store) c.emit_works.new.code c.emit_give.new.code new c.in_ok-emit_give.ensures
+    let divide = works_fragment (duplicate 1 ∷ duplicate 1 ∷ i.Calculate calculation.Divide ∷ []) in
+    let give = give_fragment items keep c.args.quotient.now in
+    let cut = works_fragment (i.Calculate (calculation.Truncate scale) ∷ i.Calculate calculation.Multiply ∷ i.Calculate calculation.Subtract ∷ void_code keep) in
+    let store = take_fragment items (i.Store false keep) c.args.remainder.now in
+    let begun : c.emit_works.new.code ≡ append old (divide old) = first_of (search rules, grind (arith, common_steps)) in
+    is_so result new (append old (sequence divide (sequence give (sequence cut store)) old)) (append old (remainder_fragment items keep c.args.quotient.now c.args.remainder.now old))
+    (ends_so result divide (sequence give (sequence cut store)) old c.emit_works.new.code new begun
+    (ends_so result give (sequence cut store) c.emit_works.new.code c.emit_give.new.code new c.in_ok-emit_give.ensures
     (ends_so result cut store c.emit_give.new.code c.emit_subtracted.new.code new c.in_ok-emit_subtracted.ensures c.emit_taking.ensures)))
-    (ap (λ n. joined old (both divide (both give (both (works_piece (i.Calculate (calculation.Truncate n) ∷ i.Calculate calculation.Multiply ∷ i.Calculate calculation.Subtract ∷ void_code keep)) store)) old)) c.scale_kept.ensures)
+    (ap (λ n. append old (sequence divide (sequence give (sequence (works_fragment (i.Calculate (calculation.Truncate n) ∷ i.Calculate calculation.Multiply ∷ i.Calculate calculation.Subtract ∷ void_code keep)) store)) old)) c.scale_kept.ensures)

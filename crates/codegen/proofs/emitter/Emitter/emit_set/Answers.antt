@@ -9,10 +9,10 @@ use Rattle.data_instructions.specs.declared.index.ItemIndex.{ItemIndex}
 use Rattle.data_instructions.specs.declared.instruction.DataInstruction.TheVariants as i
 use Rattle.data_instructions.specs.TextCodes.{new_byte}
 use Rattle.declarations.specs.Named.{items_in}
-use Rattle.codegen.specs.Pieces.{joined, both}
-use Rattle.codegen.specs.DataCode.{dimensions_of, work_piece, subscripts_piece}
+use Rattle.codegen.specs.Pieces.{append, sequence}
+use Rattle.codegen.specs.DataCode.{dimensions_of, work_fragment, subscripts_fragment}
 use Rattle.codegen.specs.ConditionCode.{condition_number, condition_item}
-use Rattle.codegen.specs.PatternCode.{overlay_piece, set_of, set_piece}
+use Rattle.codegen.specs.PatternCode.{overlay_fragment, set_of, set_fragment}
 use Rattle.codegen.proofs.Kept.{back_kept}
 use Rattle.codegen.proofs.PatternCodes.{set_kept}
 use Rattle.codegen.proofs.Sequences.{is_so, ends_so}
@@ -34,18 +34,18 @@ returns c =
     let written = c.as_slice.result.now in
     let made = c.in_ok-made.made in
     let pattern = set_of (slice_get (all_conditions items) (condition_number items c.args.one.now.item)) in
-    let overlay = overlay_piece made.bytes made.marks in
-    let place = work_piece (i.Place index) in
-    let subscripts = subscripts_piece items dimensions written in
+    let overlay = overlay_fragment made.bytes made.marks in
+    let place = work_fragment (i.Place index) in
+    let subscripts = subscripts_fragment items dimensions written in
     let named_index = condition_item items c.args.one.now.item in
-    let named = work_piece (i.Place named_index) in
+    let named = work_fragment (i.Place named_index) in
     let named_dimensions = dimensions_of (slice_get items named_index.number) in
-    let named_subscripts = subscripts_piece items named_dimensions c.args.one.now.subscripts in
-    is_so result new (joined old (both place (both subscripts overlay) old)) (joined old (set_piece items c.args.one.now old))
-    (ends_so result place (both subscripts overlay) old c.emit_work.new.code new c.in_ok-emit_work.ensures
+    let named_subscripts = subscripts_fragment items named_dimensions c.args.one.now.subscripts in
+    is_so result new (append old (sequence place (sequence subscripts overlay) old)) (append old (set_fragment items c.args.one.now old))
+    (ends_so result place (sequence subscripts overlay) old c.emit_work.new.code new c.in_ok-emit_work.ensures
     (ends_so result subscripts overlay c.emit_work.new.code c.emit_subscripts.new.code new c.in_ok-emit_subscripts.ensures c.emit_overlay.ensures))
-    (ap (λ (d : List Dimension). joined old (both place (both (subscripts_piece items d written) overlay) old)) c.dimensions_at-dimensions.ensures
-    ∙ ap (λ (x : ItemIndex). joined old (both (work_piece (i.Place x)) (both (subscripts_piece items (dimensions_of (slice_get items x.number)) written) overlay) old)) c.in_ok-item.ensures
-    ∙ ap (λ (l : List Subscript). joined old (both named (both (subscripts_piece items named_dimensions l) overlay) old)) c.as_slice.ensures
-    ∙ ap (λ (b : List ℕ). joined old (both named (both named_subscripts (overlay_piece b made.marks)) old)) c.in_ok-made.ensures.bytes
-    ∙ ap (λ (m : List ℕ). joined old (both named (both named_subscripts (overlay_piece (map new_byte pattern) m)) old)) c.in_ok-made.ensures.marks)
+    (ap (λ (d : List Dimension). append old (sequence place (sequence (subscripts_fragment items d written) overlay) old)) c.dimensions_at-dimensions.ensures
+    ∙ ap (λ (x : ItemIndex). append old (sequence (work_fragment (i.Place x)) (sequence (subscripts_fragment items (dimensions_of (slice_get items x.number)) written) overlay) old)) c.in_ok-item.ensures
+    ∙ ap (λ (l : List Subscript). append old (sequence named (sequence (subscripts_fragment items named_dimensions l) overlay) old)) c.as_slice.ensures
+    ∙ ap (λ (b : List ℕ). append old (sequence named (sequence named_subscripts (overlay_fragment b made.marks)) old)) c.in_ok-made.ensures.bytes
+    ∙ ap (λ (m : List ℕ). append old (sequence named (sequence named_subscripts (overlay_fragment (map new_byte pattern) m)) old)) c.in_ok-made.ensures.marks)

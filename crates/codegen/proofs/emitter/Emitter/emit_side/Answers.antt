@@ -2,9 +2,9 @@ use Rattle.std.proofs.Common.{◌≡◌, Some, sym, ap, ◌∙◌}
 use Rattle.std.specs.Option.{option_map}
 use Rattle.source_tree.specs.Conditions.{alone_side}
 use Rattle.declarations.specs.Named.{items_in}
-use Rattle.codegen.specs.Pieces.{joined}
-use Rattle.codegen.specs.ArithmeticCode.{value_piece}
-use Rattle.codegen.specs.ConditionCode.{side_piece}
+use Rattle.codegen.specs.Pieces.{append}
+use Rattle.codegen.specs.ArithmeticCode.{value_fragment}
+use Rattle.codegen.specs.ConditionCode.{side_fragment}
 use Rattle.codegen.specs.Sides.{operand_of}
 use Rattle.codegen.proofs.Sequences.{is_so}
 use Rattle.codegen.proofs.Sides.{alone_piece}
@@ -16,5 +16,5 @@ returns-in-Some c =
     let old = c.args.code.now in
     let one = operand_of c.in-Some.one in
     let told : alone_side c.args.side.now ≡ Some one = sym c.alone_side.ensures ∙ ap (option_map operand_of) c.in-Some.is in
-    is_so c.emit_number_alone.result c.emit_number_alone.new.code (joined old (value_piece items one old)) (joined old (side_piece items c.args.side.now old)) c.emit_number_alone.ensures
-    (ap (joined old) (sym (alone_piece items c.args.side.now one old told)))
+    is_so c.emit_number_alone.result c.emit_number_alone.new.code (append old (value_fragment items one old)) (append old (side_fragment items c.args.side.now old)) c.emit_number_alone.ensures
+    (ap (append old) (sym (alone_piece items c.args.side.now one old told)))

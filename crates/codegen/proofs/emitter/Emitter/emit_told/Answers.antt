@@ -4,9 +4,9 @@ use Rattle.source_tree.specs.Evaluate.{told_as}
 use Rattle.data_instructions.specs.ConditionCodes.{negation}
 use Rattle.declarations.specs.Looking.{condition_meant}
 use Rattle.declarations.specs.Named.{items_in}
-use Rattle.codegen.specs.Pieces.{joined, both}
-use Rattle.codegen.specs.DataCode.{works_piece}
-use Rattle.codegen.specs.ConditionCode.{condition_piece}
+use Rattle.codegen.specs.Pieces.{append, sequence}
+use Rattle.codegen.specs.DataCode.{works_fragment}
+use Rattle.codegen.specs.ConditionCode.{condition_fragment}
 use Rattle.codegen.proofs.Questions.{told_is}
 use Rattle.codegen.proofs.Sequences.{is_so, ends_so}
 use Rattle.codegen.proofs.emitter.Emitter.emit_told.Goals as goal
@@ -18,7 +18,7 @@ returns c =
     let result = c.emit_negation.result in
     let new = c.emit_negation.new.code in
     let one = condition_meant c.args.one in
-    let behind = works_piece (negation (not c.args.truth)) in
-    is_so result new (joined old (both (condition_piece items one) behind old)) (joined old (condition_piece items (told_as c.args.truth one) old))
-    (ends_so result (condition_piece items one) behind old c.emit_asked_condition.new.code new c.in_ok-emit_asked_condition.ensures c.emit_negation.ensures)
-    (ap (joined old) (told_is items one c.args.truth (not c.args.truth) old refl))
+    let behind = works_fragment (negation (not c.args.truth)) in
+    is_so result new (append old (sequence (condition_fragment items one) behind old)) (append old (condition_fragment items (told_as c.args.truth one) old))
+    (ends_so result (condition_fragment items one) behind old c.emit_asked_condition.new.code new c.in_ok-emit_asked_condition.ensures c.emit_negation.ensures)
+    (ap (append old) (told_is items one c.args.truth (not c.args.truth) old refl))

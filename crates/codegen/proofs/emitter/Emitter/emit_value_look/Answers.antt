@@ -3,9 +3,9 @@ use Rattle.std.proofs.lemmas.Grind.{common_steps}
 use Rattle.source_tree.specs.declared.condition.Relation.TheVariants.{Equal}
 use Rattle.source_tree.specs.declared.condition.Side.{Side}
 use Rattle.declarations.specs.Named.{items_in}
-use Rattle.codegen.specs.Pieces.{joined}
-use Rattle.codegen.specs.ConditionCode.{relation_piece}
-use Rattle.codegen.specs.SubjectCode.{value_look, look_piece}
+use Rattle.codegen.specs.Pieces.{append}
+use Rattle.codegen.specs.ConditionCode.{relation_fragment}
+use Rattle.codegen.specs.SubjectCode.{value_look, look_fragment}
 use Rattle.codegen.proofs.Sequences.{is_so}
 use Rattle.codegen.proofs.SubjectLooks.{one_look}
 use Rattle.codegen.proofs.emitter.Emitter.emit_value_look.Goals as goal
@@ -16,7 +16,7 @@ returns c =
     let value = c.args.value.now in
     let old = c.args.code.now in
     let so : c.is_faultless.result ≡ false = first_of (search rules, grind (arith, common_steps)) in
-    is_so c.emit_relation.result c.emit_relation.new.code (joined old (relation_piece items value Equal c.zero_side-zero.result old))
-    (joined old (look_piece items (value_look items value) old)) c.emit_relation.ensures
-    (ap (λ (zero : Side). joined old (relation_piece items value Equal zero old)) c.zero_side-zero.ensures
-    ∙ ap (joined old) (one_look items value old (sym c.is_faultless.ensures ∙ so)))
+    is_so c.emit_relation.result c.emit_relation.new.code (append old (relation_fragment items value Equal c.zero_side-zero.result old))
+    (append old (look_fragment items (value_look items value) old)) c.emit_relation.ensures
+    (ap (λ (zero : Side). append old (relation_fragment items value Equal zero old)) c.zero_side-zero.ensures
+    ∙ ap (append old) (one_look items value old (sym c.is_faultless.ensures ∙ so)))

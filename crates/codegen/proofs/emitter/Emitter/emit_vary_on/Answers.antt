@@ -5,10 +5,10 @@ use Rattle.source_tree.specs.ConditionRules.{varying_rules}
 use Rattle.data_instructions.specs.declared.instruction.DataInstruction.{DataInstruction}
 use Rattle.data_instructions.specs.declared.instruction.DataInstruction.TheVariants as i
 use Rattle.declarations.specs.Named.{items_in}
-use Rattle.codegen.specs.Pieces.{joined, both}
-use Rattle.codegen.specs.DataCode.{work_piece}
-use Rattle.codegen.specs.ArithmeticCode.{value_piece, update_piece}
-use Rattle.codegen.specs.UntilCode.{vary_on_piece}
+use Rattle.codegen.specs.Pieces.{append, sequence}
+use Rattle.codegen.specs.DataCode.{work_fragment}
+use Rattle.codegen.specs.ArithmeticCode.{value_fragment, update_fragment}
+use Rattle.codegen.specs.UntilCode.{vary_on_fragment}
 use Rattle.codegen.proofs.Sequences.{is_so, ends_so}
 use Rattle.codegen.proofs.Varying.{varied, by_kept, varied_kept, vary_on_is}
 use Rattle.codegen.proofs.emitter.Emitter.emit_vary_on.Goals as goal
@@ -30,13 +30,13 @@ returns c =
     let old = c.args.code.now in
     let result = c.emit_work-2.result in
     let new = c.emit_work-2.new.code in
-    let clear = work_piece i.ClearTruth in
-    let value = value_piece items one.by in
-    let update = update_piece items false operator.Add (varied one) in
-    let last = work_piece c.discard.result in
-    is_so result new (joined old (both clear (both value (both update last)) old)) (joined old (vary_on_piece items c.args.one.now old))
-    (ends_so result clear (both value (both update last)) old c.emit_work.new.code new c.in_ok-emit_work.ensures
-    (ends_so result value (both update last) c.emit_work.new.code c.emit_value.new.code new c.in_ok-emit_value.ensures
+    let clear = work_fragment i.ClearTruth in
+    let value = value_fragment items one.by in
+    let update = update_fragment items false operator.Add (varied one) in
+    let last = work_fragment c.discard.result in
+    is_so result new (append old (sequence clear (sequence value (sequence update last)) old)) (append old (vary_on_fragment items c.args.one.now old))
+    (ends_so result clear (sequence value (sequence update last)) old c.emit_work.new.code new c.in_ok-emit_work.ensures
+    (ends_so result value (sequence update last) c.emit_work.new.code c.emit_value.new.code new c.in_ok-emit_value.ensures
     (ends_so result update last c.emit_value.new.code c.emit_update.new.code new c.in_ok-emit_update.ensures c.emit_work-2.ensures)))
-    (ap (λ (d : DataInstruction). joined old (both clear (both value (both update (work_piece d))) old)) c.discard.ensures
-    ∙ ap (joined old) (vary_on_is items one old) ∙ sym (ap (λ (o : Option Varying). joined old (vary_on_piece items o old)) c.in-Some.is))
+    (ap (λ (d : DataInstruction). append old (sequence clear (sequence value (sequence update (work_fragment d))) old)) c.discard.ensures
+    ∙ ap (append old) (vary_on_is items one old) ∙ sym (ap (λ (o : Option Varying). append old (vary_on_fragment items o old)) c.in-Some.is))

@@ -2,15 +2,15 @@ use Rattle.std.proofs.Common.{rules, ◌≡◌, true, List, ◌∷◌, length, s
 use Rattle.std.proofs.lemmas.Grind.{common_steps}
 use Rattle.source_tree.specs.declared.condition.Condition.{Condition}
 use Rattle.source_tree.specs.declared.condition.Condition.TheVariants.{All}
-use Rattle.source_tree.specs.declared.evaluate.Subject.{Subject}
-use Rattle.source_tree.specs.declared.evaluate.Object.{Object}
+use Rattle.source_tree.specs.declared.evaluate_statement.Subject.{Subject}
+use Rattle.source_tree.specs.declared.evaluate_statement.Object.{Object}
 use Rattle.source_tree.specs.Broken.{each}
 use Rattle.source_tree.specs.ConditionRules.{condition_rules}
-use Rattle.source_tree.specs.Evaluate.{asked, asked_each}
+use Rattle.source_tree.specs.Evaluate.{selection_condition, asked_each}
 use Rattle.declarations.specs.Named.{items_in}
-use Rattle.codegen.specs.Pieces.{Piece, joined, both, in_order}
-use Rattle.codegen.specs.ConditionCode.{condition_piece}
-use Rattle.codegen.specs.EvaluateCode.{constant_piece}
+use Rattle.codegen.specs.Pieces.{Fragment, append, sequence, in_order}
+use Rattle.codegen.specs.ConditionCode.{condition_fragment}
+use Rattle.codegen.specs.EvaluateCode.{constant_fragment}
 use Rattle.codegen.proofs.ConditionLayers.{all_is, all_parts}
 use Rattle.codegen.proofs.Questions.{constant_is, further_piece, no_subjects, no_objects, pair_rules, pairs_rules}
 use Rattle.codegen.proofs.Sequences.{is_so, ends_so}
@@ -21,10 +21,10 @@ returns-in_default c =
     let items = items_in c.args.self.now.declarations.now in
     let old = c.args.code.now in
     let none : length c.args.subjects.now ≡ 0 = first_of (search rules, grind (arith, common_steps)) in
-    is_so c.emit_constant.result c.emit_constant.new.code (joined old (constant_piece true old))
-    (joined old (condition_piece items (All (asked_each items c.args.subjects.now c.args.objects.now)) old)) c.emit_constant.ensures
-    (ap (λ (p : Piece). joined old (p old)) (sym (constant_is items true))
-    ∙ sym (ap (λ (l : List Condition). joined old (condition_piece items (All l) old)) (no_subjects items c.args.subjects.now c.args.objects.now none)))
+    is_so c.emit_constant.result c.emit_constant.new.code (append old (constant_fragment true old))
+    (append old (condition_fragment items (All (asked_each items c.args.subjects.now c.args.objects.now)) old)) c.emit_constant.ensures
+    (ap (λ (p : Fragment). append old (p old)) (sym (constant_is items true))
+    ∙ sym (ap (λ (l : List Condition). append old (condition_fragment items (All l) old)) (no_subjects items c.args.subjects.now c.args.objects.now none)))
 
 pub returns-in_default-split_first : goal.returns-in_default-split_first
 returns-in_default-split_first c =
@@ -33,10 +33,10 @@ returns-in_default-split_first c =
     let none : length c.args.objects.now ≡ 0 = first_of (search rules, grind (arith, common_steps)) in
     let result = c.emit_constant-in_default-split_first.result in
     let new = c.emit_constant-in_default-split_first.new.code in
-    is_so result new (joined old (constant_piece true old))
-    (joined old (condition_piece items (All (asked_each items c.args.subjects.now c.args.objects.now)) old)) c.emit_constant-in_default-split_first.ensures
-    (ap (λ (p : Piece). joined old (p old)) (sym (constant_is items true))
-    ∙ sym (ap (λ (l : List Condition). joined old (condition_piece items (All l) old)) (no_objects items c.args.subjects.now c.args.objects.now none)))
+    is_so result new (append old (constant_fragment true old))
+    (append old (condition_fragment items (All (asked_each items c.args.subjects.now c.args.objects.now)) old)) c.emit_constant-in_default-split_first.ensures
+    (ap (λ (p : Fragment). append old (p old)) (sym (constant_is items true))
+    ∙ sym (ap (λ (l : List Condition). append old (condition_fragment items (All l) old)) (no_objects items c.args.subjects.now c.args.objects.now none)))
 
 pub emit_asked-requires-clause-rules : goal.emit_asked-requires-clause-rules
 emit_asked-requires-clause-rules c =
@@ -74,13 +74,13 @@ returns c =
     let subjects = c.in-Some.subjects.now in
     let object = c.in-Some-split_first.object.now in
     let objects = c.in-Some-split_first.objects.now in
-    let one = asked items subject object.choice in
+    let one = selection_condition items subject object.choice in
     let others = asked_each items subjects objects in
     let further = in_order (further_piece items) others in
-    is_so result new (joined old (both (condition_piece items one) further old))
-    (joined old (condition_piece items (All (asked_each items c.args.subjects.now c.args.objects.now)) old))
-    (ends_so result (condition_piece items one) further old c.emit_asked.new.code new c.in_ok-emit_asked.ensures c.emit_each_asked.ensures)
-    (ap (joined old) (all_parts items one others old)
-    ∙ ap (λ (p : Piece). joined old (p old)) (sym (all_is items (one ∷ others)))
-    ∙ sym (ap (λ (l : List Subject). joined old (condition_piece items (All (asked_each items l c.args.objects.now)) old)) c.in-Some.ensures.cases.0
-    ∙ ap (λ (l : List Object). joined old (condition_piece items (All (asked_each items (subject ∷ subjects) l)) old)) c.in-Some-split_first.ensures.cases.0))
+    is_so result new (append old (sequence (condition_fragment items one) further old))
+    (append old (condition_fragment items (All (asked_each items c.args.subjects.now c.args.objects.now)) old))
+    (ends_so result (condition_fragment items one) further old c.emit_asked.new.code new c.in_ok-emit_asked.ensures c.emit_each_asked.ensures)
+    (ap (append old) (all_parts items one others old)
+    ∙ ap (λ (p : Fragment). append old (p old)) (sym (all_is items (one ∷ others)))
+    ∙ sym (ap (λ (l : List Subject). append old (condition_fragment items (All (asked_each items l c.args.objects.now)) old)) c.in-Some.ensures.cases.0
+    ∙ ap (λ (l : List Object). append old (condition_fragment items (All (asked_each items (subject ∷ subjects) l)) old)) c.in-Some-split_first.ensures.cases.0))

@@ -4,8 +4,8 @@ use Rattle.source_tree.specs.declared.condition.Side.{Side}
 use Rattle.source_tree.specs.ConditionRules.{condition_rules}
 use Rattle.source_tree.specs.Evaluate.{value_within}
 use Rattle.declarations.specs.Named.{items_in}
-use Rattle.codegen.specs.Pieces.{Piece, joined, both}
-use Rattle.codegen.specs.ConditionCode.{relation_piece, and_piece, condition_piece}
+use Rattle.codegen.specs.Pieces.{Fragment, append, sequence}
+use Rattle.codegen.specs.ConditionCode.{relation_fragment, and_fragment, condition_fragment}
 use Rattle.codegen.proofs.ConditionLayers.{relation_is, relation_kept}
 use Rattle.codegen.proofs.Questions.{between_is, from_rules, last_rules}
 use Rattle.codegen.proofs.Sequences.{is_so}
@@ -36,10 +36,10 @@ returns-in-None c =
     let old = c.args.code.now in
     let value = c.args.value.now in
     let first = c.args.first.now in
-    is_so c.emit_relation.result c.emit_relation.new.code (joined old (relation_piece items value Equal first old))
-    (joined old (condition_piece items (value_within value first c.args.last.now) old)) c.emit_relation.ensures
-    (ap (λ (p : Piece). joined old (p old)) (sym (relation_is items value Equal first))
-    ∙ sym (ap (λ (o : Option Side). joined old (condition_piece items (value_within value first o) old)) c.in-None.is))
+    is_so c.emit_relation.result c.emit_relation.new.code (append old (relation_fragment items value Equal first old))
+    (append old (condition_fragment items (value_within value first c.args.last.now) old)) c.emit_relation.ensures
+    (ap (λ (p : Fragment). append old (p old)) (sym (relation_is items value Equal first))
+    ∙ sym (ap (λ (o : Option Side). append old (condition_fragment items (value_within value first o) old)) c.in-None.is))
 
 pub returns-in-Some : goal.returns-in-Some
 returns-in-Some c =
@@ -49,7 +49,7 @@ returns-in-Some c =
     let first = c.args.first.now in
     let last = c.in-Some.last in
     is_so c.emit_between.result c.emit_between.new.code
-    (joined old (both (relation_piece items value GreaterOrEqual first) (and_piece (relation_piece items value LessOrEqual last)) old))
-    (joined old (condition_piece items (value_within value first c.args.last.now) old)) c.emit_between.ensures
-    (ap (joined old) (between_is items value first last old)
-    ∙ sym (ap (λ (o : Option Side). joined old (condition_piece items (value_within value first o) old)) c.in-Some.is))
+    (append old (sequence (relation_fragment items value GreaterOrEqual first) (and_fragment (relation_fragment items value LessOrEqual last)) old))
+    (append old (condition_fragment items (value_within value first c.args.last.now) old)) c.emit_between.ensures
+    (ap (append old) (between_is items value first last old)
+    ∙ sym (ap (λ (o : Option Side). append old (condition_fragment items (value_within value first o) old)) c.in-Some.is))

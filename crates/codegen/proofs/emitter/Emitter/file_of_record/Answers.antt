@@ -2,7 +2,7 @@ use Rattle.std.proofs.Common.{ℕ, sym, ap, ◌∙◌}
 use Rattle.std.specs.Prelude.{Option}
 use Rattle.source_tree.specs.Filing.{file_with_record}
 use Rattle.source_tree.specs.LookUp.{first}
-use Rattle.source_tree.specs.Places.{Placed}
+use Rattle.source_tree.specs.Places.{LocatedItem}
 use Rattle.source_tree.specs.ProgramFiles.{files_with}
 use Rattle.declarations.specs.Named.{data_in, items_in, files_in}
 use Rattle.codegen.proofs.OneNamed.{area_named, not_missing}
@@ -21,7 +21,7 @@ returns c =
     let files = files_in declarations in
     let named = c.requires.named in
     let found = c.in_ok-found.found.now in
-    ap (λ (one : Option Placed). file_with_record files one) (ap first named.named)
+    ap (λ (one : Option LocatedItem). file_with_record files one) (ap first named.named)
     ∙ ap (λ (area : ℕ). first (files_with files area))
     (sym (area_named items c.args.one.now named declarations.layout.items c.item_number-number.result c.requires.declared.items c.item_number-number.ensures found c.in_ok-found.ensures.value))
     ∙ c.file_with.ensures items (data_in declarations) c.requires.declared.files

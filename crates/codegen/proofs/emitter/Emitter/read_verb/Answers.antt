@@ -1,7 +1,7 @@
 use Rattle.std.proofs.Common.{sym, ap, ◌∙◌}
 use Rattle.source_tree.specs.Filing.{is_in_sequence}
 use Rattle.source_tree.specs.FilingRules.{read_key_rules}
-use Rattle.program_files.specs.Files.{file_in}
+use Rattle.file_descriptions.specs.Files.{file_in}
 use Rattle.declarations.specs.Named.{items_in, files_in}
 use Rattle.codegen.proofs.FilingKept.{read_key_names_one}
 use Rattle.codegen.proofs.emitter.Emitter.read_verb.Goals as goal

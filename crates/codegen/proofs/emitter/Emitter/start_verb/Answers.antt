@@ -1,6 +1,6 @@
 use Rattle.std.proofs.Common.{sym, ap, ◌∙◌}
 use Rattle.source_tree.specs.FilingRules.{start_key_rules}
-use Rattle.program_files.specs.Files.{file_in}
+use Rattle.file_descriptions.specs.Files.{file_in}
 use Rattle.declarations.specs.Named.{items_in, files_in}
 use Rattle.codegen.proofs.FilingKept.{start_key_names_one}
 use Rattle.codegen.proofs.emitter.Emitter.start_verb.Goals as goal

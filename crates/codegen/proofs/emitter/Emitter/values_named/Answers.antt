@@ -1,7 +1,7 @@
 use Rattle.std.proofs.Common.{◌<◌, ◌≤◌, length, List, ap, sym, arith, ◌∙◌}
 use Rattle.std.proofs.lemmas.Grind.{common_steps}
 use Rattle.std.specs.Prelude.{get_or, slice_get}
-use Rattle.names.specs.declared.conditions.DeclaredCondition.{DeclaredCondition}
+use Rattle.name_table.specs.declared.conditions.DeclaredCondition.{DeclaredCondition}
 use Rattle.source_tree.specs.LookUp.{all_conditions}
 use Rattle.declarations.specs.Named.{items_in}
 use Rattle.codegen.specs.ConditionCode.{values_of}

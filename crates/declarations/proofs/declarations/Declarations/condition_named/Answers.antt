@@ -1,8 +1,8 @@
 use Rattle.std.proofs.Common.{◌≡◌, Some, length, subst, refl, sym, ap, ◌∙◌}
 use Rattle.std.proofs.lemmas.Option.{slice_get_read, slice_get_within}
 use Rattle.layout.specs.Placing.{placed_item}
-use Rattle.names.specs.Conditions.{IsConditionNamed}
-use Rattle.names.specs.Positions.{look_up}
+use Rattle.name_table.specs.Conditions.{IsConditionNamed}
+use Rattle.name_table.specs.Positions.{look_up}
 use Rattle.declarations.specs.Named.{items_in}
 use Rattle.declarations.proofs.ConditionItems.{number_within, placed_is}
 use Rattle.declarations.proofs.declarations.Declarations.condition_named.Goals as goal

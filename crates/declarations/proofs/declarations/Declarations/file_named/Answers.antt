@@ -1,5 +1,5 @@
 use Rattle.declarations.specs.Named.{data_in, items_in}
-use Rattle.program_files.specs.Files.{file_in}
+use Rattle.file_descriptions.specs.Files.{file_in}
 use Rattle.source_tree.specs.ProgramFiles.{files_named, files_of}
 use Rattle.declarations.proofs.FilesFound.{none_first, once, unnamed_none}
 use Rattle.declarations.proofs.declarations.Declarations.file_named.Goals as goal

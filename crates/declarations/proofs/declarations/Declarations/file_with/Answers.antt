@@ -3,8 +3,8 @@ use Rattle.std.specs.Prelude.{◌==◌, filter, map, Option}
 use Rattle.std.specs.Borrow.{Bor}
 use Rattle.std.proofs.lemmas.List.{drop_all}
 use Rattle.source_tree.specs.ProgramFiles as tree
-use Rattle.program_files.specs.declared.file.ProgramFile.{ProgramFile}
-use Rattle.program_files.specs.Files.{file_in}
+use Rattle.file_descriptions.specs.declared.file.ProgramFile.{ProgramFile}
+use Rattle.file_descriptions.specs.Files.{file_in}
 use Rattle.declarations.specs.Named.{data_in, items_in}
 use Rattle.declarations.proofs.FilesFound.{AreSought, listed, two_sought, unnamed_none, unnamed_two, of_program, same_area}
 use Rattle.declarations.proofs.declarations.Declarations.file_with.Goals as goal

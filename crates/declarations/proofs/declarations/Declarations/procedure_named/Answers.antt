@@ -1,9 +1,9 @@
 use Rattle.std.proofs.Common.{◌≡◌, List, None, sym, ap}
 use Rattle.source_tree.specs.LookUp.{first}
-use Rattle.source_tree.specs.NameRules.{named}
+use Rattle.source_tree.specs.NameRules.{unique_name_rules}
 use Rattle.source_tree.specs.PerformRules.{no_rules}
 use Rattle.source_tree.specs.Procedures.{Procedure, range_named}
-use Rattle.names.proofs.Noting.{not_given}
+use Rattle.name_table.proofs.Noting.{not_given}
 use Rattle.declarations.specs.Named.{procedures_in}
 use Rattle.declarations.proofs.declarations.Declarations.procedure_named.Goals as goal
 
@@ -12,4 +12,4 @@ returns-in-None-clause-rules c =
     let procedures = procedures_in c.args.self.now in
     let name = c.args.name.now in
     let none : range_named procedures name ≡ None = sym (c.in-None.ensures procedures c.requires.procedures) in
-    ap (λ (l : List Procedure). first (named name.place no_rules l)) (not_given procedures c.args.self.now.procedures name c.requires.procedures none)
+    ap (λ (l : List Procedure). first (unique_name_rules name.place no_rules l)) (not_given procedures c.args.self.now.procedures name c.requires.procedures none)

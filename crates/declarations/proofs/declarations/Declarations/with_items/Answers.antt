@@ -2,7 +2,7 @@ use Rattle.std.proofs.Common.{List, subst, ap, ◌∙◌}
 use Rattle.std.proofs.lemmas.Result.{err_from_is_err_and}
 use Rattle.source_tree.specs.declared.program.Section.{Section}
 use Rattle.source_tree.specs.Procedures.{procedures_of}
-use Rattle.names.specs.Procedures.{AreProcedures}
+use Rattle.name_table.specs.Procedures.{AreProcedures}
 use Rattle.declarations.proofs.Declared.{declared_by}
 use Rattle.declarations.proofs.declarations.Declarations.with_items.Goals as goal
 

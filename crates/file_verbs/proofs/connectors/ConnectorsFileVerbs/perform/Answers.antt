@@ -2,7 +2,7 @@ use Rattle.std.proofs.Common.{◌≡◌, ◌<◌, None, Some, List, ℕ, refl, s
 use Rattle.std.specs.Prelude.{is_some, slice_set}
 use Rattle.records.specs.declared.status.Status.TheVariants.{Success}
 use Rattle.records.specs.declared.verb.Verb.{Verb}
-use Rattle.records.specs.Calls.{StandsFor}
+use Rattle.records.specs.Calls.{Represents}
 use Rattle.records.specs.Connector.{Entry, Connector}
 use Rattle.records.specs.Steps.{Step, step}
 use Rattle.records.specs.FileStep.{area, barred_at, is_close, makes_file, has_changed, file_step, Suits, IsStep}
@@ -135,7 +135,7 @@ returns g c =
           (λ is. needs_one (barred_at (entries_of all) (connectors_of all) c.args.file c.args.verb) (is_close c.args.verb) none other is) known;
       turns = λ files stands.
           let linked = subst (OpenLinked files) here (linked_at files all c.args.file old lt stands.there.1) in
-          let down : StandsFor g.T.Keeps g.D.Device store device files = record { honest = stands.honest; there = stands.there.0 } in
+          let down : Represents g.T.Keeps g.D.Device store device files = record { honest = stands.honest; there = stands.there.0 } in
           turns_over g.T.Keeps g.D.Device r store device store' device' (makes_file c.args.verb) (name_of old) _ files (step_of c.args.verb files old a).files _
           (ap (λ (e : Entry). e.name) (entry_here all c.args.file old lt here))
           (ap (λ (t : Step). t.files) (own_step_is all c.args.file old lt here files a c.args.verb none))

@@ -3,7 +3,7 @@ use Rattle.std.specs.Prelude.{IfErr}
 use Rattle.station.proofs.Opens.{opens}
 use Rattle.station.proofs.Spans.{unseen}
 use Rattle.station.specs.State.{State}
-use Rattle.half_store.specs.Opened.{Refused}
+use Rattle.half_store.specs.Opened.{IsOpenRefusal}
 use Rattle.half_store.proofs.Opened.{opened_cause}
 use Rattle.half_store.proofs.store.HalfStore.open.Goals as goal
 
@@ -17,4 +17,4 @@ returns-clause-moments g c = λ honest.
 pub returns-clause-opens : goal.returns-clause-opens
 returns-clause-opens g c = λ honest files holds.
     opened_cause (g.D.Device.state c.args.device.now).disk.present c.read_volume.result files
-    (subst (λ (s : State). IfErr c.read_volume.result (λ fault. Refused s.disk.present fault)) (c.in_ok-sync.ensures.synced honest) (c.read_volume.ensures.refused (c.in_ok-sync.ensures.honest.0 honest))) holds
+    (subst (λ (s : State). IfErr c.read_volume.result (λ fault. IsOpenRefusal s.disk.present fault)) (c.in_ok-sync.ensures.synced honest) (c.read_volume.ensures.refused (c.in_ok-sync.ensures.honest.0 honest))) holds

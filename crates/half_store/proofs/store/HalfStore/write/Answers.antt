@@ -1,6 +1,6 @@
 use Rattle.std.proofs.Common.{◌∙◌, List, ap}
 use Rattle.station.proofs.Spans.{stays}
-use Rattle.half_store.specs.Spelled.{spelled}
+use Rattle.half_store.specs.Spelled.{files_bytes}
 use Rattle.half_store.specs.Stored.{files_of}
 use Rattle.half_store.specs.declared.stored.StoredFile.{StoredFile}
 use Rattle.half_store.proofs.Written.{at_rest}
@@ -14,4 +14,4 @@ returns-in_err-bytes-clause-moments g c = λ honest before rests are early.
 pub returns-clause-rests : goal.returns-clause-rests
 returns-clause-rests g c = λ honest before rests are early.
     c.in_ok-write_half.ensures.rests honest before (files_of c.args.self.now.files.items) rests
-    (c.in_ok-bytes.ensures.bytes ∙ ap (λ (l : List StoredFile). spelled (files_of l)) c.deref.ensures.value) are early
+    (c.in_ok-bytes.ensures.bytes ∙ ap (λ (l : List StoredFile). files_bytes (files_of l)) c.deref.ensures.value) are early

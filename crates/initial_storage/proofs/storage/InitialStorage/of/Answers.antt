@@ -1,7 +1,7 @@
 use Rattle.std.proofs.Common.{◌≡◌, ap, subst, sym, ◌∙◌, rules}
 use Rattle.std.specs.Prelude.{map, length}
 use Rattle.std.specs.List.{AllByRecursion}
-use Rattle.source_tree.specs.Levels.{nested}
+use Rattle.source_tree.specs.Levels.{forest_of}
 use Rattle.source_tree.specs.Clauses.{nothing_around}
 use Rattle.source_tree.specs.Records.{program_areas}
 use Rattle.initial_storage.specs.Fits.{Fits, FitsFile}
@@ -13,7 +13,7 @@ use Rattle.initial_storage.proofs.storage.InitialStorage.of.Goals as goal
 pub put_areas-requires : goal.put_areas-requires
 put_areas-requires c =
     let storage = c.args.program.now.storage in
-    subst (λ l. Fits nothing_around (nested l)) (sym c.as_slice.ensures) (fits storage c.requires.storage (c.levels_are_told.ensures storage c.requires.storage))
+    subst (λ l. Fits nothing_around (forest_of l)) (sym c.as_slice.ensures) (fits storage c.requires.storage (c.levels_are_told.ensures storage c.requires.storage))
 
 pub put_record_areas-requires : goal.put_record_areas-requires
 put_record_areas-requires c =

@@ -1,5 +1,5 @@
 use Rattle.std.proofs.Common.{◌≤◌, ◌++◌, length, subst, sym, ap, ◌∙◌, arith}
-use Rattle.source_tree.specs.Levels.{nested}
+use Rattle.source_tree.specs.Levels.{forest_of}
 use Rattle.source_tree.specs.Clauses.{nothing_around}
 use Rattle.source_tree.specs.EntryRules.{most_entries, most_storage}
 use Rattle.source_tree.specs.Records.{storage_areas}
@@ -13,7 +13,7 @@ use Rattle.layout.proofs.program.Layout.of.Goals as goal
 pub place_storage-requires-clause-fits : goal.place_storage-requires-clause-fits
 place_storage-requires-clause-fits c =
     let storage = c.args.program.now.storage in
-    subst (λ l. Fits nothing_around (nested l)) (sym c.as_slice-storage.ensures) (fits storage c.requires.storage)
+    subst (λ l. Fits nothing_around (forest_of l)) (sym c.as_slice-storage.ensures) (fits storage c.requires.storage)
 
 pub place_storage-requires-clause-most : goal.place_storage-requires-clause-most
 place_storage-requires-clause-most c =
@@ -38,8 +38,8 @@ returns c =
     let program = c.args.program.now in
     c.from_vec.ensures ∙ c.in_ok-place_files.ensures
     ∙ ap (λ l. l ++ file_items c.storage_areas-areas.result c.as_slice.result.now)
-    (c.in_ok-place_storage.ensures ∙ ap (λ l. l ++ storage_items 0 (nested c.as_slice-storage.result.now)) c.new-items.ensures.items)
-    ∙ ap (λ n. storage_items 0 (nested c.as_slice-storage.result.now) ++ file_items n c.as_slice.result.now) c.storage_areas-areas.ensures.value
-    ∙ ap (λ l. storage_items 0 (nested l) ++ file_items (storage_areas l) c.as_slice.result.now) c.as_slice-storage.ensures
-    ∙ ap (λ l. storage_items 0 (nested program.storage) ++ file_items (storage_areas program.storage) l) c.as_slice.ensures
+    (c.in_ok-place_storage.ensures ∙ ap (λ l. l ++ storage_items 0 (forest_of c.as_slice-storage.result.now)) c.new-items.ensures.items)
+    ∙ ap (λ n. storage_items 0 (forest_of c.as_slice-storage.result.now) ++ file_items n c.as_slice.result.now) c.storage_areas-areas.ensures.value
+    ∙ ap (λ l. storage_items 0 (forest_of l) ++ file_items (storage_areas l) c.as_slice.result.now) c.as_slice-storage.ensures
+    ∙ ap (λ l. storage_items 0 (forest_of program.storage) ++ file_items (storage_areas program.storage) l) c.as_slice.ensures
     ∙ sym (of_program program)

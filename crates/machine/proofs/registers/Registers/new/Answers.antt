@@ -1,5 +1,5 @@
 use Rattle.std.proofs.Common.{◌≡◌, length, refl, sym, subst, rules}
-use Rattle.run_time_data.specs.Finds.{HasItemRoom}
+use Rattle.data_machine.specs.Finds.{HasItemRoom}
 use Rattle.code_image.specs.Points.{no_turns}
 use Rattle.machine.proofs.Standing.{loaded}
 use Rattle.machine.proofs.registers.Registers.new.Goals as goal

@@ -3,7 +3,7 @@ use Rattle.std.specs.Prelude.{false, Some, slice_set}
 use Rattle.station.specs.Disk.{Sector}
 use Rattle.pages.specs.Pages.{map_now}
 use Rattle.pages.specs.Image.{NamesOnce}
-use Rattle.pages.specs.Changes.{changed_pages, kept, ArePlaced}
+use Rattle.pages.specs.Changes.{changed_pages, mapped_after, ArePlaced}
 use Rattle.pages.specs.declared.change.Change.{Change}
 use Rattle.pages.proofs.Edits.{unused_none, used_some}
 use Rattle.pages.proofs.page_map.PageMap.allocate.Goals as goal
@@ -21,8 +21,8 @@ unused_page-requires c =
     }
 
 -- the use of a page, as the map has it
-at_map : (table table' : List ℕ) (changes changes' : List Change) (page : ℕ) → table' ≡ table → changes' ≡ changes → get_or (kept table changes) page false ≡ get_or (kept table' changes') page false
-at_map table table' changes changes' page t d = ap (λ (l : List ℕ). get_or (kept l changes) page false) (sym t) ∙ ap (λ (l : List Change). get_or (kept table' l) page false) (sym d)
+at_map : (table table' : List ℕ) (changes changes' : List Change) (page : ℕ) → table' ≡ table → changes' ≡ changes → get_or (mapped_after table changes) page false ≡ get_or (mapped_after table' changes') page false
+at_map table table' changes changes' page t d = ap (λ (l : List ℕ). get_or (mapped_after l changes) page false) (sym t) ∙ ap (λ (l : List Change). get_or (mapped_after table' l) page false) (sym d)
 
 pub returns-clause-unused : goal.returns-clause-unused
 returns-clause-unused c = λ image.

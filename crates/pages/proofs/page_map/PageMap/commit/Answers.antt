@@ -5,11 +5,11 @@ use Rattle.std.proofs.lemmas.List.{length-map}
 use Rattle.station.specs.Disk.{Sector}
 use Rattle.station.proofs.Spans.{stays}
 use Rattle.pages.specs.Image.{Map, pages_in, page_at}
-use Rattle.pages.specs.Changes.{changed, changed_pages}
+use Rattle.pages.specs.Changes.{pages_after, changed_pages}
 use Rattle.pages.specs.Cache.{KeepsChanges, Gathers}
 use Rattle.pages.specs.declared.change.Change.{Change}
 use Rattle.pages.proofs.Caches.{gathers, after_commit}
-use Rattle.pages.specs.Pages.{committed_of, map_now, advanced}
+use Rattle.pages.specs.Pages.{committed_of, map_now, next_generation}
 use Rattle.pages.proofs.Committed.{at_rest}
 use Rattle.pages.proofs.page_map.PageMap.commit.Given.{Over}
 use Rattle.pages.proofs.page_map.PageMap.commit.Goals as goal
@@ -17,15 +17,15 @@ use Rattle.pages.proofs.page_map.PageMap.commit.Goals as goal
 pub returns-then-self-clause-moments : goal.returns-then-self-clause-moments
 returns-then-self-clause-moments g c = λ honest agrees.
     let old = g.D.Device.state c.args.device.now in
-    stays (g.D.Device.history c.args.device.now) old _ (at_rest (committed_of c.args.self.now) (advanced (map_now c.args.self.now old.disk.present)) old agrees.committed)
+    stays (g.D.Device.history c.args.device.now) old _ (at_rest (committed_of c.args.self.now) (next_generation (map_now c.args.self.now old.disk.present)) old agrees.committed)
 
 pub returns-then-self-2-clause-moments : goal.returns-then-self-2-clause-moments
 returns-then-self-2-clause-moments g c = λ honest agrees.
     let old = g.D.Device.state c.args.device.now in
-    stays (g.D.Device.history c.args.device.now) old _ (at_rest (committed_of c.args.self.now) (advanced (map_now c.args.self.now old.disk.present)) old agrees.committed)
+    stays (g.D.Device.history c.args.device.now) old _ (at_rest (committed_of c.args.self.now) (next_generation (map_now c.args.self.now old.disk.present)) old agrees.committed)
 
 -- what was changed comes into the cache
-gathered : (g : Over) (c : goal.After-self-2-1 g) (image : List Sector) → Gathers (changed_pages c.args.self.now.changes.items) (changed (pages_in image c.args.self.now.volume.table) c.args.self.now.changes.items) c.args.self.now.cache c.keep_changes.new.cache
+gathered : (g : Over) (c : goal.After-self-2-1 g) (image : List Sector) → Gathers (changed_pages c.args.self.now.changes.items) (pages_after (pages_in image c.args.self.now.volume.table) c.args.self.now.changes.items) c.args.self.now.cache c.keep_changes.new.cache
 gathered g c image =
     let ready = c.requires.open c.if-self.false in
     let table = c.args.self.now.volume.table in
@@ -44,7 +44,7 @@ returns-clause-agrees g c = λ honest agrees.
     let present = (g.D.Device.state c.args.device.now).disk.present in
     let pages = pages_in present c.args.self.now.volume.table in
     let after = pages_in (g.D.Device.state c.commit_volume.new.device).disk.present c.commit_volume.new.volume.table in
-    let next : after ≡ changed pages changes = ap (λ (m : Map). m.pages) (c.in_ok-commit_volume.ensures.map honest agrees.committed) ∙ ap (λ (l : List Change). changed pages l) c.deref.ensures.value in
+    let next : after ≡ pages_after pages changes = ap (λ (m : Map). m.pages) (c.in_ok-commit_volume.ensures.map honest agrees.committed) ∙ ap (λ (l : List Change). pages_after pages l) c.deref.ensures.value in
     let none : c.replace-changes.new.dest.items ≡ [] = search rules in
     record {
       committed = c.in_ok-commit_volume.ensures.committed honest agrees.committed;

@@ -1,6 +1,6 @@
 use Rattle.std.proofs.Common.{◌∙◌, ap}
 use Rattle.std.specs.Prelude.{is_ok}
-use Rattle.station.specs.Replay.{made_of, after}
+use Rattle.station.specs.Replay.{made_of, state_after_calls}
 use Rattle.station.proofs.Replay.{after_push, since_push, present_same, grown_within}
 use Rattle.station.proofs.journal.Journal.add.Goals as goal
 
@@ -16,7 +16,7 @@ invariant_of-self c =
 pub returns-clause-state : goal.returns-clause-state
 returns-clause-state c =
     let j = c.args.self.now in
-    ap (after (made_of j.start.items j.lines.items)) c.in_ok-push.ensures.items ∙ after_push (made_of j.start.items j.lines.items) j.calls.items c.args.call
+    ap (state_after_calls (made_of j.start.items j.lines.items)) c.in_ok-push.ensures.items ∙ after_push (made_of j.start.items j.lines.items) j.calls.items c.args.call
 
 pub returns-clause-history : goal.returns-clause-history
 returns-clause-history c =

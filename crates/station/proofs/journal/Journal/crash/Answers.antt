@@ -2,11 +2,11 @@ use Rattle.std.proofs.Common.{rules, ◌≡◌, length, List, ap, sym, ◌∙◌
 use Rattle.std.specs.List.{filter}
 use Rattle.std.proofs.lemmas.List.{with_items_is}
 use Rattle.std.proofs.lemmas.List.Elements.{filter_from_retain}
-use Rattle.station.specs.Disk.{settled}
+use Rattle.station.specs.Disk.{idle_disk}
 use Rattle.station.specs.State.{State}
-use Rattle.station.specs.Replay.{made_of, after, is_of_console}
+use Rattle.station.specs.Replay.{made_of, state_after_calls, is_of_console}
 use Rattle.station.specs.declared.call.Call.{Call}
-use Rattle.station.specs.Choice.{chosen}
+use Rattle.station.specs.Choice.{chosen_sectors}
 use Rattle.station.specs.Sectors.{all_present_after}
 use Rattle.station.proofs.Replay.{since_all}
 use Rattle.station.proofs.Restart.{crash_state, console_keeps}
@@ -33,7 +33,7 @@ returns-clause-state c =
     let j = c.args.self.now in
     let kept : c.retain.new.self.items ≡ filter is_of_console j.calls.items = filter_from_retain _ is_of_console (λ p x b q says. search rules) _ _ _ c.retain.ensures.filtered in
     let begin = made_of j.start.items j.lines.items in
-    let image = c.leave_image.ensures begin (ap settled (sym c.deref_mut.ensures.value)) ∙ ap (λ (l : List Call). chosen (after begin l).disk c.args.choose.now) c.deref.ensures.value in
+    let image = c.leave_image.ensures begin (ap idle_disk (sym c.deref_mut.ensures.value)) ∙ ap (λ (l : List Call). chosen_sectors (state_after_calls begin l).disk c.args.choose.now) c.deref.ensures.value in
     let count : length c.leave_image.new.sectors ≡ j.start.len = omega (arith, c.deref_mut.ensures.len, c.leave_image.auto.sectors) in
     crash_state j.start.items c.leave_image.new.sectors _ j.lines.items j.calls.items c.retain.new.self.items c.args.choose.now
     (with_items_is j.start c.leave_image.new.sectors count) kept image

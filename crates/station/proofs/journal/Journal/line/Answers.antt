@@ -2,7 +2,7 @@ use Rattle.std.proofs.Common.{rules, ◌≡◌, ◌<◌, ◌++◌, ℕ, List, ge
 use Rattle.std.specs.Prelude.{count_by, Vec}
 use Rattle.std.specs.declared.alloc.Global.{Global}
 use Rattle.std.proofs.lemmas.List.{append-nil}
-use Rattle.station.specs.Replay.{is_take, made_of, after}
+use Rattle.station.specs.Replay.{is_take, made_of, state_after_calls}
 use Rattle.station.specs.State.{State, overlaid, took_line, if_any}
 use Rattle.station.specs.Journal.{journal_history}
 use Rattle.station.proofs.Lines.{no_line_after, next_line_after, none_left, some_left}
@@ -18,7 +18,7 @@ pub returns-then-taken-len-clause-history : goal.returns-then-taken-len-clause-h
 returns-then-taken-len-clause-history c =
     let j = c.args.self.now in
     let count : c.taken_lines-taken.result ≡ count_by is_take j.calls.items = c.taken_lines-taken.ensures ∙ ap (count_by is_take) c.deref.ensures.value in
-    let s = after (made_of j.start.items j.lines.items) j.calls.items in
+    let s = state_after_calls (made_of j.start.items j.lines.items) j.calls.items in
     sym (append-nil (journal_history j)) ∙ ap (λ (l : List (List ℕ)). journal_history j ++ if_any l (took_line s)) (sym (none_left j.start.items j.lines.items j.calls.items (omega (arith, count))))
 
 pub index-requires : goal.index-requires
@@ -43,5 +43,5 @@ pub returns-clause-history : goal.returns-clause-history
 returns-clause-history c =
     let j = c.args.self.now in
     let count : c.taken_lines-taken.result ≡ count_by is_take j.calls.items = c.taken_lines-taken.ensures ∙ ap (count_by is_take) c.deref.ensures.value in
-    let s = after (made_of j.start.items j.lines.items) j.calls.items in
+    let s = state_after_calls (made_of j.start.items j.lines.items) j.calls.items in
     c.in_ok-add.ensures.history ∙ ap (λ (l : List State). journal_history j ++ l) (sym (some_left j.start.items j.lines.items j.calls.items (took_line s) (omega (arith, count))))

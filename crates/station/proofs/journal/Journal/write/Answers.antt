@@ -2,7 +2,7 @@ use Rattle.std.proofs.Common.{rules, ◌≡◌, ◌<◌, ◌∷◌, ◌++◌, le
 use Rattle.station.specs.Disk.{Sector}
 use Rattle.station.specs.State.{State, wrote}
 use Rattle.station.specs.Sectors.{all_present_after}
-use Rattle.station.specs.Replay.{made_of, after}
+use Rattle.station.specs.Replay.{made_of, state_after_calls}
 use Rattle.station.specs.Journal.{journal_state, journal_history}
 use Rattle.station.proofs.Replay.{after_one, since_push, grown_within}
 use Rattle.station.proofs.journal.Journal.write.Goals as goal
@@ -22,7 +22,7 @@ returns-clause-state c =
 pub invariant_of-self-2 : goal.invariant_of-self-2
 invariant_of-self-2 c =
     let j = c.args.self.now in
-    let state : after (made_of j.start.items j.lines.items) c.push.new.self.items ≡ wrote (journal_state j) c.args.sector c.args.bytes.now
+    let state : state_after_calls (made_of j.start.items j.lines.items) c.push.new.self.items ≡ wrote (journal_state j) c.args.sector c.args.bytes.now
     = after_one (made_of j.start.items j.lines.items) j.calls.items c.push.new.self.items _ (wrote (journal_state j) c.args.sector c.args.bytes.now) c.in_ok-push.ensures.items
     (ap (λ (b : Sector). wrote (journal_state j) c.args.sector b) c.in_ok-block.ensures.ok) in
     record {

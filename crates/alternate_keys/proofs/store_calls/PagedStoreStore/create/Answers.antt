@@ -1,0 +1,31 @@
+use Rattle.std.proofs.Common.{inl, true, refl, sym, subst}
+use Rattle.station.proofs.Spans.{stays}
+use Rattle.records.specs.Files.{Files, empty_file, with_file}
+use Rattle.records.specs.Stores.{spec_of}
+use Rattle.alternate_keys.specs.Held.{held_law}
+use Rattle.alternate_keys.specs.Opened.{OpenedVolume}
+use Rattle.alternate_keys.specs.Stands.{Represents}
+use Rattle.alternate_keys.proofs.store_calls.PagedStoreStore.create.Goals as goal
+
+pub returns-then-self-clause-turns : goal.returns-then-self-clause-turns
+returns-then-self-clause-turns g c = λ files stands.
+    let old = g.D.Device.state c.args.device.now in
+    record {
+      there = tt;
+      moments = stays (g.D.Device.history c.args.device.now) old _ (record { events = refl; images = λ image crash. inl (held_law c.args.self.now.pages old.disk image files stands.there crash) });
+      sound = λ e. absurd cc;
+      room = λ e. absurd cc;
+    }
+
+pub returns-in-Err-clause-turns : goal.returns-in-Err-clause-turns
+returns-in-Err-clause-turns g c = λ files stands.
+    let name = c.args.file.now.name.items in
+    let after : Files = with_file name (empty_file (spec_of c.args.file.now)) files in
+    let there = subst (λ (s : OpenedVolume). Represents s.pages (g.D.Device.state c.args.device.now).disk files) (sym c.self.view_is) stands.there in
+    let turned = c.in-Err.ensures.turned stands.honest files there in
+    record {
+      there = tt;
+      moments = turned.moments;
+      sound = turned.sound;
+      room = turned.room;
+    }

@@ -1,0 +1,162 @@
+//! What is told of the row of an entry.
+ghost use Rattle.std.specs.Prelude.{◌≡◌, ◌≤◌, ◌<◌, ◌+◌, ◌↔◌, true, false, Err, Ok, Some, ℕ, List, length, take, drop, Contains, IfOk, OnOk, OnErr, IfErr};
+ghost use Rattle.byteorder.specs.Endian.{big_number};
+ghost use Rattle.station.specs.Calls.{OnlyReads};
+ghost use Rattle.pages.specs.Pages.{map_now, is_spent, sectors_of, Agrees, IsOpen, IsUnchanged};
+ghost use Rattle.btree.specs.Tree.{TreeNode, IsTreeOrEmpty};
+ghost use Rattle.btree.specs.Entries.{entries_of};
+ghost use Rattle.btree.specs.Reading.{IsReadRefusal};
+ghost use Rattle.records.specs.Spec.{Spec};
+ghost use Rattle.records.specs.Rows.{Row, pair_under};
+ghost use Rattle.records.specs.Order.{found_row};
+ghost use Rattle.volume_format.specs.Trees.{prime_key_length, entry_under};
+ghost use Rattle.volume_format.specs.Pairs.{IsUnder};
+ghost use Rattle.alternate_keys.specs.Aims.{found_entry};
+ghost use Rattle.alternate_keys.specs.Seen.{IsPairEntry, number_in, begins_with_value};
+
+use crate::look::{copy_record, look};
+use crate::search_start::SearchStart;
+use btree::{Entry, Tree};
+use byteorder::{BigEndian, ByteOrder};
+use pages::{PageMap, PagesError};
+use records::{Found, KeyOfReference, Organization};
+use station::Device;
+
+/// What is told of a row by its entry in the tree of rows. Its record is put into `bytes`.
+pub(crate) fn read_prime_row(
+    organization: Organization,
+    entry: &Entry,
+    bytes: &mut [u8],
+) -> Result<Found, PagesError>
+    ensures found { (spec : Spec) (row : Row) (rows : List Row) → spec.organization ≡ organization → entry.now ≡ entry_under spec KeyOfReference.Prime row →
+        IsUnder spec KeyOfReference.Prime row → IfOk result (λ told. told ≡ found_row spec KeyOfReference.Prime rows row) }
+    ensures bytes { (spec : Spec) (row : Row) → entry.now ≡ entry_under spec KeyOfReference.Prime row → length row.bytes ≡ length bytes.old → OnOk result (bytes.new ≡ row.bytes) }
+    ensures damaged { (spec : Spec) (row : Row) → spec.organization ≡ organization → entry.now ≡ entry_under spec KeyOfReference.Prime row → IsUnder spec KeyOfReference.Prime row → length row.bytes ≡ length bytes.old → IfErr result (λ error. ⊥) }
+    ensures kept { OnErr result (bytes.new ≡ bytes.old) }
+    ensures cause { IfErr result (λ error. error ≡ PagesError.Damaged) }
+{
+    let number = number_of(organization, entry.key())?;
+    copy_record(entry, bytes)?;
+    Ok(Found {
+        number,
+        repeated: false,
+    })
+}
+
+/// Whether the key of an entry begins with a value.
+pub(crate) fn begins_with(entry: &Option<Entry>, value: &[u8]) -> bool
+    ensures { result ≡ begins_with_value value.now entry.now }
+{
+    match entry {
+        Some(entry) => {
+            let key = entry.key();
+            let count = value.len().min(key.len());
+            key[..count] == value[..]
+        }
+        None => false,
+    }
+}
+
+/// What is told of a row by its entry in the tree of an alternate key. Its record is put into `bytes`.
+pub(crate) fn read_alternate_row<D: Device>(
+    prime: &Tree,
+    under: &Tree,
+    pages: &mut PageMap,
+    device: &mut D,
+    value_length: usize,
+    entry: &Entry,
+    bytes: &mut [u8],
+) -> Result<Found, PagesError>
+    requires open { IsOpen pages.old }
+    requires sectors { sectors_of pages.old ≤ D.sectors device.old }
+    requires few { value_length < 65536 }
+    requires short { (prime.now.layout.key_length ≤ 128) × (under.now.layout.key_length ≤ 128) }
+    ensures only { OnlyReads D.Device (result ≡ Err PagesError.Device) device.old device.new }
+    ensures unchanged { IsUnchanged pages.old pages.new }
+    ensures agrees { D.is_honest device.old → Agrees pages.old (D.state device.old).disk → Agrees pages.new (D.state device.new).disk }
+    ensures open { IsOpen pages.new }
+    ensures found { D.is_honest device.old → Agrees pages.old (D.state device.old).disk → (spec : Spec) (i : ℕ) (rows : List Row) (row : Row) →
+        IsPairEntry spec i (map_now pages.old (D.state device.old).disk.present).pages rows prime.now under.now value_length entry.now row →
+        IfOk result (λ told. told ≡ found_row spec (KeyOfReference.Alternate i) rows row) }
+    ensures bytes { D.is_honest device.old → Agrees pages.old (D.state device.old).disk → (spec : Spec) (i : ℕ) (rows : List Row) (row : Row) →
+        IsPairEntry spec i (map_now pages.old (D.state device.old).disk.present).pages rows prime.now under.now value_length entry.now row →
+        length bytes.old ≡ spec.record_length → OnOk result (bytes.new ≡ row.bytes) }
+    ensures damaged { D.is_honest device.old → Agrees pages.old (D.state device.old).disk → result ≡ Err PagesError.Damaged → (spec : Spec) (i : ℕ) (rows : List Row) (row : Row) →
+        IsPairEntry spec i (map_now pages.old (D.state device.old).disk.present).pages rows prime.now under.now value_length entry.now row →
+        length bytes.old ≡ spec.record_length → ⊥ }
+    ensures spent { result ≡ Err PagesError.Spent → is_spent pages.old ≡ true }
+    ensures kept { OnErr result (bytes.new ≡ bytes.old) }
+    ensures cause { IfErr result IsReadRefusal }
+{
+    let number = arrival_in(entry.key(), value_length)?;
+    let repeated = is_repeated(under, pages, device, entry, value_length)?;
+    let row = match prime.get(pages, device, entry.value())? {
+        Some(row) => row,
+        None => return Err(PagesError::Damaged),
+    };
+    copy_record(&row, bytes)?;
+    Ok(Found { number, repeated })
+}
+
+/// The number that a key of the tree of rows has: 0 in an indexed file.
+fn number_of(organization: Organization, key: &[u8]) -> Result<u64, PagesError>
+    ensures ok { IfOk result (λ number. number ≡ number_in organization key.now) }
+    ensures err { IfErr result (λ error. (error ≡ PagesError.Damaged) × (length key.now < prime_key_length organization)) }
+{
+    match organization {
+        Organization::Sequential => {
+            if key.len() < 8 {
+                return Err(PagesError::Damaged);
+            }
+            Ok(BigEndian::read_u64(key))
+        }
+        Organization::Relative => {
+            if key.len() < 4 {
+                return Err(PagesError::Damaged);
+            }
+            Ok(BigEndian::read_u32(key) as u64)
+        }
+        Organization::Indexed(_) => Ok(0),
+    }
+}
+
+/// The arrival behind a value in a key.
+fn arrival_in(key: &[u8], value_length: usize) -> Result<u64, PagesError>
+    requires { value_length < 65536 }
+    ensures ok { IfOk result (λ number. number ≡ big_number 8 (drop value_length key.now)) }
+    ensures long { OnOk result (value_length + 8 ≤ length key.now) }
+    ensures err { IfErr result (λ error. (error ≡ PagesError.Damaged) × (length key.now < value_length + 8)) }
+{
+    if key.len() < value_length + 8 {
+        return Err(PagesError::Damaged);
+    }
+    Ok(BigEndian::read_u64(&key[value_length..]))
+}
+
+/// Whether the next entry of an alternate key's tree has the same value.
+fn is_repeated<D: Device>(
+    under: &Tree,
+    pages: &mut PageMap,
+    device: &mut D,
+    entry: &Entry,
+    value_length: usize,
+) -> Result<bool, PagesError>
+    requires open { IsOpen pages.old }
+    requires sectors { sectors_of pages.old ≤ D.sectors device.old }
+    requires long { value_length ≤ length entry.now.key }
+    requires few { under.now.layout.key_length ≤ 128 }
+    ensures only { OnlyReads D.Device (result ≡ Err PagesError.Device) device.old device.new }
+    ensures unchanged { IsUnchanged pages.old pages.new }
+    ensures agrees { D.is_honest device.old → Agrees pages.old (D.state device.old).disk → Agrees pages.new (D.state device.new).disk }
+    ensures open { IsOpen pages.new }
+    ensures repeated { D.is_honest device.old → Agrees pages.old (D.state device.old).disk → (levels : List (List TreeNode)) →
+        IsTreeOrEmpty under.now.layout (map_now pages.old (D.state device.old).disk.present).pages under.now.root levels →
+        IfOk result (λ repeated. repeated ≡ begins_with_value (take value_length entry.now.key) (found_entry SearchStart.After (entries_of under.now.layout levels) entry.now.key)) }
+    ensures damaged { D.is_honest device.old → Agrees pages.old (D.state device.old).disk → result ≡ Err PagesError.Damaged →
+        (levels : List (List TreeNode)) → IsTreeOrEmpty under.now.layout (map_now pages.old (D.state device.old).disk.present).pages under.now.root levels → ⊥ }
+    ensures cause { IfErr result IsReadRefusal }
+    ensures spent { result ≡ Err PagesError.Spent → is_spent pages.old ≡ true }
+{
+    let next = look(under, pages, device, SearchStart::After, entry.key())?;
+    Ok(begins_with(&next, &entry.key()[..value_length]))
+}

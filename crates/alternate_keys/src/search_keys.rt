@@ -1,0 +1,202 @@
+//! How a tree is looked into for the first row behind a place.
+ghost use Rattle.std.specs.Prelude.{◌≡◌, ◌≤◌, ◌++◌, length, OnOk, IfOk, IsOkUnless};
+ghost use Rattle.byteorder.specs.Endian.{big_bytes};
+ghost use Rattle.records.specs.Stores.{spec_of, IsKey, key_length, bound_at};
+ghost use Rattle.alternate_keys.specs.Aims.{extended_bytes, fill, aim_at, aim_short, aim_number, aim_value, aim_of, aim_key, pair_aim_key};
+
+use crate::search_start::SearchStart;
+use records::{FileSpec, KeyOfReference, Organization, Side, StoreFault};
+use std::alloc::Global;
+
+/// Numbers of relative files are below this.
+const NUMBERS: u64 = 4294967296;
+
+/// The bytes of an arrival.
+pub(crate) const ARRIVAL_BYTES: usize = 8;
+
+/// Which entry of a key's tree is looked for.
+pub(crate) fn search_start_for(
+    file: &FileSpec,
+    key: KeyOfReference,
+    side: Side,
+    value: &[u8],
+    number: u64,
+) -> SearchStart
+    requires { IsKey (spec_of file.now) key }
+    ensures { result ≡ aim_of (spec_of file.now) key (bound_at side value.now number) }
+{
+    let whole = value.len() >= file.key_place(key).length as usize;
+    match key {
+        KeyOfReference::Prime => match file.organization {
+            Organization::Sequential => start_at_number(side),
+            Organization::Relative => {
+                if number < NUMBERS {
+                    start_at_number(side)
+                } else {
+                    SearchStart::Nothing
+                }
+            }
+            Organization::Indexed(_) => {
+                if whole {
+                    start_at_value(side, number)
+                } else {
+                    start_at_part(side)
+                }
+            }
+        },
+        KeyOfReference::Alternate(_) => {
+            if whole {
+                start_at_pair(side)
+            } else {
+                start_at_part(side)
+            }
+        }
+    }
+}
+
+/// A value, and a number in 8 bytes behind it.
+pub(crate) fn pair_bytes(alloc: Global, value: &[u8], number: u64) -> Result<Vec<u8>, StoreFault>
+    ensures bytes { IfOk result (λ bytes. bytes.items ≡ value.now ++ big_bytes 8 number) }
+    ensures memory { IsOkUnless result StoreFault.Memory }
+{
+    let mut out = Vec::with_capacity(alloc, value.len().saturating_add(ARRIVAL_BYTES))?;
+    out.extend_from_slice(value)?;
+    out.extend_from_slice(&number.to_be_bytes())?;
+    Ok(out)
+}
+
+/// The number of a row as a key.
+pub(crate) fn number_bytes(alloc: Global, number: u64) -> Result<Vec<u8>, StoreFault>
+    ensures bytes { IfOk result (λ bytes. bytes.items ≡ big_bytes 4 number) }
+    ensures memory { IsOkUnless result StoreFault.Memory }
+{
+    let mut out = Vec::new(alloc);
+    out.extend_from_slice(&number.to_be_bytes()[4..])?;
+    Ok(out)
+}
+
+/// The key from which a key's tree is looked into.
+pub(crate) fn key_for(
+    alloc: Global,
+    file: &FileSpec,
+    key: KeyOfReference,
+    side: Side,
+    value: &[u8],
+    number: u64,
+) -> Result<Vec<u8>, StoreFault>
+    requires key { IsKey (spec_of file.now) key }
+    requires value { length value.now ≤ key_length (spec_of file.now) key }
+    ensures bytes { IfOk result (λ bytes. bytes.items ≡ aim_key (spec_of file.now) key (bound_at side value.now number)) }
+    ensures memory { IsOkUnless result StoreFault.Memory }
+{
+    let count = file.key_place(key).length as usize;
+    match key {
+        KeyOfReference::Prime => match file.organization {
+            Organization::Sequential => pair_bytes(alloc, &[], number),
+            Organization::Relative => number_bytes(alloc, number),
+            Organization::Indexed(_) => extend(alloc, value, count, fill_byte(side)),
+        },
+        KeyOfReference::Alternate(_) => {
+            let count = count + ARRIVAL_BYTES;
+            if value.len() + ARRIVAL_BYTES < count {
+                extend(alloc, value, count, fill_byte(side))
+            } else {
+                whole_key(alloc, count, side, value, number)
+            }
+        }
+    }
+}
+
+/// The aim at a value with its number.
+fn start_at_pair(side: Side) -> SearchStart
+    ensures { result ≡ aim_at side }
+{
+    match side {
+        Side::From => SearchStart::From,
+        Side::After => SearchStart::After,
+        Side::Beyond => SearchStart::After,
+    }
+}
+
+/// The aim at the beginning of a value.
+fn start_at_part(side: Side) -> SearchStart
+    ensures { result ≡ aim_short side }
+{
+    match side {
+        Side::From => SearchStart::From,
+        Side::After => SearchStart::From,
+        Side::Beyond => SearchStart::After,
+    }
+}
+
+/// The aim at a number.
+fn start_at_number(side: Side) -> SearchStart
+    ensures { result ≡ aim_number side }
+{
+    match side {
+        Side::From => SearchStart::From,
+        Side::After => SearchStart::After,
+        Side::Beyond => SearchStart::Nothing,
+    }
+}
+
+/// The aim at a value of the prime key.
+fn start_at_value(side: Side, number: u64) -> SearchStart
+    ensures { result ≡ aim_value side number }
+{
+    match side {
+        Side::From => {
+            if number == 0 {
+                SearchStart::From
+            } else {
+                SearchStart::After
+            }
+        }
+        Side::After => SearchStart::After,
+        Side::Beyond => SearchStart::After,
+    }
+}
+
+/// The byte with which a value is filled up.
+fn fill_byte(side: Side) -> u8
+    ensures { result ≡ fill side }
+{
+    match side {
+        Side::From => 0,
+        Side::After => 0,
+        Side::Beyond => 255,
+    }
+}
+
+/// A value, filled up to so many bytes.
+fn extend(alloc: Global, value: &[u8], count: usize, byte: u8) -> Result<Vec<u8>, StoreFault>
+    requires count { count ≤ 200 }
+    requires fits { length value.now ≤ count }
+    ensures bytes { IfOk result (λ bytes. bytes.items ≡ extended_bytes count byte value.now) }
+    ensures memory { IsOkUnless result StoreFault.Memory }
+{
+    let mut out = Vec::new(alloc);
+    out.extend_from_slice(value)?;
+    out.resize(count, byte)?;
+    Ok(out)
+}
+
+/// A place under an alternate key, in whole.
+fn whole_key(
+    alloc: Global,
+    count: usize,
+    side: Side,
+    value: &[u8],
+    number: u64,
+) -> Result<Vec<u8>, StoreFault>
+    requires count { count ≤ 200 }
+    requires fits { length value.now ≤ count }
+    ensures bytes { IfOk result (λ bytes. bytes.items ≡ pair_aim_key count side (record { value = value.now; number = number })) }
+    ensures memory { IsOkUnless result StoreFault.Memory }
+{
+    match side {
+        Side::From => pair_bytes(alloc, value, number),
+        Side::After => pair_bytes(alloc, value, number),
+        Side::Beyond => extend(alloc, value, count, 255),
+    }
+}

@@ -1,0 +1,12 @@
+//! How a tree is looked into.
+
+/// Which entry of a tree is looked for, beside a key.
+#[derive(Clone, Copy, PartialEq, Eq)]
+pub enum SearchStart {
+    /// None.
+    Nothing,
+    /// The first from the key on.
+    From,
+    /// The first behind the key.
+    After,
+}

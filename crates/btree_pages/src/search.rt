@@ -1,0 +1,65 @@
+//! The place of a key in a page.
+ghost use Rattle.std.specs.Prelude.{◌≡◌, ◌↔◌, ◌≤◌, IsTrue, ◌<◌, ◌+◌, [], length, take, drop, slice_index_or, IfOk, IfErr, MatchResult};
+ghost use Rattle.btree_pages.specs.Keys.{Ascend, AllAbove, AllBelow, key_of, keys_of};
+
+use crate::node_view::NodeView;
+use crate::tree_page::TreePage;
+use std::cmp::Ordering;
+
+impl<'a> NodeView<'a> {
+    /// The place of the row with this key, or the place where it would go in. A page whose keys don't ascend gives a place of it all
+    /// the same.
+    pub fn find(&self, key: &[u8]) -> Result<usize, usize>
+        ensures found { IfOk result (λ place. (place < length self.now.rows) × (key_of self.now.layout (slice_index_or self.now.rows place []) ≡ key.now)) }
+        ensures missing { IfErr result (λ place. place ≤ length self.now.rows) }
+        ensures around { Ascend (keys_of self.now.layout self.now.rows) → MatchResult result
+            (λ place. AllBelow self.now.layout key.now (take place self.now.rows) × AllAbove self.now.layout key.now (drop (place + 1) self.now.rows))
+            (λ place. AllBelow self.now.layout key.now (take place self.now.rows) × AllAbove self.now.layout key.now (drop place self.now.rows)) }
+    {
+        let mut low = 0;
+        let mut high = self.count();
+        while low < high {
+            let middle = low + (high - low) / 2;
+            match self.key(middle).cmp(key) {
+                Ordering::Less => low = middle + 1,
+                Ordering::Equal => return Ok(middle),
+                Ordering::Greater => high = middle,
+            }
+        }
+        Err(low)
+    }
+
+    /// Whether each key is below the next one.
+    pub fn is_ascending(&self) -> bool
+        ensures { IsTrue result ↔ Ascend (keys_of self.now.layout self.now.rows) }
+    {
+        for place in 1..self.count() {
+            match self.key(place - 1).cmp(self.key(place)) {
+                Ordering::Less => {}
+                _ => return false,
+            }
+        }
+        true
+    }
+}
+
+impl TreePage {
+    /// The place of the row with this key, or the place where it would go in. A page whose keys don't ascend gives a place of it all
+    /// the same.
+    pub fn find(&self, key: &[u8]) -> Result<usize, usize>
+        ensures found { IfOk result (λ place. (place < length self.now.rows) × (key_of self.now.layout (slice_index_or self.now.rows place []) ≡ key.now)) }
+        ensures missing { IfErr result (λ place. place ≤ length self.now.rows) }
+        ensures around { Ascend (keys_of self.now.layout self.now.rows) → MatchResult result
+            (λ place. AllBelow self.now.layout key.now (take place self.now.rows) × AllAbove self.now.layout key.now (drop (place + 1) self.now.rows))
+            (λ place. AllBelow self.now.layout key.now (take place self.now.rows) × AllAbove self.now.layout key.now (drop place self.now.rows)) }
+    {
+        self.view().find(key)
+    }
+
+    /// Whether each key is below the next one.
+    pub fn is_ascending(&self) -> bool
+        ensures { IsTrue result ↔ Ascend (keys_of self.now.layout self.now.rows) }
+    {
+        self.view().is_ascending()
+    }
+}

@@ -1,0 +1,263 @@
+//! The rules of INSPECT: 64 operands of another kind and replacing texts of another size, besides those of references and literals
+//! (COBOL-85, Nucleus, "The INSPECT statement").
+
+ghost use Rattle.std.specs.Prelude.{◌≡◌, [], length, Some};
+ghost use Rattle.entry_rules.specs.Checks.{IsFirstBreach};
+ghost use Rattle.source_tree.specs.Broken.{each};
+ghost use Rattle.source_tree.specs.Display.{shown_literal};
+ghost use Rattle.source_tree.specs.LookUp.{items_named};
+ghost use Rattle.source_tree.specs.InspectRules as spec;
+ghost use Rattle.declarations.specs.Named.{IsDeclared, items_in};
+
+use crate::asked::Asked;
+use crate::checker::Checker;
+use crate::forms::literal_rules;
+use crate::sides::operand_place;
+use entry_rules::{BrokenRule, Rule};
+use source_tree::{
+    InspectStatement, Limits, Literal, LiteralValue, Operand, QualifiedName, ReplacedText,
+    Replacing, Tallied, TalliedText, Tallying,
+};
+
+/// A literal that is a text: no number, and of its form.
+fn inspected_literal(one: &Literal) -> Result<(), BrokenRule>
+    ensures { IsFirstBreach result (spec.inspected_literal one.now one.now.value) }
+{
+    match &one.value {
+        LiteralValue::Numeric(_) => Err(BrokenRule {
+            rule: Rule::InspectOperand,
+            place: one.place,
+        }),
+        _ => literal_rules(one),
+    }
+}
+
+/// The characters of a literal that is a text; a number is none.
+fn literal_size(one: &Literal) -> Option<usize>
+    ensures { spec.inspected_literal one.now one.now.value ≡ [] → result ≡ Some (length (shown_literal one.now.value)) }
+{
+    match &one.value {
+        LiteralValue::Numeric(_) => None,
+        LiteralValue::Nonnumeric(bytes) => Some(bytes.as_slice().len()),
+        LiteralValue::Figurative(_) => Some(1),
+        LiteralValue::All(bytes) => Some(bytes.as_slice().len()),
+    }
+}
+
+/// The characters of a literal that is a replacing text. A figurative constant has any number.
+fn replacing_literal_size(one: &Literal) -> Option<usize>
+    ensures { spec.inspected_literal one.now one.now.value ≡ [] → result ≡ spec.literal_size one.now.value }
+{
+    match &one.value {
+        LiteralValue::Figurative(_) => None,
+        _ => literal_size(one),
+    }
+}
+
+fn same_size(one: Option<usize>, other: Option<usize>) -> bool
+    ensures { result ≡ spec.same_size one other }
+{
+    match (one, other) {
+        (Some(one), Some(other)) => one == other,
+        _ => true,
+    }
+}
+
+impl<'a> Checker<'a> {
+    /// A text.
+    fn inspected_rules(&self, one: &Operand) -> Result<(), BrokenRule>
+        requires { IsDeclared self.now.declarations.now }
+        ensures { IsFirstBreach result (spec.inspected_rules (items_in self.now.declarations.now) one.now) }
+    {
+        match one {
+            Operand::Item(reference) => self.item_rules(Asked::Inspected, reference),
+            Operand::Literal(literal) => inspected_literal(literal),
+        }
+    }
+
+    /// The bytes of the item that a name names, where it names one.
+    fn size_named(&self, name: &QualifiedName) -> Option<usize>
+        requires { IsDeclared self.now.declarations.now }
+        ensures { result ≡ spec.only_size (items_named (items_in self.now.declarations.now) name.now) }
+    {
+        match self.declarations.item_named(name) {
+            Ok(found) => Some(found.item.length as usize),
+            Err(_) => None,
+        }
+    }
+
+    /// The characters of a text.
+    fn size_of(&self, one: &Operand) -> Option<usize>
+        requires { IsDeclared self.now.declarations.now }
+        ensures { spec.inspected_rules (items_in self.now.declarations.now) one.now ≡ [] → result ≡ spec.size_of (items_in self.now.declarations.now) one.now }
+    {
+        match one {
+            Operand::Item(reference) => self.size_named(&reference.item),
+            Operand::Literal(literal) => literal_size(literal),
+        }
+    }
+
+    /// The characters of a replacing text.
+    fn replacing_size(&self, one: &Operand) -> Option<usize>
+        requires { IsDeclared self.now.declarations.now }
+        ensures { spec.inspected_rules (items_in self.now.declarations.now) one.now ≡ [] → result ≡ spec.replacing_size (items_in self.now.declarations.now) one.now }
+    {
+        match one {
+            Operand::Item(reference) => self.size_named(&reference.item),
+            Operand::Literal(literal) => replacing_literal_size(literal),
+        }
+    }
+
+    /// What replaces a text of so many characters.
+    fn by_rules(&self, size: Option<usize>, by: &Operand) -> Result<(), BrokenRule>
+        requires { IsDeclared self.now.declarations.now }
+        ensures { IsFirstBreach result (spec.by_rules (items_in self.now.declarations.now) size by.now) }
+    {
+        self.inspected_rules(by)?;
+        let fits = same_size(size, self.replacing_size(by));
+        Rule::InspectOperand.broken_if(!fits, operand_place(by))
+    }
+
+    fn limit_rules(&self, one: &Option<Operand>) -> Result<(), BrokenRule>
+        requires { IsDeclared self.now.declarations.now }
+        ensures { IsFirstBreach result (spec.limit_rules (items_in self.now.declarations.now) one.now) }
+    {
+        match one {
+            None => Ok(()),
+            Some(one) => self.inspected_rules(one),
+        }
+    }
+
+    fn two_limits(
+        &self,
+        first: &Option<Operand>,
+        second: &Option<Operand>,
+    ) -> Result<(), BrokenRule>
+        requires { IsDeclared self.now.declarations.now }
+        ensures { IsFirstBreach result (spec.two_limits (items_in self.now.declarations.now) first.now second.now) }
+    {
+        self.limit_rules(first)?;
+        self.limit_rules(second)
+    }
+
+    /// BEFORE and AFTER, as they stand.
+    fn limits_rules(&self, one: &Limits) -> Result<(), BrokenRule>
+        requires { IsDeclared self.now.declarations.now }
+        ensures { IsFirstBreach result (spec.limits_rules (items_in self.now.declarations.now) one.now) }
+    {
+        if one.after_first {
+            self.two_limits(&one.after, &one.before)
+        } else {
+            self.two_limits(&one.before, &one.after)
+        }
+    }
+
+    fn tallied_text_rules(&self, one: &TalliedText) -> Result<(), BrokenRule>
+        requires { IsDeclared self.now.declarations.now }
+        ensures { IsFirstBreach result (spec.tallied_text_rules (items_in self.now.declarations.now) one.now) }
+    {
+        self.inspected_rules(&one.text)?;
+        self.limits_rules(&one.limits)
+    }
+
+    fn tallied_texts_rules(&self, all: &[TalliedText]) -> Result<(), BrokenRule>
+        requires { IsDeclared self.now.declarations.now }
+        ensures { IsFirstBreach result (each (spec.tallied_text_rules (items_in self.now.declarations.now)) all.now) }
+    {
+        for one in all {
+            self.tallied_text_rules(one)?;
+        }
+        Ok(())
+    }
+
+    fn tallied_rules(&self, one: &Tallied) -> Result<(), BrokenRule>
+        requires { IsDeclared self.now.declarations.now }
+        ensures { IsFirstBreach result (spec.tallied_rules (items_in self.now.declarations.now) one.now) }
+    {
+        match one {
+            Tallied::Characters { limits } => self.limits_rules(limits),
+            Tallied::Texts { texts, .. } => self.tallied_texts_rules(texts.as_slice()),
+        }
+    }
+
+    fn all_tallied_rules(&self, all: &[Tallied]) -> Result<(), BrokenRule>
+        requires { IsDeclared self.now.declarations.now }
+        ensures { IsFirstBreach result (each (spec.tallied_rules (items_in self.now.declarations.now)) all.now) }
+    {
+        for one in all {
+            self.tallied_rules(one)?;
+        }
+        Ok(())
+    }
+
+    /// A counter, and what it counts.
+    fn tallying_rules(&self, one: &Tallying) -> Result<(), BrokenRule>
+        requires { IsDeclared self.now.declarations.now }
+        ensures { IsFirstBreach result (spec.tallying_rules (items_in self.now.declarations.now) one.now) }
+    {
+        self.item_rules(Asked::Counts, &one.counter)?;
+        self.all_tallied_rules(one.tallied.as_slice())
+    }
+
+    fn counters_rules(&self, all: &[Tallying]) -> Result<(), BrokenRule>
+        requires { IsDeclared self.now.declarations.now }
+        ensures { IsFirstBreach result (each (spec.tallying_rules (items_in self.now.declarations.now)) all.now) }
+    {
+        for one in all {
+            self.tallying_rules(one)?;
+        }
+        Ok(())
+    }
+
+    fn replaced_text_rules(&self, one: &ReplacedText) -> Result<(), BrokenRule>
+        requires { IsDeclared self.now.declarations.now }
+        ensures { IsFirstBreach result (spec.replaced_text_rules (items_in self.now.declarations.now) one.now) }
+    {
+        self.inspected_rules(&one.text)?;
+        self.by_rules(self.size_of(&one.text), &one.by)?;
+        self.limits_rules(&one.limits)
+    }
+
+    fn replaced_texts_rules(&self, all: &[ReplacedText]) -> Result<(), BrokenRule>
+        requires { IsDeclared self.now.declarations.now }
+        ensures { IsFirstBreach result (each (spec.replaced_text_rules (items_in self.now.declarations.now)) all.now) }
+    {
+        for one in all {
+            self.replaced_text_rules(one)?;
+        }
+        Ok(())
+    }
+
+    fn replacing_rules(&self, one: &Replacing) -> Result<(), BrokenRule>
+        requires { IsDeclared self.now.declarations.now }
+        ensures { IsFirstBreach result (spec.replacing_rules (items_in self.now.declarations.now) one.now) }
+    {
+        match one {
+            Replacing::Characters { by, limits } => {
+                self.by_rules(Some(1), by)?;
+                self.limits_rules(limits)
+            }
+            Replacing::Texts { texts, .. } => self.replaced_texts_rules(texts.as_slice()),
+        }
+    }
+
+    fn all_replacing_rules(&self, all: &[Replacing]) -> Result<(), BrokenRule>
+        requires { IsDeclared self.now.declarations.now }
+        ensures { IsFirstBreach result (each (spec.replacing_rules (items_in self.now.declarations.now)) all.now) }
+    {
+        for one in all {
+            self.replacing_rules(one)?;
+        }
+        Ok(())
+    }
+
+    /// INSPECT: its subject, its counters with what they count, and what is replaced.
+    pub fn inspect_rules(&self, one: &InspectStatement) -> Result<(), BrokenRule>
+        requires { IsDeclared self.now.declarations.now }
+        ensures { IsFirstBreach result (spec.inspect_rules (items_in self.now.declarations.now) one.now) }
+    {
+        self.item_rules(Asked::Inspected, &one.subject)?;
+        self.counters_rules(one.tallying.as_slice())?;
+        self.all_replacing_rules(one.replacing.as_slice())
+    }
+}

@@ -1,0 +1,5 @@
+use Rattle.std.proofs.Common.{length}
+use Rattle.data_entries.proofs.levels.+next_item.Given as goal
+
+abbrev pub decreases-next_item : goal.decreases-next_item
+decreases-next_item l = length l.entries.now

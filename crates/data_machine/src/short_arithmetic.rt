@@ -1,0 +1,160 @@
+//! What operators make of numbers of 64 bits, and their order, where 64 bits are enough.
+
+ghost use Rattle.std.specs.Prelude.{◌≡◌, ◌≤◌, ◌^◌, pos, IfSome, Ok, Some};
+ghost use Rattle.decimal18.specs.Fraction.{aligned_coefficient};
+ghost use Rattle.decimal18.specs.Arithmetic.{sum, difference, product};
+ghost use Rattle.decimal18.specs.Order.{order};
+ghost use Rattle.source_tree.specs.Computed as computed;
+
+use crate::short::Short;
+use decimal18::Dec;
+use source_tree::Operator;
+use std::cmp::Ordering;
+
+/// Powers of ten in the table.
+const COUNT: usize = 19;
+
+static POWERS: [u64; COUNT] = [
+    1,
+    10,
+    100,
+    1_000,
+    10_000,
+    100_000,
+    1_000_000,
+    10_000_000,
+    100_000_000,
+    1_000_000_000,
+    10_000_000_000,
+    100_000_000_000,
+    1_000_000_000_000,
+    10_000_000_000_000,
+    100_000_000_000_000,
+    1_000_000_000_000_000,
+    10_000_000_000_000_000,
+    100_000_000_000_000_000,
+    1_000_000_000_000_000_000,
+];
+
+/// The greatest scale of a number.
+const MOST_SCALE: u8 = 18;
+
+/// 10 to an exponent of at most 18.
+#[inline(always)]
+pub(crate) fn power_of_ten(exponent: u8) -> u64
+    requires { exponent ≤ 18 }
+    ensures { result ≡ 10 ^ exponent }
+{
+    POWERS[exponent as usize]
+}
+
+/// The same with a sign.
+#[inline(always)]
+#[tactic(auto, using(decimal18::proofs::Powers::power_le))]
+fn signed_power(exponent: u8) -> i64
+    requires { exponent ≤ 18 }
+    ensures { result ≡ pos (10 ^ exponent) }
+{
+    power_of_ten(exponent) as i64
+}
+
+/// The coefficient of a number at a scale that is not less.
+#[inline(always)]
+#[tactic(auto, using(decimal18::proofs::ShortArithmetic::aligned_same, decimal18::proofs::ShortArithmetic::aligned_by))]
+fn aligned(x: Short, scale: u8) -> Option<i64>
+    requires above { x.scale ≤ scale }
+    requires most { scale ≤ 18 }
+    ensures { IfSome result (λ coefficient. coefficient ≡ aligned_coefficient x scale) }
+{
+    let coefficient = x.coefficient();
+    let zeros = scale - x.scale();
+    if zeros == 0 {
+        return Some(coefficient);
+    }
+    coefficient.checked_mul(signed_power(zeros))
+}
+
+/// The exact sum.
+#[inline(always)]
+fn short_sum(left: Short, right: Short) -> Option<Short>
+    ensures { IfSome result (λ total. Ok total ≡ sum left right) }
+{
+    let scale = left.scale().max(right.scale());
+    let Some(one) = aligned(left, scale) else {
+        return None;
+    };
+    let Some(other) = aligned(right, scale) else {
+        return None;
+    };
+    match one.checked_add(other) {
+        Some(total) => Some(Short::new(total, scale)),
+        None => None,
+    }
+}
+
+/// The exact difference.
+#[inline(always)]
+fn short_difference(left: Short, right: Short) -> Option<Short>
+    ensures { IfSome result (λ rest. Ok rest ≡ difference left right) }
+{
+    let scale = left.scale().max(right.scale());
+    let Some(one) = aligned(left, scale) else {
+        return None;
+    };
+    let Some(other) = aligned(right, scale) else {
+        return None;
+    };
+    match one.checked_sub(other) {
+        Some(rest) => Some(Short::new(rest, scale)),
+        None => None,
+    }
+}
+
+/// The exact product, where it has at most 18 decimals.
+#[inline(always)]
+fn short_product(left: Short, right: Short) -> Option<Short>
+    ensures { IfSome result (λ times. Ok times ≡ product left right) }
+{
+    let scale = left.scale() + right.scale();
+    if scale > MOST_SCALE {
+        return None;
+    }
+    match left.coefficient().checked_mul(right.coefficient()) {
+        Some(times) => Some(Short::new(times, scale)),
+        None => None,
+    }
+}
+
+/// What an operator makes of two numbers. No quotient is found here.
+#[inline(always)]
+pub(crate) fn short_result(operator: Operator, left: Short, right: Short) -> Option<Short>
+    ensures { IfSome result (λ x. computed.operate operator (Some left) (Some right) ≡ Some x) }
+{
+    match operator {
+        Operator::Add => short_sum(left, right),
+        Operator::Subtract => short_difference(left, right),
+        Operator::Multiply => short_product(left, right),
+        Operator::Divide => None,
+    }
+}
+
+/// The order of a number and an integer, by decimals.
+#[cold]
+#[inline(never)]
+fn long_order(coefficient: i64, scale: u8, integer: u32) -> Ordering
+    requires { scale ≤ 18 }
+    ensures { result ≡ order (record { coefficient = coefficient; scale = scale }) (record { coefficient = pos integer; scale = 0 }) }
+{
+    Dec::short(coefficient, scale).cmp(&Dec::short(i64::from(integer), 0))
+}
+
+/// The order of a number and an integer.
+#[inline(always)]
+pub(crate) fn integer_order(x: Short, integer: u32) -> Ordering
+    ensures { result ≡ order x (record { coefficient = pos integer; scale = 0 }) }
+{
+    match aligned(Short::new(i64::from(integer), 0), x.scale()) {
+        Some(other) => x.coefficient().cmp(&other),
+        None => long_order(x.coefficient(), x.scale(), integer),
+    }
+}

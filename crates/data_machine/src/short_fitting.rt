@@ -1,0 +1,158 @@
+//! What receivers keep of numbers of 64 bits that fit, and the bytes in which they hold them.
+
+ghost use Rattle.std.specs.Prelude.{◌≡◌, ◌+◌, ◌<◌, ◌≤◌, ◌^◌, length, unsigned_abs, IfSome, Ok, Some};
+ghost use Rattle.decimal18.specs.Receiver.{fitted_decimal};
+ghost use Rattle.items.specs.Items.{IsItem};
+ghost use Rattle.items.specs.Numbers.{IsNumeric, length_of};
+ghost use Rattle.items.specs.Values.{value_of, bytes_of};
+ghost use Rattle.source_tree.specs.Arithmetic.{held_by, rounding_of};
+ghost use Rattle.source_tree.specs.Computed as computed;
+ghost use Rattle.data_machine.specs.KeptAtScale.{at_scale, FitsDigits, bytes_at_scale, KeepsAs};
+ghost use Rattle.data_machine.specs.Writing.{with_part};
+
+use crate::fitting::rounding;
+use crate::short::{Short, short_coefficient};
+use crate::short_arithmetic::{power_of_ten, short_result};
+use data_instructions::DataItem;
+use decimal18::{Dec, put_digits};
+use items::{Kind, Numeric, OperationalSign, Usage, number, store};
+use source_tree::Operator;
+
+/// The number in the bytes of a numeric item, if they hold one.
+#[inline(always)]
+pub(crate) fn short_number(item: Numeric, bytes: &[u8]) -> Option<Short>
+    requires item { IsNumeric item }
+    requires length { length bytes.now ≡ length_of item }
+    ensures { result ≡ value_of item bytes.now }
+{
+    match number(item, bytes) {
+        Some(x) => Some(Short::held(item, x)),
+        None => None,
+    }
+}
+
+/// The coefficient that a receiver of so many digits, scale of them decimals, keeps of a number that fits.
+#[inline(never)]
+#[tactic(auto, using(decimal18::proofs::Powers::power_le))]
+fn rescaled(coefficient: i64, from: u8, digits: u8, scale: u8, rounded: bool) -> Option<i64>
+    requires from { from ≤ 18 }
+    requires digits { digits ≤ 18 }
+    requires decimals { scale ≤ digits }
+    ensures fits { IfSome result (λ n. fitted_decimal (record { coefficient = coefficient; scale = from }) digits scale (rounding_of rounded) ≡ Ok (record { coefficient = n; scale = scale })) }
+    ensures digits { IfSome result (λ n. unsigned_abs n < 10 ^ digits) }
+{
+    match Dec::short(coefficient, from).fit(digits, scale, rounding(rounded)) {
+        Ok(fits) => Some(short_coefficient(fits)),
+        Err(_) => None,
+    }
+}
+
+/// The same, at once where the number has the receiver's scale.
+#[inline(always)]
+#[tactic(auto, using(crate::proofs::ShortNumbers::fitted_same))]
+fn short_fitted(x: Short, digits: u8, scale: u8, rounded: bool) -> Option<i64>
+    requires digits { digits ≤ 18 }
+    requires decimals { scale ≤ digits }
+    ensures fits { IfSome result (λ n. fitted_decimal x digits scale (rounding_of rounded) ≡ Ok (record { coefficient = n; scale = scale })) }
+    ensures digits { IfSome result (λ n. unsigned_abs n < 10 ^ digits) }
+{
+    let coefficient = x.coefficient();
+    if x.scale() != scale {
+        return rescaled(coefficient, x.scale(), digits, scale, rounded);
+    }
+    if coefficient.unsigned_abs() < power_of_ten(digits) {
+        Some(coefficient)
+    } else {
+        None
+    }
+}
+
+/// The coefficient that a numeric item keeps of a number that fits.
+#[inline(always)]
+fn fitted_as(one: &DataItem, x: Short, rounded: bool) -> Option<i64>
+    requires form { IsItem one.now.item }
+    ensures { IfSome result (λ n. KeepsAs one.now.item.kind rounded (Some x) n) }
+{
+    let Kind::Numeric(item) = one.item.kind else {
+        return None;
+    };
+    short_fitted(x, item.digits, item.scale, rounded)
+}
+
+/// The same of what an operator makes of two numbers.
+#[inline(always)]
+pub(crate) fn result_fitted_as(
+    one: &DataItem,
+    operator: Operator,
+    left: Short,
+    right: Short,
+    rounded: bool,
+) -> Option<i64>
+    requires form { IsItem one.now.item }
+    ensures { IfSome result (λ n. KeepsAs one.now.item.kind rounded (computed.operate operator (Some left) (Some right)) n) }
+{
+    match short_result(operator, left, right) {
+        Some(x) => fitted_as(one, x, rounded),
+        None => None,
+    }
+}
+
+/// The same of what was computed.
+#[inline(always)]
+pub(crate) fn computed_fitted_as(one: &DataItem, number: &Option<Dec>, rounded: bool) -> Option<i64>
+    requires form { IsItem one.now.item }
+    ensures { IfSome result (λ n. KeepsAs one.now.item.kind rounded number.now n) }
+{
+    let Some(number) = *number else {
+        return None;
+    };
+    match Short::of(number) {
+        Some(x) => fitted_as(one, x, rounded),
+        None => None,
+    }
+}
+
+/// The coefficient that an item holds of one; without S the absolute value.
+#[inline(always)]
+fn held_coefficient(item: Numeric, coefficient: i64) -> i64
+    requires item { IsNumeric item }
+    requires digits { unsigned_abs coefficient < 10 ^ item.digits }
+    ensures { at_scale item result ≡ held_by item (at_scale item coefficient) }
+{
+    if item.is_signed() {
+        coefficient
+    } else {
+        coefficient.unsigned_abs() as i64
+    }
+}
+
+/// Writes a coefficient at the item's scale; without S the absolute value.
+#[inline(always)]
+fn put_short(item: Numeric, coefficient: i64, bytes: &mut [u8])
+    requires item { IsNumeric item }
+    requires length { length bytes.old ≡ length_of item }
+    requires digits { unsigned_abs coefficient < 10 ^ item.digits }
+    ensures { bytes.new ≡ bytes_of item (held_by item (at_scale item coefficient)) }
+{
+    if let Usage::Display(sign) = item.usage {
+        if let OperationalSign::Unsigned = sign {
+            return put_digits(coefficient.unsigned_abs(), bytes);
+        }
+    }
+    let held = held_coefficient(item, coefficient);
+    store(item, Dec::short(held, item.scale), bytes);
+}
+
+/// The same in an item at an offset in its area: the other bytes stay.
+#[inline(always)]
+pub(crate) fn put_short_part(one: &DataItem, area: &mut [u8], offset: usize, coefficient: i64)
+    requires form { IsItem one.now.item }
+    requires digits { FitsDigits one.now.item.kind coefficient }
+    requires within { offset + one.now.item.length ≤ length area.old }
+    ensures { area.new ≡ with_part area.old offset one.now.item.length (bytes_at_scale one.now.item.kind coefficient) }
+{
+    if let Kind::Numeric(item) = one.item.kind {
+        let end = offset + one.item.length as usize;
+        put_short(item, coefficient, &mut area[offset..end]);
+    }
+}

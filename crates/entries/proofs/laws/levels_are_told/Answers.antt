@@ -1,5 +1,0 @@
-use Rattle.entries.proofs.Told.{all_told}
-use Rattle.entries.proofs.laws.levels_are_told.Goals as goal
-
-pub returns : goal.returns
-returns c = all_told

@@ -1,5 +1,0 @@
-use Rattle.std.proofs.Common.{length}
-use Rattle.entries.proofs.levels.+next_item.Given as goal
-
-abbrev pub decreases-next_item : goal.decreases-next_item
-decreases-next_item l = length l.entries.now

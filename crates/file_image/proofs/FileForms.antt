@@ -1,0 +1,231 @@
+-- Files, read and spelled.
+use Rattle.std.proofs.Common.{◌≡◌, ℕ, eqb, Bool, List, [], ◌∷◌, ◌++◌, Ok, refl, ap, subst, ◌∙◌, append_assoc, inl, inr}
+use Rattle.std.specs.Prelude.{Option, None, Some}
+use Rattle.records.specs.declared.file_spec.KeyPlace.{KeyPlace}
+use Rattle.records.specs.declared.file_spec.AlternateKey.{AlternateKey}
+use Rattle.records.specs.declared.file_spec.Organization.{Organization}
+use Rattle.records.specs.declared.file_spec.Organization.TheVariants as organization
+use Rattle.records.specs.declared.select.Access.{Access}
+use Rattle.records.specs.declared.select.Access.TheVariants as access
+use Rattle.records.specs.Spec.{Spec}
+use Rattle.data_instructions.specs.declared.index.ItemIndex.{ItemIndex}
+use Rattle.data_image.specs.declared.fault.ImageFault.TheVariants as faults
+use Rattle.data_image.specs.Spelling.{IsBytes, small_bytes, short_bytes, flag_byte, text_bytes, table_bytes, AreSpelled, IsAny}
+use Rattle.data_image.specs.Reading.{ReadResult, ◌>>=◌, byte_at, told_at, flag_of, small_at, short_at, table_at}
+use Rattle.data_image.proofs.Forms.{ok_is, failed, chosen, takes_then, IsForm, part, part_again, Took, form_of, first_took, byte_is, behind_took, alone_took, first_told, byte_told}
+use Rattle.data_image.proofs.Numbers.{flag_form, small_form, short_form}
+use Rattle.data_image.proofs.TableForms.{table_form, text_form}
+use Rattle.file_image.specs.declared.file.CodeFile.{CodeFile}
+use Rattle.file_image.specs.Files.{spec_of}
+use Rattle.file_image.specs.Spelling.{organization_bytes, IsOrganizationSpelled, organization_from, organization_at, alternate_bytes, IsAlternateSpelled, alternate_at, spec_bytes, IsSpecSpelled, spec_at, access_byte, access_of, item_bytes, IfItemSpelled, item_from, item_at, file_bytes, IsFileSpelled, file_at}
+use Rattle.file_image.proofs.Keys.{place_form, alternate_form}
+
+-- ---- organizations
+
+abbrev indexed : KeyPlace → Organization
+indexed place = organization.Indexed place
+
+organization_from_took : (n : ℕ) (rest : List ℕ) (x : Organization × List ℕ) → IsBytes rest → organization_from n rest ≡ Ok x → Took organization_bytes IsOrganizationSpelled (n ∷ rest) x
+organization_from_took n rest x is e =
+    elim (chosen (eqb n 1) _ _ _ e) [
+      | inl p ↦ byte_is organization_bytes IsOrganizationSpelled 1 n rest x p.0 (alone_took organization_bytes IsOrganizationSpelled 1 organization.Sequential rest x (refl, tt) is p.1)
+      | inr q ↦ elim (chosen (eqb n 2) _ _ _ q.1) [
+        | inl p ↦ byte_is organization_bytes IsOrganizationSpelled 2 n rest x p.0 (alone_took organization_bytes IsOrganizationSpelled 2 organization.Relative rest x (refl, tt) is p.1)
+        | inr r ↦ elim (chosen (eqb n 3) _ _ _ r.1) [
+          | inl p ↦ byte_is organization_bytes IsOrganizationSpelled 3 n rest x p.0 (behind_took organization_bytes IsOrganizationSpelled place_form 3 indexed (λ a. refl) (λ a h. h) rest x is p.1)
+          | inr s ↦ absurd (failed faults.Value x s.1)
+        ]
+      ]
+    ]
+
+organization_took : (bytes : List ℕ) (x : Organization × List ℕ) → IsBytes bytes → organization_at bytes ≡ Ok x → Took organization_bytes IsOrganizationSpelled bytes x
+unfolding organization_at
+organization_took bytes x is e = first_took organization_bytes IsOrganizationSpelled organization_from organization_from_took bytes x is e
+
+organization_again : (one : Organization) (rest : List ℕ) → IsOrganizationSpelled one → organization_at (organization_bytes one ++ rest) ≡ Ok (one, rest)
+unfolding organization_at byte_at
+organization_again organization.Sequential rest h = refl
+organization_again organization.Relative rest h = refl
+organization_again (organization.Indexed place) rest h = part_again place_form place rest (λ place. Ok (indexed place.0, place.1)) h
+
+organization_form : IsForm organization_at organization_bytes IsOrganizationSpelled
+organization_form = form_of organization_at organization_bytes IsOrganizationSpelled organization_took organization_again
+
+-- ---- accesses
+
+abbrev accesses : List (ℕ × Access)
+accesses = (1, access.Sequential) ∷ (2, access.Random) ∷ (3, access.Dynamic) ∷ []
+
+access_told : (n : ℕ) → access_of n ≡ first_told accesses n
+unfolding access_of
+access_told n = refl
+
+access_again : (one : Access) → access_of (access_byte one) ≡ Some one
+unfolding access_of
+access_again access.Sequential = refl
+access_again access.Random = refl
+access_again access.Dynamic = refl
+
+access_form : IsForm (told_at access_of) (λ one. access_byte one ∷ []) IsAny
+access_form = byte_told (λ one. access_byte one ∷ []) access_of accesses ((refl, tt), ((refl, tt), ((refl, tt), tt))) access_told (λ one. (access_byte one, refl, access_again one))
+
+-- ---- items of the table
+
+abbrev some_item : ℕ → Option ItemIndex
+some_item number = Some (record { number = number })
+
+item_from_took : (n : ℕ) (rest : List ℕ) (x : Option ItemIndex × List ℕ) → IsBytes rest → item_from n rest ≡ Ok x → Took item_bytes IfItemSpelled (n ∷ rest) x
+item_from_took n rest x is e =
+    elim (chosen (eqb n 0) _ _ _ e) [
+      | inl p ↦ byte_is item_bytes IfItemSpelled 0 n rest x p.0 (alone_took item_bytes IfItemSpelled 0 None rest x (refl, tt) is p.1)
+      | inr q ↦ elim (chosen (eqb n 1) _ _ _ q.1) [
+        | inl p ↦ byte_is item_bytes IfItemSpelled 1 n rest x p.0 (behind_took item_bytes IfItemSpelled short_form 1 some_item (λ a. refl) (λ a h. h) rest x is p.1)
+        | inr r ↦ absurd (failed faults.Value x r.1)
+      ]
+    ]
+
+item_took : (bytes : List ℕ) (x : Option ItemIndex × List ℕ) → IsBytes bytes → item_at bytes ≡ Ok x → Took item_bytes IfItemSpelled bytes x
+unfolding item_at
+item_took bytes x is e = first_took item_bytes IfItemSpelled item_from item_from_took bytes x is e
+
+item_again : (one : Option ItemIndex) (rest : List ℕ) → IfItemSpelled one → item_at (item_bytes one ++ rest) ≡ Ok (one, rest)
+unfolding item_at byte_at
+item_again None rest h = refl
+item_again (Some item) rest h = part_again short_form item.number rest (λ number. Ok (some_item number.0, number.1)) h
+
+item_form : IsForm item_at item_bytes IfItemSpelled
+item_form = form_of item_at item_bytes IfItemSpelled item_took item_again
+
+-- ---- alternate keys of a file
+
+alternate_table : IsForm (table_at alternate_at) (table_bytes alternate_bytes) (AreSpelled IsAlternateSpelled)
+alternate_table = table_form alternate_at alternate_bytes IsAlternateSpelled alternate_form
+
+-- ---- what files are
+
+regroup : (a b c d : List ℕ) → a ++ b ++ c ++ d ≡ a ++ (b ++ (c ++ d))
+regroup a b c d = simp append_assoc
+
+spec_took : (bytes : List ℕ) (x : Spec × List ℕ) → IsBytes bytes → spec_at bytes ≡ Ok x → Took spec_bytes IsSpecSpelled bytes x
+unfolding spec_at
+spec_took bytes x is e =
+    let a = part organization_form bytes _ x is e in
+    let b = part small_form a.rest _ x a.takes.rest_fits a.goes in
+    let c = part alternate_table b.rest _ x b.takes.rest_fits b.goes in
+    let ta = organization_bytes a.value in
+    let tb = small_bytes b.value in
+    let made : Spec = record { organization = a.value; record_length = b.value; alternates = c.value } in
+    let two = takes_then bytes ta a.rest tb b.rest a.takes b.takes in
+    let three = takes_then bytes (ta ++ tb) b.rest (table_bytes alternate_bytes c.value) c.rest two c.takes in
+    let fits : IsSpecSpelled made = record { organization = a.sound; record_length = b.sound; alternates = c.sound } in
+    subst (Took spec_bytes IsSpecSpelled bytes) {x = (made, c.rest)} (ok_is (made, c.rest) x c.goes) (three, fits)
+
+abbrev alternates_from : Spec → List AlternateKey × List ℕ → ReadResult Spec
+alternates_from one alternates = Ok (record one { alternates = alternates.0 }, alternates.1)
+
+abbrev record_length_from : Spec → ℕ × List ℕ → ReadResult Spec
+record_length_from one record_length = table_at alternate_at record_length.1 >>= alternates_from (record one { record_length = record_length.0 })
+
+abbrev kind_from : Spec → Organization × List ℕ → ReadResult Spec
+kind_from one organization = small_at organization.1 >>= record_length_from (record one { organization = organization.0 })
+
+spec_again : (one : Spec) (rest : List ℕ) → IsSpecSpelled one → spec_at (spec_bytes one ++ rest) ≡ Ok (one, rest)
+unfolding spec_at
+spec_again one rest fits =
+    let a = organization_bytes one.organization in
+    let b = small_bytes one.record_length in
+    let c = table_bytes alternate_bytes one.alternates in
+    ap spec_at (regroup a b c rest)
+    ∙ part_again organization_form one.organization (b ++ (c ++ rest)) (kind_from one) fits.organization
+    ∙ part_again small_form one.record_length (c ++ rest) (record_length_from one) fits.record_length
+    ∙ part_again alternate_table one.alternates rest (alternates_from one) fits.alternates
+
+spec_form : IsForm spec_at spec_bytes IsSpecSpelled
+spec_form = form_of spec_at spec_bytes IsSpecSpelled spec_took spec_again
+
+-- ---- files of the table
+
+regroup_7 : (a b c d e f g h : List ℕ) → a ++ b ++ c ++ d ++ e ++ f ++ g ++ h ≡ a ++ (b ++ (c ++ (d ++ (e ++ (f ++ (g ++ h))))))
+regroup_7 a b c d e f g h = simp append_assoc
+
+file_took : (bytes : List ℕ) (x : CodeFile × List ℕ) → IsBytes bytes → file_at bytes ≡ Ok x → Took file_bytes IsFileSpelled bytes x
+unfolding file_at
+file_took bytes x is e =
+    let a = part text_form bytes _ x is e in
+    let b = part spec_form a.rest _ x a.takes.rest_fits a.goes in
+    let c = part access_form b.rest _ x b.takes.rest_fits b.goes in
+    let d = part flag_form c.rest _ x c.takes.rest_fits c.goes in
+    let f = part short_form d.rest _ x d.takes.rest_fits d.goes in
+    let g = part item_form f.rest _ x f.takes.rest_fits f.goes in
+    let h = part item_form g.rest _ x g.takes.rest_fits g.goes in
+    let ta = text_bytes a.value in
+    let tb = spec_bytes b.value in
+    let tc : List ℕ = access_byte c.value ∷ [] in
+    let td : List ℕ = flag_byte d.value ∷ [] in
+    let tf = short_bytes f.value in
+    let tg = item_bytes g.value in
+    let made : CodeFile = record {
+      name = a.value;
+      organization = b.value.organization;
+      record_length = b.value.record_length;
+      alternates = b.value.alternates;
+      access = c.value;
+      optional = d.value;
+      area = f.value;
+      relative_key = g.value;
+      status = h.value;
+    } in
+    let two = takes_then bytes ta a.rest tb b.rest a.takes b.takes in
+    let three = takes_then bytes (ta ++ tb) b.rest tc c.rest two c.takes in
+    let four = takes_then bytes (ta ++ tb ++ tc) c.rest td d.rest three d.takes in
+    let five = takes_then bytes (ta ++ tb ++ tc ++ td) d.rest tf f.rest four f.takes in
+    let six = takes_then bytes (ta ++ tb ++ tc ++ td ++ tf) f.rest tg g.rest five g.takes in
+    let seven = takes_then bytes (ta ++ tb ++ tc ++ td ++ tf ++ tg) g.rest (item_bytes h.value) h.rest six h.takes in
+    let fits : IsFileSpelled made = record { name = a.sound; spec = b.sound; area = f.sound; relative_key = g.sound; status = h.sound } in
+    subst (Took file_bytes IsFileSpelled bytes) {x = (made, h.rest)} (ok_is (made, h.rest) x h.goes) (seven, fits)
+
+-- reading from each part on
+abbrev status_from : CodeFile → Option ItemIndex × List ℕ → ReadResult CodeFile
+status_from one status = Ok (record one { status = status.0 }, status.1)
+
+abbrev relative_key_from : CodeFile → Option ItemIndex × List ℕ → ReadResult CodeFile
+relative_key_from one relative_key = item_at relative_key.1 >>= status_from (record one { relative_key = relative_key.0 })
+
+abbrev area_from : CodeFile → ℕ × List ℕ → ReadResult CodeFile
+area_from one area = item_at area.1 >>= relative_key_from (record one { area = area.0 })
+
+abbrev optional_from : CodeFile → Bool × List ℕ → ReadResult CodeFile
+optional_from one optional = short_at optional.1 >>= area_from (record one { optional = optional.0 })
+
+abbrev access_from : CodeFile → Access × List ℕ → ReadResult CodeFile
+access_from one access = told_at flag_of access.1 >>= optional_from (record one { access = access.0 })
+
+abbrev spec_from : CodeFile → Spec × List ℕ → ReadResult CodeFile
+spec_from one spec =
+    told_at access_of spec.1
+    >>= access_from (record one { organization = spec.0.organization; record_length = spec.0.record_length; alternates = spec.0.alternates })
+
+abbrev name_from : CodeFile → List ℕ × List ℕ → ReadResult CodeFile
+name_from one name = spec_at name.1 >>= spec_from (record one { name = name.0 })
+
+file_again : (one : CodeFile) (rest : List ℕ) → IsFileSpelled one → file_at (file_bytes one ++ rest) ≡ Ok (one, rest)
+unfolding file_at
+file_again one rest fits =
+    let a = text_bytes one.name in
+    let b = spec_bytes (spec_of one) in
+    let c : List ℕ = access_byte one.access ∷ [] in
+    let d : List ℕ = flag_byte one.optional ∷ [] in
+    let e = short_bytes one.area in
+    let f = item_bytes one.relative_key in
+    let g = item_bytes one.status in
+    ap file_at (regroup_7 a b c d e f g rest)
+    ∙ part_again text_form one.name (b ++ (c ++ (d ++ (e ++ (f ++ (g ++ rest)))))) (name_from one) fits.name
+    ∙ part_again spec_form (spec_of one) (c ++ (d ++ (e ++ (f ++ (g ++ rest))))) (spec_from one) fits.spec
+    ∙ part_again access_form one.access (d ++ (e ++ (f ++ (g ++ rest)))) (access_from one) tt
+    ∙ part_again flag_form one.optional (e ++ (f ++ (g ++ rest))) (optional_from one) tt
+    ∙ part_again short_form one.area (f ++ (g ++ rest)) (area_from one) fits.area
+    ∙ part_again item_form one.relative_key (g ++ rest) (relative_key_from one) fits.relative_key
+    ∙ part_again item_form one.status rest (status_from one) fits.status
+
+pub file_form : IsForm file_at file_bytes IsFileSpelled
+file_form = form_of file_at file_bytes IsFileSpelled file_took file_again

@@ -1,9 +1,0 @@
-use Rattle.file_trees.proofs.Names as names
-use Rattle.file_trees.proofs.Specs as specs
-use Rattle.file_trees.proofs.laws.catalog_tells.Goals as goal
-
-pub returns-clause-spec : goal.returns-clause-spec
-returns-clause-spec c = specs.one_spec
-
-pub returns-clause-names : goal.returns-clause-names
-returns-clause-names c = names.names_in_order

@@ -1,0 +1,36 @@
+use Rattle.std.proofs.Common.{◌≡◌, ◌∙◌, ◌+◌, false, sym, ap, subst, rules}
+use Rattle.station.specs.History.{Through}
+use Rattle.station.specs.Blocks.{CrashLeaves}
+use Rattle.station.proofs.Spans.{stays}
+use Rattle.records.specs.Files.{Files, AreFiles}
+use Rattle.records.specs.Stores.{is_change, Either}
+use Rattle.half_store.specs.Stored.{files_of}
+use Rattle.half_store.specs.Half.{Holds, Rests, AreEarly}
+use Rattle.half_store.specs.declared.store.HalfStore.{HalfStore}
+use Rattle.half_store.proofs.Written.{at_rest}
+use Rattle.half_store.proofs.store.HalfStore.commit_files.Goals as goal
+
+pub returns-then-not-is_done-clause-settles : goal.returns-then-not-is_done-clause-settles
+returns-then-not-is_done-clause-settles g c = λ before after honest rests memory are early idle.
+    let old = g.D.Device.state c.args.device.now in
+    let none : is_change c.args.outcome ≡ false = search rules in
+    record {
+      stands = record { rests = subst (Rests c.args.self.now.sectors c.args.self.now.generation old.disk) (sym (idle none)) rests; memory = memory };
+      moments = stays (g.D.Device.history c.args.device.now) old _ (at_rest c.args.self.now.sectors c.args.self.now.generation before after old rests);
+      full = λ e. absurd {0} cc;
+    }
+
+pub returns-clause-settles : goal.returns-clause-settles
+returns-clause-settles g c = λ before after honest rests memory are early idle.
+    let are' = subst AreFiles (sym memory) are in
+    let early' = subst (AreEarly (c.args.self.now.generation + 1)) (sym memory) early in
+    let there = c.in_ok-write.ensures.rests honest before rests are' early' in
+    record {
+      stands = record {
+        rests = subst (Rests c.write.new.self.sectors c.write.new.self.generation (g.D.Device.state c.write.new.device).disk) memory there;
+        memory = ap (λ (s : HalfStore). files_of s.files.items) c.in_ok-write.ensures.rest ∙ memory;
+      };
+      moments = subst (λ (l : Files). Through (g.D.Device.history c.args.device.now) (g.D.Device.history c.write.new.device) (g.D.Device.state c.write.new.device)
+          (CrashLeaves (g.D.Device.state c.args.device.now).events (Either Holds before l))) memory (c.write.ensures.moments honest before rests are' early');
+      full = λ e. absurd {0} cc;
+    }

@@ -1,6 +1,0 @@
-use Rattle.std.proofs.Common.{◌≡◌, take}
-use Rattle.initial_storage.specs.Patterns.{bytes_of_pattern}
-use Rattle.initial_storage.proofs.initializing.bytes_of.Given as goal
-
-abbrev pub invariant-loop-one : goal.invariant-loop-one
-invariant-loop-one l = l.all.items ≡ bytes_of_pattern (take l.one-index l.pattern)

@@ -1,9 +1,0 @@
-use Rattle.names.specs.Table.{calls_in}
-use Rattle.names.proofs.Steps.{IsSought, left}
-use Rattle.names.proofs.table.NameTable.look_up.Given as goal
-
-abbrev pub invariant-same : goal.invariant-same
-invariant-same l = IsSought l.reference (calls_in l.self) l.next l.found
-
-abbrev pub decreases-same : goal.decreases-same
-decreases-same l = left l.next

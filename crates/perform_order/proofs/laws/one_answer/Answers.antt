@@ -1,5 +1,0 @@
-use Rattle.perform_order.proofs.Descent.{none_leads_back}
-use Rattle.perform_order.proofs.laws.one_answer.Goals as goal
-
-pub returns : goal.returns
-returns c = none_leads_back

@@ -1,9 +1,0 @@
-use Rattle.std.proofs.Common.{◌≡◌, length}
-use Rattle.perform_order.specs.Walk.{AreMarksTo}
-use Rattle.perform_order.proofs.ring.marks_of.Given as goal
-
-abbrev pub invariant-loop-visit : goal.invariant-loop-visit
-invariant-loop-visit l = record {
-  same : length l.marks.items ≡ l.count;
-  marks : AreMarksTo l.ring l.visit-index l.marks.items;
-}

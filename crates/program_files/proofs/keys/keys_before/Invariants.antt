@@ -1,6 +1,0 @@
-use Rattle.std.proofs.Common.{◌≡◌, ◌+◌, drop}
-use Rattle.program_files.specs.Keys.{keys_before}
-use Rattle.program_files.proofs.keys.keys_before.Given as goal
-
-abbrev pub invariant-loop-index : goal.invariant-loop-index
-invariant-loop-index l = l.index + keys_before l.one (drop l.index l.keys) ≡ keys_before l.one l.keys

@@ -1,6 +1,0 @@
-use Rattle.std.proofs.Common.{◌≡◌, take}
-use Rattle.run_time_data.specs.Areas.{storage_of}
-use Rattle.run_time_data.proofs.areas.Areas.new.Given as goal
-
-abbrev pub invariant-loop-area : goal.invariant-loop-area
-invariant-loop-area l = storage_of l.areas.items ≡ take l.area-index l.start

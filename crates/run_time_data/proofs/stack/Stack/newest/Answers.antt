@@ -1,7 +1,0 @@
-use Rattle.std.proofs.Common.{ap}
-use Rattle.run_time_data.proofs.Stacks.{newest_is}
-use Rattle.run_time_data.proofs.stack.Stack.newest.Goals as goal
-
-pub returns-clause-value : goal.returns-clause-value
-returns-clause-value g c =
-    newest_is c.args.self.now.newest_first c.self.inside.room.items c.as_slice.result.now c.self.inside.used c.args.count (ap (λ s. s.newest_first) c.self.view_is) c.as_slice.ensures.value c.self.invariant c.requires

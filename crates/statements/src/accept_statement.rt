@@ -1,0 +1,36 @@
+//! ACCEPT.
+
+ghost use Rattle.std.specs.Prelude.{◌≡◌};
+ghost use Rattle.std.specs.Option.{option_copied};
+ghost use Rattle.grammar.specs.Reading.{Reads};
+ghost use Rattle.statements.specs.Accepting as spec;
+
+use expressions::reference;
+use grammar::{ReadFault, Tokens, after_word};
+use source_tree::{Statement, TextStatement, Verb};
+use std::alloc::Global;
+use tokens::{Reserved, Token};
+
+/// From the verb on.
+#[tactic(auto, unfolding(crate::specs::Accepting::accept_reader, grammar::specs::Reading::left_out))]
+pub fn accepting(alloc: Global, tokens: &mut Tokens<'_>) -> Result<Verb<Statement>, ReadFault>
+    ensures { Reads (spec.accept_reader tokens.old) result tokens.new }
+{
+    tokens.expect(Reserved::Accept)?;
+    let receiver = reference(alloc, tokens)?;
+    let console = tokens.is_left_out(after_from_date(tokens.rest()));
+    Ok(Verb::Text(if console {
+        TextStatement::Accept { receiver }
+    } else {
+        TextStatement::AcceptDate { receiver }
+    }))
+}
+
+/// The tokens after FROM DATE, where that comes first.
+#[tactic(auto, unfolding(crate::specs::Accepting::after_from_date))]
+fn after_from_date(tokens: &[Token]) -> Option<&[Token]>
+    ensures { option_copied result ≡ spec.after_from_date tokens.now }
+{
+    let from = after_word(tokens, Reserved::From)?;
+    after_word(from, Reserved::Date)
+}

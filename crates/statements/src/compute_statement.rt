@@ -1,0 +1,54 @@
+//! COMPUTE.
+
+ghost use Rattle.std.specs.Prelude.{◌≡◌};
+ghost use Rattle.grammar.specs.Parts.{is_told};
+ghost use Rattle.grammar.specs.Reading as read;
+ghost use Rattle.grammar.specs.Reading.{Reads};
+ghost use Rattle.statements.specs.Computing as spec;
+
+use crate::receivers::all_receivers;
+use expressions::expression;
+use grammar::{ReadFault, Tokens};
+use source_tree::Operation;
+use std::alloc::Global;
+use tokens::{Kind, Operator, Reserved, Token};
+
+/// From the verb on, without its phrases; `depth` is how deep the expression may nest.
+#[tactic(auto, unfolding(crate::specs::Computing::compute_reader))]
+pub fn computing(
+    alloc: Global,
+    depth: usize,
+    tokens: &mut Tokens<'_>,
+) -> Result<Operation, ReadFault>
+    ensures { Reads (spec.compute_reader depth tokens.old) result tokens.new }
+{
+    tokens.expect(Reserved::Compute)?;
+    let receivers = all_receivers(alloc, tokens)?;
+    equal(tokens)?;
+    let value = expression(alloc, tokens, depth)?;
+    Ok(Operation::Compute { receivers, value })
+}
+
+fn is_equal(token: &Token) -> bool
+    ensures { result ≡ is_told (spec.equal_in token.now) }
+{
+    match token.kind {
+        Kind::Operator(Operator::Equal) => true,
+        Kind::Reserved(Reserved::Equal) => true,
+        _ => false,
+    }
+}
+
+/// Passes `=` or EQUAL, which has to come next.
+#[tactic(auto, unfolding(grammar::specs::Reading::one_token))]
+fn equal(tokens: &mut Tokens<'_>) -> Result<(), ReadFault>
+    ensures { Reads (read.one_token spec.equal_in tokens.old) result tokens.new }
+{
+    match tokens.rest() {
+        [next, rest @ ..] if is_equal(next) => {
+            tokens.go_to(rest);
+            Ok(())
+        }
+        _ => Err(tokens.refuse()),
+    }
+}

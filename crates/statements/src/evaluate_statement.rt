@@ -1,0 +1,225 @@
+//! EVALUATE.
+
+ghost use Rattle.std.specs.Prelude.{◌≡◌, ◌∷◌, IfOk};
+ghost use Rattle.std.specs.Option.{option_copied};
+ghost use Rattle.grammar.specs.Reading.{Reads};
+ghost use Rattle.conditions.specs.Evaluate as asked;
+ghost use Rattle.statements.specs.Evaluate as rule;
+ghost use Rattle.statements.specs.Nests.{Nests};
+ghost use Rattle.statements.specs.Reading as spec;
+
+use crate::nesting::Nesting;
+use conditions::{object, subject};
+use grammar::{Part, ReadFault, Tokens, after_word, any, beside, phrase_at, several};
+use source_tree::{
+    ConditionalStatement, Evaluate, Object, Selected, Statement, Subject, Verb, When,
+};
+use sqlite_items::Items;
+use std::alloc::{AllocError, Global};
+use tokens::{Reserved, Token};
+
+/// ALSO and the subject behind it.
+#[derive(Clone, Copy)]
+struct FurtherSubjects {
+    /// How deep what the subject holds may nest.
+    depth: usize,
+}
+
+/// ALSO and the object behind it.
+#[derive(Clone, Copy)]
+struct FurtherObjects {
+    /// How deep what the object holds may nest.
+    depth: usize,
+}
+
+/// WHEN with its objects.
+#[derive(Clone, Copy)]
+struct Whens {
+    /// How deep what the objects hold may nest.
+    depth: usize,
+}
+
+/// WHENs and the statements behind them.
+#[derive(Drop)]
+struct Selections<'a, F> {
+    nesting: &'a Nesting<F>,
+}
+
+impl Part<Subject> for FurtherSubjects {
+    ghost use Rattle.tokens.specs.declared.reserved.Reserved.TheVariants as w;
+    ghost use Rattle.grammar.specs.Reading.{begins_word};
+    ghost use Rattle.conditions.specs.Evaluate as asked;
+    ghost use Rattle.statements.specs.Evaluate as rule;
+
+    ghost ready = { λ _. Unit {0} };
+
+    ghost reading = { λ n. rule.also_item_reader (asked.subject_reader n.depth) };
+
+    ghost beginning = { λ _. begins_word w.Also };
+
+    #[tactic(auto, unfolding(crate::specs::Evaluate::also_item_reader))]
+    fn read(&self, alloc: Global, tokens: &mut Tokens<'_>) -> Result<Subject, ReadFault> {
+        tokens.expect(Reserved::Also)?;
+        subject(alloc, tokens, self.depth)
+    }
+
+    fn begins(&self, tokens: &Tokens<'_>) -> bool {
+        tokens.at_word(Reserved::Also)
+    }
+}
+
+impl Part<Object> for FurtherObjects {
+    ghost use Rattle.tokens.specs.declared.reserved.Reserved.TheVariants as w;
+    ghost use Rattle.grammar.specs.Reading.{begins_word};
+    ghost use Rattle.conditions.specs.Evaluate as asked;
+    ghost use Rattle.statements.specs.Evaluate as rule;
+
+    ghost ready = { λ _. Unit {0} };
+
+    ghost reading = { λ n. rule.also_item_reader (asked.object_reader n.depth) };
+
+    ghost beginning = { λ _. begins_word w.Also };
+
+    #[tactic(auto, unfolding(crate::specs::Evaluate::also_item_reader))]
+    fn read(&self, alloc: Global, tokens: &mut Tokens<'_>) -> Result<Object, ReadFault> {
+        tokens.expect(Reserved::Also)?;
+        object(alloc, tokens, self.depth)
+    }
+
+    fn begins(&self, tokens: &Tokens<'_>) -> bool {
+        tokens.at_word(Reserved::Also)
+    }
+}
+
+/// The first and those behind it.
+fn listed<T: Drop>(alloc: Global, first: T, more: Items<T>) -> Result<Items<T>, AllocError>
+    ensures { IfOk result (λ all. all ≡ first ∷ more) }
+{
+    let mut all = Items::new(alloc);
+    all.push(first)?;
+    all.append(more)?;
+    Ok(all)
+}
+
+/// Subjects with ALSO between; `depth` is how deep what they hold may nest.
+#[tactic(auto, unfolding(crate::specs::Evaluate::listed_reader))]
+fn subjects(
+    alloc: Global,
+    depth: usize,
+    tokens: &mut Tokens<'_>,
+) -> Result<Items<Subject>, ReadFault>
+    ensures { Reads (rule.listed_reader (asked.subject_reader depth) tokens.old) result tokens.new }
+{
+    let first = subject(alloc, tokens, depth)?;
+    let more = any(&FurtherSubjects { depth }, alloc, tokens);
+    let (first, more) = beside(first, more)?;
+    Ok(listed(alloc, first, more)?)
+}
+
+/// Objects with ALSO between; `depth` is how deep what they hold may nest.
+#[tactic(auto, unfolding(crate::specs::Evaluate::listed_reader))]
+fn objects(alloc: Global, depth: usize, tokens: &mut Tokens<'_>) -> Result<Items<Object>, ReadFault>
+    ensures { Reads (rule.listed_reader (asked.object_reader depth) tokens.old) result tokens.new }
+{
+    let first = object(alloc, tokens, depth)?;
+    let more = any(&FurtherObjects { depth }, alloc, tokens);
+    let (first, more) = beside(first, more)?;
+    Ok(listed(alloc, first, more)?)
+}
+
+/// The tokens after WHEN OTHER, where it comes first.
+#[tactic(auto, unfolding(crate::specs::Evaluate::after_when_other))]
+fn after_when_other(tokens: &[Token]) -> Option<&[Token]>
+    ensures { option_copied result ≡ rule.after_when_other tokens.now }
+{
+    let rest = after_word(tokens, Reserved::When)?;
+    after_word(rest, Reserved::Other)
+}
+
+/// WHEN comes next, and not WHEN OTHER.
+fn begins_when(tokens: &Tokens<'_>) -> bool
+    ensures { result ≡ rule.begins_when tokens.now }
+{
+    tokens.at_word(Reserved::When) && after_when_other(tokens.rest()).is_none()
+}
+
+impl Part<When> for Whens {
+    ghost use Rattle.statements.specs.Evaluate as rule;
+
+    ghost ready = { λ _. Unit {0} };
+
+    ghost reading = { λ n. rule.when_reader n.depth };
+
+    ghost beginning = { λ _. rule.begins_when };
+
+    #[tactic(auto, unfolding(crate::specs::Evaluate::when_reader))]
+    fn read(&self, alloc: Global, tokens: &mut Tokens<'_>) -> Result<When, ReadFault> {
+        let place = tokens.verb(Reserved::When)?;
+        let objects = objects(alloc, self.depth, tokens)?;
+        Ok(When { place, objects })
+    }
+
+    fn begins(&self, tokens: &Tokens<'_>) -> bool {
+        begins_when(tokens)
+    }
+}
+
+impl<F: Fn(Global, &mut Tokens<'_>, usize) -> Result<Statement, ReadFault>> Part<
+    Selected<Statement>,
+> for Selections<'_, F> {
+    ghost use Rattle.statements.specs.Evaluate as rule;
+    ghost use Rattle.statements.specs.Nests.{Nests};
+    ghost use Rattle.statements.specs.Reading as spec;
+
+    ghost ready = { λ n. Nests n.nesting.now.depth (F.pre n.nesting.now.statement) (F.post n.nesting.now.statement) };
+
+    ghost reading = { λ n. rule.selected_reader n.nesting.now.depth (spec.statements (spec.statement n.nesting.now.depth)) };
+
+    ghost beginning = { λ _. rule.begins_when };
+
+    #[tactic(auto, unfolding(crate::specs::Evaluate::selected_reader))]
+    fn read(
+        &self,
+        alloc: Global,
+        tokens: &mut Tokens<'_>,
+    ) -> Result<Selected<Statement>, ReadFault> {
+        let depth = self.nesting.depth;
+        let whens = several(&Whens { depth }, alloc, tokens)?;
+        let statements = self.nesting.statements(tokens)?;
+        Ok(Selected { whens, statements })
+    }
+
+    fn begins(&self, tokens: &Tokens<'_>) -> bool {
+        begins_when(tokens)
+    }
+}
+
+impl<F: Fn(Global, &mut Tokens<'_>, usize) -> Result<Statement, ReadFault>> Nesting<F> {
+    /// WHEN OTHER and its statements, where it stands.
+    #[tactic(auto, unfolding(crate::specs::Evaluate::other_reader, crate::specs::Reading::statements, grammar::specs::Phrases::phrase_reader))]
+    fn other(&self, tokens: &mut Tokens<'_>) -> Result<Option<Items<Statement>>, ReadFault>
+        requires { Nests self.now.depth (F.pre self.now.statement) (F.post self.now.statement) }
+        ensures { Reads (rule.other_reader (spec.statements (spec.statement self.now.depth)) tokens.old) result tokens.new }
+    {
+        let after = after_when_other(tokens.rest());
+        phrase_at(self, self.alloc, tokens, after)
+    }
+
+    /// From the verb on.
+    #[tactic(auto, unfolding(crate::specs::Evaluate::evaluate_reader))]
+    pub fn evaluating(&self, tokens: &mut Tokens<'_>) -> Result<Verb<Statement>, ReadFault>
+        requires { Nests self.now.depth (F.pre self.now.statement) (F.post self.now.statement) }
+        ensures { Reads (rule.evaluate_reader self.now.depth (spec.statements (spec.statement self.now.depth)) tokens.old) result tokens.new }
+    {
+        tokens.expect(Reserved::Evaluate)?;
+        let subjects = subjects(self.alloc, self.depth, tokens)?;
+        let selected = several(&Selections { nesting: self }, self.alloc, tokens)?;
+        let other = self.other(tokens)?;
+        tokens.skip(Reserved::EndEvaluate);
+        Ok(Verb::ConditionalStatement(ConditionalStatement::Evaluate(Evaluate {
+            subjects,
+            selected,
+            other,
+        })))
+    }
+}

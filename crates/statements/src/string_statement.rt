@@ -1,0 +1,113 @@
+//! STRING.
+
+ghost use Rattle.std.specs.Prelude.{◌≡◌};
+ghost use Rattle.std.specs.Option.{option_copied};
+ghost use Rattle.grammar.specs.Reading.{Reads};
+ghost use Rattle.statements.specs.Nests.{Nests};
+ghost use Rattle.statements.specs.Reading as spec;
+ghost use Rattle.statements.specs.Stringing as rule;
+
+use crate::nesting::Nesting;
+use expressions::{Operands, begins_operand, operand, reference};
+use grammar::{Part, Phrase, ReadFault, Tokens, after_word, beside, past_word, several, two_sided};
+use source_tree::{Operand, Reference, Sending, Statement, StringStatement, Verb};
+use sqlite_items::Items;
+use std::alloc::Global;
+use tokens::{Reserved, Token};
+
+/// What the senders are DELIMITED BY; none is SIZE.
+#[tactic(auto, unfolding(crate::specs::Stringing::delimiter_reader))]
+fn delimiter(alloc: Global, tokens: &mut Tokens<'_>) -> Result<Option<Operand>, ReadFault>
+    ensures { Reads (rule.delimiter_reader tokens.old) result tokens.new }
+{
+    let Some(after) = after_word(tokens.rest(), Reserved::Size) else {
+        return Ok(Some(operand(alloc, tokens)?));
+    };
+    tokens.go_to(after);
+    Ok(None)
+}
+
+/// Senders and their delimiter.
+#[tactic(auto, unfolding(crate::specs::Stringing::sending_reader))]
+fn sending(alloc: Global, tokens: &mut Tokens<'_>) -> Result<Sending, ReadFault>
+    ensures { Reads (rule.sending_reader tokens.old) result tokens.new }
+{
+    let senders = several(&Operands, alloc, tokens)?;
+    tokens.expect(Reserved::Delimited)?;
+    tokens.skip(Reserved::By);
+    let delimiter = delimiter(alloc, tokens)?;
+    Ok(Sending { senders, delimiter })
+}
+
+struct Sendings;
+
+impl Part<Sending> for Sendings {
+    ghost use Rattle.expressions.specs.Operands.{begins_operand};
+    ghost use Rattle.statements.specs.Stringing as rule;
+
+    ghost ready = { λ _. Unit {0} };
+
+    ghost reading = { λ _. rule.sending_reader };
+
+    ghost beginning = { λ _. begins_operand };
+
+    fn read(&self, alloc: Global, tokens: &mut Tokens<'_>) -> Result<Sending, ReadFault> {
+        sending(alloc, tokens)
+    }
+
+    fn begins(&self, tokens: &Tokens<'_>) -> bool {
+        begins_operand(tokens)
+    }
+}
+
+/// What is strung together, and into what.
+#[tactic(auto, unfolding(crate::specs::Stringing::strung_reader))]
+fn strung(alloc: Global, tokens: &mut Tokens<'_>) -> Result<(Items<Sending>, Reference), ReadFault>
+    ensures { Reads (rule.strung_reader tokens.old) result tokens.new }
+{
+    let sendings = several(&Sendings, alloc, tokens)?;
+    let (sendings, ()) = beside(sendings, tokens.expect(Reserved::Into))?;
+    beside(sendings, reference(alloc, tokens))
+}
+
+/// The tokens after `[WITH] POINTER`, where that comes first.
+#[tactic(auto, unfolding(crate::specs::Stringing::after_with_pointer))]
+fn after_with_pointer(tokens: &[Token]) -> Option<&[Token]>
+    ensures { option_copied result ≡ rule.after_with_pointer tokens.now }
+{
+    after_word(past_word(tokens, Reserved::With), Reserved::Pointer)
+}
+
+/// The item behind POINTER, where the phrase stands.
+#[tactic(auto, unfolding(crate::specs::Stringing::pointer_reader))]
+fn pointer(alloc: Global, tokens: &mut Tokens<'_>) -> Result<Option<Reference>, ReadFault>
+    ensures { Reads (rule.pointer_reader tokens.old) result tokens.new }
+{
+    let Some(after) = after_with_pointer(tokens.rest()) else {
+        return Ok(None);
+    };
+    tokens.go_to(after);
+    Ok(Some(reference(alloc, tokens)?))
+}
+
+impl<F: Fn(Global, &mut Tokens<'_>, usize) -> Result<Statement, ReadFault>> Nesting<F> {
+    /// From the verb on: what is strung together, the OVERFLOW phrases and END-STRING.
+    #[tactic(auto, unfolding(crate::specs::Stringing::string_reader, crate::specs::Reading::statements))]
+    pub fn stringing(&self, tokens: &mut Tokens<'_>) -> Result<Verb<Statement>, ReadFault>
+        requires { Nests self.now.depth (F.pre self.now.statement) (F.post self.now.statement) }
+        ensures { Reads (rule.string_reader (spec.statements (spec.statement self.now.depth)) tokens.old) result tokens.new }
+    {
+        tokens.expect(Reserved::String)?;
+        let strung = strung(self.alloc, tokens)?;
+        let head = beside(strung, pointer(self.alloc, tokens))?;
+        let phrases = two_sided(Phrase::Overflow, self, self.alloc, tokens);
+        let (((sendings, receiver), pointer), phrases) = beside(head, phrases)?;
+        tokens.skip(Reserved::EndString);
+        Ok(Verb::StringStatement(StringStatement {
+            sendings,
+            receiver,
+            pointer,
+            phrases,
+        }))
+    }
+}

@@ -1,5 +1,0 @@
-use Rattle.tree_pages.proofs.Numbers as numbers
-use Rattle.tree_pages.proofs.laws.numbers_in_order.Goals as goal
-
-pub returns : goal.returns
-returns c = numbers.numbers_in_order

@@ -1,5 +1,0 @@
-use Rattle.tree_pages.proofs.Views.{spells_node}
-use Rattle.tree_pages.proofs.laws.spells_node.Goals as goal
-
-pub returns : goal.returns
-returns c = λ layout bytes node sound long e. spells_node layout bytes node sound long e
