@@ -126,7 +126,7 @@ module _ (test : List ℕ → Bool) where
   is_head [] up = λ x has right. in_none x has
   is_head (a ∷ more) up = by_key (test a.key) a more refl up.0 (is_head more up.1)
 
--- `first_from` and `first_after` are of this kind
+-- `first_from` and `first_entry_after` are of this kind
 from_by : (c : Bool) (e : Entry) (one two : Option Entry) → one ≡ two → (if c then one else Some e) ≡ (if not c then Some e else two)
 from_by true e one two same = same
 from_by false e one two same = refl

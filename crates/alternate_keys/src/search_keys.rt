@@ -107,7 +107,7 @@ pub(crate) fn key_for(
     }
 }
 
-/// The aim at a value with its number.
+/// The start of a search for a value with its number.
 fn start_at_pair(side: Side) -> SearchStart
     ensures { result ≡ aim_at side }
 {
@@ -118,7 +118,7 @@ fn start_at_pair(side: Side) -> SearchStart
     }
 }
 
-/// The aim at the beginning of a value.
+/// The start of a search for the beginning of a value.
 fn start_at_part(side: Side) -> SearchStart
     ensures { result ≡ aim_short side }
 {
@@ -129,7 +129,7 @@ fn start_at_part(side: Side) -> SearchStart
     }
 }
 
-/// The aim at a number.
+/// The start of a search for a number.
 fn start_at_number(side: Side) -> SearchStart
     ensures { result ≡ aim_number side }
 {
@@ -140,7 +140,7 @@ fn start_at_number(side: Side) -> SearchStart
     }
 }
 
-/// The aim at a value of the prime key.
+/// The start of a search for a value of the prime key.
 fn start_at_value(side: Side, number: u64) -> SearchStart
     ensures { result ≡ aim_value side number }
 {

@@ -1,4 +1,4 @@
-//! Assertions of the rows, as functions; calls on a page of a tree, each of which asserts first what `tree_pages` asks of its caller;
+//! Assertions of the rows, as functions; calls on a page of a tree, each of which asserts first what `btree_pages` asks of its caller;
 //! and a page's bytes by the layout.
 //!
 //! A call of an assertion is proved at once. A macro in a test makes a path of its own there, on which everything that the test holds has

@@ -1,4 +1,4 @@
--- Heights that fall, and paragraphs that perform one another, exclude each other.
+-- Ranks that decrease, and paragraphs that perform one another, exclude each other.
 use Rattle.std.proofs.Common.{◌≡◌, ◌<◌, ◌+◌, ℕ, zero, suc, Bool, true, All, ◌↔◌, List, length, subst, ap, arith}
 use Rattle.std.proofs.lemmas.Option.{slice_get_within, get_or_from_slice_get}
 use Rattle.perform_graph.specs.declared.performed.PerformedRange.{PerformedRange}
@@ -25,7 +25,7 @@ pub excluded : (performed : List PerformedRange) (height : ℕ → ℕ) (among :
     → ⊥
 excluded performed height among fall back = descends performed height among fall back.each (height back.some + 1) back.some (omega arith) back.marked
 
--- Heights were found exactly where code has an order.
+-- Ranks were found exactly where code has an order.
 pub order_is : (code : Code) (found : Order) → All (IsRange (length code.starts)) (performed_by_code code.instructions)
     → IsOrder (length code.starts) (performed_by_code code.instructions) found
     → HasHeights found ↔ HasOrder code

@@ -10,7 +10,7 @@ pub record ListsParagraphs (instructions : List Instruction) (paragraphs : List 
   pub one_each : length paragraphs ≡ length instructions + 1
   pub each : (address : ℕ) → address ≤ length instructions → slice_index paragraphs address ≡ paragraph_at instructions address
 
--- Heights of paragraphs were found, and no paragraphs that perform one another.
+-- Ranks of paragraphs were found, and no paragraphs that perform one another.
 abbrev pub HasHeights : Order → Type 0
 HasHeights (Ranks all) = Unit {0}
 HasHeights (Recursive all) = ⊥

@@ -123,7 +123,7 @@ fn are_ranges(count: usize, ranges: &[PerformedRange]) -> bool
     true
 }
 
-/// There are heights.
+/// There are ranks.
 fn has_heights(order: &Order) -> bool
     ensures { IsTrue result ↔ HasHeights order.now }
 {

@@ -72,7 +72,7 @@ module _ (found : Scope) (permits : Range → Bool) where
       each_permitted (sentence_rules found permits) (sentence_rules found all_permitted)
       (sentence_performs found.procedures) sentence_permitted one.sentences
 
--- ---- heights fall along what a paragraph performs
+-- ---- ranks decrease along what a paragraph performs
 
 mapped_all : {A B : Type 0} (P : B → Type 0) (f : A → B) (xs : List A) → AllByRecursion P (map f xs) → AllByRecursion (λ (x : A). P (f x)) xs
 mapped_all P f [] h = tt

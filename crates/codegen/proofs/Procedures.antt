@@ -123,14 +123,14 @@ laid_out whole scope all start none first bare st =
       stops = end_stands piece whole end_fragment all start Stop [] refl st;
     }
 
--- ---- heights
+-- ---- ranks
 
 -- so many paragraphs, from this one on, are lower
 abbrev pub all_below : (ℕ → ℕ) → ℕ → ℕ → ℕ → Bool
 all_below height high first zero = true
 all_below height high first (suc more) = nat_lt (height first) high && all_below height high (suc first) more
 
--- the ranges that a paragraph of this height may perform
+-- the ranges that a paragraph of this rank may perform
 abbrev pub below : (ℕ → ℕ) → ℕ → Range → Bool
 below height high range = all_below height high range.first (range.last + 1 - range.first)
 

@@ -1,4 +1,4 @@
--- Heights that fall rule out paragraphs that perform one another: there would be ever lower ones.
+-- Ranks that decrease rule out paragraphs that perform one another: there would be ever lower ones.
 use Rattle.std.proofs.Common.{◌≡◌, ℕ, zero, suc, ◌<◌, Bool, true, List, ap, subst, arith}
 use Rattle.std.proofs.lemmas.Option.{slice_get_within, get_or_from_slice_get}
 use Rattle.perform_graph.specs.declared.performed.PerformedRange.{PerformedRange}

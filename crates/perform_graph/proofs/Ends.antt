@@ -1,4 +1,4 @@
--- What the end of the walk says: heights that fall, or marks of paragraphs that perform one another.
+-- What the end of the walk says: ranks that decrease, or marks of paragraphs that perform one another.
 use Rattle.std.proofs.Common.{◌≡◌, ℕ, ◌<◌, true, Bool, List, [], ◌∷◌, length, get_or, Some, refl, ap, ◌∙◌, arith}
 use Rattle.std.specs.Prelude.{All, map, slice_get}
 use Rattle.std.proofs.lemmas.Bool.{false≢true}

@@ -13,7 +13,7 @@ range performer first last = record { performer = performer; first = first; last
 abbrev nested : List PerformedRange
 nested = range 0 1 2 ∷ range 2 1 1 ∷ []
 
--- Heights 2, 0 and 1 fall along both.
+-- Ranks 2, 0 and 1 decrease along both.
 abbrev height : ℕ → ℕ
 height = rank_in (2 ∷ 0 ∷ 1 ∷ [])
 
@@ -42,11 +42,11 @@ falling = record {
 no_ring : (among : ℕ → Bool) → PerformOneAnother among nested → ⊥
 no_ring among = none_leads_back nested height among falling.fall
 
--- Heights 2, 1 and 1 don't: paragraph 2 performs one that is as high.
+-- Ranks 2, 1 and 1 don't: paragraph 2 performs one that is as high.
 not_falling : AreRanks 3 nested (2 ∷ 1 ∷ 1 ∷ []) → ⊥
 not_falling are = let fall = are.fall 1 (range 0 0 0) (omega arith) 1 (record { first = omega arith; last = omega arith }) in omega (arith, fall)
 
--- Nor are 3, 0 and 1 heights of three paragraphs, since 3 isn't below their count.
+-- Nor are 3, 0 and 1 ranks of three paragraphs, since 3 isn't below their count.
 too_high : AreRanks 3 nested (3 ∷ 0 ∷ 1 ∷ []) → ⊥
 too_high are = let below = are.below 0 0 (omega arith) in omega (arith, below)
 

@@ -45,7 +45,7 @@ marks all paragraph = get_or all paragraph false
 abbrev pub rank_in : List ℕ → ℕ → ℕ
 rank_in all paragraph = get_or all paragraph 0
 
--- a height for each of so many paragraphs, below their count, that falls along each PERFORM
+-- a rank for each of so many paragraphs, below their count, that decreases along each PERFORM
 pub record AreRanks (count : ℕ) (performed : List PerformedRange) (all : List ℕ) : Type 0 where
   pub one_each : length all ≡ count
   pub below : All (λ (height : ℕ). height < count) all

@@ -21,7 +21,7 @@ is_seen Unseen = false
 is_seen (Open depth) = true
 is_seen (Placed height) = true
 
--- the height of a placed one
+-- the rank of a placed one
 abbrev pub rank_of : Progress → ℕ
 rank_of Unseen = 0
 rank_of (Open depth) = 0

@@ -14,7 +14,7 @@ use std::alloc::{AllocError, Global};
 /// What is known of paragraphs that perform others.
 #[derive(Drop)]
 pub enum Order {
-    /// A height for each paragraph, below their count: each performs only lower ones.
+    /// A rank for each paragraph, below their count: each performs only lower ones.
     Ranks(Items<usize>),
     /// Paragraphs are marked that perform one another: each of them performs one of them.
     Recursive(Items<bool>),

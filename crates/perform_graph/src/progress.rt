@@ -13,7 +13,7 @@ pub enum Progress {
     Unseen,
     /// It is on the path, at this depth.
     Open(usize),
-    /// All that it performs is placed; its height is how many were placed before.
+    /// All that it performs is placed; its rank is how many were placed before.
     Placed(usize),
 }
 
@@ -30,7 +30,7 @@ impl Progress {
         matches!(self, Progress::Placed(_))
     }
 
-    /// The height, or 0 where it isn't placed.
+    /// The rank, or 0 where it isn't placed.
     fn height(self) -> usize
         ensures { result ≡ walk.rank_of self }
     {
@@ -54,7 +54,7 @@ pub fn first_unplaced(states: &[Progress], first: usize, last: usize) -> Option<
     None
 }
 
-/// The heights of all paragraphs.
+/// The ranks of all paragraphs.
 pub fn ranks_of(alloc: Global, states: &[Progress]) -> Result<Items<usize>, AllocError>
     ensures { IfOk result (λ heights. heights ≡ map walk.rank_of states.now) }
 {

@@ -110,7 +110,7 @@ performs program = performs_from (procedures_of program.sections) 0 (paragraphs 
 abbrev pub performed_by_program : Program → List PerformedRange
 performed_by_program program = map (λ one. one.1) (performs program)
 
--- Paragraphs have heights that fall along each PERFORM: none leads back.
+-- Paragraphs have ranks that decrease along each PERFORM: none leads back.
 abbrev pub HasOrder : Program → Type 0
 HasOrder program = (heights : List ℕ) × AreRanks (length (paragraphs program)) (performed_by_program program) heights
 
