@@ -163,6 +163,19 @@ fn file_that_loses_its_end(rt: HostRuntime) -> Result<(), Fail> {
     Ok(())
 }
 
+/// A regular file that the host can't sync: an opening to write fails, and each sync.
+#[test]
+fn file_that_cannot_be_synced(rt: HostRuntime) -> Result<(), Fail> {
+    let path = "/proc/self/comm";
+    assert!(rt; HostVolume::open(&rt, path, Access::ReadWrite).is_err());
+    let volume = HostVolume::open(&rt, path, Access::Read)?;
+    assert!(rt; volume.sync().is_err());
+    let mut device = HostDevice::new(rt.alloc(), volume);
+    assert!(rt; device.sync().is_err());
+    assert_eq!(rt; device.failures(), 1);
+    Ok(())
+}
+
 /// A device of so many sectors: how often it is read, written and synced while its roots are written again.
 #[test]
 fn roots_that_are_written_again(rt: HostRuntime) -> Result<(), Fail> {

@@ -5,7 +5,7 @@ ghost use Rattle.host_volume.specs.Volume.{sector_count};
 
 use crate::device::HostDevice;
 use crate::host_file::{lock, open_folder, refuse_other_kinds};
-use crate::roots::rewrite_roots;
+use crate::roots::sync_and_rewrite_roots;
 use std::alloc::Global;
 use std::fs::{File, OpenOptions};
 use std::io;
@@ -56,7 +56,7 @@ impl HostVolume {
         }
     }
 
-    /// Syncs the file and its folder, and writes both roots again.
+    /// Syncs the folder and the file, and writes both roots again.
     ///
     /// After a failed sync of an earlier process the host may keep a root in its cache that the disk doesn't have, and report
     /// no further error. A later commit would trust that root and reuse sectors that the root on the disk still names. The
@@ -64,10 +64,9 @@ impl HostVolume {
     fn settle(self, alloc: Global, folder: &File) -> io::Result<HostVolume>
         ensures { IfOk result (λ volume. sector_count volume ≡ sector_count self) }
     {
-        self.file.sync_all()?;
         folder.sync_all()?;
         let mut device = HostDevice::new(alloc, self);
-        if rewrite_roots(&mut device).is_err() {
+        if sync_and_rewrite_roots(&mut device).is_err() {
             return Err(ErrorKind::Other.into());
         }
         match device.into_volume() {
