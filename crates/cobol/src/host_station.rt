@@ -154,6 +154,6 @@ impl<C: BufRead + Drop, O: Write + Drop, D: Device + Drop> Station for HostStati
         ensures failures { CountsFailure result self.old.failures self.new.failures }
         ensures shown { OnOk result (writer_buffer self.new.out ≡ []) }
     {
-        self.flush()
+        self.flush() // No status overtakes what was shown before it.
     }
 }
