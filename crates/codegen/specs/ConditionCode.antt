@@ -1,17 +1,21 @@
 -- The code of conditions, which sets the truth (own choice).
-use Rattle.std.specs.Prelude.{ℕ, List, [], ◌∷◌, length, map, Option, Some, None, get_or, slice_get}
+use Rattle.std.specs.Prelude.{ℕ, ◌==◌, ◌&&◌, Bool, true, false, not, List, [], ◌∷◌, length, map, Option, Some, None, get_or, slice_get}
 use Rattle.source_tree.specs.declared.literal.Literal.{Literal}
+use Rattle.source_tree.specs.declared.literal.Figurative.TheVariants as figurative
+use Rattle.source_tree.specs.declared.literal.LiteralValue.TheVariants as literal
 use Rattle.source_tree.specs.declared.entry.ValueRange.{ValueRange}
 use Rattle.source_tree.specs.declared.reference.QualifiedName.{QualifiedName}
 use Rattle.source_tree.specs.declared.reference.Reference.{Reference}
 use Rattle.source_tree.specs.declared.expression.Operand.{Operand}
 use Rattle.source_tree.specs.declared.expression.Operand.TheVariants as operand
 use Rattle.source_tree.specs.declared.condition.Relation.{Relation}
+use Rattle.source_tree.specs.declared.condition.Relation.TheVariants.{Equal}
 use Rattle.source_tree.specs.declared.condition.Side.{Side}
 use Rattle.source_tree.specs.declared.condition.Side.TheVariants as side
 use Rattle.source_tree.specs.declared.condition.Condition.{Condition}
 use Rattle.source_tree.specs.declared.condition.Condition.TheOpen.{Condition-F}
 use Rattle.source_tree.specs.declared.condition.Condition.TheFolds.{fold-Condition}
+use Rattle.source_tree.specs.ArithmeticRules.{is_numeric_kind}
 use Rattle.source_tree.specs.Literals.{literal_sender}
 use Rattle.source_tree.specs.LookUp.{NamedCondition, all_conditions}
 use Rattle.source_tree.specs.Places.{LocatedItem}
@@ -25,7 +29,7 @@ use Rattle.name_table.specs.Positions.{look_up}
 use Rattle.name_table.specs.Conditions.{called_condition, item_numbers}
 use Rattle.codegen.specs.Pieces.{Fragment, no_tables, sequence, in_order}
 use Rattle.codegen.specs.Meeting.{either_fragment, nothing_fragment}
-use Rattle.codegen.specs.DataCode.{number_found, dimensions_of, work_fragment, works_fragment, number_fragment, literal_entry, subscripts_fragment, take_fragment, sender_fragment}
+use Rattle.codegen.specs.DataCode.{number_found, item_number, dimensions_of, work_fragment, works_fragment, number_fragment, literal_entry, subscripts_fragment, take_fragment, sender_fragment}
 use Rattle.codegen.specs.ArithmeticCode.{zero_number, value_fragment, expression_fragment}
 
 -- ---- condition names
@@ -86,6 +90,19 @@ any_fragment (one ∷ more) = sequence one (in_order or_fragment more)
 
 -- ---- conditions
 
+-- ZERO, with which each value may be compared
+abbrev pub zero_literal : Literal
+zero_literal = record { value = literal.Figurative figurative.Zero; place = record { line = 0; column = 0 } }
+
+-- an item without subscripts
+abbrev pub is_single : Option LocatedItem → Bool
+is_single None = false
+is_single (Some one) = length one.dimensions == 0
+
+abbrev pub is_numeric_item : Option LocatedItem → Bool
+is_numeric_item None = false
+is_numeric_item (Some one) = is_numeric_kind one.item.kind
+
 -- `items` are those of the table of items, in order.
 module _ (items : List LocatedItem) where
   -- the item is taken, in the occurrence referred to, and compared with each value
@@ -110,10 +127,34 @@ module _ (items : List LocatedItem) where
   side_fragment (side.Expression one) = expression_fragment items one
   side_fragment (side.Literal one) = value_fragment items (operand.Literal one)
 
+  -- two sides as numbers
+  abbrev pub numbers_fragment : Side → Relation → Side → Fragment
+  numbers_fragment left one right = sequence (side_fragment left) (sequence (side_fragment right) (work_fragment (i.Test (t.CompareNumbers one))))
+
+  -- two operands alone as what they are
+  abbrev pub pair_fragment : Operand → Relation → Operand → Fragment
+  pair_fragment a one b = sequence (sender_fragment items a) (compared_fragment one b)
+
+  abbrev pub is_numeric_operand : Operand → Bool
+  is_numeric_operand (operand.Item one) = is_numeric_item (slice_get items (item_number items one.item))
+  is_numeric_operand (operand.Literal one) = false
+
+  -- a literal, or an item without subscripts: no fault but that of bytes that are no number
+  abbrev pub is_operand_at_hand : Operand → Bool
+  is_operand_at_hand (operand.Item one) = is_single (slice_get items (item_number items one.item))
+  is_operand_at_hand (operand.Literal one) = true
+
+  -- A numeric item is taken before the subscripts of the right operand: as a number beside a number, and beside anything else by a
+  -- comparison with ZERO, whose truth isn't used.
+  abbrev pub taken_first : Bool → Bool → Operand → Operand → Side → Relation → Side → Fragment
+  taken_first false numeric a b left one right = pair_fragment a one b
+  taken_first true true a b left one right = numbers_fragment left one right
+  taken_first true false a b left one right = sequence (pair_fragment a Equal (operand.Literal zero_literal)) (pair_fragment a one b)
+
   -- Two operands alone are compared as what they are, others as numbers.
   abbrev pub relation_from : Option Operand → Option Operand → Side → Relation → Side → Fragment
-  relation_from (Some a) (Some b) left one right = sequence (sender_fragment items a) (compared_fragment one b)
-  relation_from _ _ left one right = sequence (side_fragment left) (sequence (side_fragment right) (work_fragment (i.Test (t.CompareNumbers one))))
+  relation_from (Some a) (Some b) left one right = taken_first (is_numeric_operand a && not (is_operand_at_hand b)) (is_numeric_operand b) a b left one right
+  relation_from _ _ left one right = numbers_fragment left one right
 
   abbrev pub relation_fragment : Side → Relation → Side → Fragment
   relation_fragment left one right = relation_from (alone_side left) (alone_side right) left one right

@@ -1,9 +1,6 @@
 -- The code that takes the subjects of EVALUATE (own choice). It looks at each that can have a fault by a condition, whose truth isn't used.
-use Rattle.std.specs.Prelude.{◌==◌, ◌&&◌, Bool, true, false, not, if◌then◌else◌, List, [], ◌∷◌, length, Option, Some, None, slice_get}
-use Rattle.source_tree.specs.declared.literal.Figurative.TheVariants as figurative
-use Rattle.source_tree.specs.declared.literal.LiteralValue.TheVariants as literal
+use Rattle.std.specs.Prelude.{◌&&◌, Bool, true, false, not, if◌then◌else◌, List, [], ◌∷◌, Option, Some, None, slice_get}
 use Rattle.source_tree.specs.declared.expression.Operand.{Operand}
-use Rattle.source_tree.specs.declared.expression.Operand.TheVariants as operand
 use Rattle.source_tree.specs.declared.condition.Relation.TheVariants.{Equal}
 use Rattle.source_tree.specs.declared.condition.Side.{Side}
 use Rattle.source_tree.specs.declared.condition.Side.TheVariants as side
@@ -13,7 +10,6 @@ use Rattle.source_tree.specs.declared.evaluate_statement.Subject.{Subject}
 use Rattle.source_tree.specs.declared.evaluate_statement.Object.{Object}
 use Rattle.source_tree.specs.declared.evaluate_statement.When.{When}
 use Rattle.source_tree.specs.declared.evaluate_statement.Selected.{Selected}
-use Rattle.source_tree.specs.ArithmeticRules.{is_numeric_kind}
 use Rattle.source_tree.specs.Conditions.{alone_side}
 use Rattle.source_tree.specs.Evaluate.{ObjectValues, ResolvedOperand, Value, Truth, Asking, looked_subject}
 use Rattle.source_tree.specs.LookUp.{first}
@@ -21,21 +17,11 @@ use Rattle.source_tree.specs.Places.{LocatedItem}
 use Rattle.declarations.specs.Looking.{choice_looked}
 use Rattle.codegen.specs.Pieces.{Fragment, in_order}
 use Rattle.codegen.specs.Meeting.{nothing_fragment}
-use Rattle.codegen.specs.DataCode.{item_number}
-use Rattle.codegen.specs.ConditionCode.{condition_fragment}
+use Rattle.codegen.specs.ConditionCode.{zero_literal, is_numeric_operand, is_operand_at_hand, condition_fragment}
 
 -- ZERO, with which each value may be compared
 abbrev pub zero_side : Side
-zero_side = side.Literal (record { value = literal.Figurative figurative.Zero; place = record { line = 0; column = 0 } })
-
--- an item without subscripts
-abbrev pub is_single : Option LocatedItem → Bool
-is_single None = false
-is_single (Some one) = length one.dimensions == 0
-
-abbrev pub is_numeric_subject : Option LocatedItem → Bool
-is_numeric_subject None = false
-is_numeric_subject (Some one) = is_numeric_kind one.item.kind
+zero_side = side.Literal zero_literal
 
 -- the first object of a group of WHENs, and of all groups
 abbrev pub object_of_when : Option When → Option Object
@@ -53,15 +39,12 @@ first_object selected = object_of_group (slice_get selected 0)
 module _ (items : List LocatedItem) where
   -- a literal, or an item without subscripts: no fault but that of bytes that are no number
   abbrev pub is_at_hand : Option Operand → Bool
-  is_at_hand (Some (operand.Item one)) = is_single (slice_get items (item_number items one.item))
-  is_at_hand (Some (operand.Literal one)) = true
+  is_at_hand (Some one) = is_operand_at_hand items one
   is_at_hand None = false
 
   -- a literal, or an item without subscripts that isn't numeric: no fault at all
   abbrev pub is_faultless : Option Operand → Bool
-  is_faultless (Some (operand.Item one)) =
-      is_single (slice_get items (item_number items one.item)) && not (is_numeric_subject (slice_get items (item_number items one.item)))
-  is_faultless (Some (operand.Literal one)) = true
+  is_faultless (Some one) = is_operand_at_hand items one && not (is_numeric_operand items one)
   is_faultless None = false
 
   -- ---- a subject

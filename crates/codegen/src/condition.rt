@@ -4,6 +4,7 @@ ghost use Rattle.std.specs.Prelude.{◌≡◌, [], map, true, OnOk};
 ghost use Rattle.std.specs.Option.{option_map};
 ghost use Rattle.source_tree.specs.declared.condition.Condition.{Condition};
 ghost use Rattle.source_tree.specs.declared.expression.Operand.TheVariants as operand;
+ghost use Rattle.source_tree.specs.declared.condition.Relation.TheVariants as relation;
 ghost use Rattle.source_tree.specs.Broken.{each};
 ghost use Rattle.source_tree.specs.Conditions as meaning;
 ghost use Rattle.source_tree.specs.EntryRules.{entry_rules};
@@ -29,8 +30,10 @@ use crate::references::{emit_number, emit_work, emit_works};
 use code_image::Code;
 use data_instructions::{DataInstruction, Test};
 use decimal18::Dec;
+use items::Kind;
 use source_tree::{
-    Class, Condition, Expression, Literal, Operand, Reference, Relation, Side, SignTest,
+    Class, Condition, Expression, Figurative, Literal, LiteralValue, Operand, Place, Reference,
+    Relation, Side, SignTest,
 };
 use std::alloc::AllocError;
 
@@ -68,6 +71,16 @@ fn sign_relation(one: SignTest, negated: bool) -> Relation
         (SignTest::Negative, true) => Relation::GreaterOrEqual,
         (SignTest::Zero, false) => Relation::Equal,
         (SignTest::Zero, true) => Relation::NotEqual,
+    }
+}
+
+/// ZERO, with which each value may be compared.
+pub(crate) fn zero_literal() -> Literal
+    ensures { result ≡ spec.zero_literal }
+{
+    Literal {
+        value: LiteralValue::Figurative(Figurative::Zero),
+        place: Place { line: 0, column: 0 },
     }
 }
 
@@ -169,7 +182,7 @@ impl<'a> Emitter<'a> {
         requires declared { IsDeclared self.now.declarations.now }
         requires left { side_rules (items_in self.now.declarations.now) left.now ≡ [] }
         requires right { side_rules (items_in self.now.declarations.now) right.now ≡ [] }
-        ensures { OnOk result (code.new ≡ append code.old (sequence (spec.side_fragment (items_in self.now.declarations.now) left.now) (sequence (spec.side_fragment (items_in self.now.declarations.now) right.now) (work_fragment (i.Test (t.CompareNumbers relation)))) code.old)) }
+        ensures { OnOk result (code.new ≡ append code.old (spec.numbers_fragment (items_in self.now.declarations.now) left.now relation right.now code.old)) }
     {
         self.emit_side(code, left)?;
         self.emit_side(code, right)?;
@@ -179,7 +192,73 @@ impl<'a> Emitter<'a> {
         )
     }
 
-    /// A relation: two operands alone are compared as what they are, others as numbers.
+    /// Two operands alone, compared as what they are.
+    fn emit_pair_compared(
+        &self,
+        code: &mut Code,
+        one: Alone<'_>,
+        relation: Relation,
+        other: Alone<'_>,
+    ) -> Result<(), AllocError>
+        requires declared { IsDeclared self.now.declarations.now }
+        requires left { operand_rules (items_in self.now.declarations.now) (operand_of one) ≡ [] }
+        requires right { operand_rules (items_in self.now.declarations.now) (operand_of other) ≡ [] }
+        ensures { OnOk result (code.new ≡ append code.old (spec.pair_fragment (items_in self.now.declarations.now) (operand_of one.entry) relation (operand_of other.entry) code.old)) }
+    {
+        self.emit_taken(code, one)?;
+        self.emit_compared(code, relation, other)
+    }
+
+    /// An operand alone is taken, for the sake of its fault: it is compared with ZERO.
+    fn emit_look(&self, code: &mut Code, one: Alone<'_>) -> Result<(), AllocError>
+        requires declared { IsDeclared self.now.declarations.now }
+        requires rules { operand_rules (items_in self.now.declarations.now) (operand_of one) ≡ [] }
+        ensures { OnOk result (code.new ≡ append code.old (spec.pair_fragment (items_in self.now.declarations.now) (operand_of one.entry) relation.Equal (operand.Literal spec.zero_literal) code.old)) }
+    {
+        let zero = zero_literal();
+        self.emit_pair_compared(code, one, Relation::Equal, Alone::Literal(&zero))
+    }
+
+    /// An operand alone is a numeric item.
+    pub(crate) fn is_numeric_operand(&self, one: Alone<'_>) -> bool
+        requires { IsDeclared self.now.declarations.now }
+        ensures { result ≡ spec.is_numeric_operand (items_in self.now.declarations.now) (operand_of one.entry) }
+    {
+        let Alone::Item(reference) = one else {
+            return false;
+        };
+        match self
+            .declarations
+            .layout
+            .items
+            .get(self.item_number(&reference.item))
+        {
+            Some(found) => matches!(found.item.kind, Kind::Numeric(_)),
+            None => false,
+        }
+    }
+
+    /// An operand alone is a literal, or an item without subscripts.
+    pub(crate) fn is_operand_at_hand(&self, one: Alone<'_>) -> bool
+        requires { IsDeclared self.now.declarations.now }
+        ensures { result ≡ spec.is_operand_at_hand (items_in self.now.declarations.now) (operand_of one.entry) }
+    {
+        let Alone::Item(reference) = one else {
+            return true;
+        };
+        match self
+            .declarations
+            .layout
+            .items
+            .get(self.item_number(&reference.item))
+        {
+            Some(found) => found.dimensions.as_slice().is_empty(),
+            None => false,
+        }
+    }
+
+    /// A relation: two operands alone are compared as what they are, others as numbers. A numeric item is taken before the
+    /// subscripts of the right operand.
     pub(crate) fn emit_relation(
         &self,
         code: &mut Code,
@@ -197,8 +276,13 @@ impl<'a> Emitter<'a> {
         let Some(other) = alone_side(right) else {
             return self.emit_numbers_compared(code, left, relation, right);
         };
-        self.emit_taken(code, one)?;
-        self.emit_compared(code, relation, other)
+        if self.is_numeric_operand(one) && !self.is_operand_at_hand(other) {
+            if self.is_numeric_operand(other) {
+                return self.emit_numbers_compared(code, left, relation, right);
+            }
+            self.emit_look(code, one)?;
+        }
+        self.emit_pair_compared(code, one, relation, other)
     }
 
     /// A sign condition.

@@ -1,6 +1,6 @@
 //! The code that takes the subjects of EVALUATE, for the sake of their faults (COBOL-85, Nucleus, "The EVALUATE statement").
 
-ghost use Rattle.std.specs.Prelude.{◌≡◌, [], OnOk, slice_get};
+ghost use Rattle.std.specs.Prelude.{◌≡◌, [], OnOk};
 ghost use Rattle.std.specs.Option.{option_copied};
 ghost use Rattle.source_tree.specs.Broken.{each};
 ghost use Rattle.source_tree.specs.Conditions as conditions;
@@ -11,28 +11,20 @@ ghost use Rattle.source_tree.specs.EvaluateRules.{subject_rules};
 ghost use Rattle.declarations.specs.Named.{IsDeclared, items_in};
 ghost use Rattle.declarations.specs.Looking.{choice_looked};
 ghost use Rattle.codegen.specs.Pieces.{append};
-ghost use Rattle.codegen.specs.DataCode.{item_number};
 ghost use Rattle.codegen.specs.SubjectCode as spec;
 
-use crate::condition::{Alone, alone_side};
+use crate::condition::{alone_side, zero_literal};
 use crate::emitter::Emitter;
 use code_image::Code;
 use declarations::{LookedObject, LookedSubject};
-use items::Kind;
-use source_tree::{
-    Choice, Evaluate, Figurative, Literal, LiteralValue, Object, Place, QualifiedName, Relation,
-    Selected, Side, Statement, Subject,
-};
+use source_tree::{Choice, Evaluate, Object, Relation, Selected, Side, Statement, Subject};
 use std::alloc::AllocError;
 
 /// ZERO, with which each value may be compared.
 fn zero_side() -> Side
     ensures { result ≡ spec.zero_side }
 {
-    Side::Literal(Literal {
-        value: LiteralValue::Figurative(Figurative::Zero),
-        place: Place { line: 0, column: 0 },
-    })
+    Side::Literal(zero_literal())
 }
 
 /// The first object of the first WHEN.
@@ -45,36 +37,13 @@ fn first_object(selected: &[Selected<Statement>]) -> Option<&Object>
 }
 
 impl<'a> Emitter<'a> {
-    /// The item that a name names has no subscripts.
-    fn is_single(&self, name: &QualifiedName) -> bool
-        requires { IsDeclared self.now.declarations.now }
-        ensures { result ≡ spec.is_single (slice_get (items_in self.now.declarations.now) (item_number (items_in self.now.declarations.now) name.now)) }
-    {
-        match self.declarations.layout.items.get(self.item_number(name)) {
-            Some(found) => found.dimensions.as_slice().is_empty(),
-            None => false,
-        }
-    }
-
-    /// The item that a name names is numeric.
-    fn is_numeric(&self, name: &QualifiedName) -> bool
-        requires { IsDeclared self.now.declarations.now }
-        ensures { result ≡ spec.is_numeric_subject (slice_get (items_in self.now.declarations.now) (item_number (items_in self.now.declarations.now) name.now)) }
-    {
-        match self.declarations.layout.items.get(self.item_number(name)) {
-            Some(found) => matches!(found.item.kind, Kind::Numeric(_)),
-            None => false,
-        }
-    }
-
     /// A value is a literal, or an item without subscripts.
     fn is_at_hand(&self, value: &Side) -> bool
         requires { IsDeclared self.now.declarations.now }
         ensures { result ≡ spec.is_at_hand (items_in self.now.declarations.now) (conditions.alone_side value.now) }
     {
         match alone_side(value) {
-            Some(Alone::Item(reference)) => self.is_single(&reference.item),
-            Some(Alone::Literal(_)) => true,
+            Some(one) => self.is_operand_at_hand(one),
             None => false,
         }
     }
@@ -85,10 +54,7 @@ impl<'a> Emitter<'a> {
         ensures { result ≡ spec.is_faultless (items_in self.now.declarations.now) (conditions.alone_side value.now) }
     {
         match alone_side(value) {
-            Some(Alone::Item(reference)) => {
-                self.is_single(&reference.item) && !self.is_numeric(&reference.item)
-            }
-            Some(Alone::Literal(_)) => true,
+            Some(one) => self.is_operand_at_hand(one) && !self.is_numeric_operand(one),
             None => false,
         }
     }

@@ -26,7 +26,7 @@ use Rattle.data_instructions.specs.Shapes.{and_then, shape_with, effect}
 use Rattle.data_instructions.specs.Codes.{IsSenderCode}
 use Rattle.data_instructions.specs.Chains.{effects, LiesAll, SendsAs}
 use Rattle.data_instructions.specs.ArithmeticCodes.{PushesNumber, LiesOperand}
-use Rattle.data_instructions.specs.ConditionCodes.{KnowsTest, negation, IsComparedCode, IsRelationCode, IsSignCode, IsClassCode, IsRangeTest, AreValuesCode, IsNameCode, LiesAlone, LiesCondition}
+use Rattle.data_instructions.specs.ConditionCodes.{KnowsTest, negation, IsComparedCode, IsPairCode, AreNumbersCode, IsSignCode, IsClassCode, IsRangeTest, AreValuesCode, IsNameCode, LiesCondition}
 use Rattle.data_instructions.proofs.Chains.{effects_append, within, place_known, subscripts_known, taking_known, sender_known}
 use Rattle.data_instructions.proofs.Expressions.{counting, number_known}
 use Rattle.data_instructions.proofs.ArithmeticChains.{TakesTwo, valued_two_known}
@@ -63,20 +63,21 @@ module _ (items : List LocatedItem) (tables : DataTables) where
       ap (λ c. effects tables c (record s { sender = Some sent })) is
       ∙ ap (λ o. and_then (shape_with (Some s.stacks) (Some s.line) (and_then o (λ entry. Some (Some sent)))) (effects tables [])) has.1
 
-  pub relation_known : (a b : Option Operand) (left : Side) (one : Relation) (right : Side) (code : List DataInstruction) → IsRelationCode items tables a b left one right code → LiesAlone items tables a b → KnowsTest tables code
-  relation_known (Some a) (Some b) left one right code (front, is_front, back, is_back, is) lies s =
-      let sends = sends_as a front is_front lies.0 in
+  pub pair_known : (a : Operand) (one : Relation) (b : Operand) (code : List DataInstruction) → IsPairCode items tables a one b code → LiesOperand items tables a → LiesOperand items tables b
+      → KnowsTest tables code
+  pair_known a one b code (front, is_front, back, is_back, is) lies others s =
+      let sends = sends_as a front is_front lies in
       record {
         sender = Some sends.0;
         by =
             ap (λ c. effects tables c s) is
             ∙ effects_append tables front back s
             ∙ ap (λ o. and_then o (effects tables back)) (sender_known items tables a front is_front sends.0 sends.1 s)
-            ∙ compared_known one b back is_back lies.1 sends.0 s;
+            ∙ compared_known one b back is_back others sends.0 s;
       }
-  relation_known (Some a) None left one right code (front, is_front, back, is_back, is) lies s = numbers_known tables one front back code is_front.1 is_back.1 is s
-  relation_known None (Some b) left one right code (front, is_front, back, is_back, is) lies s = numbers_known tables one front back code is_front.1 is_back.1 is s
-  relation_known None None left one right code (front, is_front, back, is_back, is) lies s = numbers_known tables one front back code is_front.1 is_back.1 is s
+
+  pub sides_known : (left : Side) (one : Relation) (right : Side) (code : List DataInstruction) → AreNumbersCode items tables left one right code → KnowsTest tables code
+  sides_known left one right code (front, is_front, back, is_back, is) = numbers_known tables one front back code is_front.1 is_back.1 is
 
   pub sign_known : (value : Expression) (negated : Bool) (one : SignTest) (code : List DataInstruction) → IsSignCode items tables value negated one code → KnowsTest tables code
   sign_known value negated one code (front, computes, adds, back, is_back, is) = numbers_known tables (sign_relation one negated) front back code adds (number_known items tables _ back is_back) is

@@ -20,7 +20,7 @@ use Rattle.source_tree.specs.References.{part_of, place_behind, place_of, occurr
 use Rattle.source_tree.specs.References as tree
 use Rattle.source_tree.specs.Moving.{taken_of}
 use Rattle.source_tree.specs.Computed.{ArithmeticValue, ExpressionValue, expression_value}
-use Rattle.source_tree.specs.Conditions.{senders_stand, numbers_stand, lies_within, in_range, in_ranges, negated_if, class_of, zero_value, sign_relation, side_number, relation_of, class_holds, value_holds, condition_holds, name_holds}
+use Rattle.source_tree.specs.Conditions.{senders_stand, numbers_stand, lies_within, in_range, in_ranges, negated_if, class_of, zero_value, sign_relation, side_number, class_holds, value_holds, condition_holds, name_holds}
 use Rattle.data_instructions.specs.declared.tables.DataTables.{DataTables}
 use Rattle.data_instructions.specs.declared.test.Test.TheVariants as t
 use Rattle.data_instructions.specs.declared.instruction.DataInstruction.{DataInstruction}
@@ -30,7 +30,7 @@ use Rattle.data_instructions.specs.Scratch.{Scratch, Step, Continues, step_with,
 use Rattle.data_instructions.specs.Table.{place_step, push_step, take_step, compared_at, truth_from, or_found, with_literal, class_step, work}
 use Rattle.data_instructions.specs.Codes.{go_on, works}
 use Rattle.data_instructions.specs.ArithmeticCodes.{Computes}
-use Rattle.data_instructions.specs.ConditionCodes.{Decides, negation, IsComparedCode, IsRelationCode, IsSignCode, IsClassCode, IsRangeTest, AreValuesCode, IsNameCode, sign_truth, class_truth}
+use Rattle.data_instructions.specs.ConditionCodes.{Decides, negation, IsComparedCode, IsPairCode, AreNumbersCode, IsSignCode, IsClassCode, IsRangeTest, AreValuesCode, IsNameCode, pair_truth, numbers_truth, sign_truth, class_truth}
 use Rattle.data_instructions.proofs.Codes.{go_with, with_same, with_bind, works_append, taking_works, sender_works, subscripts_works}
 use Rattle.data_instructions.proofs.Expressions.{number_works}
 
@@ -85,6 +85,13 @@ module _ (items : List LocatedItem) (tables : DataTables) where
         ∙ numbers_work tables (expression_value items value) (λ storage. Ok zero_value) (sign_relation one negated) front back computes (number_works items tables _ back is_back) s;
   }
 
+  -- two sides as numbers
+  pub sides_work : (left : Side) (one : Relation) (right : Side) (code : List DataInstruction) → AreNumbersCode items tables left one right code → Decides tables (numbers_truth items left one right) code
+  sides_work left one right code (front, is_front, back, is_back, is) s = record {
+    sender = s.sender;
+    by = ap (λ c. works tables c s) is ∙ numbers_work tables (side_number items left) (side_number items right) one front back is_front.0 is_back.0 s;
+  }
+
   -- a value of a condition name, of which the sender is looked at
   range_works : (from : Literal) (last : Option Literal) (one : DataInstruction) → IsRangeTest items tables from last one → (x : Sender) (found : Bool) (s : Scratch)
       → work tables one (record s { sender = Some x; truth = found }) ≡ step_with (in_range x from last) (λ fits. Continues (record s { sender = Some x; truth = found || fits }))
@@ -129,8 +136,8 @@ module _ (items : List LocatedItem) (tables : DataTables) (order : IsTables tabl
       ∙ go_with (senders_stand one x (literal_sender literal.value)) done (works tables [])
 
   -- two operands alone
-  senders_work : (a b : Operand) (left : Side) (one : Relation) (right : Side) (code : List DataInstruction) → IsRelationCode items tables (Some a) (Some b) left one right code → Decides tables (relation_of items (Some a) (Some b) left one right) code
-  senders_work a b left one right code (front, is_front, back, is_back, is) s = record {
+  pub pair_works : (a : Operand) (one : Relation) (b : Operand) (code : List DataInstruction) → IsPairCode items tables a one b code → Decides tables (pair_truth items a one b) code
+  pair_works a one b code (front, is_front, back, is_back, is) s = record {
     sender = kept (taken_of items a s.storage) (λ x. x);
     by =
         ap (λ c. works tables c s) is
@@ -141,19 +148,6 @@ module _ (items : List LocatedItem) (tables : DataTables) (order : IsTables tabl
         ∙ kept_same (taken_of items a s.storage) (λ x. x) (λ x. taken_of items b s.storage >>= senders_stand one x) s
         ∙ sym (with_bind (taken_of items a s.storage) (λ x. taken_of items b s.storage >>= senders_stand one x) _);
   }
-
-  -- a side that is no operand alone
-  sides_work : (left : Side) (one : Relation) (right : Side) (code : List DataInstruction) → IsRelationCode items tables None None left one right code → Decides tables (relation_of items None None left one right) code
-  sides_work left one right code (front, is_front, back, is_back, is) s = record {
-    sender = s.sender;
-    by = ap (λ c. works tables c s) is ∙ numbers_work tables (side_number items left) (side_number items right) one front back is_front.0 is_back.0 s;
-  }
-
-  pub relation_works : (a b : Option Operand) (left : Side) (one : Relation) (right : Side) (code : List DataInstruction) → IsRelationCode items tables a b left one right code → Decides tables (relation_of items a b left one right) code
-  relation_works (Some a) (Some b) left one right code is = senders_work a b left one right code is
-  relation_works (Some a) None left one right code is = sides_work left one right code is
-  relation_works None (Some b) left one right code is = sides_work left one right code is
-  relation_works None None left one right code is = sides_work left one right code is
 
   pub class_works : (reference : Reference) (negated : Bool) (one : Class) (code : List DataInstruction) → IsClassCode items tables reference negated one code → Decides tables (class_truth items reference negated one) code
   class_works reference negated one code (front, is_front, is) s = record {

@@ -16,8 +16,9 @@ use Rattle.source_tree.specs.Literals.{Sender, literal_sender}
 use Rattle.source_tree.specs.LookUp.{NamedCondition, conditions_named, first}
 use Rattle.source_tree.specs.Evaluated.{◌>>=◌}
 use Rattle.source_tree.specs.References.{place_of}
+use Rattle.source_tree.specs.Moving.{taken_of}
 use Rattle.source_tree.specs.Computed.{expression_value}
-use Rattle.source_tree.specs.Conditions.{ConditionValue, side_number, sign_relation, sign_holds, class_holds}
+use Rattle.source_tree.specs.Conditions.{ConditionValue, senders_stand, numbers_stand, side_number, sign_relation, sign_holds, class_holds}
 use Rattle.data_instructions.specs.declared.index.ItemIndex.{ItemIndex}
 use Rattle.data_instructions.specs.declared.index.SenderIndex.{SenderIndex}
 use Rattle.data_instructions.specs.declared.tables.LiteralSender.{LiteralSender}
@@ -66,11 +67,14 @@ module _ (items : List LocatedItem) (tables : DataTables) where
   abbrev pub IsSideCode : Side → List DataInstruction → Type 0
   IsSideCode one code = Computes tables (side_number items one) code × PushesNumber tables code
 
-  -- Two operands alone are compared as what they are, others as numbers.
-  abbrev pub IsRelationCode : Option Operand → Option Operand → Side → Relation → Side → List DataInstruction → Type 0
-  IsRelationCode (Some a) (Some b) left one right code =
+  -- two operands alone, compared as what they are
+  abbrev pub IsPairCode : Operand → Relation → Operand → List DataInstruction → Type 0
+  IsPairCode a one b code =
       (front : List DataInstruction) × IsSenderCode items tables a front × (back : List DataInstruction) × IsComparedCode one b back × (code ≡ front ++ back)
-  IsRelationCode _ _ left one right code =
+
+  -- two sides, compared as numbers
+  abbrev pub AreNumbersCode : Side → Relation → Side → List DataInstruction → Type 0
+  AreNumbersCode left one right code =
       (front : List DataInstruction) × IsSideCode left front × (back : List DataInstruction) × IsSideCode right back
       × (code ≡ front ++ (back ++ (i.Test (t.CompareNumbers one) ∷ [])))
 
@@ -105,13 +109,15 @@ module _ (items : List LocatedItem) (tables : DataTables) where
       × (values : List DataInstruction) × AreValuesCode found.condition.values values
       × (code ≡ i.Place index ∷ (subscripts ++ (i.Take ∷ i.ClearTruth ∷ values)))
 
-  -- each occurrence of what is compared lies in its area
-  abbrev pub LiesAlone : Option Operand → Option Operand → Type 0
-  LiesAlone (Some a) (Some b) = LiesOperand items tables a × LiesOperand items tables b
-  LiesAlone _ _ = Unit {0}
-
   abbrev pub LiesCondition : Reference → Type 0
   LiesCondition reference = (found : NamedCondition) → first (conditions_named items reference.item) ≡ Some found → LiesWhole tables found.item
+
+-- two operands as what they are, and two sides as numbers
+abbrev pub pair_truth : List LocatedItem → Operand → Relation → Operand → ConditionValue
+pair_truth items a one b storage = taken_of items a storage >>= (λ x. taken_of items b storage >>= senders_stand one x)
+
+abbrev pub numbers_truth : List LocatedItem → Side → Relation → Side → ConditionValue
+numbers_truth items left one right storage = side_number items left storage >>= (λ x. side_number items right storage >>= numbers_stand one x)
 
 -- a sign condition, and a class condition
 abbrev pub sign_truth : List LocatedItem → Expression → Bool → SignTest → ConditionValue

@@ -11,12 +11,12 @@ ghost use Rattle.data_instructions.specs.Codes.{go_on, works, IsReferenceCode, I
 ghost use Rattle.data_instructions.specs.Statements.{FindsPlace, DoesMove, DoesDisplay, DoesAccept, DoesDate};
 ghost use Rattle.data_instructions.specs.Chains.{effects, LiesAll, ShowsAll, SendsAs, MayReceive, MayReceiveEach, KnowsMove, KnowsDisplay, KnowsAccept, KnowsDate};
 ghost use Rattle.data_instructions.specs.ArithmeticCodes.{operator_code, negated_value, value_and_then, operation_and_then, Computes, ComputesOn, PushesNumber, StaysOver, IsValueCode, IsArithmeticCode, DoesArithmetic, LiesOperand, LiesOperation, KnowsArithmetic};
-ghost use Rattle.data_instructions.specs.ConditionCodes.{Decides, KnowsTest, IsRelationCode, IsSignCode, IsClassCode, IsNameCode, LiesAlone, LiesCondition, sign_truth, class_truth};
+ghost use Rattle.data_instructions.specs.ConditionCodes.{Decides, KnowsTest, IsPairCode, AreNumbersCode, IsSignCode, IsClassCode, IsNameCode, LiesCondition, pair_truth, numbers_truth, sign_truth, class_truth};
 ghost use Rattle.items.specs.declared.taken.Taken.{Taken};
 ghost use Rattle.source_tree.specs.Accepting.{date_sender};
 ghost use Rattle.source_tree.specs.Places.{LocatedItem};
 ghost use Rattle.source_tree.specs.Computed.{ArithmeticValue, ExpressionValue, operand_value};
-ghost use Rattle.source_tree.specs.Conditions.{alone_side, relation_holds, name_holds};
+ghost use Rattle.source_tree.specs.Conditions.{name_holds};
 ghost use Rattle.source_tree.specs.declared.reference.Reference.{Reference};
 ghost use Rattle.source_tree.specs.declared.expression.Operand.{Operand};
 ghost use Rattle.source_tree.specs.declared.expression.Operator.{Operator};
@@ -85,11 +85,13 @@ pub fn shape_law()
 
 /// The code of conditions without AND and OR does what they mean, and leaves the stacks as they were.
 pub fn condition_law()
-    ensures relation { (items : List LocatedItem) (tables : DataTables) (left : Side) (one : Relation) (right : Side) (code : List DataInstruction) → IsTables tables → IsRelationCode items tables (alone_side left) (alone_side right) left one right code → Decides tables (relation_holds items left one right) code }
+    ensures pair { (items : List LocatedItem) (tables : DataTables) (a : Operand) (one : Relation) (b : Operand) (code : List DataInstruction) → IsTables tables → IsPairCode items tables a one b code → Decides tables (pair_truth items a one b) code }
+    ensures numbers { (items : List LocatedItem) (tables : DataTables) (left : Side) (one : Relation) (right : Side) (code : List DataInstruction) → AreNumbersCode items tables left one right code → Decides tables (numbers_truth items left one right) code }
     ensures sign { (items : List LocatedItem) (tables : DataTables) (value : Expression) (negated : Bool) (one : SignTest) (code : List DataInstruction) → IsSignCode items tables value negated one code → Decides tables (sign_truth items value negated one) code }
     ensures class { (items : List LocatedItem) (tables : DataTables) (reference : Reference) (negated : Bool) (one : Class) (code : List DataInstruction) → IsTables tables → IsClassCode items tables reference negated one code → Decides tables (class_truth items reference negated one) code }
     ensures name { (items : List LocatedItem) (tables : DataTables) (reference : Reference) (code : List DataInstruction) → IsTables tables → IsNameCode items tables reference code → Decides tables (name_holds items reference) code }
-    ensures knows_relation { (items : List LocatedItem) (tables : DataTables) (left : Side) (one : Relation) (right : Side) (code : List DataInstruction) → IsRelationCode items tables (alone_side left) (alone_side right) left one right code → LiesAlone items tables (alone_side left) (alone_side right) → KnowsTest tables code }
+    ensures knows_pair { (items : List LocatedItem) (tables : DataTables) (a : Operand) (one : Relation) (b : Operand) (code : List DataInstruction) → IsPairCode items tables a one b code → LiesOperand items tables a → LiesOperand items tables b → KnowsTest tables code }
+    ensures knows_numbers { (items : List LocatedItem) (tables : DataTables) (left : Side) (one : Relation) (right : Side) (code : List DataInstruction) → AreNumbersCode items tables left one right code → KnowsTest tables code }
     ensures knows_sign { (items : List LocatedItem) (tables : DataTables) (value : Expression) (negated : Bool) (one : SignTest) (code : List DataInstruction) → IsSignCode items tables value negated one code → KnowsTest tables code }
     ensures knows_class { (items : List LocatedItem) (tables : DataTables) (reference : Reference) (negated : Bool) (one : Class) (code : List DataInstruction) → IsClassCode items tables reference negated one code → LiesAll items tables reference → KnowsTest tables code }
     ensures knows_name { (items : List LocatedItem) (tables : DataTables) (reference : Reference) (code : List DataInstruction) → IsNameCode items tables reference code → LiesCondition items tables reference → KnowsTest tables code }

@@ -1,5 +1,5 @@
 -- A value is taken as a relation takes its left side: beside ZERO, with which each value may be compared and which has no fault.
-use Rattle.std.proofs.Common.{◌≡◌, ℕ, pos, false, List, Option, Some, None, Ok, Err, refl, ap, ◌∙◌}
+use Rattle.std.proofs.Common.{◌≡◌, ℕ, pos, Bool, false, List, Option, Some, None, Ok, Err, refl, ap, ◌∙◌}
 use Rattle.decimal18.specs.Fraction.{Fraction}
 use Rattle.decimal18.specs.Order.{order}
 use Rattle.items.specs.declared.item.Kind.{Kind}
@@ -20,10 +20,11 @@ use Rattle.source_tree.specs.Literals.{item_sender, literal_sender}
 use Rattle.source_tree.specs.Storage.{Storage}
 use Rattle.source_tree.specs.Evaluated.{Evaluation, ◌>>=◌, evaluation_of}
 use Rattle.source_tree.specs.References.{ItemPlace, part_of, place_of}
+use Rattle.source_tree.specs.Moving.{taken_of}
 use Rattle.source_tree.specs.Computed.{ArithmeticValue}
 use Rattle.source_tree.specs.ConditionRules.{is_literal_alone}
-use Rattle.source_tree.specs.Conditions.{satisfies, senders_stand, numbers_stand, zero_value, alone_side, relation_of, side_number, holds}
-use Rattle.source_tree.specs.Evaluate.{without_value, take_bytes, take_item, take_value}
+use Rattle.source_tree.specs.Conditions.{satisfies, senders_stand, without_value, take_bytes, take_item, take_operand, numbers_stand, zero_value, alone_side, relation_of, side_number, holds}
+use Rattle.source_tree.specs.Evaluate.{take_value}
 use Rattle.source_tree.proofs.Folded.{relation_tells}
 
 -- ZERO, wherever it is written
@@ -52,8 +53,13 @@ bytes_beside kind.AlphanumericEdited length bytes = refl
 bytes_beside (kind.NumericEdited blank) length bytes = refl
 bytes_beside (kind.Numeric form) length bytes = order_beside (value_of form bytes) (record { coefficient = pos 0; scale = 0 })
 
+-- taken once more before it
+taken_before : (take : Evaluation (Unit {0})) (found : Evaluation Bool) → without_value found ≡ take → without_value (take >>= (λ _. found)) ≡ take
+taken_before (Ok value) found e = e
+taken_before (Err fault) found e = refl
+
 module _ (items : List LocatedItem) where
-  item_beside : (storage : Storage) (found : Evaluation ItemPlace)
+  pub item_beside : (storage : Storage) (found : Evaluation ItemPlace)
       → without_value ((found >>= (λ place. Ok (item_sender place.item (part_of storage place)))) >>= (λ x. senders_stand relation.Equal x (literal_sender (literal.Figurative figurative.Zero))))
       ≡ (found >>= take_item storage)
   item_beside storage (Ok place) = bytes_beside place.item.kind place.item.length (part_of storage place)
@@ -61,7 +67,10 @@ module _ (items : List LocatedItem) where
 
   value_beside : (alone : Option Operand) (value : Side) (place : Place) (storage : Storage) → is_literal_alone alone ≡ false
       → without_value (relation_of items alone (alone_side (zero_at place)) value relation.Equal (zero_at place) storage) ≡ take_value items alone value storage
-  value_beside (Some (operand.Item one)) value place storage e = item_beside storage (place_of items one storage)
+  value_beside (Some (operand.Item one)) value place storage e =
+      taken_before (take_operand items (operand.Item one) storage)
+      (taken_of items (operand.Item one) storage >>= (λ x. senders_stand relation.Equal x (literal_sender (literal.Figurative figurative.Zero))))
+      (item_beside storage (place_of items one storage))
   value_beside (Some (operand.Literal one)) value place storage e = absurd cc
   value_beside None value place storage e = number_beside (side_number items value storage)
 

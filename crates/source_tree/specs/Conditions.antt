@@ -3,6 +3,9 @@ use Rattle.std.specs.Prelude.{pos, Bool, true, false, not, ◌&&◌, ◌||◌, i
 use Rattle.std.specs.declared.cmp.Ordering.{Ordering}
 use Rattle.std.specs.declared.cmp.Ordering.TheVariants as o
 use Rattle.decimal18.specs.Order.{order}
+use Rattle.items.specs.declared.item.Kind.{Kind}
+use Rattle.items.specs.declared.item.Kind.TheVariants as kind
+use Rattle.items.specs.Values.{value_of}
 use Rattle.text_ops.specs.Compare.{comparison_of}
 use Rattle.text_ops.specs.Classes.{is_class}
 use Rattle.text_ops.specs.declared.class.Class as tested
@@ -52,6 +55,26 @@ satisfies relation.Greater _ = false
 -- Two operands alone: by their values, or by their characters. Bytes that are no number are a fault.
 abbrev pub senders_stand : Relation → Sender → Sender → Evaluation Bool
 senders_stand one a b = evaluation_of (comparison_of a.taken a.bytes b.taken b.bytes) >>= (λ ordering. Ok (satisfies one ordering))
+
+-- ---- how an operand is taken: what is left of it is whether that is a fault
+
+abbrev pub without_value : {A : Type 0} → Evaluation A → Evaluation (Unit {0})
+without_value found = found >>= (λ value. Ok tt)
+
+-- The bytes of a numeric item are a number.
+abbrev pub take_bytes : Kind → List ℕ → Evaluation (Unit {0})
+take_bytes (kind.Numeric form) bytes = without_value (evaluation_of (value_of form bytes))
+take_bytes _ bytes = Ok tt
+
+abbrev pub take_item : Storage → ItemPlace → Evaluation (Unit {0})
+take_item storage place = take_bytes place.item.kind (part_of storage place)
+
+-- an item by its subscripts and its bytes; a literal is there
+abbrev pub take_operand : List LocatedItem → Operand → Storage → Evaluation (Unit {0})
+take_operand items (operand.Item one) storage = place_of items one storage >>= take_item storage
+take_operand items (operand.Literal one) storage = Ok tt
+
+-- ---- relations
 
 -- A size error in a condition is a fault (own choice).
 abbrev pub numbers_stand : Relation → ArithmeticValue → ArithmeticValue → Evaluation Bool
@@ -114,10 +137,10 @@ module _ (items : List LocatedItem) where
   side_number (side.Expression one) storage = expression_value items one storage
   side_number (side.Literal one) storage = operand_value items (operand.Literal one) storage
 
-  -- Two operands alone are compared as what they are, others as numbers. The left one is evaluated first.
+  -- Two operands alone are compared as what they are, others as numbers. The left one is taken before the right one's place is found.
   abbrev pub relation_of : Option Operand → Option Operand → Side → Relation → Side → ConditionValue
   relation_of (Some a) (Some b) left one right storage =
-      taken_of items a storage >>= (λ x. taken_of items b storage >>= senders_stand one x)
+      take_operand items a storage >>= (λ _. taken_of items a storage >>= (λ x. taken_of items b storage >>= senders_stand one x))
   relation_of _ _ left one right storage =
       side_number left storage >>= (λ x. side_number right storage >>= numbers_stand one x)
 

@@ -2,9 +2,6 @@
 -- conditions that they ask of the subjects (own choice): nothing is stored in between, so that a subject has the value with which it was
 -- taken at all of them.
 use Rattle.std.specs.Prelude.{ℕ, Bool, true, false, not, List, [], ◌∷◌, Option, Some, None, Ok}
-use Rattle.items.specs.declared.item.Kind.{Kind}
-use Rattle.items.specs.declared.item.Kind.TheVariants as kind
-use Rattle.items.specs.Values.{value_of}
 use Rattle.source_tree.specs.declared.reference.Reference.{Reference}
 use Rattle.source_tree.specs.declared.expression.Operand.{Operand}
 use Rattle.source_tree.specs.declared.expression.Operand.TheVariants as operand
@@ -24,8 +21,7 @@ use Rattle.source_tree.specs.Places.{LocatedItem}
 use Rattle.source_tree.specs.LookUp.{NamedCondition, conditions_named}
 use Rattle.source_tree.specs.Storage.{Storage}
 use Rattle.source_tree.specs.Evaluated.{Evaluation, ◌>>=◌, evaluation_of}
-use Rattle.source_tree.specs.References.{ItemPlace, part_of, place_of}
-use Rattle.source_tree.specs.Conditions.{alone_side, side_number, holds}
+use Rattle.source_tree.specs.Conditions.{without_value, take_operand, alone_side, side_number, holds}
 use Rattle.source_tree.specs.State.{State, Outcome, in_turn, with_value}
 use Rattle.source_tree.specs.Arithmetic.{in_phrase}
 
@@ -113,23 +109,11 @@ asked_of _ _ = constant false
 
 -- ---- how a subject is taken: what is left of it is whether that is a fault
 
-abbrev pub without_value : {A : Type 0} → Evaluation A → Evaluation (Unit {0})
-without_value found = found >>= (λ value. Ok tt)
-
--- The bytes of a numeric item are a number.
-abbrev pub take_bytes : Kind → List ℕ → Evaluation (Unit {0})
-take_bytes (kind.Numeric form) bytes = without_value (evaluation_of (value_of form bytes))
-take_bytes _ bytes = Ok tt
-
-abbrev pub take_item : Storage → ItemPlace → Evaluation (Unit {0})
-take_item storage place = take_bytes place.item.kind (part_of storage place)
-
 -- `items` are those of the program.
 module _ (items : List LocatedItem) where
-  -- A value: an item alone by its subscripts and its bytes, and anything else by its number, as in a relation. A literal is there.
+  -- A value: an operand alone, and anything else by its number, as in a relation.
   abbrev pub take_value : Option Operand → Side → Storage → Evaluation (Unit {0})
-  take_value (Some (operand.Item one)) value storage = place_of items one storage >>= take_item storage
-  take_value (Some (operand.Literal one)) value storage = Ok tt
+  take_value (Some one) value storage = take_operand items one storage
   take_value None value storage = side_number items value storage >>= (λ x. without_value (evaluation_of x))
 
   -- A condition is taken by its truth.
