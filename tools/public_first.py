@@ -6,6 +6,8 @@ from repository import ROOT  # noqa: F401
 HEAD = re.compile(r"(?:pub(?:\([^)]*\))? )?(?:mod|use|extern crate) |ghost use |macro_rules!|#!\[|//!")
 ITEM = re.compile(r"(?:pub(?:\([^)]*\))? )?(?:const |unsafe )?(fn|struct|enum|trait|impl|const|static|type)\b")
 
+TYPES = ("struct", "enum", "trait", "type")
+
 
 class Item:
     """An item with the comments and attributes above it."""
@@ -68,14 +70,27 @@ def is_head(group):
     return bool(HEAD.match(line))
 
 
+def seen(items):
+    """For each item, whether other files can use it: it is public, or it is an implementation of a public type of the file, or one
+    of a type of another file that has public methods or is of a trait. What is public in the crate alone counts as public."""
+    types = {item.name(): item.is_public for item in items if item.kind in TYPES}
+    def is_seen(item):
+        if item.kind != "impl":
+            return item.is_public
+        is_open = " for " in item.line or any(re.match(r"    pub\b", line) for line in item.lines)
+        return types.get(item.name(), is_open)
+    return [is_seen(item) for item in items]
+
+
 def ordered(items):
-    """Public types with their implementations, public functions, and then the rest; in each part the order stays."""
-    public = {item.name() for item in items if item.is_public and item.kind in ("struct", "enum", "trait", "type")}
-    def rank(item):
-        if item.kind == "impl":
-            return 0 if item.name() in public else 2
-        return 0 if item.is_public and item.kind != "fn" else 1 if item.is_public else 2
-    return [item for wanted in (0, 1, 2) for item in items if rank(item) == wanted]
+    """Public types with their implementations, then public functions and implementations of types of other files, and then the rest; in
+    each part the order stays."""
+    types = {item.name() for item in items if item.kind in TYPES}
+    def rank(item, is_seen):
+        is_function = item.kind == "fn" or item.kind == "impl" and item.name() not in types
+        return 2 if not is_seen else int(is_function)
+    ranks = [rank(item, is_seen) for item, is_seen in zip(items, seen(items))]
+    return [item for wanted in (0, 1, 2) for item, one in zip(items, ranks) if one == wanted]
 
 
 def put_public_first(path):
