@@ -11,6 +11,7 @@ pub use pairs::beside;
 
 /// A definition says one thing alone, so what was returned, want of memory apart, is the one value of it or the one fault.
 pub fn one_answer()
-    ensures value { (says : Result ℕ ℕ) (x : ℕ) → Gives (λ (y : ℕ). y) (λ (e : ℕ). Some e) (Ok x) says → says ≡ Ok x }
+    ensures value { (says : Result ℕ ℕ) (x : ℕ)
+        → Gives (λ (y : ℕ). y) (λ (e : ℕ). Some e) (Ok x) says → says ≡ Ok x }
     ensures fault { (says : Result ℕ ℕ) (f : ℕ) → Fails (Some f) says → says ≡ Result.Err f }
 {}

@@ -10,9 +10,11 @@ use Rattle.btree_pages.specs.declared.row_layout.RowLayout.{RowLayout}
 use Rattle.btree_pages.specs.declared.row_layout.Kind.TheVariants.{Leaf, Inner}
 use Rattle.btree_pages.specs.RowLayouts.{row_length}
 use Rattle.btree_pages.specs.Keys.{Ascend, keys_of}
-use Rattle.btree.specs.Entries.{Entry, entries_of, entry_with, first_entry_after, first_from, with_new_entry, with_value, without_entry}
+use Rattle.btree.specs.Entries.{Entry, entries_of, entry_with, first_entry_after, first_from, with_new_entry}
+use Rattle.btree.specs.Entries.{with_value, without_entry}
 use Rattle.btree.specs.Path.{right_key}
-use Rattle.btree.specs.Tree.{HasTop, IsTreeOrEmpty, IsTree, AreJoinedLevels, TreeNode, IsOnPage, node_of, pages_of, row_of, rows_in_order}
+use Rattle.btree.specs.Tree.{HasTop, IsTreeOrEmpty, IsTree, AreJoinedLevels, TreeNode, IsOnPage, node_of, pages_of}
+use Rattle.btree.specs.Tree.{row_of, rows_in_order}
 use Rattle.btree.proofs.Runs.{in_none, pairs_from_once}
 use Rattle.btree.proofs.Descents.{along_stands, start}
 use Rattle.btree.proofs.TreeNodes.{read_few, read_none}
@@ -30,7 +32,8 @@ page_with kind count rows = Some ((kind ∷ 0 ∷ 0 ∷ count ∷ 0 ∷ 0 ∷ 0 
 
 -- Page 1 is a leaf of two entries, page 2 one of one, page 3 names both, and page 4 names page 2 alone.
 abbrev pages : List (Option Sector)
-pages = None ∷ page_with 1 2 (1 ∷ 1 ∷ 10 ∷ 1 ∷ 2 ∷ 20 ∷ []) ∷ page_with 1 1 (3 ∷ 0 ∷ 30 ∷ []) ∷ page_with 2 2 (1 ∷ 1 ∷ 0 ∷ 0 ∷ 0 ∷ 1 ∷ 3 ∷ 0 ∷ 0 ∷ 0 ∷ 0 ∷ 2 ∷ []) ∷ page_with 2 1 (3 ∷ 0 ∷ 0 ∷ 0 ∷ 0 ∷ 2 ∷ []) ∷ None ∷ []
+pages = None ∷ page_with 1 2 (1 ∷ 1 ∷ 10 ∷ 1 ∷ 2 ∷ 20 ∷ []) ∷ page_with 1 1 (3 ∷ 0 ∷ 30 ∷ []) ∷ page_with 2 2
+    (1 ∷ 1 ∷ 0 ∷ 0 ∷ 0 ∷ 1 ∷ 3 ∷ 0 ∷ 0 ∷ 0 ∷ 0 ∷ 2 ∷ []) ∷ page_with 2 1 (3 ∷ 0 ∷ 0 ∷ 0 ∷ 0 ∷ 2 ∷ []) ∷ None ∷ []
 
 abbrev low : TreeNode
 low = record { page = 1; rows = (1 ∷ 1 ∷ 10 ∷ []) ∷ (1 ∷ 2 ∷ 20 ∷ []) ∷ [] }
@@ -113,15 +116,26 @@ first_of_the_right_leaf = refl
 low_stands : IsOnPage pairs pages Leaf low
 low_stands =
     let P = λ (row : List ℕ). length row ≡ row_length pairs Leaf in
-    record { node = refl; lengths = All-cons P (1 ∷ 1 ∷ 10 ∷ []) ((1 ∷ 2 ∷ 20 ∷ []) ∷ []) refl (All-cons P (1 ∷ 2 ∷ 20 ∷ []) [] refl (All-nil P)); enough = lit≤ tt }
+    record {
+      node = refl;
+      lengths =
+          All-cons P (1 ∷ 1 ∷ 10 ∷ []) ((1 ∷ 2 ∷ 20 ∷ []) ∷ []) refl (All-cons P (1 ∷ 2 ∷ 20 ∷ []) [] refl (All-nil P));
+      enough = lit≤ tt;
+    }
 
 high_stands : IsOnPage pairs pages Leaf high
-high_stands = let P = λ (row : List ℕ). length row ≡ row_length pairs Leaf in record { node = refl; lengths = All-cons P (3 ∷ 0 ∷ 30 ∷ []) [] refl (All-nil P); enough = lit≤ tt }
+high_stands = let P = λ (row : List ℕ). length row ≡ row_length pairs Leaf in
+    record { node = refl; lengths = All-cons P (3 ∷ 0 ∷ 30 ∷ []) [] refl (All-nil P); enough = lit≤ tt }
 
 top_stands : IsOnPage pairs pages Inner top
 top_stands =
     let P = λ (row : List ℕ). length row ≡ row_length pairs Inner in
-    record { node = refl; lengths = All-cons P (row_of pairs low) (row_of pairs high ∷ []) refl (All-cons P (row_of pairs high) [] refl (All-nil P)); enough = lit≤ tt }
+    record {
+      node = refl;
+      lengths = All-cons P (row_of pairs low) (row_of pairs high ∷ []) refl
+          (All-cons P (row_of pairs high) [] refl (All-nil P));
+      enough = lit≤ tt;
+    }
 
 top_of_two : HasTop 3 two
 top_of_two = (top, refl, refl)
@@ -149,13 +163,17 @@ two_is_a_tree = record {
   joined = (
     All-cons (IsOnPage pairs pages Inner) top [] top_stands (All-nil (IsOnPage pairs pages Inner)),
     refl,
-    All-cons (IsOnPage pairs pages Leaf) low (high ∷ []) low_stands (All-cons (IsOnPage pairs pages Leaf) high [] high_stands (All-nil (IsOnPage pairs pages Leaf))),
+    All-cons (IsOnPage pairs pages Leaf) low (high ∷ []) low_stands
+        (All-cons (IsOnPage pairs pages Leaf) high [] high_stands (All-nil (IsOnPage pairs pages Leaf))),
   );
   ascend = ((refl, (refl, tt)), ((refl, tt), (tt, tt)));
   once = AllPairs-cons Differ 3 (1 ∷ 2 ∷ [])
-      (All-cons (Differ 3) 1 (2 ∷ []) (λ same. omega arith) (All-cons (Differ 3) 2 [] (λ same. omega arith) (All-nil (Differ 3))))
-      (AllPairs-cons Differ 1 (2 ∷ []) (All-cons (Differ 1) 2 [] (λ same. omega arith) (All-nil (Differ 1))) (pairs_from_once (2 ∷ []) ((λ has. in_none 2 has), tt)));
-  numbers = All-cons IsNumber 3 (1 ∷ 2 ∷ []) (lit< tt, lit< tt) (All-cons IsNumber 1 (2 ∷ []) (lit< tt, lit< tt) (All-cons IsNumber 2 [] (lit< tt, lit< tt) (All-nil IsNumber)));
+      (All-cons (Differ 3) 1 (2 ∷ []) (λ same. omega arith)
+      (All-cons (Differ 3) 2 [] (λ same. omega arith) (All-nil (Differ 3))))
+      (AllPairs-cons Differ 1 (2 ∷ []) (All-cons (Differ 1) 2 [] (λ same. omega arith) (All-nil (Differ 1)))
+      (pairs_from_once (2 ∷ []) ((λ has. in_none 2 has), tt)));
+  numbers = All-cons IsNumber 3 (1 ∷ 2 ∷ []) (lit< tt, lit< tt)
+      (All-cons IsNumber 1 (2 ∷ []) (lit< tt, lit< tt) (All-cons IsNumber 2 [] (lit< tt, lit< tt) (All-nil IsNumber)));
 }
 
 -- root 0 is a tree without levels, and no page is needed for it
@@ -169,7 +187,8 @@ few = lit≤ tt
 one_child : (levels : List (List TreeNode)) → IsTree pairs pages 4 levels → ⊥
 one_child levels tree =
     let root = along_stands pairs pages levels [] [] 4 None (start pairs pages 4 levels [] few tree) in
-    read_few pairs pages 4 (node_of pairs Inner (row_of pairs high ∷ [])) root.kind root.node refl (lit< tt) root.same root.stands
+    read_few pairs pages 4 (node_of pairs Inner (row_of pairs high ∷ [])) root.kind root.node refl (lit< tt) root.same
+    root.stands
 
 no_page : (levels : List (List TreeNode)) → IsTree pairs pages 5 levels → ⊥
 no_page levels tree =

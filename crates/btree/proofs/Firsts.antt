@@ -1,5 +1,6 @@
 -- No key is below one of zeros.
-use Rattle.std.proofs.Common.{◌≡◌, ◌≤◌, ◌<◌, ℕ, zero, suc, Bool, false, List, [], ◌∷◌, length, take, refl, sym, ap, subst, arith, inl, inr}
+use Rattle.std.proofs.Common.{◌≡◌, ◌≤◌, ◌<◌, ℕ, zero, suc, Bool, false, List, [], ◌∷◌, length, take, refl, sym, ap}
+use Rattle.std.proofs.Common.{subst, arith, inl, inr}
 use Rattle.std.specs.Prelude.{replicate, if◌then◌else◌, Option, Some}
 use Rattle.std.specs.List.{All}
 use Rattle.std.specs.declared.cmp.Ordering.{Ordering}
@@ -25,36 +26,48 @@ pub not_below_zeros : (key : List ℕ) (n : ℕ) → n ≤ length key → Preced
 not_below_zeros [] zero long below = cc
 not_below_zeros (x ∷ key) zero long below = cc
 not_below_zeros [] (suc n) long below = absurd (omega arith)
-not_below_zeros (x ∷ key) (suc n) long below = not_below_from x (nat_cmp x 0) (key_cmp key (replicate n 0)) refl below (not_below_zeros key n (omega arith))
+not_below_zeros (x ∷ key) (suc n) long below =
+    not_below_from x (nat_cmp x 0) (key_cmp key (replicate n 0)) refl below (not_below_zeros key n (omega arith))
 
 not_less : (o : Ordering) → (o ≡ Less → ⊥) → is_lt o ≡ false
 not_less Less never = absurd (never refl)
 not_less Equal never = refl
 not_less Greater never = refl
 
-from_zeros : (layout : RowLayout) (rows : List (List ℕ)) → All (λ row. layout.key_length ≤ length row) rows → first_from (entries_of_rows layout rows) (replicate layout.key_length 0) ≡ first_entry (entries_of_rows layout rows)
+from_zeros : (layout : RowLayout) (rows : List (List ℕ)) → All (λ row. layout.key_length ≤ length row) rows → first_from
+    (entries_of_rows layout rows) (replicate layout.key_length 0) ≡ first_entry (entries_of_rows layout rows)
 from_zeros layout [] long = refl
 from_zeros layout (row ∷ rows) long =
     let here : layout.key_length ≤ length row = All-head (λ (r : List ℕ). layout.key_length ≤ length r) row rows long in
     let count : length (key_of layout row) ≡ layout.key_length = length-take-le layout.key_length row here in
-    let high : is_lt (key_cmp (key_of layout row) (replicate layout.key_length 0)) ≡ false = not_less (key_cmp (key_of layout row) (replicate layout.key_length 0)) (not_below_zeros (key_of layout row) layout.key_length (omega arith)) in
-    ap (λ (b : Bool). if b then first_from (entries_of_rows layout rows) (replicate layout.key_length 0) else Some (entry_of layout row)) high
+    let high : is_lt (key_cmp (key_of layout row) (replicate layout.key_length 0)) ≡ false =
+    not_less (key_cmp (key_of layout row) (replicate layout.key_length 0))
+    (not_below_zeros (key_of layout row) layout.key_length (omega arith)) in
+    ap (λ (b : Bool). if b then first_from (entries_of_rows layout rows) (replicate layout.key_length 0)
+    else Some (entry_of layout row)) high
 
-rows_long : (layout : RowLayout) (nodes : List TreeNode) → All (HasRows layout) nodes → All (λ row. layout.key_length ≤ length row) (rows_of nodes)
+rows_long : (layout : RowLayout) (nodes : List TreeNode) → All (HasRows layout) nodes
+    → All (λ row. layout.key_length ≤ length row) (rows_of nodes)
 rows_long layout [] all = All-nil (λ row. layout.key_length ≤ length row)
 rows_long layout (node ∷ nodes) all =
-    All-append (λ (row : List ℕ). layout.key_length ≤ length row) node.rows (rows_of nodes) (All-head (HasRows layout) node nodes all).lengths (rows_long layout nodes (All-tail (HasRows layout) node nodes all))
+    All-append (λ (row : List ℕ). layout.key_length ≤ length row) node.rows (rows_of nodes) (All-head (HasRows layout)
+    node nodes all).lengths (rows_long layout nodes (All-tail (HasRows layout) node nodes all))
 
-leaves_have_rows : (layout : RowLayout) (pages : List (Option Sector)) (levels : List (List TreeNode)) → AreJoinedLevels layout pages levels → All (HasRows layout) (leaves_of levels)
+leaves_have_rows : (layout : RowLayout) (pages : List (Option Sector)) (levels : List (List TreeNode))
+    → AreJoinedLevels layout pages levels → All (HasRows layout) (leaves_of levels)
 leaves_have_rows layout pages [] joined = absurd joined
 leaves_have_rows layout pages (leaves ∷ []) joined = all_have_rows layout pages Leaf leaves joined
 leaves_have_rows layout pages (upper ∷ lower ∷ more) joined = leaves_have_rows layout pages (lower ∷ more) joined.2
 
-pub first_from_zeros : (layout : RowLayout) (pages : List (Option Sector)) (root : ℕ) (levels : List (List TreeNode)) → IsTreeOrEmpty layout pages root levels → first_from (entries_of layout levels) (replicate layout.key_length 0) ≡ first_entry (entries_of layout levels)
+pub first_from_zeros : (layout : RowLayout) (pages : List (Option Sector)) (root : ℕ) (levels : List (List TreeNode))
+    → IsTreeOrEmpty layout pages root levels
+    → first_from (entries_of layout levels) (replicate layout.key_length 0) ≡ first_entry (entries_of layout levels)
 first_from_zeros layout pages root levels (inl none) =
-    let P : List (List TreeNode) → Type 0 = λ l. first_from (entries_of layout l) (replicate layout.key_length 0) ≡ first_entry (entries_of layout l) in
+    let P : List (List TreeNode) → Type 0 =
+    λ l. first_from (entries_of layout l) (replicate layout.key_length 0) ≡ first_entry (entries_of layout l) in
     subst P (sym none.1) refl
-first_from_zeros layout pages root levels (inr tree) = from_zeros layout (rows_in_order levels) (rows_long layout (leaves_of levels) (leaves_have_rows layout pages levels tree.1.joined))
+first_from_zeros layout pages root levels (inr tree) = from_zeros layout (rows_in_order levels)
+    (rows_long layout (leaves_of levels) (leaves_have_rows layout pages levels tree.1.joined))
 
 pub take_zeros : (n k : ℕ) → k ≤ n → take {A = ℕ} k (replicate {A = ℕ} n 0) ≡ replicate {A = ℕ} k 0
 take_zeros n zero low = refl

@@ -26,7 +26,8 @@ use Rattle.btree.proofs.Settling.{settle_same}
 use Rattle.btree.proofs.Entering.{LeafPut, leaf_put, enters_with, tells_none}
 use Rattle.btree.proofs.Inserting.{came}
 
-module _ (layout : RowLayout) (before after : List (Option Sector)) (page : ℕ) (key value : List ℕ) (on : EntersOn layout page key value before after) where
+module _ (layout : RowLayout) (before after : List (Option Sector)) (page : ℕ) (key value : List ℕ)
+    (on : EntersOn layout page key value before after) where
   abbrev node : Node
   node = on.enters.node
 
@@ -46,25 +47,36 @@ module _ (layout : RowLayout) (before after : List (Option Sector)) (page : ℕ)
   rows_are : rows_of (run_of alone) ≡ insert node.rows place (key ++ value)
   rows_are = append-nil (insert node.rows place (key ++ value))
 
-  row_put : length key ≡ layout.key_length → length value ≡ layout.value_length → CanTake before page node → ReplacesNodes node.layout node.kind before (node_with page node.rows ∷ []) after (run_of alone)
+  row_put : length key ≡ layout.key_length → length value ≡ layout.value_length → CanTake before page node
+      → ReplacesNodes node.layout node.kind before (node_with page node.rows ∷ []) after (run_of alone)
   row_put key_is value_is can =
-      let key_in : length key ≡ node.layout.key_length = subst (λ (f : RowLayout). length key ≡ f.key_length) (sym on.enters.layout_is) key_is in
+      let key_in : length key ≡ node.layout.key_length =
+      subst (λ (f : RowLayout). length key ≡ f.key_length) (sym on.enters.layout_is) key_is in
       let value_in : length value ≡ rest_length node.layout node.kind =
-      subst (λ (k : Kind). length value ≡ rest_length node.layout k) (sym on.enters.kind_is) (subst (λ (f : RowLayout). length value ≡ f.value_length) (sym on.enters.layout_is) value_is) in
-      let spelled : node_in made.layout on.new ≡ Some made = subst (λ (f : RowLayout). node_in f on.new ≡ Some made) (sym on.enters.layout_is) on.enters.spelled in
+      subst (λ (k : Kind). length value ≡ rest_length node.layout k) (sym on.enters.kind_is)
+      (subst (λ (f : RowLayout). length value ≡ f.value_length) (sym on.enters.layout_is) value_is) in
+      let spelled : node_in made.layout on.new ≡ Some made =
+      subst (λ (f : RowLayout). node_in f on.new ≡ Some made) (sym on.enters.layout_is) on.enters.spelled in
       write_one node.layout node.kind before after page on.new node.rows made.rows on.is (is_low before page can.is_in)
       (spells_inserted before page node made place key value on.new can refl on.enters.low key_in value_in spelled)
 
-  leaf_is : length key ≡ layout.key_length → length value ≡ layout.value_length → LeafPut layout before after page node.rows place (key ++ value) alone
-  leaf_is key_is value_is = leaf_put layout before after page node place (key ++ value) alone on.enters.layout_is on.enters.kind_is (row_put key_is value_is) rows_are refl
+  leaf_is : length key ≡ layout.key_length → length value ≡ layout.value_length
+      → LeafPut layout before after page node.rows place (key ++ value) alone
+  leaf_is key_is value_is = leaf_put layout before after page node place (key ++ value) alone on.enters.layout_is
+      on.enters.kind_is (row_put key_is value_is) rows_are refl
 
-  pub came_in_place : (root : ℕ) (levels : List (List TreeNode)) (steps : List PathStep) (right : Option (List ℕ)) → length key ≡ layout.key_length → length value ≡ layout.value_length
-      → IsTree layout before root levels → LeadsTo layout before key levels steps page right → Inserts layout before levels after key value (Some root)
+  pub came_in_place : (root : ℕ) (levels : List (List TreeNode)) (steps : List PathStep) (right : Option (List ℕ))
+      → length key ≡ layout.key_length → length value ≡ layout.value_length
+      → IsTree layout before root levels → LeadsTo layout before key levels steps page right
+      → Inserts layout before levels after key value (Some root)
   came_in_place root levels steps right key_is value_is tree leads =
-      let same : leads.rows ≡ node.rows = rows_read layout before Leaf (node_with page leads.rows) page node refl leads.stands seen in
+      let same : leads.rows ≡ node.rows =
+      rows_read layout before Leaf (node_with page leads.rows) page node refl leads.stands seen in
       let ends = subst (λ (rows : List (List ℕ)). EndsAt layout key levels steps page rows right) same leads.ends in
       let enters : InsertsIntoLeaf layout root before after steps page node.rows right place key value root =
-      enters_with layout before after after after root root steps page node.rows right place key value None None alone key_is (leaf_is key_is value_is)
-      (tells_none layout page node.rows place (key ++ value) alone refl rows_are (on.enters.some, refl)) (propagates_still layout after steps) (settle_same layout root after) in
+      enters_with layout before after after after root root steps page node.rows right place key value None None alone
+      key_is (leaf_is key_is value_is)
+      (tells_none layout page node.rows place (key ++ value) alone refl rows_are (on.enters.some, refl))
+      (propagates_still layout after steps) (settle_same layout root after) in
       came layout before after root levels steps page node.rows right place key value root tree ends on.enters.low
       (subst (λ (f : RowLayout). FindsGap f key node.rows place) on.enters.layout_is on.enters.around) enters

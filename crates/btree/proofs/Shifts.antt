@@ -18,7 +18,8 @@ There pages list = (page : ℕ) → Contains list page → sector_of pages page 
 abbrev pub Kept : List (Option Sector) → List (Option Sector) → List ℕ → Type 0
 Kept pages after list = (page : ℕ) → Contains list page → sector_of after page ≡ sector_of pages page
 
--- `low` are the pages of the lower levels, then `low'`; `kept` are those of the level above that stay, and `own` those that change, then `own'`
+-- `low` are the pages of the lower levels, then `low'`; `kept` are those of the level above that stay, and `own` those
+-- that change, then `own'`
 pub record Turned (one two three : List (Option Sector)) (kept own low own' low' : List ℕ) : Type 0 where
   pub lower : Moves one low two low'
   pub upper : Moves two own three own'
@@ -30,11 +31,13 @@ pub record Turned (one two three : List (Option Sector)) (kept own low own' low'
   pub own_low : Apart own low
 
 -- a page that was there, and not in the lower levels, isn't in them afterwards
-pub not_lower : (one two : List (Option Sector)) (list low low' : List ℕ) → Moves one low two low' → There one list → Apart list low → Apart list low'
+pub not_lower : (one two : List (Option Sector)) (list low low' : List ℕ) → Moves one low two low' → There one list
+    → Apart list low → Apart list low'
 not_lower one two list low low' moves there apart page has joined =
     ⊎_elim (λ was. apart page has was) (λ fresh. there page has fresh.1) (moves.joins page joined)
 
-pub kept_by : (one two : List (Option Sector)) (list low low' : List ℕ) → Moves one low two low' → There one list → Apart list low → Kept one two list
+pub kept_by : (one two : List (Option Sector)) (list low low' : List ℕ) → Moves one low two low' → There one list
+    → Apart list low → Kept one two list
 kept_by one two list low low' moves there apart page has =
     moves.others page (apart page has) (not_lower one two list low low' moves there apart page has)
 
@@ -42,29 +45,37 @@ pub there_after : (one two : List (Option Sector)) (list : List ℕ) → Kept on
 there_after one two list kept there page has none = there page has (sym (kept page has) ∙ none)
 
 -- the pages of the new run aren't in the new lower levels
-own_low' : (one two three : List (Option Sector)) (kept own low own' low' : List ℕ) → Turned one two three kept own low own' low' → Apart own' low'
+own_low' : (one two three : List (Option Sector)) (kept own low own' low' : List ℕ)
+    → Turned one two three kept own low own' low' → Apart own' low'
 own_low' one two three kept own low own' low' t page has lower =
-    ⊎_elim (λ was. not_lower one two own low low' t.lower t.own_there t.own_low page was lower) (λ fresh. t.low_there page lower fresh.1) (t.upper.joins page has)
+    ⊎_elim (λ was. not_lower one two own low low' t.lower t.own_there t.own_low page was lower)
+    (λ fresh. t.low_there page lower fresh.1) (t.upper.joins page has)
 
-kept_own' : (one two three : List (Option Sector)) (kept own low own' low' : List ℕ) → Turned one two three kept own low own' low' → Apart kept own'
+kept_own' : (one two three : List (Option Sector)) (kept own low own' low' : List ℕ)
+    → Turned one two three kept own low own' low' → Apart kept own'
 kept_own' one two three kept own low own' low' t page has new =
     ⊎_elim (λ was. t.kept_own page has was)
-    (λ fresh. there_after one two kept (kept_by one two kept low low' t.lower t.kept_there t.kept_low) t.kept_there page has fresh.1)
+    (λ fresh. there_after one two kept (kept_by one two kept low low' t.lower t.kept_there t.kept_low) t.kept_there page
+    has fresh.1)
     (t.upper.joins page new)
 
 -- what stays in the level above
-pub kept_stays : (one two three : List (Option Sector)) (kept own low own' low' : List ℕ) → Turned one two three kept own low own' low' → Kept one three kept
+pub kept_stays : (one two three : List (Option Sector)) (kept own low own' low' : List ℕ)
+    → Turned one two three kept own low own' low' → Kept one three kept
 kept_stays one two three kept own low own' low' t page has =
     t.upper.others page (t.kept_own page has) (kept_own' one two three kept own low own' low' t page has)
     ∙ kept_by one two kept low low' t.lower t.kept_there t.kept_low page has
 
 -- what the lower levels became
-pub low_stays : (one two three : List (Option Sector)) (kept own low own' low' : List ℕ) → Turned one two three kept own low own' low' → Kept two three low'
+pub low_stays : (one two three : List (Option Sector)) (kept own low own' low' : List ℕ)
+    → Turned one two three kept own low own' low' → Kept two three low'
 low_stays one two three kept own low own' low' t page has =
-    t.upper.others page (λ was. not_lower one two own low low' t.lower t.own_there t.own_low page was has) (λ new. own_low' one two three kept own low own' low' t page new has)
+    t.upper.others page (λ was. not_lower one two own low low' t.lower t.own_there t.own_low page was has)
+    (λ new. own_low' one two three kept own low own' low' t page new has)
 
 -- both changes together, for lists of the same numbers
-pub moves_both : (one two three : List (Option Sector)) (kept own low own' low' : List ℕ) → Turned one two three kept own low own' low' → (all all' : List ℕ)
+pub moves_both : (one two three : List (Option Sector)) (kept own low own' low' : List ℕ)
+    → Turned one two three kept own low own' low' → (all all' : List ℕ)
     → ((page : ℕ) → Contains all page → Contains kept page ⊎ (Contains own page ⊎ Contains low page))
     → ((page : ℕ) → Contains kept page ⊎ (Contains own page ⊎ Contains low page) → Contains all page)
     → ((page : ℕ) → Contains all' page → Contains kept page ⊎ (Contains own' page ⊎ Contains low' page))
@@ -104,13 +115,15 @@ moves_both one two three kept own low own' low' t all all' out in' out' into = r
 }
 
 -- no page stands twice afterwards
-pub once_both : (one two three : List (Option Sector)) (left right own low own' low' : List ℕ) → Turned one two three (left ++ right) own low own' low'
+pub once_both : (one two three : List (Option Sector)) (left right own low own' low' : List ℕ)
+    → Turned one two three (left ++ right) own low own' low'
     → Once (left ++ (own ++ right)) → Once own' → Once low' → Once ((left ++ (own' ++ right)) ++ low')
 once_both one two three left right own low own' low' t once new lower =
     let away = kept_own' one two three (left ++ right) own low own' low' t in
     let down = not_lower one two (left ++ right) low low' t.lower t.kept_there t.kept_low in
     let tail = once_right left (own ++ right) once in
-    let behind = once_append own' right new (once_right own right tail) (λ page has stays. away page (Contains-append_right left right page stays) has) in
+    let behind = once_append own' right new (once_right own right tail)
+    (λ page has stays. away page (Contains-append_right left right page stays) has) in
     let level = once_append left (own' ++ right) (once_left left (own ++ right) once) behind
     (λ page has rest. ⊎_elim
     (λ own. away page (Contains-append_left left right page has) own)

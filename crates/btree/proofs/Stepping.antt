@@ -11,25 +11,44 @@ use Rattle.btree.proofs.Descents.{Along, step_read, ends_at}
 use Rattle.btree.proofs.Entering.{end_stands}
 
 -- what an answer is, is something else too
-pub if_ok : {T E : Type 0} (P Q : T → Type 0) (result : Result T E) → ((x : T) → P x → Q x) → IfOk result P → IfOk result Q
+pub if_ok : {T E : Type 0} (P Q : T → Type 0) (result : Result T E) → ((x : T) → P x → Q x) → IfOk result P
+    → IfOk result Q
 if_ok P Q (Ok x) to is = to x is
 if_ok P Q (Err e) to is = tt
 
 -- what a page's bytes lead to, the page does
-pub step_there : (layout : RowLayout) (pages : List (Option Sector)) (page : ℕ) (bytes : Sector) (key : List ℕ) (old new : Option (List ℕ)) (child : Option Child) → slice_index_or pages page None ≡ Some bytes
+pub step_there : (layout : RowLayout) (pages : List (Option Sector)) (page : ℕ) (bytes : Sector) (key : List ℕ)
+    (old new : Option (List ℕ)) (child : Option Child) → slice_index_or pages page None ≡ Some bytes
     → StepsIn layout bytes key old new child → StepsAt layout pages page key old new child
-step_there layout pages page bytes key old new child is step = record { node = step.node; read = ap (node_on layout) is ∙ step.read; layout_is = step.layout_is; steps = step.steps }
+step_there layout pages page bytes key old new child is step = record {
+  node = step.node;
+  read = ap (node_on layout) is ∙ step.read;
+  layout_is = step.layout_is;
+  steps = step.steps;
+}
 
-pub step_on : (layout : RowLayout) (pages : List (Option Sector)) (levels : List (List TreeNode)) (key : List ℕ) (steps : List PathStep) (page : ℕ) (old new : Option (List ℕ)) (child : Child)
-    → Along layout pages levels key steps page old → StepsAt layout pages page key old new (Some child) → Along layout pages levels key (steps ++ record { page = page; place = child.place } ∷ []) child.page new
+pub step_on : (layout : RowLayout) (pages : List (Option Sector)) (levels : List (List TreeNode)) (key : List ℕ)
+    (steps : List PathStep) (page : ℕ) (old new : Option (List ℕ)) (child : Child)
+    → Along layout pages levels key steps page old → StepsAt layout pages page key old new (Some child)
+    → Along layout pages levels key (steps ++ record { page = page; place = child.place } ∷ []) child.page new
 step_on layout pages levels key steps page old new child along at =
     let goes : StepsToChild at.node key old new child = at.steps in
-    subst (λ (next : ℕ). Along layout pages levels key (steps ++ record { page = page; place = child.place } ∷ []) next new) (sym goes.page)
-    (step_read layout at.node.layout pages levels key steps page old new at.node child.place at.layout_is along at.read goes.inner goes.chosen (record { within = goes.within; beyond = goes.beyond }))
+    subst (λ (next : ℕ).
+    Along layout pages levels key (steps ++ record { page = page; place = child.place } ∷ []) next new) (sym goes.page)
+    (step_read layout at.node.layout pages levels key steps page old new at.node child.place at.layout_is along at.read
+    goes.inner goes.chosen (record { within = goes.within; beyond = goes.beyond }))
 
-pub step_ends : (layout : RowLayout) (pages : List (Option Sector)) (root : ℕ) (levels : List (List TreeNode)) (key : List ℕ) (steps : List PathStep) (page : ℕ) (old new : Option (List ℕ))
-    → IsTree layout pages root levels → Along layout pages levels key steps page old → StepsAt layout pages page key old new None → LeadsTo layout pages key levels steps page new
+pub step_ends : (layout : RowLayout) (pages : List (Option Sector)) (root : ℕ) (levels : List (List TreeNode))
+    (key : List ℕ) (steps : List PathStep) (page : ℕ) (old new : Option (List ℕ))
+    → IsTree layout pages root levels → Along layout pages levels key steps page old
+    → StepsAt layout pages page key old new None → LeadsTo layout pages key levels steps page new
 step_ends layout pages root levels key steps page old new tree along at =
     let is = at.steps in
-    let ends : EndsAt layout key levels steps page at.node.rows new = subst (λ (right : Option (List ℕ)). EndsAt layout key levels steps page at.node.rows right) (sym is.1) (ends_at layout pages levels key steps page old at.node along at.read is.0) in
-    record { rows = at.node.rows; stands = (end_stands layout key pages root levels steps page at.node.rows new tree ends).stands; ends = ends }
+    let ends : EndsAt layout key levels steps page at.node.rows new =
+    subst (λ (right : Option (List ℕ)). EndsAt layout key levels steps page at.node.rows right) (sym is.1)
+    (ends_at layout pages levels key steps page old at.node along at.read is.0) in
+    record {
+      rows = at.node.rows;
+      stands = (end_stands layout key pages root levels steps page at.node.rows new tree ends).stands;
+      ends = ends;
+    }

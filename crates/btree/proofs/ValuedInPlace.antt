@@ -22,7 +22,8 @@ use Rattle.btree.proofs.Writes.{write_one, is_low, spells_node}
 use Rattle.btree.proofs.Revalued.{rest_stands}
 use Rattle.btree.proofs.Valued.{end_valued}
 
-module _ (layout : RowLayout) (before after : List (Option Sector)) (page : ℕ) (key value : List ℕ) (on : SetsOn layout page key value before after) where
+module _ (layout : RowLayout) (before after : List (Option Sector)) (page : ℕ) (key value : List ℕ)
+    (on : SetsOn layout page key value before after) where
   abbrev node : Node
   node = on.sets.node
 
@@ -35,19 +36,27 @@ module _ (layout : RowLayout) (before after : List (Option Sector)) (page : ℕ)
   seen : node_at layout before page ≡ Some node
   seen = ap (node_on layout) on.at ∙ on.sets.read
 
-  rest_put : length value ≡ layout.value_length → CanStand before page node → ReplacesNodes node.layout node.kind before (node_with page node.rows ∷ []) after (node_with page (set node.rows place (key_of node.layout (slice_index_or node.rows place []) ++ value)) ∷ [])
+  rest_put : length value ≡ layout.value_length → CanStand before page node
+      → ReplacesNodes node.layout node.kind before (node_with page node.rows ∷ []) after
+      (node_with page (set node.rows place (key_of node.layout (slice_index_or node.rows place []) ++ value)) ∷ [])
   rest_put value_is can =
       let value_in : length value ≡ rest_length node.layout node.kind =
-      subst (λ (k : Kind). length value ≡ rest_length node.layout k) (sym on.sets.kind_is) (subst (λ (f : RowLayout). length value ≡ f.value_length) (sym on.sets.layout_is) value_is) in
-      let spelled : node_in made.layout on.new ≡ Some made = subst (λ (f : RowLayout). node_in f on.new ≡ Some made) (sym on.sets.layout_is) on.sets.spelled in
+      subst (λ (k : Kind). length value ≡ rest_length node.layout k) (sym on.sets.kind_is)
+      (subst (λ (f : RowLayout). length value ≡ f.value_length) (sym on.sets.layout_is) value_is) in
+      let spelled : node_in made.layout on.new ≡ Some made =
+      subst (λ (f : RowLayout). node_in f on.new ≡ Some made) (sym on.sets.layout_is) on.sets.spelled in
       let stands = rest_stands before page node place value on.sets.low value_in can in
       write_one node.layout node.kind before after page on.new node.rows made.rows on.is (is_low before page can.is_in)
       (spells_node node made on.new (record { layout = refl; kind = refl }) spelled stands.lengths stands.enough)
 
-  pub valued_in_place : (root : ℕ) (levels : List (List TreeNode)) (steps : List PathStep) (right : Option (List ℕ)) → length value ≡ layout.value_length
+  pub valued_in_place : (root : ℕ) (levels : List (List TreeNode)) (steps : List PathStep) (right : Option (List ℕ))
+      → length value ≡ layout.value_length
       → IsTree layout before root levels → LeadsTo layout before key levels steps page right
-      → IsSome (entry_with (entries_of layout levels) key) × Becomes layout before levels after root (with_value (entries_of layout levels) (record { key = key; value = value }))
+      → IsSome (entry_with (entries_of layout levels) key) × Becomes layout before levels after root
+      (with_value (entries_of layout levels) (record { key = key; value = value }))
   valued_in_place root levels steps right value_is tree leads =
-      let same : leads.rows ≡ node.rows = rows_read layout before Leaf (node_with page leads.rows) page node refl leads.stands seen in
+      let same : leads.rows ≡ node.rows =
+      rows_read layout before Leaf (node_with page leads.rows) page node refl leads.stands seen in
       let ends = subst (λ (rows : List (List ℕ)). EndsAt layout key levels steps page rows right) same leads.ends in
-      end_valued layout before after root levels steps page node right place key value tree ends on.sets.layout_is on.sets.kind_is on.sets.low on.sets.here on.sets.around (rest_put value_is)
+      end_valued layout before after root levels steps page node right place key value tree ends on.sets.layout_is
+      on.sets.kind_is on.sets.low on.sets.here on.sets.around (rest_put value_is)

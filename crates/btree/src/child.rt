@@ -18,7 +18,8 @@ pub(crate) struct Child {
 pub(crate) fn child_place(node: &NodeView, key: &[u8]) -> usize
     requires { 0 < length node.now.rows }
     ensures low { result < length node.now.rows }
-    ensures chosen { Ascend (keys_of node.now.layout node.now.rows) → IsChosen node.now.layout key.now node.now.rows result }
+    ensures chosen { Ascend (keys_of node.now.layout node.now.rows)
+        → IsChosen node.now.layout key.now node.now.rows result }
 {
     match node.find(key) {
         Ok(place) => place,
@@ -39,7 +40,8 @@ pub(crate) fn note_right(
     right: &mut Option<Key>,
 ) -> Result<(), AllocError>
     requires { place < length node.now.rows }
-    ensures within { place + 1 < length node.now.rows → OnOk result (right.new ≡ Some (key_of node.now.layout (slice_index_or node.now.rows (place + 1) []))) }
+    ensures within { place + 1 < length node.now.rows → OnOk result
+        (right.new ≡ Some (key_of node.now.layout (slice_index_or node.now.rows (place + 1) []))) }
     ensures beyond { length node.now.rows ≤ place + 1 → OnOk result (right.new ≡ right.old) }
     ensures succeeds { node.now.layout.key_length ≤ 128 → IsOk result }
 {

@@ -23,10 +23,60 @@ use pages::{PageMap, PagesError};
 use station::Device;
 use std::alloc::Global;
 
+impl Tree {
+    /// Gives up all pages of the tree, whose root is 0 then. `Damaged` tells that the pages under the root are no tree. After a refusal
+    /// the pages that aren't committed are given up with the map of pages. Of the leaves only the first one is read. The number of
+    /// each page is kept in memory. Whatever the bytes are, no level is kept that names more pages than the volume has page numbers, so
+    /// the number of pages bounds that memory.
+    pub fn clear<D: Device>(
+        &mut self,
+        pages: &mut PageMap,
+        device: &mut D,
+    ) -> Result<(), PagesError>
+        requires open { IsOpen pages.old }
+        requires sectors { sectors_of pages.old ≤ D.sectors device.old }
+        ensures only { OnlyReads D.Device (result ≡ Err PagesError.Device) device.old device.new }
+
+        // Each page of the tree leaves the map, and the others stay as they are.
+        ensures cleared { OnTreeChange D.Device self.old.layout self.old.root pages.old pages.new
+            device.old
+            (λ before levels after. OnOk result (Moves before (pages_of levels) after [])) }
+        ensures damaged { OnNoTree D.Device self.old.layout self.old.root pages.old device.old
+            (TellsDamaged result) }
+        ensures layout { self.new.layout ≡ self.old.layout }
+        ensures root { OnOk result (self.new.root ≡ 0) }
+        ensures same { OnErr result (self.new ≡ self.old) }
+        ensures filled { filled_of pages.new ≤ filled_of pages.old }
+        ensures committed { SameCommitted pages.old pages.new }
+        ensures catalog { catalog_of pages.new ≡ catalog_of pages.old }
+        ensures agrees { IfAgrees D.Device pages.old device.old
+            (Agrees pages.new (D.state device.new).disk) }
+        ensures open { IsOpen pages.new }
+        ensures spent { result ≡ Err PagesError.Spent
+            → (is_spent pages.old ≡ true) × (self.old.root ≢ 0) }
+        ensures cause { IfErr result IsChangeRefusal }
+    {
+        let alloc = self.alloc;
+        let layout = self.layout();
+        let top = self.root();
+        if top == 0 {
+            return Ok(());
+        }
+        // How many page numbers there are is needed below.
+        let _page_count = pages.page_count();
+        let mut numbers = Vec::new(alloc);
+        numbers.push(top)?;
+        clear_levels(alloc, pages, device, layout, numbers, LEVELS)?;
+        self.set_root(0);
+        Ok(())
+    }
+}
+
 /// Takes these pages out of the map. `Damaged` tells that one of the numbers is no page's.
 fn release_pages(pages: &mut PageMap, numbers: &[u32]) -> Result<(), PagesError>
     requires { IsOpen pages.old }
-    ensures released { OnOk result ((image : List Sector) → Moves (pages_of_map pages.old image) numbers.now (pages_of_map pages.new image) []) }
+    ensures released { OnOk result ((image : List Sector)
+        → Moves (pages_of_map pages.old image) numbers.now (pages_of_map pages.new image) []) }
     ensures damaged { result ≡ Err PagesError.Damaged → (image : List Sector) →
         All (λ page. (0 < page) × (page < length (pages_of_map pages.old image))) numbers.now → ⊥ }
     ensures filled { filled_of pages.new ≤ filled_of pages.old }
@@ -50,7 +100,8 @@ fn release_pages(pages: &mut PageMap, numbers: &[u32]) -> Result<(), PagesError>
 /// Puts the children of an inner page behind the page numbers.
 fn push_children(numbers: &mut Vec<u32>, node: &TreePage) -> Result<(), PagesError>
     requires { node.now.kind ≡ Kind.Inner }
-    ensures numbers { OnOk result (numbers.new.items ≡ numbers.old.items ++ map (child_of node.now.layout) node.now.rows) }
+    ensures numbers { OnOk result
+        (numbers.new.items ≡ numbers.old.items ++ map (child_of node.now.layout) node.now.rows) }
     ensures cause { IfErr result (λ error. error ≡ PagesError.Memory) }
 {
     for place in 0..node.count() {
@@ -73,12 +124,17 @@ fn children_of<D: Device>(
     requires layout { IsRowLayout layout }
     ensures only { OnlyReads D.Device (result ≡ Err PagesError.Device) device.old device.new }
     ensures unchanged { IsUnchanged pages.old pages.new }
-    ensures agrees { IfAgrees D.Device pages.old device.old (Agrees pages.new (D.state device.new).disk) }
+    ensures agrees { IfAgrees D.Device pages.old device.old
+        (Agrees pages.new (D.state device.new).disk) }
     ensures open { IsOpen pages.new }
     ensures children { OnPages D.Device pages.old device.old
-        (λ before. (level : List TreeNode) → All (IsOnPage layout before Kind.Inner) level → numbers_of level ≡ numbers.now → IfOk result (λ children. children.items ≡ map (child_of layout) (rows_of level))) }
+        (λ before. (level : List TreeNode)
+        → All (IsOnPage layout before Kind.Inner) level → numbers_of level ≡ numbers.now
+        → IfOk result (λ children. children.items ≡ map (child_of layout) (rows_of level))) }
     ensures damaged { OnPages D.Device pages.old device.old
-        (λ before. result ≡ Err PagesError.Damaged → (level : List TreeNode) → All (IsOnPage layout before Kind.Inner) level → numbers_of level ≡ numbers.now → length (rows_of level) ≤ length before → ⊥) }
+        (λ before. result ≡ Err PagesError.Damaged → (level : List TreeNode)
+        → All (IsOnPage layout before Kind.Inner) level → numbers_of level ≡ numbers.now
+        → length (rows_of level) ≤ length before → ⊥) }
     ensures few { IfOk result (λ children. length children.items ≤ page_count pages.old) }
     ensures spent { OnlyIfSpent pages.old result }
     ensures cause { IfErr result IsChangeRefusal }
@@ -113,12 +169,16 @@ fn below<D: Device>(
     requires some { 0 < length numbers.now }
     ensures only { OnlyReads D.Device (result ≡ Err PagesError.Device) device.old device.new }
     ensures unchanged { IsUnchanged pages.old pages.new }
-    ensures agrees { IfAgrees D.Device pages.old device.old (Agrees pages.new (D.state device.new).disk) }
+    ensures agrees { IfAgrees D.Device pages.old device.old
+        (Agrees pages.new (D.state device.new).disk) }
     ensures open { IsOpen pages.new }
     ensures below { OnPages D.Device pages.old device.old
-        (λ before. (levels : List (List TreeNode)) → IsSmall before → IsDown layout before numbers.now levels → IfOk result (λ children. HasPages children.items (levels_below levels))) }
+        (λ before. (levels : List (List TreeNode))
+        → IsSmall before → IsDown layout before numbers.now levels
+        → IfOk result (λ children. HasPages children.items (levels_below levels))) }
     ensures damaged { OnPages D.Device pages.old device.old
-        (λ before. result ≡ Err PagesError.Damaged → (levels : List (List TreeNode)) → IsDown layout before numbers.now levels → ⊥) }
+        (λ before. result ≡ Err PagesError.Damaged → (levels : List (List TreeNode))
+        → IsDown layout before numbers.now levels → ⊥) }
     ensures few { IfOk result (λ children. length children.items ≤ page_count pages.old) }
     ensures spent { ExactlyIfSpent pages.old result }
     ensures cause { IfErr result IsChangeRefusal }
@@ -144,16 +204,20 @@ fn clear_levels<D: Device>(
     requires layout { IsRowLayout layout }
     ensures only { OnlyReads D.Device (result ≡ Err PagesError.Device) device.old device.new }
     ensures cleared { OnChange D.Device pages.old pages.new device.old
-        (λ before after. (levels : List (List TreeNode)) → IsSmall before → IsDown layout before numbers.items levels → OnOk result (Moves before (pages_of levels) after [])) }
+        (λ before after. (levels : List (List TreeNode)) → IsSmall before → IsDown layout before
+        numbers.items levels → OnOk result (Moves before (pages_of levels) after [])) }
     ensures damaged { OnPages D.Device pages.old device.old
-        (λ before. result ≡ Err PagesError.Damaged → (levels : List (List TreeNode)) → IsSmall before → IsDown layout before numbers.items levels → length levels ≤ depth → ⊥) }
+        (λ before. result ≡ Err PagesError.Damaged → (levels : List (List TreeNode)) → IsSmall
+        before → IsDown layout before numbers.items levels → length levels ≤ depth → ⊥) }
     ensures filled { filled_of pages.new ≤ filled_of pages.old }
     ensures committed { SameCommitted pages.old pages.new }
     ensures catalog { catalog_of pages.new ≡ catalog_of pages.old }
-    ensures agrees { IfAgrees D.Device pages.old device.old (Agrees pages.new (D.state device.new).disk) }
+    ensures agrees { IfAgrees D.Device pages.old device.old
+        (Agrees pages.new (D.state device.new).disk) }
     ensures open { IsOpen pages.new }
     ensures spent { OnlyIfSpent pages.old result }
-    ensures told { is_spent pages.old ≡ true → 0 < length numbers.items → 0 < depth → result ≡ Err PagesError.Spent }
+    ensures told { is_spent pages.old ≡ true → 0 < length numbers.items → 0 < depth
+        → result ≡ Err PagesError.Spent }
     ensures cause { IfErr result IsChangeRefusal }
 {
     if numbers.is_empty() {
@@ -165,49 +229,4 @@ fn clear_levels<D: Device>(
     let children = below(alloc, pages, device, layout, numbers.as_slice())?;
     release_pages(pages, numbers.as_slice())?;
     clear_levels(alloc, pages, device, layout, children, depth - 1)
-}
-
-impl Tree {
-    /// Gives up all pages of the tree, whose root is 0 then. `Damaged` tells that the pages under the root are no tree. After a refusal
-    /// the pages that aren't committed are given up with the map of pages. Of the leaves only the first one is read. The number of
-    /// each page is kept in memory. Whatever the bytes are, no level is kept that names more pages than the volume has page numbers, so
-    /// the number of pages bounds that memory.
-    pub fn clear<D: Device>(
-        &mut self,
-        pages: &mut PageMap,
-        device: &mut D,
-    ) -> Result<(), PagesError>
-        requires open { IsOpen pages.old }
-        requires sectors { sectors_of pages.old ≤ D.sectors device.old }
-        ensures only { OnlyReads D.Device (result ≡ Err PagesError.Device) device.old device.new }
-
-        // Each page of the tree leaves the map, and the others stay as they are.
-        ensures cleared { OnTreeChange D.Device self.old.layout self.old.root pages.old pages.new device.old
-            (λ before levels after. OnOk result (Moves before (pages_of levels) after [])) }
-        ensures damaged { OnNoTree D.Device self.old.layout self.old.root pages.old device.old (TellsDamaged result) }
-        ensures layout { self.new.layout ≡ self.old.layout }
-        ensures root { OnOk result (self.new.root ≡ 0) }
-        ensures same { OnErr result (self.new ≡ self.old) }
-        ensures filled { filled_of pages.new ≤ filled_of pages.old }
-        ensures committed { SameCommitted pages.old pages.new }
-        ensures catalog { catalog_of pages.new ≡ catalog_of pages.old }
-        ensures agrees { IfAgrees D.Device pages.old device.old (Agrees pages.new (D.state device.new).disk) }
-        ensures open { IsOpen pages.new }
-        ensures spent { result ≡ Err PagesError.Spent → (is_spent pages.old ≡ true) × (self.old.root ≢ 0) }
-        ensures cause { IfErr result IsChangeRefusal }
-    {
-        let alloc = self.alloc;
-        let layout = self.layout();
-        let top = self.root();
-        if top == 0 {
-            return Ok(());
-        }
-        // How many page numbers there are is needed below.
-        let _page_count = pages.page_count();
-        let mut numbers = Vec::new(alloc);
-        numbers.push(top)?;
-        clear_levels(alloc, pages, device, layout, numbers, LEVELS)?;
-        self.set_root(0);
-        Ok(())
-    }
 }

@@ -56,11 +56,14 @@ pub(crate) fn follow<D: Device>(
     requires layout { IsRowLayout layout }
     ensures only { OnlyReads D.Device (result ≡ Err PagesError.Device) device.old device.new }
     ensures unchanged { IsUnchanged pages.old pages.new }
-    ensures agrees { IfAgrees D.Device pages.old device.old (Agrees pages.new (D.state device.new).disk) }
+    ensures agrees { IfAgrees D.Device pages.old device.old
+        (Agrees pages.new (D.state device.new).disk) }
     ensures open { IsOpen pages.new }
     ensures way { OnPages D.Device pages.old device.old
-        (λ before. (levels : List (List TreeNode)) → IsTree layout before root levels → IfOk result (λ way. LeadsTo layout before key.now levels way.path.items way.page way.right)) }
-    ensures damaged { OnPages D.Device pages.old device.old (NoTree layout root (TellsDamaged result)) }
+        (λ before. (levels : List (List TreeNode)) → IsTree layout before root levels → IfOk result
+        (λ way. LeadsTo layout before key.now levels way.path.items way.page way.right)) }
+    ensures damaged { OnPages D.Device pages.old device.old
+        (NoTree layout root (TellsDamaged result)) }
     ensures spent { ExactlyIfSpent pages.old result }
     ensures cause { IfErr result (IsSearchRefusal layout) }
 {
@@ -98,12 +101,17 @@ pub(crate) fn descend<D: Device>(
     requires layout { IsRowLayout layout }
     ensures only { OnlyReads D.Device (result ≡ Err PagesError.Device) device.old device.new }
     ensures unchanged { IsUnchanged pages.old pages.new }
-    ensures agrees { IfAgrees D.Device pages.old device.old (Agrees pages.new (D.state device.new).disk) }
+    ensures agrees { IfAgrees D.Device pages.old device.old
+        (Agrees pages.new (D.state device.new).disk) }
     ensures open { IsOpen pages.new }
     ensures way { OnPages D.Device pages.old device.old
-        (λ before. (levels : List (List TreeNode)) → IsTree layout before root levels → IfOk result (λ descent. EndsAt layout key.now levels descent.path.items descent.page descent.leaf.rows descent.right)) }
-    ensures damaged { OnPages D.Device pages.old device.old (NoTree layout root (TellsDamaged result)) }
-    ensures leaf { IfOk result (λ descent. (descent.leaf.layout ≡ layout) × (descent.leaf.kind ≡ Kind.Leaf) × (length descent.leaf.rows ≤ 4080)) }
+        (λ before. (levels : List (List TreeNode)) → IsTree layout before root levels
+        → IfOk result (λ descent. EndsAt layout key.now levels descent.path.items descent.page
+        descent.leaf.rows descent.right)) }
+    ensures damaged { OnPages D.Device pages.old device.old
+        (NoTree layout root (TellsDamaged result)) }
+    ensures leaf { IfOk result (λ descent. (descent.leaf.layout ≡ layout)
+        × (descent.leaf.kind ≡ Kind.Leaf) × (length descent.leaf.rows ≤ 4080)) }
     ensures node { IfOk result (λ descent. IsNode descent.leaf) }
     ensures spent { ExactlyIfSpent pages.old result }
     ensures cause { IfErr result (IsSearchRefusal layout) }

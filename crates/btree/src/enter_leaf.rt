@@ -25,7 +25,9 @@ pub(crate) fn enter_leaf(
     requires layout { IsRowLayout layout }
     requires key { length key.now ≡ layout.key_length }
     requires value { length value.now ≡ layout.value_length }
-    ensures done { result ≡ Ok true → (disk : Disk) → Agrees pages.old disk → EntersOn layout page key.now value.now (pages_of_map pages.old disk.present) (pages_of_map pages.new disk.present) }
+    ensures done { result ≡ Ok true → (disk : Disk) → Agrees pages.old disk
+        → EntersOn layout page key.now value.now (pages_of_map pages.old disk.present)
+        (pages_of_map pages.new disk.present) }
     ensures same { result ≡ Ok false → pages.new ≡ pages.old }
     ensures changed_pages { FewChanged 1 pages.old pages.new }
     ensures filled { FewFilled 1 pages.old pages.new }

@@ -18,7 +18,10 @@ impl Model for Entry {
 
     ghost Value = { Listed };
 
-    ghost view = { λ entry. record { key = take entry.key_length (take entry.length entry.bytes); value = drop entry.key_length (take entry.length entry.bytes) } };
+    ghost view = { λ entry. record {
+      key = take entry.key_length (take entry.length entry.bytes);
+      value = drop entry.key_length (take entry.length entry.bytes);
+    } };
 
     ghost invariant = { λ entry. (entry.key_length ≤ entry.length) × (entry.length ≤ 1360) };
 }

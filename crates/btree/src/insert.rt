@@ -20,6 +20,80 @@ use pages::{PageMap, PagesError, few_free};
 use station::Device;
 use std::alloc::Global;
 
+impl Tree {
+    /// The root is another page from now on.
+    pub(crate) fn set_root(&mut self, root: u32)
+        ensures layout { self.new.layout ≡ self.old.layout }
+        ensures root { self.new.root ≡ root }
+    {
+        self.root = root;
+    }
+
+    /// Puts a new entry into the tree. `false` tells that its key is there, and then nothing was changed. After a refusal the pages that
+    /// aren't committed are given up with the map of pages, and the tree has the root that it had. `Damaged` tells that the pages under
+    /// the root are no tree, `Full` that no page number is left.
+    pub fn insert<D: Device>(
+        &mut self,
+        pages: &mut PageMap,
+        device: &mut D,
+        key: &[u8],
+        value: &[u8],
+    ) -> Result<bool, PagesError>
+        requires open { IsOpen pages.old }
+        requires sectors { sectors_of pages.old ≤ D.sectors device.old }
+        requires key { length key.now ≡ self.old.layout.key_length }
+        requires value { length value.now ≡ self.old.layout.value_length }
+        ensures only { OnlyReads D.Device (result ≡ Err PagesError.Device) device.old device.new }
+
+        // The list of entries has the new one at its place, and the pages around the tree stay.
+        ensures inserted { OnTreeChange D.Device self.old.layout self.old.root pages.old pages.new
+            device.old
+            (λ before levels after. result ≡ Ok true → Inserts self.old.layout before levels after
+            key.now value.now (Some self.new.root)) }
+        ensures there { OnTree D.Device self.old.layout self.old.root pages.old device.old
+            (λ levels. result ≡ Ok false
+            → IsSome (entry_with (entries_of self.old.layout levels) key.now)) }
+        ensures same { result ≡ Ok false → IsUnchanged pages.old pages.new × (self.new ≡ self.old) }
+        ensures damaged { OnNoTree D.Device self.old.layout self.old.root pages.old device.old
+            (TellsDamaged result) }
+        ensures layout { self.new.layout ≡ self.old.layout }
+        ensures refused { OnErr result (self.new ≡ self.old) }
+
+        // At most so many pages are changed, whatever the answer.
+        ensures changed_pages { OnTree D.Device self.old.layout self.old.root pages.old device.old
+            (λ levels. FewChanged 42 pages.old pages.new) }
+        ensures filled { OnTree D.Device self.old.layout self.old.root pages.old device.old
+            (λ levels. FewFilled 42 pages.old pages.new) }
+        ensures committed { SameCommitted pages.old pages.new }
+        ensures catalog { catalog_of pages.new ≡ catalog_of pages.old }
+        ensures agrees { IfAgrees D.Device pages.old device.old
+            (Agrees pages.new (D.state device.new).disk) }
+        ensures open { IsOpen pages.new }
+
+        // `Full` tells that each page number is used, and so that few sectors were free. `Spent` comes exactly where the map is spent.
+        ensures full { FullIfUsed pages.new result }
+        ensures room { OnTree D.Device self.old.layout self.old.root pages.old device.old
+            (λ levels. result ≡ Err PagesError.Full
+            → free_count (committed_of pages.old) < length (changed_pages_of pages.old) + 42) }
+        ensures spent { ExactlyIfSpent pages.old result }
+        ensures cause { IfErr result IsInsertRefusal }
+    {
+        let alloc = self.alloc;
+        let layout = self.layout();
+        let top = self.root();
+        // What `Full` tells of the free sectors.
+        few_free();
+        let added = insert_entry(alloc, pages, device, layout, top, key, value)?;
+        match added {
+            Some(root) => {
+                self.set_root(root);
+                Ok(true)
+            }
+            None => Ok(false),
+        }
+    }
+}
+
 /// Puts a new entry into the tree under a root, whatever it takes. Answers and refusals are those of `insert_entry`.
 #[cold]
 #[inline(never)]
@@ -39,14 +113,18 @@ fn insert_slowly<D: Device>(
     requires value { length value.now ≡ layout.value_length }
     ensures only { OnlyReads D.Device (result ≡ Err PagesError.Device) device.old device.new }
     ensures inserted { OnTreeChange D.Device layout root pages.old pages.new device.old
-        (λ before levels after. IfOk result (Inserts layout before levels after key.now value.now)) }
+        (λ before levels after.
+        IfOk result (Inserts layout before levels after key.now value.now)) }
     ensures damaged { OnNoTree D.Device layout root pages.old device.old (TellsDamaged result) }
     ensures there { result ≡ Ok None → IsUnchanged pages.old pages.new }
-    ensures changed_pages { OnTree D.Device layout root pages.old device.old (λ levels. FewChanged 42 pages.old pages.new) }
-    ensures filled { OnTree D.Device layout root pages.old device.old (λ levels. FewFilled 42 pages.old pages.new) }
+    ensures changed_pages { OnTree D.Device layout root pages.old device.old
+        (λ levels. FewChanged 42 pages.old pages.new) }
+    ensures filled { OnTree D.Device layout root pages.old device.old
+        (λ levels. FewFilled 42 pages.old pages.new) }
     ensures committed { SameCommitted pages.old pages.new }
     ensures catalog { catalog_of pages.new ≡ catalog_of pages.old }
-    ensures agrees { IfAgrees D.Device pages.old device.old (Agrees pages.new (D.state device.new).disk) }
+    ensures agrees { IfAgrees D.Device pages.old device.old
+        (Agrees pages.new (D.state device.new).disk) }
     ensures open { IsOpen pages.new }
     ensures full { FullIfUsed pages.new result }
     ensures spent { ExactlyIfSpent pages.old result }
@@ -85,14 +163,18 @@ fn insert_entry<D: Device>(
     requires value { length value.now ≡ layout.value_length }
     ensures only { OnlyReads D.Device (result ≡ Err PagesError.Device) device.old device.new }
     ensures inserted { OnTreeChange D.Device layout root pages.old pages.new device.old
-        (λ before levels after. IfOk result (Inserts layout before levels after key.now value.now)) }
+        (λ before levels after.
+        IfOk result (Inserts layout before levels after key.now value.now)) }
     ensures damaged { OnNoTree D.Device layout root pages.old device.old (TellsDamaged result) }
     ensures there { result ≡ Ok None → IsUnchanged pages.old pages.new }
-    ensures changed_pages { OnTree D.Device layout root pages.old device.old (λ levels. FewChanged 42 pages.old pages.new) }
-    ensures filled { OnTree D.Device layout root pages.old device.old (λ levels. FewFilled 42 pages.old pages.new) }
+    ensures changed_pages { OnTree D.Device layout root pages.old device.old
+        (λ levels. FewChanged 42 pages.old pages.new) }
+    ensures filled { OnTree D.Device layout root pages.old device.old
+        (λ levels. FewFilled 42 pages.old pages.new) }
     ensures committed { SameCommitted pages.old pages.new }
     ensures catalog { catalog_of pages.new ≡ catalog_of pages.old }
-    ensures agrees { IfAgrees D.Device pages.old device.old (Agrees pages.new (D.state device.new).disk) }
+    ensures agrees { IfAgrees D.Device pages.old device.old
+        (Agrees pages.new (D.state device.new).disk) }
     ensures open { IsOpen pages.new }
     ensures full { FullIfUsed pages.new result }
     ensures spent { ExactlyIfSpent pages.old result }
@@ -106,70 +188,4 @@ fn insert_entry<D: Device>(
         return Ok(Some(root));
     }
     insert_slowly(alloc, pages, device, layout, root, key, value)
-}
-
-impl Tree {
-    /// The root is another page from now on.
-    pub(crate) fn set_root(&mut self, root: u32)
-        ensures layout { self.new.layout ≡ self.old.layout }
-        ensures root { self.new.root ≡ root }
-    {
-        self.root = root;
-    }
-
-    /// Puts a new entry into the tree. `false` tells that its key is there, and then nothing was changed. After a refusal the pages that
-    /// aren't committed are given up with the map of pages, and the tree has the root that it had. `Damaged` tells that the pages under
-    /// the root are no tree, `Full` that no page number is left.
-    pub fn insert<D: Device>(
-        &mut self,
-        pages: &mut PageMap,
-        device: &mut D,
-        key: &[u8],
-        value: &[u8],
-    ) -> Result<bool, PagesError>
-        requires open { IsOpen pages.old }
-        requires sectors { sectors_of pages.old ≤ D.sectors device.old }
-        requires key { length key.now ≡ self.old.layout.key_length }
-        requires value { length value.now ≡ self.old.layout.value_length }
-        ensures only { OnlyReads D.Device (result ≡ Err PagesError.Device) device.old device.new }
-
-        // The list of entries has the new one at its place, and the pages around the tree stay.
-        ensures inserted { OnTreeChange D.Device self.old.layout self.old.root pages.old pages.new device.old
-            (λ before levels after. result ≡ Ok true → Inserts self.old.layout before levels after key.now value.now (Some self.new.root)) }
-        ensures there { OnTree D.Device self.old.layout self.old.root pages.old device.old
-            (λ levels. result ≡ Ok false → IsSome (entry_with (entries_of self.old.layout levels) key.now)) }
-        ensures same { result ≡ Ok false → IsUnchanged pages.old pages.new × (self.new ≡ self.old) }
-        ensures damaged { OnNoTree D.Device self.old.layout self.old.root pages.old device.old (TellsDamaged result) }
-        ensures layout { self.new.layout ≡ self.old.layout }
-        ensures refused { OnErr result (self.new ≡ self.old) }
-
-        // At most so many pages are changed, whatever the answer.
-        ensures changed_pages { OnTree D.Device self.old.layout self.old.root pages.old device.old (λ levels. FewChanged 42 pages.old pages.new) }
-        ensures filled { OnTree D.Device self.old.layout self.old.root pages.old device.old (λ levels. FewFilled 42 pages.old pages.new) }
-        ensures committed { SameCommitted pages.old pages.new }
-        ensures catalog { catalog_of pages.new ≡ catalog_of pages.old }
-        ensures agrees { IfAgrees D.Device pages.old device.old (Agrees pages.new (D.state device.new).disk) }
-        ensures open { IsOpen pages.new }
-
-        // `Full` tells that each page number is used, and so that few sectors were free. `Spent` comes exactly where the map is spent.
-        ensures full { FullIfUsed pages.new result }
-        ensures room { OnTree D.Device self.old.layout self.old.root pages.old device.old
-            (λ levels. result ≡ Err PagesError.Full → free_count (committed_of pages.old) < length (changed_pages_of pages.old) + 42) }
-        ensures spent { ExactlyIfSpent pages.old result }
-        ensures cause { IfErr result IsInsertRefusal }
-    {
-        let alloc = self.alloc;
-        let layout = self.layout();
-        let top = self.root();
-        // What `Full` tells of the free sectors.
-        few_free();
-        let added = insert_entry(alloc, pages, device, layout, top, key, value)?;
-        match added {
-            Some(root) => {
-                self.set_root(root);
-                Ok(true)
-            }
-            None => Ok(false),
-        }
-    }
 }

@@ -31,7 +31,8 @@ pub(crate) fn root_after_split(
     requires open { IsOpen pages.old }
     requires layout { IsRowLayout layout }
     requires keys { IfSome told (HasKeys layout) }
-    ensures settles { IfOk result (λ new. (image : List Sector) → IsRootAfter layout root told (pages_of_map pages.old image) (pages_of_map pages.new image) new) }
+    ensures settles { IfOk result (λ new. (image : List Sector) → IsRootAfter layout root told
+        (pages_of_map pages.old image) (pages_of_map pages.new image) new) }
     ensures some { 0 < root → IfOk result (λ new. 0 < new) }
     ensures changed_pages { FewChanged 1 pages.old pages.new }
     ensures filled { FewFilled 1 pages.old pages.new }
@@ -73,15 +74,21 @@ pub(crate) fn insert_into_leaf<D: Device>(
     requires value { length value.now ≡ layout.value_length }
     ensures only { OnlyReads D.Device (result ≡ Err PagesError.Device) device.old device.new }
     ensures entered { OnChange D.Device pages.old pages.new device.old
-        (λ before after. IfOk result (λ new. InsertsIntoLeaf layout root before after descent.path.items descent.page descent.leaf.rows descent.right place key.now value.now new)) }
+        (λ before after.
+        IfOk result (λ new. InsertsIntoLeaf layout root before after descent.path.items
+        descent.page descent.leaf.rows descent.right place key.now value.now new)) }
     ensures damaged { OnPages D.Device pages.old device.old
-        (λ before. result ≡ Err PagesError.Damaged → (levels : List (List TreeNode)) → IsTree layout before root levels → EndsAt layout key.now levels descent.path.items descent.page descent.leaf.rows descent.right → ⊥) }
+        (λ before. result ≡ Err PagesError.Damaged → (levels : List (List TreeNode))
+        → IsTree layout before root levels → EndsAt layout key.now levels descent.path.items
+        descent.page descent.leaf.rows descent.right → ⊥) }
     ensures some { 0 < root → IfOk result (λ new. 0 < new) }
-    ensures changed_pages { length (changed_pages_of pages.new) ≤ length (changed_pages_of pages.old) + 2 * length descent.path.items + 3 }
+    ensures changed_pages { length (changed_pages_of pages.new)
+        ≤ length (changed_pages_of pages.old) + 2 * length descent.path.items + 3 }
     ensures filled { filled_of pages.new ≤ filled_of pages.old + 2 * length descent.path.items + 3 }
     ensures committed { SameCommitted pages.old pages.new }
     ensures catalog { catalog_of pages.new ≡ catalog_of pages.old }
-    ensures agrees { IfAgrees D.Device pages.old device.old (Agrees pages.new (D.state device.new).disk) }
+    ensures agrees { IfAgrees D.Device pages.old device.old
+        (Agrees pages.new (D.state device.new).disk) }
     ensures open { IsOpen pages.new }
     ensures cause { IfErr result IsInsertRefusal }
     ensures full { FullIfUsed pages.new result }

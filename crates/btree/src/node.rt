@@ -44,12 +44,15 @@ pub fn read_node<D: Device>(
     requires layout { IsRowLayout layout }
     ensures only { OnlyReads D.Device (result ≡ Err PagesError.Device) device.old device.new }
     ensures unchanged { IsUnchanged pages.old pages.new }
-    ensures agrees { IfAgrees D.Device pages.old device.old (Agrees pages.new (D.state device.new).disk) }
+    ensures agrees { IfAgrees D.Device pages.old device.old
+        (Agrees pages.new (D.state device.new).disk) }
     ensures open { IsOpen pages.new }
-    ensures node { OnPages D.Device pages.old device.old (λ before. IfOk result (λ node. node_at layout before page ≡ Some node)) }
+    ensures node { OnPages D.Device pages.old device.old
+        (λ before. IfOk result (λ node. node_at layout before page ≡ Some node)) }
     ensures shape { IfOk result (HasShape layout) }
     ensures is_node { IfOk result IsNode }
-    ensures damaged { OnPages D.Device pages.old device.old (NoneStands layout page (TellsDamaged result)) }
+    ensures damaged { OnPages D.Device pages.old device.old
+        (NoneStands layout page (TellsDamaged result)) }
     ensures spent { ExactlyIfSpent pages.old result }
     ensures cause { IfErr result IsReadRefusal }
 {
@@ -94,12 +97,15 @@ fn node_read<D: Device>(
     requires layout { IsRowLayout layout }
     ensures only { OnlyReads D.Device (result ≡ Err PagesError.Device) device.old device.new }
     ensures unchanged { IsUnchanged pages.old pages.new }
-    ensures agrees { IfAgrees D.Device pages.old device.old (Agrees pages.new (D.state device.new).disk) }
+    ensures agrees { IfAgrees D.Device pages.old device.old
+        (Agrees pages.new (D.state device.new).disk) }
     ensures open { IsOpen pages.new }
-    ensures node { OnPages D.Device pages.old device.old (λ before. IfOk result (λ node. node_at layout before page ≡ Some node)) }
+    ensures node { OnPages D.Device pages.old device.old
+        (λ before. IfOk result (λ node. node_at layout before page ≡ Some node)) }
     ensures shape { IfOk result (HasShape layout) }
     ensures is_node { IfOk result IsNode }
-    ensures damaged { OnPages D.Device pages.old device.old (NoneStands layout page (TellsDamaged result)) }
+    ensures damaged { OnPages D.Device pages.old device.old
+        (NoneStands layout page (TellsDamaged result)) }
     ensures spent { ExactlyIfSpent pages.old result }
     ensures cause { IfErr result IsReadRefusal }
 {
@@ -123,12 +129,15 @@ fn node_loaded<D: Device>(
     requires layout { IsRowLayout layout }
     ensures only { OnlyReads D.Device (result ≡ Err PagesError.Device) device.old device.new }
     ensures unchanged { IsUnchanged pages.old pages.new }
-    ensures agrees { IfAgrees D.Device pages.old device.old (Agrees pages.new (D.state device.new).disk) }
+    ensures agrees { IfAgrees D.Device pages.old device.old
+        (Agrees pages.new (D.state device.new).disk) }
     ensures open { IsOpen pages.new }
-    ensures node { OnPages D.Device pages.old device.old (λ before. IfOk result (λ node. node_at layout before page ≡ Some node)) }
+    ensures node { OnPages D.Device pages.old device.old
+        (λ before. IfOk result (λ node. node_at layout before page ≡ Some node)) }
     ensures shape { IfOk result (HasShape layout) }
     ensures is_node { IfOk result IsNode }
-    ensures damaged { OnPages D.Device pages.old device.old (NoneStands layout page (TellsDamaged result)) }
+    ensures damaged { OnPages D.Device pages.old device.old
+        (NoneStands layout page (TellsDamaged result)) }
     ensures spent { ExactlyIfSpent pages.old result }
     ensures cause { IfErr result IsReadRefusal }
 {

@@ -32,14 +32,17 @@ pub(crate) fn propagate_split<D: Device>(
     requires keys { HasKeys layout split }
     ensures only { OnlyReads D.Device (result ≡ Err PagesError.Device) device.old device.new }
     ensures propagates { OnChange D.Device pages.old pages.new device.old
-        (λ before after. IfOk result (λ up. PropagatesBy layout path.now before after (Some split) up)) }
-    ensures damaged { OnPages D.Device pages.old device.old (λ before. result ≡ Err PagesError.Damaged → NeverPropagates layout path.now before (Some split)) }
+        (λ before after.
+        IfOk result (λ up. PropagatesBy layout path.now before after (Some split) up)) }
+    ensures damaged { OnPages D.Device pages.old device.old (λ before.
+        result ≡ Err PagesError.Damaged → NeverPropagates layout path.now before (Some split)) }
     ensures keys { IfOk result (λ up. IfSome up (HasKeys layout)) }
     ensures changed_pages { FewChanged (2 * length path.now) pages.old pages.new }
     ensures filled { FewFilled (2 * length path.now) pages.old pages.new }
     ensures committed { SameCommitted pages.old pages.new }
     ensures catalog { catalog_of pages.new ≡ catalog_of pages.old }
-    ensures agrees { IfAgrees D.Device pages.old device.old (Agrees pages.new (D.state device.new).disk) }
+    ensures agrees { IfAgrees D.Device pages.old device.old
+        (Agrees pages.new (D.state device.new).disk) }
     ensures open { IsOpen pages.new }
     ensures cause { IfErr result IsInsertRefusal }
     ensures full { FullIfUsed pages.new result }
@@ -67,7 +70,8 @@ fn update_parent_at(
 ) -> Result<Option<SplitResult>, PagesError>
     requires open { IsOpen pages.old }
     requires keys { HasKeys node.layout split.now }
-    ensures pages { IfOk result (PutsParent pages.old pages.new step.page node step.place split.now) }
+    ensures pages { IfOk result
+        (PutsParent pages.old pages.new step.page node step.place split.now) }
     ensures keys { IfOk result (λ up. IfSome up (HasKeys node.layout)) }
     ensures changed_pages { FewChanged 2 pages.old pages.new }
     ensures filled { FewFilled 2 pages.old pages.new }

@@ -23,7 +23,8 @@ pub(crate) fn first_leaf(
     requires key { length key.now ≡ layout.key_length }
     requires value { length value.now ≡ layout.value_length }
     ensures some { IfOk result (λ page. 0 < page) }
-    ensures pages { IfOk result (PutsRows layout Kind.Leaf pages.old pages.new ((key.now ++ value.now) ∷ [])) }
+    ensures pages { IfOk result
+        (PutsRows layout Kind.Leaf pages.old pages.new ((key.now ++ value.now) ∷ [])) }
     ensures changed_pages { FewChanged 1 pages.old pages.new }
     ensures filled { FewFilled 1 pages.old pages.new }
     ensures keeps { KeepsCommitted pages.old pages.new }
@@ -52,7 +53,8 @@ pub(crate) fn new_root(
     requires right_layout { right.now.node.layout ≡ layout }
     requires right_some { 0 < length right.now.node.rows }
     ensures some { IfOk result (λ page. 0 < page) }
-    ensures pages { IfOk result (PutsRows layout Kind.Inner pages.old pages.new (two_rows layout split.now right.now)) }
+    ensures pages { IfOk result
+        (PutsRows layout Kind.Inner pages.old pages.new (two_rows layout split.now right.now)) }
     ensures changed_pages { FewChanged 1 pages.old pages.new }
     ensures filled { FewFilled 1 pages.old pages.new }
     ensures keeps { KeepsCommitted pages.old pages.new }

@@ -43,15 +43,22 @@ pub(crate) fn rebalance_at<D: Device>(
     requires lone { (lone.node.layout ≡ layout) × (0 < length lone.node.rows) }
     ensures only { OnlyReads D.Device (result ≡ Err PagesError.Device) device.old device.new }
     ensures rebalances { OnChange D.Device pages.old pages.new device.old
-        (λ before after. IfOk result (λ outcome. (left right : TreeNode) → CanStand before step.page node → IsPair layout lone.node.kind before step.page node.rows step.place lone.page left right → RebalancesNeighbours layout lone.node.kind before after step.page node.rows step.place lone.node.rows left right outcome)) }
+        (λ before after. IfOk result (λ outcome. (left right : TreeNode)
+        → CanStand before step.page node → IsPair layout lone.node.kind before step.page
+        node.rows step.place lone.page left right → RebalancesNeighbours layout lone.node.kind
+        before after step.page node.rows step.place lone.node.rows left right outcome)) }
     ensures damaged { OnPages D.Device pages.old device.old
-        (λ before. result ≡ Err PagesError.Damaged → (left right : TreeNode) → node.kind ≡ Kind.Inner → step.place < length node.rows → 0 < step.page → 0 < left.page → 0 < right.page → IsPair layout lone.node.kind before step.page node.rows step.place lone.page left right → ⊥) }
+        (λ before. result ≡ Err PagesError.Damaged → (left right : TreeNode)
+        → node.kind ≡ Kind.Inner → step.place < length node.rows → 0 < step.page → 0 < left.page
+        → 0 < right.page → IsPair layout lone.node.kind before step.page node.rows step.place
+        lone.page left right → ⊥) }
     ensures fits { IfOk result (FitsAbove layout) }
     ensures changed_pages { IfOk result (LeavesFewChanged 3 pages.old pages.new) }
     ensures filled { IfOk result (LeavesFewFilled 3 pages.old pages.new) }
     ensures committed { SameCommitted pages.old pages.new }
     ensures catalog { catalog_of pages.new ≡ catalog_of pages.old }
-    ensures agrees { IfAgrees D.Device pages.old device.old (Agrees pages.new (D.state device.new).disk) }
+    ensures agrees { IfAgrees D.Device pages.old device.old
+        (Agrees pages.new (D.state device.new).disk) }
     ensures open { IsOpen pages.new }
     ensures spent { OnlyIfSpent pages.old result }
     ensures cause { result ≢ Err PagesError.Full × result ≢ Err PagesError.ForeignMark }
@@ -102,7 +109,8 @@ fn rebalance(pages: &mut PageMap, left: Child, right: Child) -> Result<SplitResu
     requires open { IsOpen pages.old }
     requires like { SameNode left.node right.node }
     requires many { 2 ≤ length left.node.rows + length right.node.rows }
-    ensures rows { IfOk result (λ joined. rows_of (run_of joined) ≡ left.node.rows ++ right.node.rows) }
+    ensures rows { IfOk result
+        (λ joined. rows_of (run_of joined) ≡ left.node.rows ++ right.node.rows) }
     ensures pages { IfOk result (PutsTogether pages.old pages.new left right) }
     ensures joined { IfOk result (IsJoined left.node.layout left.page right.page) }
     ensures even { IfOk result (λ joined. IsEven left.node.layout left.node.kind (run_of joined)) }
@@ -135,8 +143,10 @@ fn merge(pages: &mut PageMap, left: Child, right: Child) -> Result<SplitResult, 
     requires right_page { IsPage pages.old right.page }
     requires like { SameNode left.node right.node }
     requires many { 2 ≤ length left.node.rows + length right.node.rows }
-    requires room { length left.node.rows + length right.node.rows ≤ capacity left.node.layout left.node.kind }
-    ensures rows { IfOk result (λ joined. rows_of (run_of joined) ≡ left.node.rows ++ right.node.rows) }
+    requires room { length left.node.rows + length right.node.rows
+        ≤ capacity left.node.layout left.node.kind }
+    ensures rows { IfOk result
+        (λ joined. rows_of (run_of joined) ≡ left.node.rows ++ right.node.rows) }
     ensures pages { IfOk result (PutsTogether pages.old pages.new left right) }
     ensures joined { IfOk result (IsJoined left.node.layout left.page right.page) }
     ensures even { IfOk result (λ joined. IsEven left.node.layout left.node.kind (run_of joined)) }
@@ -167,8 +177,10 @@ fn redistribute(pages: &mut PageMap, left: Child, right: Child) -> Result<SplitR
     requires right_page { IsPage pages.old right.page }
     requires like { SameNode left.node right.node }
     requires many { 4 ≤ length left.node.rows + length right.node.rows }
-    requires full { capacity left.node.layout left.node.kind < length left.node.rows + length right.node.rows }
-    ensures rows { IfOk result (λ joined. rows_of (run_of joined) ≡ left.node.rows ++ right.node.rows) }
+    requires full { capacity left.node.layout left.node.kind
+        < length left.node.rows + length right.node.rows }
+    ensures rows { IfOk result
+        (λ joined. rows_of (run_of joined) ≡ left.node.rows ++ right.node.rows) }
     ensures pages { IfOk result (PutsTogether pages.old pages.new left right) }
     ensures joined { IfOk result (IsJoined left.node.layout left.page right.page) }
     ensures even { IfOk result (λ joined. IsEven left.node.layout left.node.kind (run_of joined)) }
@@ -206,9 +218,12 @@ fn name_pair(node: &mut TreePage, place: usize, joined: &SplitResult)
     requires place { place + 1 < length node.old.rows }
     requires keys { HasKeys node.old.layout joined.now }
     ensures like { SameNode node.old node.new }
-    ensures rows { rest_of node.old.layout (slice_index_or node.old.rows place []) ≡ big_bytes 4 joined.now.page →
-        IfSome joined.now.right (λ right. rest_of node.old.layout (slice_index_or node.old.rows (place + 1) []) ≡ big_bytes 4 right.page) →
-        node.new.rows ≡ take place node.old.rows ++ (map (row_of node.old.layout) (run_of joined.now) ++ drop (place + 2) node.old.rows) }
+    ensures rows { rest_of node.old.layout (slice_index_or node.old.rows place []) ≡ big_bytes 4
+        joined.now.page →
+        IfSome joined.now.right (λ right. rest_of node.old.layout
+        (slice_index_or node.old.rows (place + 1) []) ≡ big_bytes 4 right.page) →
+        node.new.rows ≡ take place node.old.rows ++ (map (row_of node.old.layout)
+        (run_of joined.now) ++ drop (place + 2) node.old.rows) }
 {
     // That a place behind the row fits is needed below.
     let _count = node.count();
@@ -264,12 +279,16 @@ fn neighbour<D: Device>(
     requires layout { IsRowLayout layout }
     ensures only { OnlyReads D.Device (result ≡ Err PagesError.Device) device.old device.new }
     ensures unchanged { IsUnchanged pages.old pages.new }
-    ensures agrees { IfAgrees D.Device pages.old device.old (Agrees pages.new (D.state device.new).disk) }
+    ensures agrees { IfAgrees D.Device pages.old device.old
+        (Agrees pages.new (D.state device.new).disk) }
     ensures catalog { catalog_of pages.new ≡ catalog_of pages.old }
     ensures open { IsOpen pages.new }
-    ensures node { OnPages D.Device pages.old device.old (λ before. IfOk result (λ child. node_at layout before page ≡ Some child.node)) }
-    ensures shape { IfOk result (λ child. (child.page ≡ page) × (child.node.layout ≡ layout) × (child.node.kind ≡ kind) × (fewest kind ≤ length child.node.rows)) }
-    ensures damaged { OnPages D.Device pages.old device.old (NoneOfKind layout kind page (TellsDamaged result)) }
+    ensures node { OnPages D.Device pages.old device.old
+        (λ before. IfOk result (λ child. node_at layout before page ≡ Some child.node)) }
+    ensures shape { IfOk result (λ child. (child.page ≡ page) × (child.node.layout ≡ layout)
+        × (child.node.kind ≡ kind) × (fewest kind ≤ length child.node.rows)) }
+    ensures damaged { OnPages D.Device pages.old device.old
+        (NoneOfKind layout kind page (TellsDamaged result)) }
     ensures spent { ExactlyIfSpent pages.old result }
     ensures cause { IfErr result IsReadRefusal }
 {

@@ -24,11 +24,67 @@ use pages::{PageMap, PagesError};
 use station::Device;
 use std::alloc::Global;
 
+impl Tree {
+    /// Takes the entry of a key out of the tree. `false` tells that there is none, and then nothing was changed. After a refusal the pages
+    /// that aren't committed are given up with the map of pages. `Damaged` tells that the pages under the root are no tree.
+    pub fn remove<D: Device>(
+        &mut self,
+        pages: &mut PageMap,
+        device: &mut D,
+        key: &[u8],
+    ) -> Result<bool, PagesError>
+        requires open { IsOpen pages.old }
+        requires sectors { sectors_of pages.old ≤ D.sectors device.old }
+        ensures only { OnlyReads D.Device (result ≡ Err PagesError.Device) device.old device.new }
+
+        // The list of entries is without the one of the key, and the pages around the tree stay. No more leaves than before have less
+        // than a quarter of the rows that they have room for, unless one leaf is all that is left.
+        ensures removed { OnTreeChange D.Device self.old.layout self.old.root pages.old pages.new
+            device.old
+            (λ before levels after. result ≡ Ok true
+            → Removes self.old.layout before levels after key.now (Some self.new.root)) }
+        ensures missing { OnTree D.Device self.old.layout self.old.root pages.old device.old
+            (λ levels. result ≡ Ok false
+            → entry_with (entries_of self.old.layout levels) key.now ≡ None) }
+        ensures same { result ≡ Ok false → IsUnchanged pages.old pages.new × (self.new ≡ self.old) }
+        ensures damaged { OnNoTree D.Device self.old.layout self.old.root pages.old device.old
+            (TellsDamaged result) }
+        ensures layout { self.new.layout ≡ self.old.layout }
+
+        // At most so many pages are changed.
+        ensures changed_pages { OnTree D.Device self.old.layout self.old.root pages.old device.old
+            (λ levels. OnOk result (FewChanged 42 pages.old pages.new)) }
+        ensures filled { OnTree D.Device self.old.layout self.old.root pages.old device.old
+            (λ levels. OnOk result (FewFilled 42 pages.old pages.new)) }
+        ensures committed { SameCommitted pages.old pages.new }
+        ensures catalog { catalog_of pages.new ≡ catalog_of pages.old }
+        ensures agrees { IfAgrees D.Device pages.old device.old
+            (Agrees pages.new (D.state device.new).disk) }
+        ensures open { IsOpen pages.new }
+        ensures refused { OnErr result (self.new ≡ self.old) }
+        ensures spent { ExactlyIfSpentAt self.old.root pages.old result }
+        ensures cause { IfErr result IsChangeRefusal }
+    {
+        let alloc = self.alloc;
+        let layout = self.layout();
+        let top = self.root();
+        let removed = remove_entry(alloc, pages, device, layout, top, key)?;
+        match removed {
+            Some(root) => {
+                self.set_root(root);
+                Ok(true)
+            }
+            None => Ok(false),
+        }
+    }
+}
+
 /// An inner page with one row gives way to the child that it names.
 fn collapse_root(pages: &mut PageMap, lone: Child) -> Result<u32, PagesError>
     requires open { IsOpen pages.old }
     requires lone { (lone.node.kind ≡ Kind.Inner) × (length lone.node.rows ≡ 1) }
-    ensures gives { IfOk result (λ new. (image : List Sector) → HasCollapsed (pages_of_map pages.old image) (pages_of_map pages.new image) lone new) }
+    ensures gives { IfOk result (λ new. (image : List Sector)
+        → HasCollapsed (pages_of_map pages.old image) (pages_of_map pages.new image) lone new) }
     ensures changed_pages { OnOk result (FewChanged 1 pages.old pages.new) }
     ensures filled { OnOk result (FewFilled 1 pages.old pages.new) }
     ensures keeps { KeepsCommitted pages.old pages.new }
@@ -47,7 +103,8 @@ fn collapse_root(pages: &mut PageMap, lone: Child) -> Result<u32, PagesError>
 fn keep_leaf(pages: &mut PageMap, lone: Child) -> Result<u32, PagesError>
     requires open { IsOpen pages.old }
     requires lone { (lone.node.kind ≡ Kind.Leaf) × (0 < length lone.node.rows) }
-    ensures stays { IfOk result (λ new. (image : List Sector) → HasStayed (pages_of_map pages.old image) (pages_of_map pages.new image) lone new) }
+    ensures stays { IfOk result (λ new. (image : List Sector)
+        → HasStayed (pages_of_map pages.old image) (pages_of_map pages.new image) lone new) }
     ensures changed_pages { OnOk result (FewChanged 1 pages.old pages.new) }
     ensures filled { OnOk result (FewFilled 1 pages.old pages.new) }
     ensures keeps { KeepsCommitted pages.old pages.new }
@@ -73,11 +130,13 @@ fn root_after_removal(
 ) -> Result<u32, PagesError>
     requires open { IsOpen pages.old }
     requires one { Collapses outcome }
-    ensures settles { IfOk result (λ new. (image : List Sector) (layout : RowLayout) → IsShrunkRoot layout root outcome (pages_of_map pages.old image) (pages_of_map pages.new image) new) }
+    ensures settles { IfOk result (λ new. (image : List Sector) (layout : RowLayout) → IsShrunkRoot
+        layout root outcome (pages_of_map pages.old image) (pages_of_map pages.new image) new) }
     ensures changed_pages { OnOk result (FewChanged (spare outcome) pages.old pages.new) }
     ensures filled { OnOk result (FewFilled (spare outcome) pages.old pages.new) }
     ensures keeps { KeepsCommitted pages.old pages.new }
-    ensures damaged { result ≡ Err PagesError.Damaged → (image : List Sector) (layout : RowLayout) → NeverIsShrunkRoot layout root outcome (pages_of_map pages.old image) }
+    ensures damaged { result ≡ Err PagesError.Damaged → (image : List Sector) (layout : RowLayout)
+        → NeverIsShrunkRoot layout root outcome (pages_of_map pages.old image) }
     ensures spent { OnlyIfSpent pages.old result }
     ensures cause { IfErr result IsRestRefusal }
 {
@@ -110,11 +169,14 @@ fn remove_entry<D: Device>(
         (λ before levels after. IfOk result (Removes layout before levels after key.now)) }
     ensures damaged { OnNoTree D.Device layout root pages.old device.old (TellsDamaged result) }
     ensures missing { result ≡ Ok None → IsUnchanged pages.old pages.new }
-    ensures changed_pages { OnTree D.Device layout root pages.old device.old (λ levels. OnOk result (FewChanged 42 pages.old pages.new)) }
-    ensures filled { OnTree D.Device layout root pages.old device.old (λ levels. OnOk result (FewFilled 42 pages.old pages.new)) }
+    ensures changed_pages { OnTree D.Device layout root pages.old device.old
+        (λ levels. OnOk result (FewChanged 42 pages.old pages.new)) }
+    ensures filled { OnTree D.Device layout root pages.old device.old
+        (λ levels. OnOk result (FewFilled 42 pages.old pages.new)) }
     ensures committed { SameCommitted pages.old pages.new }
     ensures catalog { catalog_of pages.new ≡ catalog_of pages.old }
-    ensures agrees { IfAgrees D.Device pages.old device.old (Agrees pages.new (D.state device.new).disk) }
+    ensures agrees { IfAgrees D.Device pages.old device.old
+        (Agrees pages.new (D.state device.new).disk) }
     ensures open { IsOpen pages.new }
     ensures spent { ExactlyIfSpentAt root pages.old result }
     ensures cause { IfErr result IsChangeRefusal }
@@ -136,52 +198,4 @@ fn remove_entry<D: Device>(
     let outcome = shrink(pages, device, layout, descent.path.as_slice(), out)?;
     let new = root_after_removal(pages, root, outcome)?;
     Ok(Some(new))
-}
-
-impl Tree {
-    /// Takes the entry of a key out of the tree. `false` tells that there is none, and then nothing was changed. After a refusal the pages
-    /// that aren't committed are given up with the map of pages. `Damaged` tells that the pages under the root are no tree.
-    pub fn remove<D: Device>(
-        &mut self,
-        pages: &mut PageMap,
-        device: &mut D,
-        key: &[u8],
-    ) -> Result<bool, PagesError>
-        requires open { IsOpen pages.old }
-        requires sectors { sectors_of pages.old ≤ D.sectors device.old }
-        ensures only { OnlyReads D.Device (result ≡ Err PagesError.Device) device.old device.new }
-
-        // The list of entries is without the one of the key, and the pages around the tree stay. No more leaves than before have less
-        // than a quarter of the rows that they have room for, unless one leaf is all that is left.
-        ensures removed { OnTreeChange D.Device self.old.layout self.old.root pages.old pages.new device.old
-            (λ before levels after. result ≡ Ok true → Removes self.old.layout before levels after key.now (Some self.new.root)) }
-        ensures missing { OnTree D.Device self.old.layout self.old.root pages.old device.old
-            (λ levels. result ≡ Ok false → entry_with (entries_of self.old.layout levels) key.now ≡ None) }
-        ensures same { result ≡ Ok false → IsUnchanged pages.old pages.new × (self.new ≡ self.old) }
-        ensures damaged { OnNoTree D.Device self.old.layout self.old.root pages.old device.old (TellsDamaged result) }
-        ensures layout { self.new.layout ≡ self.old.layout }
-
-        // At most so many pages are changed.
-        ensures changed_pages { OnTree D.Device self.old.layout self.old.root pages.old device.old (λ levels. OnOk result (FewChanged 42 pages.old pages.new)) }
-        ensures filled { OnTree D.Device self.old.layout self.old.root pages.old device.old (λ levels. OnOk result (FewFilled 42 pages.old pages.new)) }
-        ensures committed { SameCommitted pages.old pages.new }
-        ensures catalog { catalog_of pages.new ≡ catalog_of pages.old }
-        ensures agrees { IfAgrees D.Device pages.old device.old (Agrees pages.new (D.state device.new).disk) }
-        ensures open { IsOpen pages.new }
-        ensures refused { OnErr result (self.new ≡ self.old) }
-        ensures spent { ExactlyIfSpentAt self.old.root pages.old result }
-        ensures cause { IfErr result IsChangeRefusal }
-    {
-        let alloc = self.alloc;
-        let layout = self.layout();
-        let top = self.root();
-        let removed = remove_entry(alloc, pages, device, layout, top, key)?;
-        match removed {
-            Some(root) => {
-                self.set_root(root);
-                Ok(true)
-            }
-            None => Ok(false),
-        }
-    }
 }

@@ -18,36 +18,6 @@ use btree_pages::TreePage;
 use pages::{PageMap, PagesError};
 use station::Device;
 
-/// The row at a place of the node that stands on a page gets another rest. `Damaged` tells that there is no such page.
-fn put_rest(
-    pages: &mut PageMap,
-    page: u32,
-    mut node: TreePage,
-    place: usize,
-    rest: &[u8],
-) -> Result<(), PagesError>
-    requires open { IsOpen pages.old }
-    requires place { place < length node.rows }
-    requires rest { length rest.now ≡ rest_length node.layout node.kind }
-    ensures pages { OnOk result (PutsRest pages.old pages.new page node place rest.now) }
-    ensures changed_pages { FewChanged 1 pages.old pages.new }
-    ensures filled { FewFilled 1 pages.old pages.new }
-    ensures keeps { KeepsCommitted pages.old pages.new }
-    ensures damaged { NeverIn pages.old page (TellsDamaged result) }
-    ensures cause { IfErr result IsRestRefusal }
-    ensures spent { OnlyIfSpent pages.old result }
-{
-    if page == 0 {
-        return Err(PagesError::Damaged);
-    }
-    if pages.page_count() <= page as usize {
-        return Err(PagesError::Damaged);
-    }
-    node.set_rest(place, rest);
-    let _put = put_back(pages, page, node)?;
-    Ok(())
-}
-
 impl Tree {
     /// Gives the entry of a key another value. `false` tells that there is none, and then nothing was changed. Refusals are as those of
     /// `insert`, but `Full` doesn't come.
@@ -64,18 +34,25 @@ impl Tree {
         ensures only { OnlyReads D.Device (result ≡ Err PagesError.Device) device.old device.new }
 
         // The entry of the key has the new value, and the pages around the tree stay.
-        ensures replaced { OnTreeChange D.Device self.old.layout self.old.root pages.old pages.new device.old
-            (λ before levels after. result ≡ Ok true → IsSome (entry_with (entries_of self.old.layout levels) key.now) × Becomes self.old.layout before levels after self.old.root (with_value (entries_of self.old.layout levels) (record { key = key.now; value = value.now }))) }
+        ensures replaced { OnTreeChange D.Device self.old.layout self.old.root pages.old pages.new
+            device.old
+            (λ before levels after. result ≡ Ok true
+            → IsSome (entry_with (entries_of self.old.layout levels) key.now)
+            × Becomes self.old.layout before levels after self.old.root (with_value (entries_of
+            self.old.layout levels) (record { key = key.now; value = value.now }))) }
         ensures missing { OnTree D.Device self.old.layout self.old.root pages.old device.old
-            (λ levels. result ≡ Ok false → entry_with (entries_of self.old.layout levels) key.now ≡ None) }
+            (λ levels. result ≡ Ok false
+            → entry_with (entries_of self.old.layout levels) key.now ≡ None) }
         ensures same { result ≡ Ok false → IsUnchanged pages.old pages.new }
-        ensures damaged { OnNoTree D.Device self.old.layout self.old.root pages.old device.old (TellsDamaged result) }
+        ensures damaged { OnNoTree D.Device self.old.layout self.old.root pages.old device.old
+            (TellsDamaged result) }
         ensures tree { self.new ≡ self.old }
         ensures changed_pages { FewChanged 1 pages.old pages.new }
         ensures filled { FewFilled 1 pages.old pages.new }
         ensures committed { SameCommitted pages.old pages.new }
         ensures catalog { catalog_of pages.new ≡ catalog_of pages.old }
-        ensures agrees { IfAgrees D.Device pages.old device.old (Agrees pages.new (D.state device.new).disk) }
+        ensures agrees { IfAgrees D.Device pages.old device.old
+            (Agrees pages.new (D.state device.new).disk) }
         ensures open { IsOpen pages.new }
         ensures spent { ExactlyIfSpentAt self.old.root pages.old result }
         ensures cause { IfErr result IsChangeRefusal }
@@ -109,18 +86,25 @@ impl Tree {
         ensures only { OnlyReads D.Device (result ≡ Err PagesError.Device) device.old device.new }
 
         // The entry of the key has the new value, and the pages around the tree stay.
-        ensures replaced { OnTreeChange D.Device self.old.layout self.old.root pages.old pages.new device.old
-            (λ before levels after. result ≡ Ok true → IsSome (entry_with (entries_of self.old.layout levels) key.now) × Becomes self.old.layout before levels after self.old.root (with_value (entries_of self.old.layout levels) (record { key = key.now; value = value.now }))) }
+        ensures replaced { OnTreeChange D.Device self.old.layout self.old.root pages.old pages.new
+            device.old
+            (λ before levels after. result ≡ Ok true
+            → IsSome (entry_with (entries_of self.old.layout levels) key.now)
+            × Becomes self.old.layout before levels after self.old.root (with_value (entries_of
+            self.old.layout levels) (record { key = key.now; value = value.now }))) }
         ensures missing { OnTree D.Device self.old.layout self.old.root pages.old device.old
-            (λ levels. result ≡ Ok false → entry_with (entries_of self.old.layout levels) key.now ≡ None) }
+            (λ levels. result ≡ Ok false
+            → entry_with (entries_of self.old.layout levels) key.now ≡ None) }
         ensures same { result ≡ Ok false → IsUnchanged pages.old pages.new }
-        ensures damaged { OnNoTree D.Device self.old.layout self.old.root pages.old device.old (TellsDamaged result) }
+        ensures damaged { OnNoTree D.Device self.old.layout self.old.root pages.old device.old
+            (TellsDamaged result) }
         ensures tree { self.new ≡ self.old }
         ensures changed_pages { FewChanged 1 pages.old pages.new }
         ensures filled { FewFilled 1 pages.old pages.new }
         ensures committed { SameCommitted pages.old pages.new }
         ensures catalog { catalog_of pages.new ≡ catalog_of pages.old }
-        ensures agrees { IfAgrees D.Device pages.old device.old (Agrees pages.new (D.state device.new).disk) }
+        ensures agrees { IfAgrees D.Device pages.old device.old
+            (Agrees pages.new (D.state device.new).disk) }
         ensures open { IsOpen pages.new }
         ensures spent { ExactlyIfSpentAt self.old.root pages.old result }
         ensures cause { IfErr result IsChangeRefusal }
@@ -139,4 +123,34 @@ impl Tree {
         put_rest(pages, descent.page, descent.leaf, place, value)?;
         Ok(true)
     }
+}
+
+/// The row at a place of the node that stands on a page gets another rest. `Damaged` tells that there is no such page.
+fn put_rest(
+    pages: &mut PageMap,
+    page: u32,
+    mut node: TreePage,
+    place: usize,
+    rest: &[u8],
+) -> Result<(), PagesError>
+    requires open { IsOpen pages.old }
+    requires place { place < length node.rows }
+    requires rest { length rest.now ≡ rest_length node.layout node.kind }
+    ensures pages { OnOk result (PutsRest pages.old pages.new page node place rest.now) }
+    ensures changed_pages { FewChanged 1 pages.old pages.new }
+    ensures filled { FewFilled 1 pages.old pages.new }
+    ensures keeps { KeepsCommitted pages.old pages.new }
+    ensures damaged { NeverIn pages.old page (TellsDamaged result) }
+    ensures cause { IfErr result IsRestRefusal }
+    ensures spent { OnlyIfSpent pages.old result }
+{
+    if page == 0 {
+        return Err(PagesError::Damaged);
+    }
+    if pages.page_count() <= page as usize {
+        return Err(PagesError::Damaged);
+    }
+    node.set_rest(place, rest);
+    let _put = put_back(pages, page, node)?;
+    Ok(())
 }

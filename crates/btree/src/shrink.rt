@@ -32,14 +32,19 @@ pub(crate) fn shrink<D: Device>(
     requires layout { IsRowLayout layout }
     requires fits { FitsAbove layout outcome }
     ensures only { OnlyReads D.Device (result ≡ Err PagesError.Device) device.old device.new }
-    ensures shrinks { OnChange D.Device pages.old pages.new device.old (λ before after. IfOk result (ShrinksBy layout path.now before after outcome)) }
-    ensures damaged { OnPages D.Device pages.old device.old (λ before. result ≡ Err PagesError.Damaged → NeverShrinks layout path.now before outcome) }
+    ensures shrinks { OnChange D.Device pages.old pages.new device.old
+        (λ before after. IfOk result (ShrinksBy layout path.now before after outcome)) }
+    ensures damaged { OnPages D.Device pages.old device.old
+        (λ before. result ≡ Err PagesError.Damaged → NeverShrinks layout path.now before outcome) }
     ensures fits { IfOk result (FitsAbove layout) }
-    ensures changed_pages { IfOk result (λ up. length (changed_pages_of pages.new) + spare up ≤ length (changed_pages_of pages.old) + spare outcome + 2 * length path.now) }
-    ensures filled { IfOk result (λ up. filled_of pages.new + spare up ≤ filled_of pages.old + spare outcome + 2 * length path.now) }
+    ensures changed_pages { IfOk result (λ up. length (changed_pages_of pages.new) + spare up
+        ≤ length (changed_pages_of pages.old) + spare outcome + 2 * length path.now) }
+    ensures filled { IfOk result (λ up. filled_of pages.new + spare up
+        ≤ filled_of pages.old + spare outcome + 2 * length path.now) }
     ensures committed { SameCommitted pages.old pages.new }
     ensures catalog { catalog_of pages.new ≡ catalog_of pages.old }
-    ensures agrees { IfAgrees D.Device pages.old device.old (Agrees pages.new (D.state device.new).disk) }
+    ensures agrees { IfAgrees D.Device pages.old device.old
+        (Agrees pages.new (D.state device.new).disk) }
     ensures open { IsOpen pages.new }
     ensures spent { OnlyIfSpent pages.old result }
     ensures cause { IfErr result IsChangeRefusal }
@@ -67,14 +72,19 @@ fn shrink_at<D: Device>(
     requires layout { IsRowLayout layout }
     requires fits { FitsAbove layout below }
     ensures only { OnlyReads D.Device (result ≡ Err PagesError.Device) device.old device.new }
-    ensures shrinks { OnChange D.Device pages.old pages.new device.old (λ before after. IfOk result (ShrinksOn layout step before after below)) }
-    ensures damaged { OnPages D.Device pages.old device.old (λ before. result ≡ Err PagesError.Damaged → NeverShrinksOn layout step before below) }
+    ensures shrinks { OnChange D.Device pages.old pages.new device.old
+        (λ before after. IfOk result (ShrinksOn layout step before after below)) }
+    ensures damaged { OnPages D.Device pages.old device.old
+        (λ before. result ≡ Err PagesError.Damaged → NeverShrinksOn layout step before below) }
     ensures fits { IfOk result (FitsAbove layout) }
-    ensures changed_pages { IfOk result (λ up. length (changed_pages_of pages.new) + spare up ≤ length (changed_pages_of pages.old) + spare below + 2) }
-    ensures filled { IfOk result (λ up. filled_of pages.new + spare up ≤ filled_of pages.old + spare below + 2) }
+    ensures changed_pages { IfOk result (λ up. length (changed_pages_of pages.new) + spare up
+        ≤ length (changed_pages_of pages.old) + spare below + 2) }
+    ensures filled { IfOk result
+        (λ up. filled_of pages.new + spare up ≤ filled_of pages.old + spare below + 2) }
     ensures committed { SameCommitted pages.old pages.new }
     ensures catalog { catalog_of pages.new ≡ catalog_of pages.old }
-    ensures agrees { IfAgrees D.Device pages.old device.old (Agrees pages.new (D.state device.new).disk) }
+    ensures agrees { IfAgrees D.Device pages.old device.old
+        (Agrees pages.new (D.state device.new).disk) }
     ensures open { IsOpen pages.new }
     ensures spent { OnlyIfSpent pages.old result }
     ensures cause { IfErr result IsChangeRefusal }

@@ -77,7 +77,8 @@ pub(crate) fn lose_at(
     mut node: TreePage,
 ) -> Result<RemovalOutcome, PagesError>
     requires open { IsOpen pages.old }
-    ensures pages { IfOk result (LosesRow Kind.Inner pages.old pages.new step.page node step.place) }
+    ensures pages { IfOk result
+        (LosesRow Kind.Inner pages.old pages.new step.page node step.place) }
     ensures fits { IfOk result (FitsAbove node.layout) }
     ensures changed_pages { IfOk result (LeavesFewChanged 1 pages.old pages.new) }
     ensures filled { IfOk result (LeavesFewFilled 1 pages.old pages.new) }
@@ -123,7 +124,8 @@ pub(crate) fn rename_at(
 
 /// A step leads on from a page: the page is an inner one, in the map, with a row at the step's place.
 pub(crate) fn leads(pages: &PageMap, step: PathStep, node: &TreePage) -> bool
-    ensures is { IsTrue result ↔ ((node.now.kind ≡ Kind.Inner) × (step.place < length node.now.rows) × IsPage pages.now step.page) }
+    ensures is { IsTrue result ↔ ((node.now.kind ≡ Kind.Inner) × (step.place < length node.now.rows)
+        × IsPage pages.now step.page) }
     ensures count { CountsPages pages.now }
     ensures few { FewNumbers pages.now }
 {

@@ -44,7 +44,8 @@ pub(crate) enum Look {
 /// From which place on a page the first entry is the one that is sought, or how many rows there are where the page hasn't it.
 fn sought_place(node: &NodeView, key: &[u8], sought: Sought) -> usize
     ensures { Ascend (keys_of node.now.layout node.now.rows) →
-        sought_in sought (entries_of_rows node.now.layout node.now.rows) key.now ≡ first_entry (entries_of_rows node.now.layout (drop result node.now.rows)) }
+        sought_in sought (entries_of_rows node.now.layout node.now.rows) key.now
+        ≡ first_entry (entries_of_rows node.now.layout (drop result node.now.rows)) }
 {
     let count = node.count();
     match node.find(key) {
@@ -105,11 +106,14 @@ fn look_read<D: Device>(
     requires layout { IsRowLayout layout }
     ensures only { OnlyReads D.Device (result ≡ Err PagesError.Device) device.old device.new }
     ensures unchanged { IsUnchanged pages.old pages.new }
-    ensures agrees { IfAgrees D.Device pages.old device.old (Agrees pages.new (D.state device.new).disk) }
+    ensures agrees { IfAgrees D.Device pages.old device.old
+        (Agrees pages.new (D.state device.new).disk) }
     ensures open { IsOpen pages.new }
-    ensures look { OnPages D.Device pages.old device.old (λ before. IfOk result (LooksAt layout before page key.now sought entry.new)) }
+    ensures look { OnPages D.Device pages.old device.old
+        (λ before. IfOk result (LooksAt layout before page key.now sought entry.new)) }
     ensures lengths { IfOk result (λ look. look ≡ Look.Here → HasLengths layout entry.new) }
-    ensures damaged { OnPages D.Device pages.old device.old (NoneStands layout page (TellsDamaged result)) }
+    ensures damaged { OnPages D.Device pages.old device.old
+        (NoneStands layout page (TellsDamaged result)) }
     ensures spent { ExactlyIfSpent pages.old result }
     ensures cause { IfErr result IsReadRefusal }
 {
@@ -136,11 +140,14 @@ fn look_loaded<D: Device>(
     requires layout { IsRowLayout layout }
     ensures only { OnlyReads D.Device (result ≡ Err PagesError.Device) device.old device.new }
     ensures unchanged { IsUnchanged pages.old pages.new }
-    ensures agrees { IfAgrees D.Device pages.old device.old (Agrees pages.new (D.state device.new).disk) }
+    ensures agrees { IfAgrees D.Device pages.old device.old
+        (Agrees pages.new (D.state device.new).disk) }
     ensures open { IsOpen pages.new }
-    ensures look { OnPages D.Device pages.old device.old (λ before. IfOk result (LooksAt layout before page key.now sought entry.new)) }
+    ensures look { OnPages D.Device pages.old device.old
+        (λ before. IfOk result (LooksAt layout before page key.now sought entry.new)) }
     ensures lengths { IfOk result (λ look. look ≡ Look.Here → HasLengths layout entry.new) }
-    ensures damaged { OnPages D.Device pages.old device.old (NoneStands layout page (TellsDamaged result)) }
+    ensures damaged { OnPages D.Device pages.old device.old
+        (NoneStands layout page (TellsDamaged result)) }
     ensures spent { ExactlyIfSpent pages.old result }
     ensures cause { IfErr result IsReadRefusal }
 {
@@ -166,11 +173,14 @@ fn look_at<D: Device>(
     requires layout { IsRowLayout layout }
     ensures only { OnlyReads D.Device (result ≡ Err PagesError.Device) device.old device.new }
     ensures unchanged { IsUnchanged pages.old pages.new }
-    ensures agrees { IfAgrees D.Device pages.old device.old (Agrees pages.new (D.state device.new).disk) }
+    ensures agrees { IfAgrees D.Device pages.old device.old
+        (Agrees pages.new (D.state device.new).disk) }
     ensures open { IsOpen pages.new }
-    ensures look { OnPages D.Device pages.old device.old (λ before. IfOk result (LooksAt layout before page key.now sought entry.new)) }
+    ensures look { OnPages D.Device pages.old device.old
+        (λ before. IfOk result (LooksAt layout before page key.now sought entry.new)) }
     ensures lengths { IfOk result (λ look. look ≡ Look.Here → HasLengths layout entry.new) }
-    ensures damaged { OnPages D.Device pages.old device.old (NoneStands layout page (TellsDamaged result)) }
+    ensures damaged { OnPages D.Device pages.old device.old
+        (NoneStands layout page (TellsDamaged result)) }
     ensures spent { ExactlyIfSpent pages.old result }
     ensures cause { IfErr result IsReadRefusal }
 {
@@ -195,11 +205,14 @@ pub(crate) fn entry_at<D: Device>(
     requires layout { IsRowLayout layout }
     ensures only { OnlyReads D.Device (result ≡ Err PagesError.Device) device.old device.new }
     ensures unchanged { IsUnchanged pages.old pages.new }
-    ensures agrees { IfAgrees D.Device pages.old device.old (Agrees pages.new (D.state device.new).disk) }
+    ensures agrees { IfAgrees D.Device pages.old device.old
+        (Agrees pages.new (D.state device.new).disk) }
     ensures open { IsOpen pages.new }
-    ensures entry { OnPages D.Device pages.old device.old (λ before. IfOk result (AnswersAt layout before page key.now sought)) }
+    ensures entry { OnPages D.Device pages.old device.old
+        (λ before. IfOk result (AnswersAt layout before page key.now sought)) }
     ensures lengths { IfOk result (λ entry. IfSome entry (HasLengths layout)) }
-    ensures damaged { OnPages D.Device pages.old device.old (NoneOfKind layout Kind.Leaf page (TellsDamaged result)) }
+    ensures damaged { OnPages D.Device pages.old device.old
+        (NoneOfKind layout Kind.Leaf page (TellsDamaged result)) }
     ensures spent { ExactlyIfSpent pages.old result }
     ensures cause { IfErr result IsReadRefusal }
 {
@@ -227,12 +240,15 @@ pub(crate) fn search<D: Device>(
     requires layout { IsRowLayout layout }
     ensures only { OnlyReads D.Device (result ≡ Err PagesError.Device) device.old device.new }
     ensures unchanged { IsUnchanged pages.old pages.new }
-    ensures agrees { IfAgrees D.Device pages.old device.old (Agrees pages.new (D.state device.new).disk) }
+    ensures agrees { IfAgrees D.Device pages.old device.old
+        (Agrees pages.new (D.state device.new).disk) }
     ensures open { IsOpen pages.new }
     ensures finds { OnPages D.Device pages.old device.old
-        (λ before. (levels : List (List TreeNode)) → IsTree layout before root levels → IfOk result (FindsEntry (entries_of layout levels) key.now sought entry.new)) }
+        (λ before. (levels : List (List TreeNode)) → IsTree layout before root levels
+        → IfOk result (FindsEntry (entries_of layout levels) key.now sought entry.new)) }
     ensures lengths { IfOk result (λ found. found ≡ true → HasLengths layout entry.new) }
-    ensures damaged { OnPages D.Device pages.old device.old (NoTree layout root (TellsDamaged result)) }
+    ensures damaged { OnPages D.Device pages.old device.old
+        (NoTree layout root (TellsDamaged result)) }
     ensures spent { ExactlyIfSpent pages.old result }
     ensures cause { IfErr result IsReadRefusal }
 {

@@ -40,7 +40,8 @@ fn split_end(node: &mut TreePage, key: &[u8], rest: &[u8]) -> TreePage
     requires full { 3 ≤ length node.old.rows }
     requires key { length key.now ≡ node.old.layout.key_length }
     requires rest { length rest.now ≡ rest_length node.old.layout node.old.kind }
-    ensures rows { node.new.rows ++ result.rows ≡ insert node.old.rows (length node.old.rows) (key.now ++ rest.now) }
+    ensures rows { node.new.rows ++ result.rows
+        ≡ insert node.old.rows (length node.old.rows) (key.now ++ rest.now) }
     ensures left { SameNode node.old node.new }
     ensures right { SameNode node.old result }
     ensures left_enough { fewest node.old.kind ≤ length node.new.rows }

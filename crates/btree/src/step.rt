@@ -32,10 +32,13 @@ pub(crate) fn step_at<D: Device>(
     requires layout { IsRowLayout layout }
     ensures only { OnlyReads D.Device (result ≡ Err PagesError.Device) device.old device.new }
     ensures unchanged { IsUnchanged pages.old pages.new }
-    ensures agrees { IfAgrees D.Device pages.old device.old (Agrees pages.new (D.state device.new).disk) }
+    ensures agrees { IfAgrees D.Device pages.old device.old
+        (Agrees pages.new (D.state device.new).disk) }
     ensures open { IsOpen pages.new }
-    ensures step { OnPages D.Device pages.old device.old (λ before. IfOk result (λ child. StepsAt layout before page key.now right.old right.new child)) }
-    ensures damaged { OnPages D.Device pages.old device.old (NoneStands layout page (TellsDamaged result)) }
+    ensures step { OnPages D.Device pages.old device.old (λ before.
+        IfOk result (λ child. StepsAt layout before page key.now right.old right.new child)) }
+    ensures damaged { OnPages D.Device pages.old device.old
+        (NoneStands layout page (TellsDamaged result)) }
     ensures spent { ExactlyIfSpent pages.old result }
     ensures cause { IfErr result (IsSearchRefusal layout) }
 {
@@ -55,9 +58,11 @@ fn step_in(
     right: &mut Option<Key>,
 ) -> Result<Option<Child>, PagesError>
     requires { IsRowLayout layout }
-    ensures step { IfOk result (λ child. StepsIn layout bytes.now key.now right.old right.new child) }
+    ensures step { IfOk result
+        (λ child. StepsIn layout bytes.now key.now right.old right.new child) }
     ensures damaged { result ≡ Err PagesError.Damaged → SpellsNoNode layout bytes.now }
-    ensures cause { OnErr result ((result ≡ Err PagesError.Damaged) ⊎ ((result ≡ Err PagesError.Memory) × (128 < layout.key_length))) }
+    ensures cause { OnErr result ((result ≡ Err PagesError.Damaged)
+        ⊎ ((result ≡ Err PagesError.Memory) × (128 < layout.key_length))) }
 {
     let node = view_node(bytes, layout)?;
     if node.kind() == Kind::Leaf {
@@ -87,10 +92,13 @@ fn step_read<D: Device>(
     requires layout { IsRowLayout layout }
     ensures only { OnlyReads D.Device (result ≡ Err PagesError.Device) device.old device.new }
     ensures unchanged { IsUnchanged pages.old pages.new }
-    ensures agrees { IfAgrees D.Device pages.old device.old (Agrees pages.new (D.state device.new).disk) }
+    ensures agrees { IfAgrees D.Device pages.old device.old
+        (Agrees pages.new (D.state device.new).disk) }
     ensures open { IsOpen pages.new }
-    ensures step { OnPages D.Device pages.old device.old (λ before. IfOk result (λ child. StepsAt layout before page key.now right.old right.new child)) }
-    ensures damaged { OnPages D.Device pages.old device.old (NoneStands layout page (TellsDamaged result)) }
+    ensures step { OnPages D.Device pages.old device.old (λ before.
+        IfOk result (λ child. StepsAt layout before page key.now right.old right.new child)) }
+    ensures damaged { OnPages D.Device pages.old device.old
+        (NoneStands layout page (TellsDamaged result)) }
     ensures spent { ExactlyIfSpent pages.old result }
     ensures cause { IfErr result (IsSearchRefusal layout) }
 {
@@ -117,10 +125,13 @@ fn step_loaded<D: Device>(
     requires layout { IsRowLayout layout }
     ensures only { OnlyReads D.Device (result ≡ Err PagesError.Device) device.old device.new }
     ensures unchanged { IsUnchanged pages.old pages.new }
-    ensures agrees { IfAgrees D.Device pages.old device.old (Agrees pages.new (D.state device.new).disk) }
+    ensures agrees { IfAgrees D.Device pages.old device.old
+        (Agrees pages.new (D.state device.new).disk) }
     ensures open { IsOpen pages.new }
-    ensures step { OnPages D.Device pages.old device.old (λ before. IfOk result (λ child. StepsAt layout before page key.now right.old right.new child)) }
-    ensures damaged { OnPages D.Device pages.old device.old (NoneStands layout page (TellsDamaged result)) }
+    ensures step { OnPages D.Device pages.old device.old (λ before.
+        IfOk result (λ child. StepsAt layout before page key.now right.old right.new child)) }
+    ensures damaged { OnPages D.Device pages.old device.old
+        (NoneStands layout page (TellsDamaged result)) }
     ensures spent { ExactlyIfSpent pages.old result }
     ensures cause { IfErr result (IsSearchRefusal layout) }
 {

@@ -85,10 +85,13 @@ impl Tree {
         requires sectors { sectors_of pages.old ≤ D.sectors device.old }
         ensures only { OnlyReads D.Device (result ≡ Err PagesError.Device) device.old device.new }
         ensures unchanged { IsUnchanged pages.old pages.new }
-        ensures agrees { IfAgrees D.Device pages.old device.old (Agrees pages.new (D.state device.new).disk) }
+        ensures agrees { IfAgrees D.Device pages.old device.old
+            (Agrees pages.new (D.state device.new).disk) }
         ensures open { IsOpen pages.new }
-        ensures entry { AnswersEntry D.Device self.now pages.old device.old (λ entries. entry_with entries key.now) result }
-        ensures damaged { OnNoTree D.Device self.now.layout self.now.root pages.old device.old (TellsDamaged result) }
+        ensures entry { AnswersEntry D.Device self.now pages.old device.old
+            (λ entries. entry_with entries key.now) result }
+        ensures damaged { OnNoTree D.Device self.now.layout self.now.root pages.old device.old
+            (TellsDamaged result) }
         ensures spent { ExactlyIfSpentAt self.now.root pages.old result }
         ensures lengths { IfOk result (λ entry. IfSome entry (HasLengths self.now.layout)) }
         ensures cause { IfErr result (IsSearchRefusal self.now.layout) }
@@ -123,10 +126,13 @@ impl Tree {
         requires sectors { sectors_of pages.old ≤ D.sectors device.old }
         ensures only { OnlyReads D.Device (result ≡ Err PagesError.Device) device.old device.new }
         ensures unchanged { IsUnchanged pages.old pages.new }
-        ensures agrees { IfAgrees D.Device pages.old device.old (Agrees pages.new (D.state device.new).disk) }
+        ensures agrees { IfAgrees D.Device pages.old device.old
+            (Agrees pages.new (D.state device.new).disk) }
         ensures open { IsOpen pages.new }
-        ensures entry { AnswersEntry D.Device self.now pages.old device.old (λ entries. first_from entries key.now) result }
-        ensures damaged { OnNoTree D.Device self.now.layout self.now.root pages.old device.old (TellsDamaged result) }
+        ensures entry { AnswersEntry D.Device self.now pages.old device.old
+            (λ entries. first_from entries key.now) result }
+        ensures damaged { OnNoTree D.Device self.now.layout self.now.root pages.old device.old
+            (TellsDamaged result) }
         ensures spent { ExactlyIfSpentAt self.now.root pages.old result }
         ensures lengths { IfOk result (λ entry. IfSome entry (HasLengths self.now.layout)) }
         ensures cause { IfErr result (IsSearchRefusal self.now.layout) }
@@ -145,10 +151,13 @@ impl Tree {
         requires sectors { sectors_of pages.old ≤ D.sectors device.old }
         ensures only { OnlyReads D.Device (result ≡ Err PagesError.Device) device.old device.new }
         ensures unchanged { IsUnchanged pages.old pages.new }
-        ensures agrees { IfAgrees D.Device pages.old device.old (Agrees pages.new (D.state device.new).disk) }
+        ensures agrees { IfAgrees D.Device pages.old device.old
+            (Agrees pages.new (D.state device.new).disk) }
         ensures open { IsOpen pages.new }
-        ensures entry { AnswersEntry D.Device self.now pages.old device.old (λ entries. first_entry_after entries key.now) result }
-        ensures damaged { OnNoTree D.Device self.now.layout self.now.root pages.old device.old (TellsDamaged result) }
+        ensures entry { AnswersEntry D.Device self.now pages.old device.old
+            (λ entries. first_entry_after entries key.now) result }
+        ensures damaged { OnNoTree D.Device self.now.layout self.now.root pages.old device.old
+            (TellsDamaged result) }
         ensures spent { ExactlyIfSpentAt self.now.root pages.old result }
         ensures lengths { IfOk result (λ entry. IfSome entry (HasLengths self.now.layout)) }
         ensures cause { IfErr result (IsSearchRefusal self.now.layout) }
@@ -166,10 +175,12 @@ impl Tree {
         requires sectors { sectors_of pages.old ≤ D.sectors device.old }
         ensures only { OnlyReads D.Device (result ≡ Err PagesError.Device) device.old device.new }
         ensures unchanged { IsUnchanged pages.old pages.new }
-        ensures agrees { IfAgrees D.Device pages.old device.old (Agrees pages.new (D.state device.new).disk) }
+        ensures agrees { IfAgrees D.Device pages.old device.old
+            (Agrees pages.new (D.state device.new).disk) }
         ensures open { IsOpen pages.new }
         ensures entry { AnswersEntry D.Device self.now pages.old device.old first_entry result }
-        ensures damaged { OnNoTree D.Device self.now.layout self.now.root pages.old device.old (TellsDamaged result) }
+        ensures damaged { OnNoTree D.Device self.now.layout self.now.root pages.old device.old
+            (TellsDamaged result) }
         ensures spent { ExactlyIfSpentAt self.now.root pages.old result }
         ensures lengths { IfOk result (λ entry. IfSome entry (HasLengths self.now.layout)) }
         ensures cause { IfErr result (IsSearchRefusal self.now.layout) }
@@ -190,10 +201,13 @@ impl Tree {
         requires sought { (sought ≡ Sought.From) ⊎ (sought ≡ Sought.After) }
         ensures only { OnlyReads D.Device (result ≡ Err PagesError.Device) device.old device.new }
         ensures unchanged { IsUnchanged pages.old pages.new }
-        ensures agrees { IfAgrees D.Device pages.old device.old (Agrees pages.new (D.state device.new).disk) }
+        ensures agrees { IfAgrees D.Device pages.old device.old
+            (Agrees pages.new (D.state device.new).disk) }
         ensures open { IsOpen pages.new }
-        ensures entry { AnswersEntry D.Device self.now pages.old device.old (λ entries. sought_in sought entries key.now) result }
-        ensures damaged { OnNoTree D.Device self.now.layout self.now.root pages.old device.old (TellsDamaged result) }
+        ensures entry { AnswersEntry D.Device self.now pages.old device.old
+            (λ entries. sought_in sought entries key.now) result }
+        ensures damaged { OnNoTree D.Device self.now.layout self.now.root pages.old device.old
+            (TellsDamaged result) }
         ensures spent { ExactlyIfSpentAt self.now.root pages.old result }
         ensures lengths { IfOk result (λ entry. IfSome entry (HasLengths self.now.layout)) }
         ensures cause { IfErr result (IsSearchRefusal self.now.layout) }
@@ -232,10 +246,13 @@ impl Tree {
         requires sought { (sought ≡ Sought.From) ⊎ (sought ≡ Sought.After) }
         ensures only { OnlyReads D.Device (result ≡ Err PagesError.Device) device.old device.new }
         ensures unchanged { IsUnchanged pages.old pages.new }
-        ensures agrees { IfAgrees D.Device pages.old device.old (Agrees pages.new (D.state device.new).disk) }
+        ensures agrees { IfAgrees D.Device pages.old device.old
+            (Agrees pages.new (D.state device.new).disk) }
         ensures open { IsOpen pages.new }
-        ensures entry { AnswersEntry D.Device self.now pages.old device.old (λ entries. sought_in sought entries key.now) result }
-        ensures damaged { OnNoTree D.Device self.now.layout self.now.root pages.old device.old (TellsDamaged result) }
+        ensures entry { AnswersEntry D.Device self.now pages.old device.old
+            (λ entries. sought_in sought entries key.now) result }
+        ensures damaged { OnNoTree D.Device self.now.layout self.now.root pages.old device.old
+            (TellsDamaged result) }
         ensures spent { ExactlyIfSpentAt self.now.root pages.old result }
         ensures lengths { IfOk result (λ entry. IfSome entry (HasLengths self.now.layout)) }
         ensures cause { IfErr result (IsSearchRefusal self.now.layout) }
@@ -263,12 +280,19 @@ impl Tree {
         requires sectors { sectors_of pages.old ≤ D.sectors device.old }
         ensures only { OnlyReads D.Device (result ≡ Err PagesError.Device) device.old device.new }
         ensures unchanged { IsUnchanged pages.old pages.new }
-        ensures agrees { IfAgrees D.Device pages.old device.old (Agrees pages.new (D.state device.new).disk) }
+        ensures agrees { IfAgrees D.Device pages.old device.old
+            (Agrees pages.new (D.state device.new).disk) }
         ensures open { IsOpen pages.new }
         ensures entry { OnPages D.Device pages.old device.old
-            (λ before. (levels : List (List TreeNode)) → IsTree self.now.layout before self.now.root levels → (passed after : List (List ℕ)) → rows_in_order levels ≡ passed ++ after → right ≡ first_key self.now.layout after → IfOk result (λ entry. entry ≡ first_entry (entries_of_rows self.now.layout after))) }
+            (λ before. (levels : List (List TreeNode)) → IsTree self.now.layout before self.now.root
+            levels → (passed after : List (List ℕ)) → rows_in_order levels ≡ passed ++ after
+            → right ≡ first_key self.now.layout after → IfOk result
+            (λ entry. entry ≡ first_entry (entries_of_rows self.now.layout after))) }
         ensures damaged { OnPages D.Device pages.old device.old
-            (λ before. result ≡ Err PagesError.Damaged → (levels : List (List TreeNode)) → IsTree self.now.layout before self.now.root levels → (passed after : List (List ℕ)) → rows_in_order levels ≡ passed ++ after → right ≡ first_key self.now.layout after → ⊥) }
+            (λ before. result ≡ Err PagesError.Damaged → (levels : List (List TreeNode))
+            → IsTree self.now.layout before self.now.root levels
+            → (passed after : List (List ℕ)) → rows_in_order levels ≡ passed ++ after
+            → right ≡ first_key self.now.layout after → ⊥) }
         ensures spent { OnlyIfSpent pages.old result }
         ensures lengths { IfOk result (λ entry. IfSome entry (HasLengths self.now.layout)) }
         ensures cause { IfErr result (IsSearchRefusal self.now.layout) }

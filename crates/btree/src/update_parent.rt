@@ -33,7 +33,8 @@ pub(crate) fn put_back(
 ) -> Result<SplitResult, PagesError>
     requires open { IsOpen pages.old }
     requires page { IsPage pages.old page }
-    ensures is { IfOk result (λ split. (split.page ≡ page) × (split.left ≡ node) × (split.right ≡ None)) }
+    ensures is { IfOk result
+        (λ split. (split.page ≡ page) × (split.left ≡ node) × (split.right ≡ None)) }
     ensures pages { IfOk result (PutsWhere CanStand pages.old pages.new page node) }
     ensures changed_pages { FewChanged 1 pages.old pages.new }
     ensures filled { FewFilled 1 pages.old pages.new }
@@ -64,7 +65,8 @@ fn put_beside(
     requires place { place < length node.rows }
     requires layout { right.now.node.layout ≡ node.layout }
     requires some { 0 < length right.now.node.rows }
-    ensures rows { IfOk result (HasInserted node.rows (place + 1) (row_of node.layout (node_with right.now.page right.now.node.rows))) }
+    ensures rows { IfOk result (HasInserted node.rows (place + 1)
+        (row_of node.layout (node_with right.now.page right.now.node.rows))) }
     ensures pages { IfOk result (PutsWhere CanStand pages.old pages.new page node) }
     ensures split { IfOk result (λ split. IsSplit page node split) }
     ensures changed_pages { FewChanged 2 pages.old pages.new }

@@ -34,12 +34,15 @@ pub fn check_tree<D: Device>(
     requires sectors { sectors_of pages.old ≤ D.sectors device.old }
     ensures only { OnlyReads D.Device (result ≡ Err PagesError.Device) device.old device.new }
     ensures unchanged { IsUnchanged pages.old pages.new }
-    ensures agrees { IfAgrees D.Device pages.old device.old (Agrees pages.new (D.state device.new).disk) }
+    ensures agrees { IfAgrees D.Device pages.old device.old
+        (Agrees pages.new (D.state device.new).disk) }
     ensures open { IsOpen pages.new }
 
     // There is a tree, and no page of it was marked.
-    ensures holds { OnPages D.Device pages.old device.old (λ before. OnOk result (FindsTree tree.now.layout before tree.now.root seen.old seen.new)) }
-    ensures damaged { OnPages D.Device pages.old device.old (NoUnmarkedTree tree.now.layout tree.now.root seen.old (TellsDamaged result)) }
+    ensures holds { OnPages D.Device pages.old device.old
+        (λ before. OnOk result (FindsTree tree.now.layout before tree.now.root seen.old seen.new)) }
+    ensures damaged { OnPages D.Device pages.old device.old
+        (NoUnmarkedTree tree.now.layout tree.now.root seen.old (TellsDamaged result)) }
     ensures spent { ExactlyIfSpentAt tree.now.root pages.old result }
     ensures cause { IfErr result IsChangeRefusal }
 {
@@ -91,12 +94,15 @@ fn check_node<D: Device>(
     requires layout { IsRowLayout layout }
     ensures only { OnlyReads D.Device (result ≡ Err PagesError.Device) device.old device.new }
     ensures unchanged { IsUnchanged pages.old pages.new }
-    ensures agrees { IfAgrees D.Device pages.old device.old (Agrees pages.new (D.state device.new).disk) }
+    ensures agrees { IfAgrees D.Device pages.old device.old
+        (Agrees pages.new (D.state device.new).disk) }
     ensures open { IsOpen pages.new }
-    ensures node { OnPages D.Device pages.old device.old (λ before. IfOk result (λ node. HasSeparator layout before kind separator.now node.rows)) }
+    ensures node { OnPages D.Device pages.old device.old
+        (λ before. IfOk result (λ node. HasSeparator layout before kind separator.now node.rows)) }
     ensures shape { IfOk result (HasKindShape layout kind) }
     ensures marks { OnOk result (Marks seen.old (separator.now.page ∷ []) seen.new) }
-    ensures damaged { OnPages D.Device pages.old device.old (NoNode layout kind separator.now seen.old (TellsDamaged result)) }
+    ensures damaged { OnPages D.Device pages.old device.old
+        (NoNode layout kind separator.now seen.old (TellsDamaged result)) }
     ensures spent { OnlyIfSpent pages.old result }
     ensures cause { IfErr result IsReadRefusal }
 {
@@ -129,13 +135,16 @@ fn check_inner<D: Device>(
     requires layout { IsRowLayout layout }
     ensures only { OnlyReads D.Device (result ≡ Err PagesError.Device) device.old device.new }
     ensures unchanged { IsUnchanged pages.old pages.new }
-    ensures agrees { IfAgrees D.Device pages.old device.old (Agrees pages.new (D.state device.new).disk) }
+    ensures agrees { IfAgrees D.Device pages.old device.old
+        (Agrees pages.new (D.state device.new).disk) }
     ensures open { IsOpen pages.new }
-    ensures level { OnPages D.Device pages.old device.old (λ before. IfOk result (λ lower. FindsInner layout before separators.now lower.items)) }
+    ensures level { OnPages D.Device pages.old device.old
+        (λ before. IfOk result (λ lower. FindsInner layout before separators.now lower.items)) }
     ensures marks { OnOk result (Marks seen.old (separator_pages separators.now) seen.new) }
     ensures more { IfOk result (λ lower. length separators.now ≤ length lower.items) }
     ensures few { IfOk result (λ lower. length lower.items ≤ length seen.old) }
-    ensures damaged { OnPages D.Device pages.old device.old (NoInner layout separators.now seen.old (TellsDamaged result)) }
+    ensures damaged { OnPages D.Device pages.old device.old
+        (NoInner layout separators.now seen.old (TellsDamaged result)) }
     ensures spent { OnlyIfSpent pages.old result }
     ensures cause { IfErr result IsChangeRefusal }
 {
@@ -155,7 +164,8 @@ fn is_in_order(leaf: &TreePage, separators: &[Separator], place: usize) -> bool
     requires { 0 < length leaf.now.rows }
     ensures ascends { result ≡ true → Ascend (keys_of leaf.now.layout leaf.now.rows) }
     ensures below { result ≡ true → BelowNext leaf.now.layout separators.now place leaf.now.rows }
-    ensures refused { result ≡ false → Ascend (keys_of leaf.now.layout leaf.now.rows) → BelowNext leaf.now.layout separators.now place leaf.now.rows → ⊥ }
+    ensures refused { result ≡ false → Ascend (keys_of leaf.now.layout leaf.now.rows)
+        → BelowNext leaf.now.layout separators.now place leaf.now.rows → ⊥ }
 {
     if !leaf.is_ascending() {
         return false;
@@ -186,11 +196,14 @@ fn check_leaves<D: Device>(
     requires layout { IsRowLayout layout }
     ensures only { OnlyReads D.Device (result ≡ Err PagesError.Device) device.old device.new }
     ensures unchanged { IsUnchanged pages.old pages.new }
-    ensures agrees { IfAgrees D.Device pages.old device.old (Agrees pages.new (D.state device.new).disk) }
+    ensures agrees { IfAgrees D.Device pages.old device.old
+        (Agrees pages.new (D.state device.new).disk) }
     ensures open { IsOpen pages.new }
-    ensures level { OnPages D.Device pages.old device.old (λ before. OnOk result (FindsLeaves layout before separators.now)) }
+    ensures level { OnPages D.Device pages.old device.old
+        (λ before. OnOk result (FindsLeaves layout before separators.now)) }
     ensures marks { OnOk result (Marks seen.old (separator_pages separators.now) seen.new) }
-    ensures damaged { OnPages D.Device pages.old device.old (NoLeaves layout separators.now seen.old (TellsDamaged result)) }
+    ensures damaged { OnPages D.Device pages.old device.old
+        (NoLeaves layout separators.now seen.old (TellsDamaged result)) }
     ensures spent { OnlyIfSpent pages.old result }
     ensures cause { IfErr result IsReadRefusal }
 {
@@ -218,13 +231,16 @@ fn check_level<D: Device>(
     requires some { 0 < length separators.now }
     ensures only { OnlyReads D.Device (result ≡ Err PagesError.Device) device.old device.new }
     ensures unchanged { IsUnchanged pages.old pages.new }
-    ensures agrees { IfAgrees D.Device pages.old device.old (Agrees pages.new (D.state device.new).disk) }
+    ensures agrees { IfAgrees D.Device pages.old device.old
+        (Agrees pages.new (D.state device.new).disk) }
     ensures open { IsOpen pages.new }
     ensures level { OnPages D.Device pages.old device.old
-        (λ before. IfOk result (λ lower. MatchOption lower (FindsLeaves layout before separators.now) (λ lower. FindsInner layout before separators.now lower.items))) }
+        (λ before. IfOk result (λ lower. MatchOption lower (FindsLeaves layout before
+        separators.now) (λ lower. FindsInner layout before separators.now lower.items))) }
     ensures marks { OnOk result (Marks seen.old (separator_pages separators.now) seen.new) }
     ensures some { IfOk result (λ lower. IfSome lower (λ lower. 0 < length lower.items)) }
-    ensures damaged { OnPages D.Device pages.old device.old (NoLevel layout separators.now seen.old (TellsDamaged result)) }
+    ensures damaged { OnPages D.Device pages.old device.old
+        (NoLevel layout separators.now seen.old (TellsDamaged result)) }
     ensures spent { OnlyIfSpent pages.old result }
     ensures cause { IfErr result IsChangeRefusal }
 {
@@ -257,10 +273,13 @@ fn check_levels<D: Device>(
     requires some { 0 < length separators.items }
     ensures only { OnlyReads D.Device (result ≡ Err PagesError.Device) device.old device.new }
     ensures unchanged { IsUnchanged pages.old pages.new }
-    ensures agrees { IfAgrees D.Device pages.old device.old (Agrees pages.new (D.state device.new).disk) }
+    ensures agrees { IfAgrees D.Device pages.old device.old
+        (Agrees pages.new (D.state device.new).disk) }
     ensures open { IsOpen pages.new }
-    ensures finds { OnPages D.Device pages.old device.old (λ before. OnOk result (FindsLevels layout before separators.items seen.old seen.new)) }
-    ensures damaged { OnPages D.Device pages.old device.old (NoLevels layout separators.items seen.old depth (TellsDamaged result)) }
+    ensures finds { OnPages D.Device pages.old device.old
+        (λ before. OnOk result (FindsLevels layout before separators.items seen.old seen.new)) }
+    ensures damaged { OnPages D.Device pages.old device.old
+        (NoLevels layout separators.items seen.old depth (TellsDamaged result)) }
     ensures spent { OnlyIfSpent pages.old result }
     ensures cause { IfErr result IsChangeRefusal }
 {

@@ -33,8 +33,10 @@ pub(crate) fn push_separators(
     node: &TreePage,
 ) -> Result<(), PagesError>
     requires { node.now.kind ≡ Kind.Inner }
-    ensures separators { OnOk result (separators.new.items ≡ separators.old.items ++ map (separator_in node.now.layout) node.now.rows) }
-    ensures rows { OnOk result (map separator_row (map (separator_in node.now.layout) node.now.rows) ≡ node.now.rows) }
+    ensures separators { OnOk result (separators.new.items
+        ≡ separators.old.items ++ map (separator_in node.now.layout) node.now.rows) }
+    ensures rows { OnOk result
+        (map separator_row (map (separator_in node.now.layout) node.now.rows) ≡ node.now.rows) }
     ensures cause { IfErr result (λ error. error ≡ PagesError.Memory) }
 {
     for place in 0..node.count() {

@@ -63,10 +63,12 @@ of_no_kind = refl
 too_many : node_in pairs (1 ∷ 0 ∷ 6 ∷ 0 ∷ []) ≡ None
 too_many = refl
 
-between : node_with_row (leaf_with ((1 ∷ 1 ∷ 1 ∷ []) ∷ (3 ∷ 3 ∷ 3 ∷ []) ∷ [])) 1 (2 ∷ 2 ∷ 2 ∷ []) ≡ leaf_with ((1 ∷ 1 ∷ 1 ∷ []) ∷ (2 ∷ 2 ∷ 2 ∷ []) ∷ (3 ∷ 3 ∷ 3 ∷ []) ∷ [])
+between : node_with_row (leaf_with ((1 ∷ 1 ∷ 1 ∷ []) ∷ (3 ∷ 3 ∷ 3 ∷ []) ∷ [])) 1 (2 ∷ 2 ∷ 2 ∷ [])
+    ≡ leaf_with ((1 ∷ 1 ∷ 1 ∷ []) ∷ (2 ∷ 2 ∷ 2 ∷ []) ∷ (3 ∷ 3 ∷ 3 ∷ []) ∷ [])
 between = refl
 
-first_gone : node_without_row (leaf_with ((1 ∷ 1 ∷ 1 ∷ []) ∷ (3 ∷ 3 ∷ 3 ∷ []) ∷ [])) 0 ≡ leaf_with ((3 ∷ 3 ∷ 3 ∷ []) ∷ [])
+first_gone : node_without_row (leaf_with ((1 ∷ 1 ∷ 1 ∷ []) ∷ (3 ∷ 3 ∷ 3 ∷ []) ∷ [])) 0
+    ≡ leaf_with ((3 ∷ 3 ∷ 3 ∷ []) ∷ [])
 first_gone = refl
 
 other_value : with_rest (leaf_with ((1 ∷ 2 ∷ 3 ∷ []) ∷ [])) 0 (9 ∷ []) ≡ leaf_with ((1 ∷ 2 ∷ 9 ∷ []) ∷ [])

@@ -25,8 +25,10 @@ module _ (layout : RowLayout) (rows : List (List ℕ)) (key : List ℕ) where
         subst P (sym none) (All-nil (λ row. Precedes key (key_of layout row)));
   }
 
-  module _ (low high middle : ℕ) (left : IsLeft layout rows key low high) (from : low ≤ middle) (to : middle < high) where
-    pub left_right : key_cmp (key_of layout (get_or rows middle [])) key ≡ Less → IsLeft layout rows key (middle + 1) high
+  module _ (low high middle : ℕ) (left : IsLeft layout rows key low high) (from : low ≤ middle)
+      (to : middle < high) where
+    pub left_right : key_cmp (key_of layout (get_or rows middle [])) key ≡ Less
+        → IsLeft layout rows key (middle + 1) high
     left_right e = record {
       order = omega arith;
       within = left.within;
@@ -39,5 +41,6 @@ module _ (layout : RowLayout) (rows : List (List ℕ)) (key : List ℕ) where
       order = from;
       within = omega (arith, left.within);
       below = left.below;
-      above = λ up. above_after layout rows up key middle (omega (arith, left.within)) (greater_precedes (key_of layout (get_or rows middle [])) key e);
+      above = λ up. above_after layout rows up key middle (omega (arith, left.within))
+          (greater_precedes (key_of layout (get_or rows middle [])) key e);
     }

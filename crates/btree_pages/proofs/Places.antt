@@ -19,9 +19,11 @@ row_is_short layout Inner sound = omega (arith, sound.inner)
 within_quotient : (n row : ℕ) → 1 ≤ row → n ≤ 4080 / row → n * row ≤ 4080
 within_quotient n row some le = omega (arith, mul-le-mul_left row le, mul_comm n row)
 
-pub rows_fit : (layout : RowLayout) (kind : Kind) (n : ℕ) → IsRowLayout layout → n ≤ capacity layout kind → n * row_length layout kind ≤ 4080
+pub rows_fit : (layout : RowLayout) (kind : Kind) (n : ℕ) → IsRowLayout layout → n ≤ capacity layout kind
+    → n * row_length layout kind ≤ 4080
 rows_fit layout kind n sound le = within_quotient n (row_length layout kind) (row_has_bytes layout kind sound) le
 
 -- a row at a place before the last stands within them
 pub row_fits : (place n row most : ℕ) → place < n → n * row ≤ most → place * row + row ≤ most
-row_fits place n row most lt le = let more : suc place ≤ n = omega arith in omega (arith, mul-le-mul_left row more, mul_comm n row)
+row_fits place n row most lt le = let more : suc place ≤ n =
+    omega arith in omega (arith, mul-le-mul_left row more, mul_comm n row)

@@ -116,7 +116,8 @@ impl TreePage {
     pub fn append(&mut self, other: &TreePage)
         requires layout { other.now.layout ≡ self.old.layout }
         requires kind { other.now.kind ≡ self.old.kind }
-        requires room { length self.old.rows + length other.now.rows ≤ capacity self.old.layout self.old.kind }
+        requires room { length self.old.rows + length other.now.rows
+            ≤ capacity self.old.layout self.old.kind }
         ensures { self.new ≡ with_rows self.old (self.old.rows ++ other.now.rows) }
     {
         let row = self.layout.row_length(self.kind);

@@ -26,9 +26,14 @@ impl<'a> Model for NodeView<'a> {
 
     ghost Value = { Node };
 
-    ghost view = { λ node. record { layout = node.layout; kind = node.kind; rows = rows_in (row_length node.layout node.kind) node.count node.rows.now } };
+    ghost view = { λ node. record {
+      layout = node.layout;
+      kind = node.kind;
+      rows = rows_in (row_length node.layout node.kind) node.count node.rows.now;
+    } };
 
-    ghost invariant = { λ node. IsRowLayout node.layout × (node.count ≤ capacity node.layout node.kind) × (length node.rows.now ≡ 4080) };
+    ghost invariant = { λ node. IsRowLayout node.layout
+        × (node.count ≤ capacity node.layout node.kind) × (length node.rows.now ≡ 4080) };
 }
 
 impl<'a> NodeView<'a> {
@@ -112,7 +117,8 @@ impl<'a> NodeView<'a> {
     /// What stands behind the key of the row at this place: a leaf's value, or an inner page's page number in 4 bytes.
     pub fn rest(&self, place: usize) -> &'a [u8]
         requires { place < length self.now.rows }
-        ensures rest { result.now ≡ rest_of self.now.layout (slice_index_or self.now.rows place []) }
+        ensures rest { result.now
+            ≡ rest_of self.now.layout (slice_index_or self.now.rows place []) }
         ensures length { length result.now ≡ rest_length self.now.layout self.now.kind }
     {
         let (_, rest) = self.row(place).split_at(self.layout().key_length);

@@ -34,7 +34,8 @@ pub(crate) fn insert_row(
     requires place { place ≤ count }
     requires row { length key.now + length rest.now ≡ row }
     requires room { (count + 1) * row ≤ 4080 }
-    ensures { rows_in row (count + 1) bytes.new ≡ insert (rows_in row count bytes.old) place (key.now ++ rest.now) }
+    ensures { rows_in row (count + 1) bytes.new
+        ≡ insert (rows_in row count bytes.old) place (key.now ++ rest.now) }
 {
     let at = start(row, count, place);
     let end = start(row, count, count);
@@ -60,7 +61,8 @@ pub(crate) fn put_key(bytes: &mut [u8; 4080], row: usize, count: usize, place: u
     requires place { place < count }
     requires fits { count * row ≤ 4080 }
     requires key { length key.now ≤ row }
-    ensures { rows_in row count bytes.new ≡ slice_set (rows_in row count bytes.old) place (key.now ++ drop (length key.now) (slice_index_or (rows_in row count bytes.old) place [])) }
+    ensures { rows_in row count bytes.new ≡ slice_set (rows_in row count bytes.old) place
+        (key.now ++ drop (length key.now) (slice_index_or (rows_in row count bytes.old) place [])) }
 {
     let at = start(row, count, place);
     put(bytes, at, key);
@@ -78,7 +80,8 @@ pub(crate) fn put_rest(
     requires place { place < count }
     requires fits { count * row ≤ 4080 }
     requires rest { key_length + length rest.now ≡ row }
-    ensures { rows_in row count bytes.new ≡ slice_set (rows_in row count bytes.old) place (take key_length (slice_index_or (rows_in row count bytes.old) place []) ++ rest.now) }
+    ensures { rows_in row count bytes.new ≡ slice_set (rows_in row count bytes.old) place
+        (take key_length (slice_index_or (rows_in row count bytes.old) place []) ++ rest.now) }
 {
     let at = start(row, count, place);
     put(bytes, at + key_length, rest);
@@ -113,7 +116,8 @@ pub(crate) fn append_rows(
     more: usize,
 )
     requires { (count + more) * row ≤ 4080 }
-    ensures { rows_in row (count + more) bytes.new ≡ rows_in row count bytes.old ++ rows_in row more other.now }
+    ensures { rows_in row (count + more) bytes.new
+        ≡ rows_in row count bytes.old ++ rows_in row more other.now }
 {
     let at = start(row, count, count);
     let end = start(row, more, more);

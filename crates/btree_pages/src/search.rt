@@ -10,11 +10,14 @@ impl<'a> NodeView<'a> {
     /// The place of the row with this key, or the place where it would go in. A page whose keys don't ascend gives a place of it all
     /// the same.
     pub fn find(&self, key: &[u8]) -> Result<usize, usize>
-        ensures found { IfOk result (λ place. (place < length self.now.rows) × (key_of self.now.layout (slice_index_or self.now.rows place []) ≡ key.now)) }
+        ensures found { IfOk result (λ place. (place < length self.now.rows)
+            × (key_of self.now.layout (slice_index_or self.now.rows place []) ≡ key.now)) }
         ensures missing { IfErr result (λ place. place ≤ length self.now.rows) }
         ensures around { Ascend (keys_of self.now.layout self.now.rows) → MatchResult result
-            (λ place. AllBelow self.now.layout key.now (take place self.now.rows) × AllAbove self.now.layout key.now (drop (place + 1) self.now.rows))
-            (λ place. AllBelow self.now.layout key.now (take place self.now.rows) × AllAbove self.now.layout key.now (drop place self.now.rows)) }
+            (λ place. AllBelow self.now.layout key.now (take place self.now.rows)
+            × AllAbove self.now.layout key.now (drop (place + 1) self.now.rows))
+            (λ place. AllBelow self.now.layout key.now (take place self.now.rows)
+            × AllAbove self.now.layout key.now (drop place self.now.rows)) }
     {
         let mut low = 0;
         let mut high = self.count();
@@ -47,11 +50,14 @@ impl TreePage {
     /// The place of the row with this key, or the place where it would go in. A page whose keys don't ascend gives a place of it all
     /// the same.
     pub fn find(&self, key: &[u8]) -> Result<usize, usize>
-        ensures found { IfOk result (λ place. (place < length self.now.rows) × (key_of self.now.layout (slice_index_or self.now.rows place []) ≡ key.now)) }
+        ensures found { IfOk result (λ place. (place < length self.now.rows)
+            × (key_of self.now.layout (slice_index_or self.now.rows place []) ≡ key.now)) }
         ensures missing { IfErr result (λ place. place ≤ length self.now.rows) }
         ensures around { Ascend (keys_of self.now.layout self.now.rows) → MatchResult result
-            (λ place. AllBelow self.now.layout key.now (take place self.now.rows) × AllAbove self.now.layout key.now (drop (place + 1) self.now.rows))
-            (λ place. AllBelow self.now.layout key.now (take place self.now.rows) × AllAbove self.now.layout key.now (drop place self.now.rows)) }
+            (λ place. AllBelow self.now.layout key.now (take place self.now.rows)
+            × AllAbove self.now.layout key.now (drop (place + 1) self.now.rows))
+            (λ place. AllBelow self.now.layout key.now (take place self.now.rows)
+            × AllAbove self.now.layout key.now (drop place self.now.rows)) }
     {
         self.view().find(key)
     }

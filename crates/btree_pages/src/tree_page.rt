@@ -24,9 +24,14 @@ impl Model for TreePage {
 
     ghost Value = { Node };
 
-    ghost view = { λ page. record { layout = page.layout; kind = page.kind; rows = rows_in (row_length page.layout page.kind) page.count page.bytes } };
+    ghost view = { λ page. record {
+      layout = page.layout;
+      kind = page.kind;
+      rows = rows_in (row_length page.layout page.kind) page.count page.bytes;
+    } };
 
-    ghost invariant = { λ page. IsRowLayout page.layout × (page.count ≤ capacity page.layout page.kind) };
+    ghost invariant = { λ page. IsRowLayout page.layout
+        × (page.count ≤ capacity page.layout page.kind) };
 }
 
 impl TreePage {
@@ -91,7 +96,8 @@ impl TreePage {
     /// What stands behind the key of the row at this place: a leaf's value, or an inner page's page number in 4 bytes.
     pub fn rest(&self, place: usize) -> &[u8]
         requires { place < length self.now.rows }
-        ensures rest { result.now ≡ rest_of self.now.layout (slice_index_or self.now.rows place []) }
+        ensures rest { result.now
+            ≡ rest_of self.now.layout (slice_index_or self.now.rows place []) }
         ensures length { length result.now ≡ rest_length self.now.layout self.now.kind }
     {
         self.view().rest(place)

@@ -1,5 +1,7 @@
 -- Runs of digits in two parts.
-use Rattle.std.proofs.Common.{◌≡◌, ℕ, suc, ◌+◌, ◌-◌, ◌*◌, ◌^◌, ◌<◌, ◌≤◌, Bool, true, false, ◌&&◌, List, [], ◌∷◌, ◌++◌, take, drop, length, get_or, Option, Some, None, if◌then◌else◌, refl, ap, sym, ◌∙◌, subst, add-one, arith}
+use Rattle.std.proofs.Common.{◌≡◌, ℕ, suc, ◌+◌, ◌-◌, ◌*◌, ◌^◌, ◌<◌, ◌≤◌, Bool, true, false, ◌&&◌, List, [], ◌∷◌, ◌++◌}
+use Rattle.std.proofs.Common.{take, drop, length, get_or, Option, Some, None, if◌then◌else◌, refl, ap, sym, ◌∙◌, subst}
+use Rattle.std.proofs.Common.{add-one, arith}
 use Rattle.std.specs.Char.{is_ascii_digit}
 use Rattle.std.specs.List.{list_all}
 use Rattle.std.proofs.lemmas.List.{take-append-drop}
@@ -38,15 +40,19 @@ none_parts : (b : Bool) (n : ℕ) → None ≡ (if b then Some n else None) → 
 none_parts true n e = cc
 none_parts false n e = refl
 
-front_eight : (front e : ℕ) (xs : List ℕ) → length xs ≡ 8 → e ≡ digits_behind 0 xs → 100000000 * front + e ≡ digits_behind front xs
+front_eight : (front e : ℕ) (xs : List ℕ) → length xs ≡ 8 → e ≡ digits_behind 0 xs
+    → 100000000 * front + e ≡ digits_behind front xs
 front_eight front e xs size is =
-    let whole : front * 10 ^ 8 + digits_behind 0 xs ≡ digits_behind front xs = sym (behind_front front xs ∙ ap (λ k. front * 10 ^ k + digits_behind 0 xs) size) in
+    let whole : front * 10 ^ 8 + digits_behind 0 xs ≡ digits_behind front xs =
+    sym (behind_front front xs ∙ ap (λ k. front * 10 ^ k + digits_behind 0 xs) size) in
     omega (arith, is, whole)
 
-eight_before : (front e : ℕ) (xs ys : List ℕ) → length xs ≡ 8 → Some e ≡ number_behind 0 xs → number_behind (100000000 * front + e) ys ≡ number_behind front (xs ++ ys)
+eight_before : (front e : ℕ) (xs ys : List ℕ) → length xs ≡ 8 → Some e ≡ number_behind 0 xs
+    → number_behind (100000000 * front + e) ys ≡ number_behind front (xs ++ ys)
 eight_before front e xs ys size found =
     let parts = some_parts (list_all is_ascii_digit xs) (digits_behind 0 xs) e found in
-    ap (λ n. if list_all is_ascii_digit ys then Some (digits_behind n ys) else None) (front_eight front e xs size parts.1)
+    ap (λ n. if list_all is_ascii_digit ys then Some (digits_behind n ys) else None)
+    (front_eight front e xs size parts.1)
     ∙ ap (λ n. if list_all is_ascii_digit ys then Some n else None) (sym (behind_joined front xs ys))
     ∙ ap (λ b. if b && list_all is_ascii_digit ys then Some (digits_behind front (xs ++ ys)) else None) (sym parts.0)
     ∙ ap (λ b. if b then Some (digits_behind front (xs ++ ys)) else None) (sym (list_all-append is_ascii_digit xs ys))
@@ -58,13 +64,15 @@ none_before front xs ys none =
     ∙ ap (λ b. if b && list_all is_ascii_digit ys then Some (digits_behind front (xs ++ ys)) else None) fails)
 
 -- The same of a run that code has split.
-pub split_found : (front e : ℕ) (cs xs ys : List ℕ) → xs ≡ take 8 cs → ys ≡ drop 8 cs → length xs ≡ 8 → Some e ≡ number_behind 0 xs → number_behind (100000000 * front + e) ys ≡ number_behind front cs
+pub split_found : (front e : ℕ) (cs xs ys : List ℕ) → xs ≡ take 8 cs → ys ≡ drop 8 cs → length xs ≡ 8
+    → Some e ≡ number_behind 0 xs → number_behind (100000000 * front + e) ys ≡ number_behind front cs
 split_found front e cs xs ys first rest size found =
     eight_before front e xs ys size found
     ∙ ap (λ t. number_behind front (t ++ ys)) first ∙ ap (λ t. number_behind front (take 8 cs ++ t)) rest
     ∙ ap (number_behind front) (take-append-drop 8 cs)
 
-pub split_none : (front : ℕ) (cs xs ys : List ℕ) → xs ≡ take 8 cs → ys ≡ drop 8 cs → None ≡ number_behind 0 xs → None ≡ number_behind front cs
+pub split_none : (front : ℕ) (cs xs ys : List ℕ) → xs ≡ take 8 cs → ys ≡ drop 8 cs → None ≡ number_behind 0 xs
+    → None ≡ number_behind front cs
 split_none front cs xs ys first rest none =
     none_before front xs ys none
     ∙ ap (λ t. number_behind front (t ++ ys)) first ∙ ap (λ t. number_behind front (take 8 cs ++ t)) rest
@@ -75,32 +83,40 @@ split_none front cs xs ys first rest none =
 eight_more : (size rest : ℕ) → rest + 8 ≡ size → 10 ^ size ≡ 100000000 * 10 ^ rest
 eight_more size rest e = ap (λ k. 10 ^ k) (sym e) ∙ pow-add 10 rest 8 ∙ mul_comm (10 ^ rest) (10 ^ 8)
 
-pub less_room : (front e size rest : ℕ) → rest + 8 ≡ size → e < 10 ^ 8 → (100000000 * front + e + 1) * 10 ^ rest ≤ (front + 1) * 10 ^ size
+pub less_room : (front e size rest : ℕ) → rest + 8 ≡ size → e < 10 ^ 8
+    → (100000000 * front + e + 1) * 10 ^ rest ≤ (front + 1) * 10 ^ size
 less_room front e size rest split small =
     let most : 100000000 * front + e + 1 ≤ (front + 1) * 100000000 = omega (arith, small) in
-    let more : (100000000 * front + e + 1) * 10 ^ rest ≤ (front + 1) * 100000000 * 10 ^ rest = mul-le-mul_right (10 ^ rest) most in
-    subst (λ n. (100000000 * front + e + 1) * 10 ^ rest ≤ n) (mul_assoc (front + 1) 100000000 (10 ^ rest) ∙ ap (λ p. (front + 1) * p) (sym (eight_more size rest split))) more
+    let more : (100000000 * front + e + 1) * 10 ^ rest ≤ (front + 1) * 100000000 * 10 ^ rest =
+    mul-le-mul_right (10 ^ rest) most in
+    subst (λ n. (100000000 * front + e + 1) * 10 ^ rest ≤ n) (mul_assoc (front + 1) 100000000 (10 ^ rest)
+    ∙ ap (λ p. (front + 1) * p) (sym (eight_more size rest split))) more
 
 pub front_small : (front size rest : ℕ) → rest + 8 ≡ size → (front + 1) * 10 ^ size ≤ 10 ^ 18 → front + 1 ≤ 10 ^ 10
 front_small front size rest split room =
     let some : 1 ≤ 10 ^ rest = ten_pos rest in
     let up : 100000000 ≤ 100000000 * 10 ^ rest = le-mul_of_pos_right 100000000 (ten_pos rest) in
     let least : (front + 1) * 100000000 ≤ (front + 1) * 10 ^ size =
-    subst (λ p. (front + 1) * 100000000 ≤ (front + 1) * p) (sym (eight_more size rest split)) (mul-le_left (front + 1) 100000000 (100000000 * 10 ^ rest) up) in
+    subst (λ p. (front + 1) * 100000000 ≤ (front + 1) * p) (sym (eight_more size rest split))
+    (mul-le_left (front + 1) 100000000 (100000000 * 10 ^ rest) up) in
     omega (arith, least, room)
   where
     mul-le_left : (a b c : ℕ) → b ≤ c → a * b ≤ a * c
-    mul-le_left a b c h = let flipped : b * a ≤ c * a = mul-le-mul_right a h in omega (arith, flipped, mul_comm a b, mul_comm a c)
+    mul-le_left a b c h = let flipped : b * a ≤ c * a =
+        mul-le-mul_right a h in omega (arith, flipped, mul_comm a b, mul_comm a c)
 
 -- ---- one digit after the other
 
-pub next_room : (n d left all : ℕ) → d ≤ 9 → 0 < left → (n + 1) * 10 ^ left ≤ all → (10 * n + d + 1) * 10 ^ (left - 1) ≤ all
+pub next_room : (n d left all : ℕ) → d ≤ 9 → 0 < left → (n + 1) * 10 ^ left ≤ all
+    → (10 * n + d + 1) * 10 ^ (left - 1) ≤ all
 next_room n d left all small some room =
     let one : left ≡ suc (left - 1) = omega arith in
     let most : 10 * n + d + 1 ≤ (n + 1) * 10 = omega (arith, small) in
-    let more : (10 * n + d + 1) * 10 ^ (left - 1) ≤ (n + 1) * 10 * 10 ^ (left - 1) = mul-le-mul_right (10 ^ (left - 1)) most in
+    let more : (10 * n + d + 1) * 10 ^ (left - 1) ≤ (n + 1) * 10 * 10 ^ (left - 1) =
+    mul-le-mul_right (10 ^ (left - 1)) most in
     let same : (n + 1) * 10 * 10 ^ (left - 1) ≡ (n + 1) * 10 ^ left =
-    mul_assoc (n + 1) 10 (10 ^ (left - 1)) ∙ ap (λ p. (n + 1) * p) (mul_comm 10 (10 ^ (left - 1)) ∙ sym (pow-suc 10 (left - 1)) ∙ ap (λ k. 10 ^ k) (sym one)) in
+    mul_assoc (n + 1) 10 (10 ^ (left - 1)) ∙ ap (λ p. (n + 1) * p)
+    (mul_comm 10 (10 ^ (left - 1)) ∙ sym (pow-suc 10 (left - 1)) ∙ ap (λ k. 10 ^ k) (sym one)) in
     omega (arith, more, same, room)
 
 pub room_now : (n left all : ℕ) → (n + 1) * 10 ^ left ≤ all → n < all
@@ -113,7 +129,9 @@ some_below None a b h below = below
 some_below (Some n) a b h below = omega (arith, h, below)
 
 -- A digit of the run, where it is one.
-pub digits_next : (cs : List ℕ) (i : ℕ) → i < length cs → is_ascii_digit (get_or cs i 0) ≡ true → list_all is_ascii_digit (drop (i + 1) cs) ≡ list_all is_ascii_digit (drop i cs)
+pub digits_next : (cs : List ℕ) (i : ℕ) → i < length cs → is_ascii_digit (get_or cs i 0) ≡ true
+    → list_all is_ascii_digit (drop (i + 1) cs) ≡ list_all is_ascii_digit (drop i cs)
 digits_next cs i h digit =
     ap (λ k. list_all is_ascii_digit (drop k cs)) (add-one i)
-    ∙ sym (ap (list_all is_ascii_digit) (drop-cons cs i 0 h) ∙ ap (λ b. b && list_all is_ascii_digit (drop (suc i) cs)) digit)
+    ∙ sym (ap (list_all is_ascii_digit) (drop-cons cs i 0 h)
+    ∙ ap (λ b. b && list_all is_ascii_digit (drop (suc i) cs)) digit)

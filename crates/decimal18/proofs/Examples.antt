@@ -39,7 +39,8 @@ alignment : sum (number (pos (10 ^ 37)) 0) (number (pos 1) 1) ≡ size_error
 unfolding sum
 alignment = refl
 
-square : product (number (pos 999999999999999999) 0) (number (pos 999999999999999999) 0) ≡ given (pos 999999999999999998000000000000000001) 0
+square : product (number (pos 999999999999999999) 0) (number (pos 999999999999999999) 0)
+    ≡ given (pos 999999999999999998000000000000000001) 0
 unfolding product
 square = refl
 
@@ -155,8 +156,8 @@ one_decimal : truncated_decimal (number (pos 14285714285714285714) 18) 1 ≡ num
 unfolding truncated_decimal
 one_decimal = refl
 
--- DIVIDE 999 BY 1E-18 GIVING Q REMAINDER R, Q of 18 decimals: the quotient has 17, and keeps all its whole digits, so that
--- the remainder is 0.
+-- DIVIDE 999 BY 1E-18 GIVING Q REMAINDER R, Q of 18 decimals: the quotient has 17, and keeps all its whole digits, so
+-- that the remainder is 0.
 long_quotient : quotient (number (pos 999) 0) (number (pos 1) 18) ≡ given (pos (999 * 10 ^ 35)) 17
 unfolding quotient greatest
 long_quotient = refl

@@ -1,4 +1,5 @@
-use Rattle.std.proofs.Common.{◌≡◌, ℕ, zero, suc, ◌+◌, ◌-◌, ◌*◌, ◌/◌, ◌%◌, ◌^◌, ◌<◌, ◌≤◌, List, [], ◌∷◌, get_or, ap, sym, ◌∙◌, arith, nat_lt, inl, inr, subst, Some, None, if◌then◌else◌}
+use Rattle.std.proofs.Common.{◌≡◌, ℕ, zero, suc, ◌+◌, ◌-◌, ◌*◌, ◌/◌, ◌%◌, ◌^◌, ◌<◌, ◌≤◌, List, [], ◌∷◌, get_or, ap, sym}
+use Rattle.std.proofs.Common.{◌∙◌, arith, nat_lt, inl, inr, subst, Some, None, if◌then◌else◌}
 use Rattle.std.proofs.lemmas.Nat.{pow-add, mod-mul-add, div-add-mod', mod_below}
 use Rattle.std.proofs.Math.Nat.{le-mul_of_pos_right, mul_comm, mul-lt-mul_of_pos_right, mul-le-mul_right}
 use Rattle.std.proofs.lemmas.Bool.{cases_lt, le-ltb, lt-ltb}
@@ -36,14 +37,18 @@ shifted_test m k n h = elim (cases_lt m (10 ^ (n - k))) [
 ]
 
 -- What `lengthened` answers, by the two sides of its test.
-pub lengthened_some : (m k n p q : ℕ) → k ≤ n → p ≡ 10 ^ (n - k) → q ≡ 10 ^ k → m < p → Some (m * q) ≡ (if nat_lt (m * 10 ^ k) (10 ^ n) then Some (m * 10 ^ k) else None)
+pub lengthened_some : (m k n p q : ℕ) → k ≤ n → p ≡ 10 ^ (n - k) → q ≡ 10 ^ k → m < p
+    → Some (m * q) ≡ (if nat_lt (m * 10 ^ k) (10 ^ n) then Some (m * 10 ^ k) else None)
 lengthened_some m k n p q h e f below =
     ap (λ t. Some (m * t)) f
-    ∙ sym (ap (λ b. if b then Some (m * 10 ^ k) else None) (shifted_test m k n h ∙ ap (nat_lt m) (sym e) ∙ lt-ltb m p below))
+    ∙ sym
+    (ap (λ b. if b then Some (m * 10 ^ k) else None) (shifted_test m k n h ∙ ap (nat_lt m) (sym e) ∙ lt-ltb m p below))
 
-pub lengthened_none : (m k n p : ℕ) → k ≤ n → p ≡ 10 ^ (n - k) → p ≤ m → None ≡ (if nat_lt (m * 10 ^ k) (10 ^ n) then Some (m * 10 ^ k) else None)
+pub lengthened_none : (m k n p : ℕ) → k ≤ n → p ≡ 10 ^ (n - k) → p ≤ m
+    → None ≡ (if nat_lt (m * 10 ^ k) (10 ^ n) then Some (m * 10 ^ k) else None)
 lengthened_none m k n p h e above =
-    sym (ap (λ b. if b then Some (m * 10 ^ k) else None) (shifted_test m k n h ∙ ap (nat_lt m) (sym e) ∙ le-ltb m p above))
+    sym
+    (ap (λ b. if b then Some (m * 10 ^ k) else None) (shifted_test m k n h ∙ ap (nat_lt m) (sym e) ∙ le-ltb m p above))
 
 pub lengthened_below : (m k n p q : ℕ) → k ≤ n → p ≡ 10 ^ (n - k) → q ≡ 10 ^ k → m < p → m * q < 10 ^ n
 lengthened_below m k n p q h e f below =
@@ -52,7 +57,8 @@ lengthened_below m k n p q h e f below =
 pub power_le : (k n : ℕ) → k ≤ n → 10 ^ k ≤ 10 ^ n
 power_le k n h =
     let e : 10 ^ n ≡ 10 ^ (n - k) * 10 ^ k = split_power k n h in
-    subst (λ t. 10 ^ k ≤ t) (sym (e ∙ mul_comm (10 ^ (n - k)) (10 ^ k))) (le-mul_of_pos_right (10 ^ k) (ten_pos (n - k)))
+    subst (λ t. 10 ^ k ≤ t) (sym (e ∙ mul_comm (10 ^ (n - k)) (10 ^ k)))
+    (le-mul_of_pos_right (10 ^ k) (ten_pos (n - k)))
 
 spread : (a p t u : ℕ) → (a * p + t) * u ≡ a * (p * u) + t * u
 spread a p t u = omega arith
@@ -61,7 +67,8 @@ spread a p t u = omega arith
 pub low_shifted : (m k n r p : ℕ) → k ≤ n → r ≡ m % 10 ^ (n - k) → p ≡ 10 ^ k → r * p ≡ m * 10 ^ k % 10 ^ n
 low_shifted m k n r p h e f =
     let unit : 10 ^ n ≡ 10 ^ (n - k) * 10 ^ k = split_power k n h in
-    let low : m % 10 ^ (n - k) * 10 ^ k < 10 ^ n = shifted_below (m % 10 ^ (n - k)) k n h (mod_below m (10 ^ (n - k)) (ten_pos (n - k))) in
+    let low : m % 10 ^ (n - k) * 10 ^ k < 10 ^ n =
+    shifted_below (m % 10 ^ (n - k)) k n h (mod_below m (10 ^ (n - k)) (ten_pos (n - k))) in
     let whole : m / 10 ^ (n - k) * 10 ^ (n - k) + m % 10 ^ (n - k) ≡ m = div-add-mod' m (10 ^ (n - k)) in
     let split : m * 10 ^ k ≡ m / 10 ^ (n - k) * 10 ^ n + m % 10 ^ (n - k) * 10 ^ k =
     ap (λ t. t * 10 ^ k) (sym whole) ∙ spread (m / 10 ^ (n - k)) (10 ^ (n - k)) (m % 10 ^ (n - k)) (10 ^ k)

@@ -6,12 +6,14 @@ use Rattle.decimal18.specs.Fraction.{Fraction}
 use Rattle.decimal18.specs.Order.{order}
 use Rattle.decimal18.specs.TotalOrder.{order_raised, int_cmp-scaled, ten_pos}
 
-pub compared : (x y : Fraction) (a b : ℤ) (k : ℕ) (r : Ordering) → x.scale ≤ y.scale → a ≡ x.coefficient → b ≡ y.coefficient → k ≡ y.scale - x.scale → r ≡ int_cmp (a *ℤ pos (10 ^ k)) b → r ≡ order x y
+pub compared : (x y : Fraction) (a b : ℤ) (k : ℕ) (r : Ordering) → x.scale ≤ y.scale → a ≡ x.coefficient
+    → b ≡ y.coefficient → k ≡ y.scale - x.scale → r ≡ int_cmp (a *ℤ pos (10 ^ k)) b → r ≡ order x y
 compared x y a b k r h e f g s =
     s ∙ ap (λ t. int_cmp (t *ℤ pos (10 ^ k)) b) e ∙ ap (int_cmp (x.coefficient *ℤ pos (10 ^ k))) f
     ∙ ap (λ n. int_cmp (x.coefficient *ℤ pos (10 ^ n)) y.coefficient) g ∙ order_raised x y h
 
-pub at_scale : (x y : Fraction) (a b : ℤ) (r : Ordering) → x.scale ≡ y.scale → a ≡ x.coefficient → b ≡ y.coefficient → r ≡ int_cmp a b → r ≡ order x y
+pub at_scale : (x y : Fraction) (a b : ℤ) (r : Ordering) → x.scale ≡ y.scale → a ≡ x.coefficient → b ≡ y.coefficient
+    → r ≡ int_cmp a b → r ≡ order x y
 unfolding order
 at_scale x y a b r h e f s =
     s ∙ ap (λ t. int_cmp t b) e ∙ ap (int_cmp x.coefficient) f

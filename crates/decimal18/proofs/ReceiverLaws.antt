@@ -1,5 +1,7 @@
 -- What a receiver keeps is the number truncated or rounded, or the low digits of that.
-use Rattle.std.proofs.Common.{◌≡◌, ℕ, zero, suc, ◌+◌, ◌-◌, ◌*◌, ◌/◌, ◌%◌, ◌^◌, ◌<◌, ◌≤◌, Bool, true, false, refl, ap, sym, ◌∙◌, arith, subst, pos, unsigned_abs, int_rem, if◌then◌else◌, Ok, nat_lt, nat_le, inl, inr}
+use Rattle.std.proofs.Common.{◌≡◌, ℕ, zero, suc, ◌+◌, ◌-◌, ◌*◌, ◌/◌, ◌%◌, ◌^◌, ◌<◌, ◌≤◌, Bool, true, false, refl, ap}
+use Rattle.std.proofs.Common.{sym, ◌∙◌, arith, subst, pos, unsigned_abs, int_rem, if◌then◌else◌, Ok, nat_lt, nat_le}
+use Rattle.std.proofs.Common.{inl, inr}
 use Rattle.std.proofs.lemmas.Bool.{cases_lt, leb-true, leb-false, ltb-false, le-ltb}
 use Rattle.std.proofs.lemmas.Nat.{div-add-mod', mod_below, le-div, div_below}
 use Rattle.std.proofs.Math.Nat.{mul-le-mul_right, mul-lt-mul_of_pos_right, mul_assoc, pow-suc}
@@ -54,16 +56,21 @@ pub cut_shorter : (m s t k : ℕ) → t ≤ s → k ≡ m / 10 ^ (s - t) → Cut
 cut_shorter m s t k h e =
     let unit : 10 ^ s ≡ 10 ^ (s - t) * 10 ^ t = split_power t s h in
     let bounds = cut_by k m (10 ^ (s - t)) (10 ^ t) (ten_pos (s - t)) (ten_pos t) e in
-    record { under = subst (λ n. k * n ≤ m * 10 ^ t) (sym unit) bounds.0; over = subst (λ n. m * 10 ^ t < (k + 1) * n) (sym unit) bounds.1 }
+    record {
+      under = subst (λ n. k * n ≤ m * 10 ^ t) (sym unit) bounds.0;
+      over = subst (λ n. m * 10 ^ t < (k + 1) * n) (sym unit) bounds.1;
+    }
 
 -- A number rounded up or not, by the dropped part r = m - v * u and half a unit h.
-near_up : (v m u half p : ℕ) → 0 < p → u ≡ 2 * half → v * u ≤ m → m < (v + 1) * u → half ≤ m - v * u → (2 * (v + 1) * (u * p) ≤ 2 * m * p + u * p) × (2 * m * p < (2 * (v + 1) + 1) * (u * p))
+near_up : (v m u half p : ℕ) → 0 < p → u ≡ 2 * half → v * u ≤ m → m < (v + 1) * u → half ≤ m - v * u
+    → (2 * (v + 1) * (u * p) ≤ 2 * m * p + u * p) × (2 * m * p < (2 * (v + 1) + 1) * (u * p))
 near_up v m u half p k e low high above =
     let under : 2 * (v + 1) * u ≤ 2 * m + u = omega arith in
     let over : 2 * m < (2 * (v + 1) + 1) * u = omega arith in
     (omega (arith, mul-le-mul_right p under), omega (arith, mul-lt-mul_of_pos_right over k))
 
-near_same : (v m u half p : ℕ) → 0 < p → u ≡ 2 * half → v * u ≤ m → m - v * u < half → (2 * v * (u * p) ≤ 2 * m * p + u * p) × (2 * m * p < (2 * v + 1) * (u * p))
+near_same : (v m u half p : ℕ) → 0 < p → u ≡ 2 * half → v * u ≤ m → m - v * u < half
+    → (2 * v * (u * p) ≤ 2 * m * p + u * p) × (2 * m * p < (2 * v + 1) * (u * p))
 near_same v m u half p k e low below =
     let under : 2 * v * u ≤ 2 * m + u = omega arith in
     let over : 2 * m < (2 * v + 1) * u = omega arith in
@@ -91,61 +98,88 @@ near_shorter m s t k h e =
           let same : k ≡ v = e ∙ omega (arith, not_rounded m d some below) in
           let bounds = near_same v m u (5 * 10 ^ (d - 1)) (10 ^ t) (ten_pos t) (half_of d some) low below in
           record {
-            under = subst (λ n. 2 * n * 10 ^ s ≤ 2 * m * 10 ^ t + 10 ^ s) (sym same) (subst (λ n. 2 * v * n ≤ 2 * m * 10 ^ t + n) (sym unit) bounds.0);
-            over = subst (λ n. 2 * m * 10 ^ t < (2 * n + 1) * 10 ^ s) (sym same) (subst (λ n. 2 * m * 10 ^ t < (2 * v + 1) * n) (sym unit) bounds.1);
+            under = subst (λ n. 2 * n * 10 ^ s ≤ 2 * m * 10 ^ t + 10 ^ s) (sym same)
+                (subst (λ n. 2 * v * n ≤ 2 * m * 10 ^ t + n) (sym unit) bounds.0);
+            over = subst (λ n. 2 * m * 10 ^ t < (2 * n + 1) * 10 ^ s) (sym same)
+                (subst (λ n. 2 * m * 10 ^ t < (2 * v + 1) * n) (sym unit) bounds.1);
           }
       | inr above ↦
           let more : k ≡ v + 1 = e ∙ omega (arith, rounded_up m d some above) in
           let bounds = near_up v m u (5 * 10 ^ (d - 1)) (10 ^ t) (ten_pos t) (half_of d some) low high above in
           record {
-            under = subst (λ n. 2 * n * 10 ^ s ≤ 2 * m * 10 ^ t + 10 ^ s) (sym more) (subst (λ n. 2 * (v + 1) * n ≤ 2 * m * 10 ^ t + n) (sym unit) bounds.0);
-            over = subst (λ n. 2 * m * 10 ^ t < (2 * n + 1) * 10 ^ s) (sym more) (subst (λ n. 2 * m * 10 ^ t < (2 * (v + 1) + 1) * n) (sym unit) bounds.1);
+            under = subst (λ n. 2 * n * 10 ^ s ≤ 2 * m * 10 ^ t + 10 ^ s) (sym more)
+                (subst (λ n. 2 * (v + 1) * n ≤ 2 * m * 10 ^ t + n) (sym unit) bounds.0);
+            over = subst (λ n. 2 * m * 10 ^ t < (2 * n + 1) * 10 ^ s) (sym more)
+                (subst (λ n. 2 * m * 10 ^ t < (2 * (v + 1) + 1) * n) (sym unit) bounds.1);
           }
     ]
 
-cut_of : (m s t k : ℕ) (b : Bool) → nat_le s t ≡ b → k ≡ (if b then m * 10 ^ (t - s) else m / 10 ^ (s - t) + carry Truncated m (s - t)) → Cut k m s t
+cut_of : (m s t k : ℕ) (b : Bool) → nat_le s t ≡ b
+    → k ≡ (if b then m * 10 ^ (t - s) else m / 10 ^ (s - t) + carry Truncated m (s - t)) → Cut k m s t
 cut_of m s t k true h e = cut_longer m s t k (leb-true s t h) e
 cut_of m s t k false h e = cut_shorter m s t k (omega (arith, leb-false s t h)) (e ∙ omega arith)
 
-near_of : (m s t k : ℕ) (b : Bool) → nat_le s t ≡ b → k ≡ (if b then m * 10 ^ (t - s) else m / 10 ^ (s - t) + carry Rounded m (s - t)) → Near k m s t
+near_of : (m s t k : ℕ) (b : Bool) → nat_le s t ≡ b
+    → k ≡ (if b then m * 10 ^ (t - s) else m / 10 ^ (s - t) + carry Rounded m (s - t)) → Near k m s t
 near_of m s t k true h e = near_longer m s t k (leb-true s t h) e
 near_of m s t k false h e = near_shorter m s t k (leb-false s t h) e
 
-kept_at : (x : Fraction) (scale : ℕ) (rounding : Rounding) → IsKept rounding x (record { coefficient = at_scale x scale rounding; scale = scale })
+kept_at : (x : Fraction) (scale : ℕ) (rounding : Rounding)
+    → IsKept rounding x (record { coefficient = at_scale x scale rounding; scale = scale })
 kept_at x scale Truncated =
     let m = unsigned_abs x.coefficient in
     let k = digits_at m x.scale scale Truncated in
-    let size : unsigned_abs (signed_integer (is_negative x.coefficient) k) ≡ k = abs-signed (is_negative x.coefficient) k in
-    let bounds = cut_of m x.scale scale (unsigned_abs (signed_integer (is_negative x.coefficient) k)) (nat_le x.scale scale) refl size in
-    record { sign = ap (signed_integer (is_negative x.coefficient)) (sym size); not_over = bounds.under; close = bounds.over }
+    let size : unsigned_abs (signed_integer (is_negative x.coefficient) k) ≡ k =
+    abs-signed (is_negative x.coefficient) k in
+    let bounds = cut_of m x.scale scale (unsigned_abs (signed_integer (is_negative x.coefficient) k))
+    (nat_le x.scale scale) refl size in
+    record {
+      sign = ap (signed_integer (is_negative x.coefficient)) (sym size);
+      not_over = bounds.under;
+      close = bounds.over;
+    }
 kept_at x scale Rounded =
     let m = unsigned_abs x.coefficient in
     let k = digits_at m x.scale scale Rounded in
-    let size : unsigned_abs (signed_integer (is_negative x.coefficient) k) ≡ k = abs-signed (is_negative x.coefficient) k in
-    let bounds = near_of m x.scale scale (unsigned_abs (signed_integer (is_negative x.coefficient) k)) (nat_le x.scale scale) refl size in
-    record { sign = ap (signed_integer (is_negative x.coefficient)) (sym size); not_under = bounds.under; close = bounds.over }
+    let size : unsigned_abs (signed_integer (is_negative x.coefficient) k) ≡ k =
+    abs-signed (is_negative x.coefficient) k in
+    let bounds = near_of m x.scale scale (unsigned_abs (signed_integer (is_negative x.coefficient) k))
+    (nat_le x.scale scale) refl size in
+    record {
+      sign = ap (signed_integer (is_negative x.coefficient)) (sym size);
+      not_under = bounds.under;
+      close = bounds.over;
+    }
 
-pub fitted_kept : (x z : Fraction) (digits scale : ℕ) (rounding : Rounding) → fitted_decimal x digits scale rounding ≡ Ok z → (z.scale ≡ scale) × IsKept rounding x z
+pub fitted_kept : (x z : Fraction) (digits scale : ℕ) (rounding : Rounding)
+    → fitted_decimal x digits scale rounding ≡ Ok z → (z.scale ≡ scale) × IsKept rounding x z
 unfolding fitted_decimal
 fitted_kept x z digits scale rounding e =
     let held : Fraction = record { coefficient = at_scale x scale rounding; scale = scale } in
-    let is : held ≡ z = inside held z (passed (nat_lt (unsigned_abs (at_scale x scale rounding)) (10 ^ digits)) (Ok held) z e).1 in
+    let is : held ≡ z =
+    inside held z (passed (nat_lt (unsigned_abs (at_scale x scale rounding)) (10 ^ digits)) (Ok held) z e).1 in
     (sym (ap (λ (w : Fraction). w.scale) is), subst (IsKept rounding x) is (kept_at x scale rounding))
 
 -- More whole digits than a receiver has.
 whole_digits : (n digits scale : ℕ) → scale ≤ digits → 10 ^ digits ≤ n → 10 ^ (digits - scale) ≤ n / 10 ^ scale
 whole_digits n digits scale h above =
-    le-div (10 ^ (digits - scale)) n (10 ^ scale) (ten_pos scale) (subst (λ m. m ≤ n) (split_power scale digits h) above)
+    le-div (10 ^ (digits - scale)) n (10 ^ scale) (ten_pos scale)
+    (subst (λ m. m ≤ n) (split_power scale digits h) above)
 
 fewer_digits : (n digits scale : ℕ) → scale ≤ digits → n < 10 ^ digits → n / 10 ^ scale < 10 ^ (digits - scale)
 fewer_digits n digits scale h below =
-    div_below n (10 ^ scale) (10 ^ (digits - scale)) (ten_pos scale) (subst (λ m. n < m) (split_power scale digits h) below)
+    div_below n (10 ^ scale) (10 ^ (digits - scale)) (ten_pos scale)
+    (subst (λ m. n < m) (split_power scale digits h) below)
 
-refused_by : (n limit : ℕ) (z : Fraction) (b : Bool) → nat_lt n limit ≡ b → (if b then answer z else size_error) ≡ size_error → limit ≤ n
+refused_by : (n limit : ℕ) (z : Fraction) (b : Bool) → nat_lt n limit ≡ b
+    → (if b then answer z else size_error) ≡ size_error → limit ≤ n
 refused_by n limit z true t e = cc
 refused_by n limit z false t e = ltb-false n limit t
 
-pub fitted_size : (x : Fraction) (digits scale : ℕ) (rounding : Rounding) → scale ≤ digits → (fitted_decimal x digits scale rounding ≡ size_error → 10 ^ (digits - scale) ≤ unsigned_abs (at_scale x scale rounding) / 10 ^ scale) × (10 ^ (digits - scale) ≤ unsigned_abs (at_scale x scale rounding) / 10 ^ scale → fitted_decimal x digits scale rounding ≡ size_error)
+pub fitted_size : (x : Fraction) (digits scale : ℕ) (rounding : Rounding) → scale ≤ digits → (fitted_decimal x
+    digits scale rounding ≡ size_error → 10 ^ (digits - scale) ≤ unsigned_abs (at_scale x scale rounding) / 10 ^ scale)
+    × (10 ^ (digits - scale) ≤ unsigned_abs (at_scale x scale rounding) / 10 ^ scale
+    → fitted_decimal x digits scale rounding ≡ size_error)
 unfolding fitted_decimal
 fitted_size x digits scale rounding h =
     let n = unsigned_abs (at_scale x scale rounding) in
@@ -157,18 +191,25 @@ fitted_size x digits scale rounding h =
       ]),
     )
 
-pub low_kept : (x : Fraction) (digits scale : ℕ) (rounding : Rounding) → HasLowDigits digits (at_scale x scale rounding) (low_digits x digits scale rounding).coefficient
+pub low_kept : (x : Fraction) (digits scale : ℕ) (rounding : Rounding)
+    → HasLowDigits digits (at_scale x scale rounding) (low_digits x digits scale rounding).coefficient
 unfolding low_digits
 low_kept x digits scale rounding =
     let n = digits_at (unsigned_abs x.coefficient) x.scale scale rounding in
     let sign = is_negative x.coefficient in
-    let size : unsigned_abs (int_rem (signed_integer sign n) (pos (10 ^ digits))) ≡ n % 10 ^ digits = ap unsigned_abs (rem-signed sign n (10 ^ digits)) ∙ abs-signed sign (n % 10 ^ digits) in
+    let size : unsigned_abs (int_rem (signed_integer sign n) (pos (10 ^ digits))) ≡ n % 10 ^ digits =
+    ap unsigned_abs (rem-signed sign n (10 ^ digits)) ∙ abs-signed sign (n % 10 ^ digits) in
     record {
       below = subst (λ m. m < 10 ^ digits) (sym size) (mod_below n (10 ^ digits) (ten_pos digits));
-      rest = (n / 10 ^ digits, abs-signed sign n ∙ sym (div-add-mod' n (10 ^ digits)) ∙ ap (λ m. n / 10 ^ digits * 10 ^ digits + m) (sym size));
+      rest = (
+        n / 10 ^ digits,
+        abs-signed sign n ∙ sym (div-add-mod' n (10 ^ digits)) ∙ ap (λ m. n / 10 ^ digits * 10 ^ digits + m) (sym size),
+      );
     }
 
-pub low_sign : (x : Fraction) (digits scale : ℕ) (rounding : Rounding) → (low_digits x digits scale rounding).coefficient ≡ signed_integer (is_negative x.coefficient) (unsigned_abs (low_digits x digits scale rounding).coefficient)
+pub low_sign : (x : Fraction) (digits scale : ℕ) (rounding : Rounding)
+    → (low_digits x digits scale rounding).coefficient ≡ signed_integer (is_negative x.coefficient)
+    (unsigned_abs (low_digits x digits scale rounding).coefficient)
 unfolding low_digits
 low_sign x digits scale rounding =
     let n = digits_at (unsigned_abs x.coefficient) x.scale scale rounding in

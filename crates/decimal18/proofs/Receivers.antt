@@ -1,5 +1,6 @@
 -- What a receiver holds, by sign and digits.
-use Rattle.std.proofs.Common.{◌≡◌, ℕ, IfOk, refl, inl, inr, Bool, subst, ◌-◌, ◌/◌, ◌%◌, ◌^◌, ◌<◌, ◌≤◌, ap, sym, ◌∙◌, unsigned_abs, ℤ, pos, int_div, nat_lt, if◌then◌else◌, Result, Ok}
+use Rattle.std.proofs.Common.{◌≡◌, ℕ, IfOk, refl, inl, inr, Bool, subst, ◌-◌, ◌/◌, ◌%◌, ◌^◌, ◌<◌, ◌≤◌, ap, sym, ◌∙◌}
+use Rattle.std.proofs.Common.{unsigned_abs, ℤ, pos, int_div, nat_lt, if◌then◌else◌, Result, Ok}
 use Rattle.std.proofs.lemmas.Bool.{le-leb, lt-leb, cases_lt, lt-ltb, le-ltb}
 use Rattle.std.proofs.lemmas.Nat.{mod_below}
 use Rattle.decimal18.specs.TotalOrder.{ten_pos}
@@ -10,25 +11,40 @@ use Rattle.decimal18.specs.declared.size_error.Size.{Size}
 use Rattle.decimal18.specs.declared.receiver.Rounding.{Rounding}
 use Rattle.decimal18.proofs.Signs.{abs-signed, div-signed, rem-signed, signed_itself}
 
-pub fitted_by : (x : Fraction) (digits scale : ℕ) (rounding : Rounding) → fitted_decimal x digits scale rounding ≡ (if nat_lt (digits_at (unsigned_abs x.coefficient) x.scale scale rounding) (10 ^ digits) then Ok (record { coefficient = signed_integer (is_negative x.coefficient) (digits_at (unsigned_abs x.coefficient) x.scale scale rounding); scale = scale }) else size_error)
+pub fitted_by : (x : Fraction) (digits scale : ℕ) (rounding : Rounding) → fitted_decimal x digits scale rounding
+    ≡ (if nat_lt (digits_at (unsigned_abs x.coefficient) x.scale scale rounding) (10 ^ digits) then Ok (record {
+      coefficient =
+          signed_integer (is_negative x.coefficient) (digits_at (unsigned_abs x.coefficient) x.scale scale rounding);
+      scale = scale;
+    }) else size_error)
 unfolding fitted_decimal
 fitted_by x digits scale rounding =
     let held : Result Fraction Size = Ok (record { coefficient = at_scale x scale rounding; scale = scale }) in
-    ap (λ n. if nat_lt n (10 ^ digits) then held else size_error) (abs-signed (is_negative x.coefficient) (digits_at (unsigned_abs x.coefficient) x.scale scale rounding))
+    ap (λ n. if nat_lt n (10 ^ digits) then held else size_error)
+    (abs-signed (is_negative x.coefficient) (digits_at (unsigned_abs x.coefficient) x.scale scale rounding))
 
-pub low_by : (x : Fraction) (digits scale : ℕ) (rounding : Rounding) → low_digits x digits scale rounding ≡ record { coefficient = signed_integer (is_negative x.coefficient) (digits_at (unsigned_abs x.coefficient) x.scale scale rounding % 10 ^ digits); scale = scale }
+pub low_by : (x : Fraction) (digits scale : ℕ) (rounding : Rounding) → low_digits x digits scale rounding ≡ record {
+  coefficient = signed_integer (is_negative x.coefficient)
+      (digits_at (unsigned_abs x.coefficient) x.scale scale rounding % 10 ^ digits);
+  scale = scale;
+}
 unfolding low_digits
 low_by x digits scale rounding =
     let kept : ℤ → Fraction = λ z. record { coefficient = z; scale = scale } in
-    ap kept (rem-signed (is_negative x.coefficient) (digits_at (unsigned_abs x.coefficient) x.scale scale rounding) (10 ^ digits))
+    ap kept (rem-signed (is_negative x.coefficient) (digits_at (unsigned_abs x.coefficient) x.scale scale rounding)
+    (10 ^ digits))
 
 pub truncated_same : (x : Fraction) (scale : ℕ) → x.scale ≤ scale → truncated_decimal x scale ≡ x
 unfolding truncated_decimal
 truncated_same x scale h =
-    let short : Fraction = record { coefficient = int_div x.coefficient (pos (10 ^ (x.scale - scale))); scale = scale } in
+    let short : Fraction =
+    record { coefficient = int_div x.coefficient (pos (10 ^ (x.scale - scale))); scale = scale } in
     ap (λ b. if b then x else short) (le-leb x.scale scale h)
 
-pub truncated_by : (x : Fraction) (scale : ℕ) → scale < x.scale → truncated_decimal x scale ≡ record { coefficient = signed_integer (is_negative x.coefficient) (unsigned_abs x.coefficient / 10 ^ (x.scale - scale)); scale = scale }
+pub truncated_by : (x : Fraction) (scale : ℕ) → scale < x.scale → truncated_decimal x scale ≡ record {
+  coefficient = signed_integer (is_negative x.coefficient) (unsigned_abs x.coefficient / 10 ^ (x.scale - scale));
+  scale = scale;
+}
 unfolding truncated_decimal
 truncated_by x scale h =
     let at : ℤ → Fraction = λ z. record { coefficient = z; scale = scale } in
@@ -41,7 +57,8 @@ pub parts_below : (b : Bool) (n digits : ℕ) → n < 10 ^ digits → unsigned_a
 parts_below b n digits h = subst (λ m. m < 10 ^ digits) (sym (abs-signed b n)) h
 
 -- What is held is below the limit, and has the receiver's scale.
-pub fitted_below : (x : Fraction) (digits scale : ℕ) (rounding : Rounding) → IfOk (fitted_decimal x digits scale rounding) (λ kept. unsigned_abs kept.coefficient < 10 ^ digits)
+pub fitted_below : (x : Fraction) (digits scale : ℕ) (rounding : Rounding)
+    → IfOk (fitted_decimal x digits scale rounding) (λ kept. unsigned_abs kept.coefficient < 10 ^ digits)
 unfolding fitted_decimal
 fitted_below x digits scale rounding =
     let n = unsigned_abs (at_scale x scale rounding) in
@@ -52,7 +69,8 @@ fitted_below x digits scale rounding =
       | inr over ↦ subst P (sym (ap (λ b. if b then held else size_error) (le-ltb n (10 ^ digits) over))) tt
     ]
 
-pub fitted_at : (x : Fraction) (digits scale : ℕ) (rounding : Rounding) → IfOk (fitted_decimal x digits scale rounding) (λ kept. kept.scale ≡ scale)
+pub fitted_at : (x : Fraction) (digits scale : ℕ) (rounding : Rounding)
+    → IfOk (fitted_decimal x digits scale rounding) (λ kept. kept.scale ≡ scale)
 unfolding fitted_decimal
 fitted_at x digits scale rounding =
     let n = unsigned_abs (at_scale x scale rounding) in
@@ -63,13 +81,16 @@ fitted_at x digits scale rounding =
       | inr over ↦ subst P (sym (ap (λ b. if b then held else size_error) (le-ltb n (10 ^ digits) over))) tt
     ]
 
-pub low_below_limit : (x : Fraction) (digits scale : ℕ) (rounding : Rounding) → unsigned_abs (low_digits x digits scale rounding).coefficient < 10 ^ digits
+pub low_below_limit : (x : Fraction) (digits scale : ℕ) (rounding : Rounding)
+    → unsigned_abs (low_digits x digits scale rounding).coefficient < 10 ^ digits
 low_below_limit x digits scale rounding =
     let n = digits_at (unsigned_abs x.coefficient) x.scale scale rounding in
     let size : unsigned_abs (low_digits x digits scale rounding).coefficient ≡ n % 10 ^ digits =
-    ap (λ (f : Fraction). unsigned_abs f.coefficient) (low_by x digits scale rounding) ∙ abs-signed (is_negative x.coefficient) (n % 10 ^ digits) in
+    ap (λ (f : Fraction). unsigned_abs f.coefficient) (low_by x digits scale rounding)
+    ∙ abs-signed (is_negative x.coefficient) (n % 10 ^ digits) in
     subst (λ m. m < 10 ^ digits) (sym size) (mod_below n (10 ^ digits) (ten_pos digits))
 
-pub low_at : (x : Fraction) (digits scale : ℕ) (rounding : Rounding) → (low_digits x digits scale rounding).scale ≡ scale
+pub low_at : (x : Fraction) (digits scale : ℕ) (rounding : Rounding)
+    → (low_digits x digits scale rounding).scale ≡ scale
 unfolding low_digits
 low_at x digits scale rounding = refl

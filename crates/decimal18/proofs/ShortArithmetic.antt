@@ -1,5 +1,6 @@
 -- What fits 64 bits is within the limit of a coefficient, so that sums, differences and products are as they are.
-use Rattle.std.proofs.Common.{◌≡◌, ℕ, suc, ◌+◌, ◌-◌, ◌*◌, ◌^◌, ◌<◌, ◌≤◌, true, max, min, ap, sym, ◌∙◌, arith, ℤ, pos, negsuc, neg_ℤ, ◌+ℤ◌, ◌-ℤ◌, ◌*ℤ◌, int_div, FitsSigned, ◌&&◌, if◌then◌else◌, Result, Ok}
+use Rattle.std.proofs.Common.{◌≡◌, ℕ, suc, ◌+◌, ◌-◌, ◌*◌, ◌^◌, ◌<◌, ◌≤◌, true, max, min, ap, sym, ◌∙◌, arith, ℤ, pos}
+use Rattle.std.proofs.Common.{negsuc, neg_ℤ, ◌+ℤ◌, ◌-ℤ◌, ◌*ℤ◌, int_div, FitsSigned, ◌&&◌, if◌then◌else◌, Result, Ok}
 use Rattle.std.specs.Int.{w64}
 use Rattle.std.proofs.lemmas.Bool.{lt-ltb}
 use Rattle.decimal18.specs.Fraction.{Fraction, aligned_coefficient}
@@ -21,10 +22,12 @@ times_one (negsuc n) = let same : suc n * 1 ≡ suc n = omega arith in ap (λ m.
 aligned_at : (x : Fraction) (z : ℤ) (k : ℕ) → z ≡ x.coefficient → k ≡ 0 → z ≡ x.coefficient *ℤ pos (10 ^ k)
 aligned_at x z k e none = e ∙ sym (times_one x.coefficient) ∙ ap (λ n. x.coefficient *ℤ pos (10 ^ n)) (sym none)
 
-pub aligned_same : (x : Fraction) (z : ℤ) (scale shift : ℕ) → z ≡ x.coefficient → shift ≡ scale - x.scale → shift ≡ 0 → z ≡ aligned_coefficient x scale
+pub aligned_same : (x : Fraction) (z : ℤ) (scale shift : ℕ) → z ≡ x.coefficient → shift ≡ scale - x.scale → shift ≡ 0
+    → z ≡ aligned_coefficient x scale
 aligned_same x z scale shift e f none = aligned_at x z (scale - x.scale) e (sym f ∙ none)
 
-pub aligned_by : (x : Fraction) (z p r : ℤ) (scale shift : ℕ) → z ≡ x.coefficient → p ≡ pos (10 ^ shift) → shift ≡ scale - x.scale → r ≡ z *ℤ p → r ≡ aligned_coefficient x scale
+pub aligned_by : (x : Fraction) (z p r : ℤ) (scale shift : ℕ) → z ≡ x.coefficient → p ≡ pos (10 ^ shift)
+    → shift ≡ scale - x.scale → r ≡ z *ℤ p → r ≡ aligned_coefficient x scale
 aligned_by x z p r scale shift e f g h =
     h ∙ ap (λ t. t *ℤ p) e ∙ ap (λ t. x.coefficient *ℤ t) f ∙ ap (λ n. x.coefficient *ℤ pos (10 ^ n)) g
 
@@ -37,22 +40,34 @@ within_itself v scale h k =
     ∙ ap (λ n. given (int_div v (pos (10 ^ n))) (min scale 18)) none
     ∙ ap (λ z. given z (min scale 18)) (div_one v) ∙ ap (given v) least
 
-combined_short : (op : ℤ → ℤ → ℤ) (x y r : Fraction) (a b t : ℤ) (scale : ℕ) → scale ≡ max x.scale y.scale → scale ≤ 18 → a ≡ aligned_coefficient x scale → b ≡ aligned_coefficient y scale → FitsSigned w64 a → FitsSigned w64 b → t ≡ op a b → FitsSigned w64 t → r.coefficient ≡ t → r.scale ≡ scale → Ok r ≡ aligned_operation op x y (max x.scale y.scale)
+combined_short : (op : ℤ → ℤ → ℤ) (x y r : Fraction) (a b t : ℤ) (scale : ℕ)
+    → scale ≡ max x.scale y.scale → scale ≤ 18 → a ≡ aligned_coefficient x scale → b ≡ aligned_coefficient y scale
+    → FitsSigned w64 a → FitsSigned w64 b → t ≡ op a b → FitsSigned w64 t → r.coefficient ≡ t → r.scale ≡ scale
+    → Ok r ≡ aligned_operation op x y (max x.scale y.scale)
 combined_short op x y r a b t scale e most f g left right h fits i j =
-    let both : ℤ → ℤ → Result Fraction Size = λ u v. if is_within u && is_within v then intermediate (op u v) scale else size_error in
-    ap (λ z. given z r.scale) i ∙ ap (given t) j ∙ sym (within_itself t scale (short_within t fits) most) ∙ ap (λ v. intermediate v scale) h
-    ∙ sym (ap (λ c. if c && is_within b then intermediate (op a b) scale else size_error) (short_within a left) ∙ ap (λ c. if c then intermediate (op a b) scale else size_error) (short_within b right))
+    let both : ℤ → ℤ → Result Fraction Size =
+    λ u v. if is_within u && is_within v then intermediate (op u v) scale else size_error in
+    ap (λ z. given z r.scale) i ∙ ap (given t) j ∙ sym (within_itself t scale (short_within t fits) most)
+    ∙ ap (λ v. intermediate v scale) h
+    ∙ sym (ap (λ c. if c && is_within b then intermediate (op a b) scale else size_error) (short_within a left)
+    ∙ ap (λ c. if c then intermediate (op a b) scale else size_error) (short_within b right))
     ∙ ap (λ u. both u b) f ∙ ap (both (aligned_coefficient x scale)) g ∙ ap (aligned_operation op x y) e
 
-pub sum_short : (x y r : Fraction) (a b t : ℤ) (scale : ℕ) → scale ≡ max x.scale y.scale → scale ≤ 18 → a ≡ aligned_coefficient x scale → b ≡ aligned_coefficient y scale → FitsSigned w64 a → FitsSigned w64 b → t ≡ a +ℤ b → FitsSigned w64 t → r.coefficient ≡ t → r.scale ≡ scale → Ok r ≡ sum x y
+pub sum_short : (x y r : Fraction) (a b t : ℤ) (scale : ℕ) → scale ≡ max x.scale y.scale → scale ≤ 18
+    → a ≡ aligned_coefficient x scale → b ≡ aligned_coefficient y scale → FitsSigned w64 a → FitsSigned w64 b
+    → t ≡ a +ℤ b → FitsSigned w64 t → r.coefficient ≡ t → r.scale ≡ scale → Ok r ≡ sum x y
 unfolding sum
 sum_short = combined_short ◌+ℤ◌
 
-pub difference_short : (x y r : Fraction) (a b t : ℤ) (scale : ℕ) → scale ≡ max x.scale y.scale → scale ≤ 18 → a ≡ aligned_coefficient x scale → b ≡ aligned_coefficient y scale → FitsSigned w64 a → FitsSigned w64 b → t ≡ a -ℤ b → FitsSigned w64 t → r.coefficient ≡ t → r.scale ≡ scale → Ok r ≡ difference x y
+pub difference_short : (x y r : Fraction) (a b t : ℤ) (scale : ℕ) → scale ≡ max x.scale y.scale → scale ≤ 18
+    → a ≡ aligned_coefficient x scale → b ≡ aligned_coefficient y scale → FitsSigned w64 a → FitsSigned w64 b
+    → t ≡ a -ℤ b → FitsSigned w64 t → r.coefficient ≡ t → r.scale ≡ scale → Ok r ≡ difference x y
 unfolding difference
 difference_short = combined_short ◌-ℤ◌
 
-pub product_short : (x y r : Fraction) (a b t : ℤ) (scale : ℕ) → scale ≡ x.scale + y.scale → scale ≤ 18 → a ≡ x.coefficient → b ≡ y.coefficient → t ≡ a *ℤ b → FitsSigned w64 t → r.coefficient ≡ t → r.scale ≡ scale → Ok r ≡ product x y
+pub product_short : (x y r : Fraction) (a b t : ℤ) (scale : ℕ) → scale ≡ x.scale + y.scale → scale ≤ 18
+    → a ≡ x.coefficient → b ≡ y.coefficient → t ≡ a *ℤ b → FitsSigned w64 t → r.coefficient ≡ t → r.scale ≡ scale
+    → Ok r ≡ product x y
 unfolding product
 product_short x y r a b t scale e most f g h fits i j =
     ap (λ z. given z r.scale) i ∙ ap (given t) j ∙ sym (within_itself t scale (short_within t fits) most)

@@ -1,5 +1,6 @@
 -- Signed numbers by their sign and absolute value.
-use Rattle.std.proofs.Common.{◌≡◌, ℕ, zero, suc, ◌/◌, ◌%◌, ◌^◌, Bool, true, false, refl, ap, sym, ◌∙◌, arith, ℤ, pos, negsuc, neg_ℤ, unsigned_abs, int_div, int_rem, nat_lt, FitsSigned, inl, inr}
+use Rattle.std.proofs.Common.{◌≡◌, ℕ, zero, suc, ◌/◌, ◌%◌, ◌^◌, Bool, true, false, refl, ap, sym, ◌∙◌, arith, ℤ, pos}
+use Rattle.std.proofs.Common.{negsuc, neg_ℤ, unsigned_abs, int_div, int_rem, nat_lt, FitsSigned, inl, inr}
 use Rattle.std.specs.Int.{w128}
 use Rattle.std.specs.Int.Signed.{lt_z}
 use mir.Val.{SFits}

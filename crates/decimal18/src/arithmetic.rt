@@ -51,7 +51,8 @@ fn limited(negative: bool, magnitude: u128, scale: u8) -> Result<Dec, Size>
 fn raised(coefficient: i128, shift: u8) -> Option<i128>
     requires coefficient { unsigned_abs coefficient < 10 ^ 38 }
     requires shift { shift ≤ 18 }
-    ensures { result ≡ (if is_within (coefficient *ℤ pos (10 ^ shift)) then Some (coefficient *ℤ pos (10 ^ shift)) else None) }
+    ensures { result ≡ (if is_within (coefficient *ℤ pos (10 ^ shift))
+        then Some (coefficient *ℤ pos (10 ^ shift)) else None) }
 {
     if shift == 0 {
         return Some(coefficient);
@@ -82,7 +83,8 @@ impl Dec {
     fn aligned(self, scale: u8) -> Option<i128>
         requires above { self.scale ≤ scale }
         requires most { scale ≤ 18 }
-        ensures { result ≡ (if is_within (aligned_coefficient self scale) then Some (aligned_coefficient self scale) else None) }
+        ensures { result ≡ (if is_within (aligned_coefficient self scale)
+            then Some (aligned_coefficient self scale) else None) }
     {
         raised(self.coefficient(), scale - self.scale())
     }

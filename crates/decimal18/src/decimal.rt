@@ -38,11 +38,14 @@ impl Model for Dec {
 
     ghost view = { λ d. record { coefficient = number_of_halves d.low d.high; scale = d.scale } };
 
-    ghost invariant = { λ d. (unsigned_abs (number_of_halves d.low d.high) < 10 ^ 38) × (d.scale ≤ 18) × FitsSigned w64 d.low };
+    ghost invariant = { λ d. (unsigned_abs (number_of_halves d.low d.high) < 10 ^ 38)
+        × (d.scale ≤ 18) × FitsSigned w64 d.low };
 
-    ghost inverse = { λ x. record { low = low_part x.coefficient; high = high_part x.coefficient; scale = x.scale } };
+    ghost inverse = { λ x.
+        record { low = low_part x.coefficient; high = high_part x.coefficient; scale = x.scale } };
 
-    ghost inverse_ok = { λ d h. parts_of (λ l u. record { low = l; high = u; scale = d.scale }) d.low d.high h.2 };
+    ghost inverse_ok = { λ d h.
+        parts_of (λ l u. record { low = l; high = u; scale = d.scale }) d.low d.high h.2 };
 }
 
 /// The high part of a coefficient: the nearest multiple of 2^64.

@@ -13,28 +13,11 @@ use crate::size_error::Size;
 /// The radix of decimal digits.
 const RADIX: u128 = 10;
 
-/// The number that ASCII digits stand for behind those of `front`, if it has at most 38 digits.
-fn long_number_behind(front: u128, digits: &[u8]) -> Option<u128>
-    requires front { front < 10 ^ 38 }
-    requires digits { All IsAsciiDigit digits.now }
-    ensures value { result ≡ (if nat_lt (digits_behind front digits.now) (10 ^ 38) then Some (digits_behind front digits.now) else None) }
-    ensures bound { IfSome result (λ number. number < 10 ^ 38) }
-{
-    let most = power_of_ten(COEFFICIENT_DIGITS - 1);
-    let mut number = front;
-    for digit in digits {
-        if number >= most {
-            return None;
-        }
-        number = RADIX * number + (*digit - b'0') as u128;
-    }
-    Some(number)
-}
-
 impl Dec {
     /// The integer, or a size error where it has more than 38 digits.
     pub fn integer(value: i128) -> Result<Dec, Size>
-        ensures { result ≡ (if is_within value then Ok (record { coefficient = value; scale = 0 }) else size_error) }
+        ensures { result ≡ (if is_within value then Ok (record { coefficient = value; scale = 0 })
+            else size_error) }
     {
         if value.unsigned_abs() < power_of_ten(COEFFICIENT_DIGITS) {
             Ok(Dec::new(value, 0))
@@ -84,4 +67,23 @@ impl Dec {
             None
         }
     }
+}
+
+/// The number that ASCII digits stand for behind those of `front`, if it has at most 38 digits.
+fn long_number_behind(front: u128, digits: &[u8]) -> Option<u128>
+    requires front { front < 10 ^ 38 }
+    requires digits { All IsAsciiDigit digits.now }
+    ensures value { result ≡ (if nat_lt (digits_behind front digits.now) (10 ^ 38)
+        then Some (digits_behind front digits.now) else None) }
+    ensures bound { IfSome result (λ number. number < 10 ^ 38) }
+{
+    let most = power_of_ten(COEFFICIENT_DIGITS - 1);
+    let mut number = front;
+    for digit in digits {
+        if number >= most {
+            return None;
+        }
+        number = RADIX * number + (*digit - b'0') as u128;
+    }
+    Some(number)
 }

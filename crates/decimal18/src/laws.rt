@@ -15,9 +15,12 @@ ghost use Rattle.decimal18.specs.declared.receiver.Rounding.{Rounding};
 #[tactic(auto, using(crate::proofs::SumLaws::sum_exact, crate::proofs::SumLaws::difference_exact, crate::proofs::SumLaws::product_exact))]
 pub fn exact()
     ensures sum { (x y z : Fraction) → x.scale ≤ 18 → y.scale ≤ 18 → sum x y ≡ Ok z → IsSum x y z }
-    ensures difference { (x y z : Fraction) → x.scale ≤ 18 → y.scale ≤ 18 → difference x y ≡ Ok z → IsDifference x y z }
-    ensures product { (x y z : Fraction) → x.scale + y.scale ≤ 18 → product x y ≡ Ok z → IsProduct x y z }
-    ensures cut { (x y z : Fraction) → product x y ≡ Ok z → (z.scale ≡ min (x.scale + y.scale) 18) × IsTruncation (times x y) z }
+    ensures difference { (x y z : Fraction) → x.scale ≤ 18 → y.scale ≤ 18 → difference x y ≡ Ok z
+        → IsDifference x y z }
+    ensures product { (x y z : Fraction) → x.scale + y.scale ≤ 18 → product x y ≡ Ok z
+        → IsProduct x y z }
+    ensures cut { (x y z : Fraction) → product x y ≡ Ok z → (z.scale ≡ min (x.scale + y.scale) 18)
+        × IsTruncation (times x y) z }
 {}
 
 /// Sums and products don't depend on the order of their operands.
@@ -32,24 +35,37 @@ pub fn either_order()
 #[tactic(auto, using(crate::proofs::QuotientLaws::quotient_cut, crate::proofs::QuotientLaws::quotient_refused))]
 pub fn cut_quotient()
     ensures close { (x y z : Fraction) → quotient x y ≡ Ok z → IsQuotient x y z }
-    ensures refused { (x y : Fraction) → quotient x y ≡ size_error → y.coefficient ≢ pos 0 → (q : ℕ) → q ≤ 18 → admits x y q ≡ false }
+    ensures refused { (x y : Fraction) → quotient x y ≡ size_error → y.coefficient ≢ pos 0 → (q : ℕ)
+        → q ≤ 18 → admits x y q ≡ false }
 {}
 
 /// What a receiver holds is the number truncated, or the nearest to it with a half away from zero; a size error is told
 /// exactly where that has more whole digits than the receiver; and the low digits are those of the same number.
 pub fn receivers()
-    ensures kept { (x z : Fraction) (digits scale : ℕ) (rounding : Rounding) → fitted_decimal x digits scale rounding ≡ Ok z → (z.scale ≡ scale) × IsKept rounding x z }
-    ensures size { (x : Fraction) (digits scale : ℕ) (rounding : Rounding) → scale ≤ digits → (fitted_decimal x digits scale rounding ≡ size_error → 10 ^ (digits - scale) ≤ unsigned_abs (at_scale x scale rounding) / 10 ^ scale) × (10 ^ (digits - scale) ≤ unsigned_abs (at_scale x scale rounding) / 10 ^ scale → fitted_decimal x digits scale rounding ≡ size_error) }
-    ensures low { (x : Fraction) (digits scale : ℕ) (rounding : Rounding) → HasLowDigits digits (at_scale x scale rounding) (low_digits x digits scale rounding).coefficient }
-    ensures sign { (x : Fraction) (digits scale : ℕ) (rounding : Rounding) → (low_digits x digits scale rounding).coefficient ≡ signed_integer (is_negative x.coefficient) (unsigned_abs (low_digits x digits scale rounding).coefficient) }
+    ensures kept { (x z : Fraction) (digits scale : ℕ) (rounding : Rounding)
+        → fitted_decimal x digits scale rounding ≡ Ok z → (z.scale ≡ scale) × IsKept rounding x z }
+    ensures size { (x : Fraction) (digits scale : ℕ) (rounding : Rounding)
+        → scale ≤ digits → (fitted_decimal x digits scale rounding ≡ size_error
+        → 10 ^ (digits - scale) ≤ unsigned_abs (at_scale x scale rounding) / 10 ^ scale)
+        × (10 ^ (digits - scale) ≤ unsigned_abs (at_scale x scale rounding) / 10 ^ scale
+        → fitted_decimal x digits scale rounding ≡ size_error) }
+    ensures low { (x : Fraction) (digits scale : ℕ) (rounding : Rounding) → HasLowDigits digits
+        (at_scale x scale rounding) (low_digits x digits scale rounding).coefficient }
+    ensures sign { (x : Fraction) (digits scale : ℕ) (rounding : Rounding)
+        → (low_digits x digits scale rounding).coefficient ≡ signed_integer (is_negative
+        x.coefficient) (unsigned_abs (low_digits x digits scale rounding).coefficient) }
 {}
 
 /// A number that is cut at a scale is itself where it has no more decimals, and else is cut towards zero there, with its sign
 /// and all its whole digits.
 pub fn truncations()
     ensures same { (x : Fraction) (scale : ℕ) → x.scale ≤ scale → truncated_decimal x scale ≡ x }
-    ensures cut { (x : Fraction) (scale : ℕ) → ((truncated_decimal x scale).scale ≡ min x.scale scale) × IsTruncation x (truncated_decimal x scale) }
-    ensures whole { (x : Fraction) (scale : ℕ) → unsigned_abs (truncated_decimal x scale).coefficient / 10 ^ (truncated_decimal x scale).scale ≡ unsigned_abs x.coefficient / 10 ^ x.scale }
+    ensures cut { (x : Fraction) (scale : ℕ)
+        → ((truncated_decimal x scale).scale ≡ min x.scale scale)
+        × IsTruncation x (truncated_decimal x scale) }
+    ensures whole { (x : Fraction) (scale : ℕ)
+        → unsigned_abs (truncated_decimal x scale).coefficient / 10 ^
+        (truncated_decimal x scale).scale ≡ unsigned_abs x.coefficient / 10 ^ x.scale }
 {}
 
 /// Numbers are ordered as their values, whatever their scales, and equal exactly where their values are.
@@ -58,5 +74,6 @@ pub fn values()
         ((x.coefficient *ℤ pos (10 ^ y.scale)) <ℤ (y.coefficient *ℤ pos (10 ^ x.scale)))
         (x.coefficient *ℤ pos (10 ^ y.scale) ≡ y.coefficient *ℤ pos (10 ^ x.scale))
         ((y.coefficient *ℤ pos (10 ^ x.scale)) <ℤ (x.coefficient *ℤ pos (10 ^ y.scale))) }
-    ensures equal { (x y : Fraction) → Decides (equals x y) (x.coefficient *ℤ pos (10 ^ y.scale) ≡ y.coefficient *ℤ pos (10 ^ x.scale)) }
+    ensures equal { (x y : Fraction) → Decides (equals x y)
+        (x.coefficient *ℤ pos (10 ^ y.scale) ≡ y.coefficient *ℤ pos (10 ^ x.scale)) }
 {}

@@ -6,6 +6,71 @@ use crate::decimal::Dec;
 use crate::power::{power_of_ten, signed_power};
 use std::cmp::Ordering;
 
+impl Ord for Dec {
+    ghost use Rattle.std.specs.Prelude.{refl};
+    ghost use Rattle.decimal18.specs.Order.{order};
+    ghost use Rattle.decimal18.specs.TotalOrder.{order_total};
+
+    ghost cmp = { order };
+
+    ghost total = { order_total };
+
+    ghost matches_partial_cmp = { λ x y. refl };
+
+    ghost matches_eq = { λ x y. refl };
+
+    #[inline]
+    fn cmp(&self, other: &Dec) -> Ordering {
+        let (left, right) = (*self, *other);
+        let (left_scale, right_scale) = (left.scale(), right.scale());
+        if left_scale == right_scale {
+            order_at_scale(left, right)
+        } else if left_scale < right_scale {
+            order_of(left, right)
+        } else {
+            order_of(right, left).reverse()
+        }
+    }
+}
+
+impl PartialOrd for Dec {
+    ghost use Rattle.std.specs.Prelude.{Some, refl};
+    ghost use Rattle.std.specs.Cmp.{partial_order_from_agreeing_total};
+    ghost use Rattle.decimal18.specs.Order.{order};
+    ghost use Rattle.decimal18.specs.TotalOrder.{order_total};
+
+    ghost partial_cmp = { λ x y. Some (order x y) };
+
+    ghost laws = { partial_order_from_agreeing_total order order_total (λ x y. refl)
+        (λ x y. refl) };
+
+    #[inline]
+    fn partial_cmp(&self, other: &Dec) -> Option<Ordering> {
+        Some(self.cmp(other))
+    }
+}
+
+impl PartialEq for Dec {
+    ghost use Rattle.decimal18.specs.Order.{equals};
+    ghost use Rattle.std.specs.Cmp.{partial_equiv_from_equiv};
+    ghost use Rattle.decimal18.specs.TotalOrder.{equals_equiv};
+
+    ghost eq = { equals };
+
+    ghost laws = { partial_equiv_from_equiv equals_equiv };
+
+    #[inline]
+    fn eq(&self, other: &Dec) -> bool {
+        self.cmp(other) == Ordering::Equal
+    }
+}
+
+impl Eq for Dec {
+    ghost use Rattle.decimal18.specs.TotalOrder.{equals_equiv};
+
+    ghost laws = { equals_equiv };
+}
+
 /// The order of `left * 10^shift` and `right`.
 #[cold]
 #[inline(never)]
@@ -61,68 +126,4 @@ fn order_at_scale(left: Dec, right: Dec) -> Ordering
         }
     }
     raised_order(left.coefficient(), 0, right.coefficient())
-}
-
-impl Ord for Dec {
-    ghost use Rattle.std.specs.Prelude.{refl};
-    ghost use Rattle.decimal18.specs.Order.{order};
-    ghost use Rattle.decimal18.specs.TotalOrder.{order_total};
-
-    ghost cmp = { order };
-
-    ghost total = { order_total };
-
-    ghost matches_partial_cmp = { λ x y. refl };
-
-    ghost matches_eq = { λ x y. refl };
-
-    #[inline]
-    fn cmp(&self, other: &Dec) -> Ordering {
-        let (left, right) = (*self, *other);
-        let (left_scale, right_scale) = (left.scale(), right.scale());
-        if left_scale == right_scale {
-            order_at_scale(left, right)
-        } else if left_scale < right_scale {
-            order_of(left, right)
-        } else {
-            order_of(right, left).reverse()
-        }
-    }
-}
-
-impl PartialOrd for Dec {
-    ghost use Rattle.std.specs.Prelude.{Some, refl};
-    ghost use Rattle.std.specs.Cmp.{partial_order_from_agreeing_total};
-    ghost use Rattle.decimal18.specs.Order.{order};
-    ghost use Rattle.decimal18.specs.TotalOrder.{order_total};
-
-    ghost partial_cmp = { λ x y. Some (order x y) };
-
-    ghost laws = { partial_order_from_agreeing_total order order_total (λ x y. refl) (λ x y. refl) };
-
-    #[inline]
-    fn partial_cmp(&self, other: &Dec) -> Option<Ordering> {
-        Some(self.cmp(other))
-    }
-}
-
-impl PartialEq for Dec {
-    ghost use Rattle.decimal18.specs.Order.{equals};
-    ghost use Rattle.std.specs.Cmp.{partial_equiv_from_equiv};
-    ghost use Rattle.decimal18.specs.TotalOrder.{equals_equiv};
-
-    ghost eq = { equals };
-
-    ghost laws = { partial_equiv_from_equiv equals_equiv };
-
-    #[inline]
-    fn eq(&self, other: &Dec) -> bool {
-        self.cmp(other) == Ordering::Equal
-    }
-}
-
-impl Eq for Dec {
-    ghost use Rattle.decimal18.specs.TotalOrder.{equals_equiv};
-
-    ghost laws = { equals_equiv };
 }

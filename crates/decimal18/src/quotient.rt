@@ -31,7 +31,10 @@ impl Dec {
         requires divisor { divisor.coefficient ≢ pos 0 }
         requires scale { scale ≤ 18 }
         requires admitted { admits self divisor scale ≡ true }
-        ensures { result ≡ record { coefficient = int_div (extended_dividend self divisor scale) divisor.coefficient; scale = scale } }
+        ensures { result ≡ record {
+          coefficient = int_div (extended_dividend self divisor scale) divisor.coefficient;
+          scale = scale;
+        } }
     {
         let zeros = scale + divisor.scale() - self.scale();
         let dividend = self.magnitude() * power_of_ten(zeros);

@@ -43,7 +43,8 @@ fn shortened(magnitude: u128, dropped: u8, rounding: Rounding) -> u128
 fn lengthened(magnitude: u128, zeros: u8, digits: u8) -> Option<u128>
     requires zeros { zeros ≤ digits }
     requires digits { digits ≤ 38 }
-    ensures value { result ≡ (if nat_lt (magnitude * 10 ^ zeros) (10 ^ digits) then Some (magnitude * 10 ^ zeros) else None) }
+    ensures value { result ≡ (if nat_lt (magnitude * 10 ^ zeros) (10 ^ digits)
+        then Some (magnitude * 10 ^ zeros) else None) }
     ensures bound { IfSome result (λ long. long < 10 ^ digits) }
 {
     if magnitude < power_of_ten(digits - zeros) {
@@ -81,7 +82,8 @@ fn fitted_digits(
     requires digits { digits ≤ 38 }
     requires scale { scale ≤ 18 }
     requires decimals { scale ≤ digits }
-    ensures value { result ≡ (if nat_lt (digits_at magnitude from scale rounding) (10 ^ digits) then Some (digits_at magnitude from scale rounding) else None) }
+    ensures value { result ≡ (if nat_lt (digits_at magnitude from scale rounding) (10 ^ digits)
+        then Some (digits_at magnitude from scale rounding) else None) }
     ensures bound { IfSome result (λ kept. kept < 10 ^ 38) }
 {
     if from <= scale {

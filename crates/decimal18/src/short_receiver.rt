@@ -49,7 +49,8 @@ fn shortened(magnitude: u64, dropped: u8, rounding: Rounding) -> u64
 fn lengthened(magnitude: u64, zeros: u8, digits: u8) -> Option<u64>
     requires zeros { zeros ≤ digits }
     requires digits { digits ≤ 18 }
-    ensures value { result ≡ (if nat_lt (magnitude * 10 ^ zeros) (10 ^ digits) then Some (magnitude * 10 ^ zeros) else None) }
+    ensures value { result ≡ (if nat_lt (magnitude * 10 ^ zeros) (10 ^ digits)
+        then Some (magnitude * 10 ^ zeros) else None) }
     ensures bound { IfSome result (λ long. long < 10 ^ digits) }
 {
     if magnitude < short_power(digits - zeros) {
@@ -79,7 +80,8 @@ fn fitted_digits(magnitude: u64, from: u8, digits: u8, scale: u8, rounding: Roun
     requires from { from ≤ 18 }
     requires digits { digits ≤ 18 }
     requires decimals { scale ≤ digits }
-    ensures value { result ≡ (if nat_lt (digits_at magnitude from scale rounding) (10 ^ digits) then Some (digits_at magnitude from scale rounding) else None) }
+    ensures value { result ≡ (if nat_lt (digits_at magnitude from scale rounding) (10 ^ digits)
+        then Some (digits_at magnitude from scale rounding) else None) }
     ensures bound { IfSome result (λ kept. kept < 10 ^ digits) }
 {
     if from <= scale {

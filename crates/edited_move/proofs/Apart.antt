@@ -1,5 +1,7 @@
 -- Characters that move apart for insertions.
-use Rattle.std.proofs.Common.{◌≡◌, ◌≤◌, ◌<◌, ◌+◌, ◌-◌, ℕ, zero, suc, Bool, true, false, if◌then◌else◌, List, [], ◌∷◌, ◌++◌, length, get_or, take, drop, replicate, refl, sym, ap, ◌∙◌, subst, add-one, arith, drop-cons, length-append}
+use Rattle.std.proofs.Common.{◌≡◌, ◌≤◌, ◌<◌, ◌+◌, ◌-◌, ℕ, zero, suc, Bool, true, false, if◌then◌else◌, List, [], ◌∷◌}
+use Rattle.std.proofs.Common.{◌++◌, length, get_or, take, drop, replicate, refl, sym, ap, ◌∙◌, subst, add-one, arith}
+use Rattle.std.proofs.Common.{drop-cons, length-append}
 use Rattle.std.proofs.lemmas.List.{drop_all}
 use borrow.Rule.Slice.PartMut.{put_mid}
 use Rattle.picture.specs.declared.run.Run.{Run}
@@ -27,7 +29,8 @@ unfolding no_text
 drop_take zero n text h = ap (λ k. take k text) (let e : n ≡ n - 0 = omega arith in e)
 drop_take (suc m) zero text h = absurd (omega arith)
 drop_take (suc m) (suc n) [] h = take_none (suc n - suc m)
-drop_take (suc m) (suc n) (c ∷ text) h = drop_take m n text (omega arith) ∙ ap (λ k. take k (drop m text)) (let e : n - m ≡ suc n - suc m = omega arith in e)
+drop_take (suc m) (suc n) (c ∷ text) h =
+    drop_take m n text (omega arith) ∙ ap (λ k. take k (drop m text)) (let e : n - m ≡ suc n - suc m = omega arith in e)
 
 take_length : (n : ℕ) (text : List ℕ) → n ≤ length text → length (take n text) ≡ n
 take_length zero text h = refl
@@ -37,7 +40,8 @@ take_length (suc n) (c ∷ text) h = ap suc (take_length n text (omega arith))
 drop_length : (n : ℕ) (text : List ℕ) → length (drop n text) ≡ length text - n
 drop_length zero text = omega arith
 drop_length (suc n) [] = omega arith
-drop_length (suc n) (c ∷ text) = drop_length n text ∙ (let e : length text - n ≡ suc (length text) - suc n = omega arith in e)
+drop_length (suc n) (c ∷ text) =
+    drop_length n text ∙ (let e : length text - n ≡ suc (length text) - suc n = omega arith in e)
 
 no_spaces : (n : ℕ) (text : List ℕ) → n ≡ 0 → text ++ replicate n space ≡ text
 no_spaces n text e = subst (λ k. text ++ replicate k space ≡ text) (sym e) (end text)
@@ -51,20 +55,27 @@ pub padded_front : (n : ℕ) (text : List ℕ) → n ≤ length text → padded_
 padded_front n text h = no_spaces (n - length text) (take n text) (omega arith)
 
 -- only as many characters count as there are places
-pub front_counts : (runs : List Run) (n : ℕ) (text : List ℕ) → symbol_count runs ≤ n → n ≤ length text → edited_characters runs (take n text) ≡ edited_characters runs text
+pub front_counts : (runs : List Run) (n : ℕ) (text : List ℕ) → symbol_count runs ≤ n → n ≤ length text
+    → edited_characters runs (take n text) ≡ edited_characters runs text
 unfolding edited_characters symbol_count
 front_counts [] n text h e = refl
 front_counts (run ∷ more) n text h e = go (λ n text h e. front_counts more n text h e) (is_alphanumeric run.symbol)
   where
-    go : ((n : ℕ) (text : List ℕ) → symbol_count more ≤ n → n ≤ length text → edited_characters more (take n text) ≡ edited_characters more text) → (b : Bool)
-        → (if b then padded_text run.count (take n text) ++ edited_characters more (drop run.count (take n text)) else replicate run.count (inserted_character run.symbol) ++ edited_characters more (take n text))
-        ≡ (if b then padded_text run.count text ++ edited_characters more (drop run.count text) else replicate run.count (inserted_character run.symbol) ++ edited_characters more text)
+    go : ((n : ℕ) (text : List ℕ) → symbol_count more ≤ n → n ≤ length text
+        → edited_characters more (take n text) ≡ edited_characters more text) → (b : Bool)
+        → (if b then padded_text run.count (take n text) ++ edited_characters more (drop run.count (take n text))
+        else replicate run.count (inserted_character run.symbol) ++ edited_characters more (take n text))
+        ≡ (if b then padded_text run.count text ++ edited_characters more (drop run.count text)
+        else replicate run.count (inserted_character run.symbol) ++ edited_characters more text)
     go less true =
         let long = take_length n text e in
         let dropped = drop_length run.count text in
-        let front = padded_front run.count (take n text) (omega arith) ∙ take_take run.count n text (omega arith) ∙ sym (padded_front run.count text (omega arith)) in
-        let rest = ap (edited_characters more) (drop_take run.count n text (omega arith)) ∙ less (n - run.count) (drop run.count text) (omega arith) (omega arith) in
-        ap (λ l. l ++ edited_characters more (drop run.count (take n text))) front ∙ ap (λ l. padded_text run.count text ++ l) rest
+        let front = padded_front run.count (take n text) (omega arith) ∙ take_take run.count n text (omega arith)
+        ∙ sym (padded_front run.count text (omega arith)) in
+        let rest = ap (edited_characters more) (drop_take run.count n text (omega arith))
+        ∙ less (n - run.count) (drop run.count text) (omega arith) (omega arith) in
+        ap (λ l. l ++ edited_characters more (drop run.count (take n text))) front
+        ∙ ap (λ l. padded_text run.count text ++ l) rest
     go less false = ap (λ l. replicate run.count (inserted_character run.symbol) ++ l) (less n text (omega arith) e)
 
 -- ---- one run more
@@ -98,7 +109,8 @@ length_replicate zero c = refl
 length_replicate (suc n) c = ap suc (length_replicate n c)
 
 one_run : (run : Run) (more : List Run) (text : List ℕ) → run.count + symbol_count more ≤ length text
-    → edited_characters (run ∷ more) text ≡ take run.count (spread_characters run text) ++ edited_characters more (drop run.count (spread_characters run text))
+    → edited_characters (run ∷ more) text ≡ take run.count (spread_characters run text)
+    ++ edited_characters more (drop run.count (spread_characters run text))
 unfolding edited_characters
 one_run run more text fits = go (is_alphanumeric run.symbol)
   where
@@ -113,24 +125,30 @@ one_run run more text fits = go (is_alphanumeric run.symbol)
 
     first : take run.count (spaces ++ rest) ≡ spaces
     first =
-        ap (λ n. take n (spaces ++ rest)) (let e : run.count ≡ length spaces + 0 = omega (arith, long) in e) ∙ take_past spaces rest 0 ∙ ends spaces
+        ap (λ n. take n (spaces ++ rest)) (let e : run.count ≡ length spaces + 0 = omega (arith, long) in e)
+        ∙ take_past spaces rest 0 ∙ ends spaces
 
     second : drop run.count (spaces ++ rest) ≡ rest
-    second = ap (λ n. drop n (spaces ++ rest)) (let e : run.count ≡ length spaces + 0 = omega (arith, long) in e) ∙ drop_past spaces rest 0
+    second = ap (λ n. drop n (spaces ++ rest)) (let e : run.count ≡ length spaces + 0 = omega (arith, long) in e)
+        ∙ drop_past spaces rest 0
 
     go : (b : Bool)
-        → (if b then padded_text run.count text ++ edited_characters more (drop run.count text) else spaces ++ edited_characters more text)
-        ≡ take run.count (if b then text else spaces ++ rest) ++ edited_characters more (drop run.count (if b then text else spaces ++ rest))
+        → (if b then padded_text run.count text ++ edited_characters more (drop run.count text)
+        else spaces ++ edited_characters more text)
+        ≡ take run.count (if b then text else spaces ++ rest)
+        ++ edited_characters more (drop run.count (if b then text else spaces ++ rest))
     go true = ap (λ l. l ++ edited_characters more (drop run.count text)) (padded_front run.count text (omega arith))
     go false =
         ap (λ l. spaces ++ l) (sym (front_counts more (length text - run.count) text (omega arith) (omega arith)))
-        ∙ ap (λ l. spaces ++ edited_characters more l) (sym second) ∙ ap (λ l. l ++ edited_characters more (drop run.count (spaces ++ rest))) (sym first)
+        ∙ ap (λ l. spaces ++ edited_characters more l) (sym second)
+        ∙ ap (λ l. l ++ edited_characters more (drop run.count (spaces ++ rest))) (sym first)
 
 joined : (a b c : List ℕ) → a ++ (b ++ c) ≡ (a ++ b) ++ c
 joined [] b c = refl
 joined (x ∷ a) b c = ap (λ l. x ∷ l) (joined a b c)
 
-pub next_total : (runs : List Run) (i : ℕ) (d : Run) → i < length runs → symbol_count (drop i runs) ≡ (get_or runs i d).count + symbol_count (drop (i + 1) runs)
+pub next_total : (runs : List Run) (i : ℕ) (d : Run) → i < length runs
+    → symbol_count (drop i runs) ≡ (get_or runs i d).count + symbol_count (drop (i + 1) runs)
 unfolding symbol_count
 next_total runs i d h = rw (add-one, drop-cons runs i d) refl
 
@@ -145,10 +163,12 @@ pub record Next (runs : List Run) (old : List ℕ) (i at : ℕ) (length_before :
   pub size : length bytes ≡ length_before
   pub spread : Spread runs old i at bytes
 
-spread_length : (run : Run) (text : List ℕ) → run.count ≤ length text → length (spread_characters run text) ≡ length text
+spread_length : (run : Run) (text : List ℕ) → run.count ≤ length text
+    → length (spread_characters run text) ≡ length text
 spread_length run text h = go (is_alphanumeric run.symbol)
   where
-    go : (b : Bool) → length (if b then text else replicate run.count (inserted_character run.symbol) ++ take (length text - run.count) text) ≡ length text
+    go : (b : Bool) → length (if b then text
+        else replicate run.count (inserted_character run.symbol) ++ take (length text - run.count) text) ≡ length text
     go true = refl
     go false = omega (
       arith,
@@ -162,19 +182,24 @@ rest_is at bytes = ap (λ n. take n (drop at bytes)) (sym (drop_length at bytes)
 
 put_whole : (bytes part : List ℕ) (at : ℕ) → put_mid at (length bytes - at) bytes part ≡ take at bytes ++ part
 put_whole bytes part at =
-    ap (λ l. take at bytes ++ (part ++ l)) (ap (λ n. drop n (drop at bytes)) (sym (drop_length at bytes)) ∙ drop_whole (drop at bytes))
+    ap (λ l. take at bytes ++ (part ++ l)) (ap (λ n. drop n (drop at bytes)) (sym (drop_length at bytes))
+    ∙ drop_whole (drop at bytes))
     ∙ ap (λ l. take at bytes ++ l) (ends part)
 
 -- the places of a run are there
-pub run_fits : (runs : List Run) (i at : ℕ) (d : Run) (bytes : List ℕ) → i < length runs → at + symbol_count (drop i runs) ≡ length bytes
-    → ((get_or runs i d).count ≤ length (take (length bytes - at) (drop at bytes))) × ((get_or runs i d).count + at ≤ length bytes)
+pub run_fits : (runs : List Run) (i at : ℕ) (d : Run) (bytes : List ℕ) → i < length runs
+    → at + symbol_count (drop i runs) ≡ length bytes
+    → ((get_or runs i d).count ≤ length (take (length bytes - at) (drop at bytes)))
+    × ((get_or runs i d).count + at ≤ length bytes)
 run_fits runs i at d bytes h e =
     let all = next_total runs i d h in
     let left = drop_length at bytes in
     let same = ap length (rest_is at bytes) in (omega arith, omega arith)
 
-pub spread_next : (runs : List Run) (old bytes part whole : List ℕ) (i at : ℕ) (d : Run) → i < length runs → Spread runs old i at bytes
-    → part ≡ spread_characters (get_or runs i d) (take (length bytes - at) (drop at bytes)) → whole ≡ put_mid at (length bytes - at) bytes part
+pub spread_next : (runs : List Run) (old bytes part whole : List ℕ) (i at : ℕ) (d : Run) → i < length runs
+    → Spread runs old i at bytes
+    → part ≡ spread_characters (get_or runs i d) (take (length bytes - at) (drop at bytes))
+    → whole ≡ put_mid at (length bytes - at) bytes part
     → Next runs old (i + 1) (at + (get_or runs i d).count) (length bytes) whole
 spread_next runs old bytes part whole i at d h s given put =
     let run = get_or runs i d in
@@ -182,7 +207,8 @@ spread_next runs old bytes part whole i at d h s given put =
     let all = next_total runs i d h in
     let left = drop_length at bytes in
     let places = s.places in
-    let front : drop i runs ≡ run ∷ more = drop-cons runs i d h ∙ ap (λ n. run ∷ drop n runs) (let e : suc i ≡ i + 1 = omega arith in e) in
+    let front : drop i runs ≡ run ∷ more =
+    drop-cons runs i d h ∙ ap (λ n. run ∷ drop n runs) (let e : suc i ≡ i + 1 = omega arith in e) in
     let at_is = take_length at bytes (omega arith) in
     let is : part ≡ spread_characters run (drop at bytes) = given ∙ ap (spread_characters run) (rest_is at bytes) in
     let is_whole : whole ≡ take at bytes ++ part = put ∙ put_whole bytes part at in
@@ -191,12 +217,15 @@ spread_next runs old bytes part whole i at d h s given put =
     let step = one_run run more (drop at bytes) (omega arith) in
     let here : at + run.count ≡ length (take at bytes) + run.count = omega arith in
     let taken : take (at + run.count) whole ≡ take at bytes ++ take run.count part =
-    ap (take (at + run.count)) is_whole ∙ ap (λ n. take n (take at bytes ++ part)) here ∙ take_past (take at bytes) part run.count in
+    ap (take (at + run.count)) is_whole ∙ ap (λ n. take n (take at bytes ++ part)) here
+    ∙ take_past (take at bytes) part run.count in
     let dropped : drop (at + run.count) whole ≡ drop run.count part =
-    ap (drop (at + run.count)) is_whole ∙ ap (λ n. drop n (take at bytes ++ part)) here ∙ drop_past (take at bytes) part run.count in
+    ap (drop (at + run.count)) is_whole ∙ ap (λ n. drop n (take at bytes ++ part)) here
+    ∙ drop_past (take at bytes) part run.count in
     let next : Spread runs old (i + 1) (at + run.count) whole = record {
       places = omega arith;
-      text = s.text ∙ ap (λ l. take at bytes ++ edited_characters l (drop at bytes)) front ∙ ap (λ l. take at bytes ++ l) step
+      text = s.text ∙ ap (λ l. take at bytes ++ edited_characters l (drop at bytes)) front
+          ∙ ap (λ l. take at bytes ++ l) step
           ∙ ap (λ l. take at bytes ++ (take run.count l ++ edited_characters more (drop run.count l))) (sym is)
           ∙ joined (take at bytes) (take run.count part) (edited_characters more (drop run.count part))
           ∙ ap (λ l. l ++ edited_characters more (drop run.count part)) (sym taken)
@@ -204,10 +233,12 @@ spread_next runs old bytes part whole i at d h s given put =
     } in
     record { size = omega arith; spread = next }
 
-pub spread_end : (runs : List Run) (old bytes : List ℕ) (i at : ℕ) → length runs ≤ i → Spread runs old i at bytes → bytes ≡ edited_characters runs old
+pub spread_end : (runs : List Run) (old bytes : List ℕ) (i at : ℕ) → length runs ≤ i → Spread runs old i at bytes
+    → bytes ≡ edited_characters runs old
 unfolding edited_characters symbol_count
 spread_end runs old bytes i at h s =
     let none = drop_all i runs h in
     let places = s.places in
     let all : at ≡ length bytes = (let e = ap symbol_count none in omega arith) in
-    sym (s.text ∙ ap (λ l. take at bytes ++ edited_characters l (drop at bytes)) none ∙ ends (take at bytes) ∙ ap (λ n. take n bytes) all ∙ take_whole bytes)
+    sym (s.text ∙ ap (λ l. take at bytes ++ edited_characters l (drop at bytes)) none ∙ ends (take at bytes)
+    ∙ ap (λ n. take n bytes) all ∙ take_whole bytes)

@@ -24,7 +24,8 @@ group k.AlphanumericEdited size length from = refl
 group (k.NumericEdited blank) size length from = refl
 group (k.Numeric n) size length from = refl
 
-alphabetic : (kind : Kind) (size length : ℕ) (from : List ℕ) → ((n : Numeric) → kind ≡ k.Numeric n → ⊥) → Copies (k.Alphabetic false) size (item kind length) from
+alphabetic : (kind : Kind) (size length : ℕ) (from : List ℕ) → ((n : Numeric) → kind ≡ k.Numeric n → ⊥)
+    → Copies (k.Alphabetic false) size (item kind length) from
 unfolding moved_bytes
 alphabetic k.Group size length from other = refl
 alphabetic (k.Alphabetic right) size length from other = refl
@@ -33,7 +34,8 @@ alphabetic k.AlphanumericEdited size length from other = refl
 alphabetic (k.NumericEdited blank) size length from other = refl
 alphabetic (k.Numeric n) size length from other = absurd (other n refl)
 
-alphanumeric : (kind : Kind) (size length : ℕ) (from : List ℕ) → ((n : Numeric) → kind ≡ k.Numeric n → ⊥) → Copies (k.Alphanumeric false) size (item kind length) from
+alphanumeric : (kind : Kind) (size length : ℕ) (from : List ℕ) → ((n : Numeric) → kind ≡ k.Numeric n → ⊥)
+    → Copies (k.Alphanumeric false) size (item kind length) from
 unfolding moved_bytes
 alphanumeric k.Group size length from other = refl
 alphanumeric (k.Alphabetic right) size length from other = refl
@@ -42,22 +44,28 @@ alphanumeric k.AlphanumericEdited size length from other = refl
 alphanumeric (k.NumericEdited blank) size length from other = refl
 alphanumeric (k.Numeric n) size length from other = absurd (other n refl)
 
-pub to_group : (receiver sender : Item) (from : List ℕ) → receiver.kind ≡ k.Group → moved_bytes receiver (t.Item sender) from ≡ Some (padded_text receiver.length from)
-to_group receiver sender from e = subst (λ kind. Copies kind receiver.length sender from) (sym e) (group sender.kind receiver.length sender.length from)
+pub to_group : (receiver sender : Item) (from : List ℕ) → receiver.kind ≡ k.Group
+    → moved_bytes receiver (t.Item sender) from ≡ Some (padded_text receiver.length from)
+to_group receiver sender from e = subst (λ kind. Copies kind receiver.length sender from) (sym e)
+    (group sender.kind receiver.length sender.length from)
 
-to_alphabetic : (receiver sender : Item) (right : Bool) (from : List ℕ) → receiver.kind ≡ k.Alphabetic right → right ≡ false → ((n : Numeric) → sender.kind ≡ k.Numeric n → ⊥)
+to_alphabetic : (receiver sender : Item) (right : Bool) (from : List ℕ) → receiver.kind ≡ k.Alphabetic right
+    → right ≡ false → ((n : Numeric) → sender.kind ≡ k.Numeric n → ⊥)
     → moved_bytes receiver (t.Item sender) from ≡ Some (padded_text receiver.length from)
 to_alphabetic receiver sender right from e h other =
     subst (λ kind. Copies kind receiver.length sender from) (sym (e ∙ ap (λ b. k.Alphabetic b) h))
     (alphabetic sender.kind receiver.length sender.length from other)
 
-to_alphanumeric : (receiver sender : Item) (right : Bool) (from : List ℕ) → receiver.kind ≡ k.Alphanumeric right → right ≡ false → ((n : Numeric) → sender.kind ≡ k.Numeric n → ⊥)
+to_alphanumeric : (receiver sender : Item) (right : Bool) (from : List ℕ) → receiver.kind ≡ k.Alphanumeric right
+    → right ≡ false → ((n : Numeric) → sender.kind ≡ k.Numeric n → ⊥)
     → moved_bytes receiver (t.Item sender) from ≡ Some (padded_text receiver.length from)
 to_alphanumeric receiver sender right from e h other =
     subst (λ kind. Copies kind receiver.length sender from) (sym (e ∙ ap (λ b. k.Alphanumeric b) h))
     (alphanumeric sender.kind receiver.length sender.length from other)
 
-pub to_text : (receiver sender : Item) (right : Bool) (from : List ℕ) → (receiver.kind ≡ k.Alphabetic right) ⊎ (receiver.kind ≡ k.Alphanumeric right) → right ≡ false
-    → ((n : Numeric) → sender.kind ≡ k.Numeric n → ⊥) → moved_bytes receiver (t.Item sender) from ≡ Some (padded_text receiver.length from)
+pub to_text : (receiver sender : Item) (right : Bool) (from : List ℕ)
+    → (receiver.kind ≡ k.Alphabetic right) ⊎ (receiver.kind ≡ k.Alphanumeric right) → right ≡ false
+    → ((n : Numeric) → sender.kind ≡ k.Numeric n → ⊥)
+    → moved_bytes receiver (t.Item sender) from ≡ Some (padded_text receiver.length from)
 to_text receiver sender right from (inl e) h other = to_alphabetic receiver sender right from e h other
 to_text receiver sender right from (inr e) h other = to_alphanumeric receiver sender right from e h other

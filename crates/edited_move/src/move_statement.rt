@@ -89,7 +89,8 @@ pub fn edit_into(
     requires edited { IsEditedBy receiver picture.now }
     requires short { spec.is_short receiver taken ≡ true }
     requires length { length bytes.old ≡ receiver.length }
-    ensures { Writes result bytes.old bytes.new (spec.moved_by_picture receiver picture.now taken from.now) }
+    ensures { Writes result bytes.old bytes.new
+        (spec.moved_by_picture receiver picture.now taken from.now) }
 {
     if has_group(receiver, taken) {
         put_plain(taken, from, is_right(receiver.kind), bytes);
@@ -112,7 +113,8 @@ fn received(item: Numeric, x: Dec) -> Dec
 /// Between these two a move copies the sender's bytes from the left.
 #[inline(always)]
 fn is_copy(taken: &Taken, receiver: &Item) -> bool
-    ensures { IsTrue result → (from : List ℕ) → spec.moved_bytes receiver.now taken.now from ≡ Some (padded_text receiver.now.length from) }
+    ensures { IsTrue result → (from : List ℕ) → spec.moved_bytes receiver.now taken.now from ≡ Some
+        (padded_text receiver.now.length from) }
 {
     let Taken::Item(sender) = *taken else {
         return false;
@@ -143,7 +145,8 @@ fn move_plain(taken: Taken, from: &[u8], receiver: Item, bytes: &mut [u8]) -> Re
     requires plain { IsPlainKind receiver.kind }
     requires short { spec.wants_number receiver.kind ≡ true → spec.is_number_sender taken ≡ true }
     requires length { length bytes.old ≡ receiver.length }
-    ensures { Writes result bytes.old bytes.new (spec.moved_plain receiver.kind receiver.length taken from.now) }
+    ensures { Writes result bytes.old bytes.new
+        (spec.moved_plain receiver.kind receiver.length taken from.now) }
 {
     match receiver.kind {
         Kind::Numeric(numeric) => {
@@ -189,7 +192,8 @@ fn edit_text(
     requires taken { IsTaken taken from.now }
     requires category { picture.now.category ≡ AlphanumericEdited }
     requires length { length bytes.old ≡ picture.now.size }
-    ensures { Writes result bytes.old bytes.new (option_map (edited_characters picture.now.runs) (spec.sent_characters false (length bytes.old) taken from.now)) }
+    ensures { Writes result bytes.old bytes.new (option_map (edited_characters picture.now.runs)
+        (spec.sent_characters false (length bytes.old) taken from.now)) }
 {
     text_places(picture);
     put_characters(taken, from, false, bytes)?;
@@ -209,7 +213,8 @@ fn edit_sent(
     requires short { spec.is_number_sender taken ≡ true }
     requires category { IsOfNumber picture.now }
     requires length { length bytes.old ≡ picture.now.size }
-    ensures { Writes result bytes.old bytes.new (option_map (edited_or_blank blank_when_zero picture.now) (spec.sender_number taken from.now)) }
+    ensures { Writes result bytes.old bytes.new (option_map
+        (edited_or_blank blank_when_zero picture.now) (spec.sender_number taken from.now)) }
 {
     number_places(picture);
     let Some(x) = sender_number(taken, from) else {
@@ -231,7 +236,8 @@ fn move_edited(
     requires edited { IsEditedBy receiver picture.now }
     requires short { spec.wants_number receiver.kind ≡ true → spec.is_number_sender taken ≡ true }
     requires length { length bytes.old ≡ receiver.length }
-    ensures { Writes result bytes.old bytes.new (spec.moved_edited receiver.kind receiver.length picture.now taken from.now) }
+    ensures { Writes result bytes.old bytes.new
+        (spec.moved_edited receiver.kind receiver.length picture.now taken from.now) }
 {
     match receiver.kind {
         Kind::NumericEdited { blank_when_zero } => {

@@ -77,7 +77,8 @@ pub fn put_characters(
     bytes: &mut [u8],
 ) -> Result<(), DataFault>
     requires { IsTaken taken from.now }
-    ensures { Writes result bytes.old bytes.new (spec.sent_characters right (length bytes.old) taken from.now) }
+    ensures { Writes result bytes.old bytes.new
+        (spec.sent_characters right (length bytes.old) taken from.now) }
 {
     match taken {
         Taken::Item(item) => put_item(item, from, right, bytes),
@@ -153,7 +154,8 @@ fn item_number(item: Item, bytes: &[u8]) -> Option<Dec>
 fn put_number(item: Numeric, from: &[u8], right: bool, bytes: &mut [u8]) -> Result<(), DataFault>
     requires item { IsNumeric item }
     requires length { length from.now ≡ length_of item }
-    ensures { Writes result bytes.old bytes.new (option_map (spec.aligned_characters right (length bytes.old)) (option_map (values.digits_of item) (values.value_of item from.now))) }
+    ensures { Writes result bytes.old bytes.new (option_map (spec.aligned_characters right
+        (length bytes.old)) (option_map (values.digits_of item) (values.value_of item from.now))) }
 {
     let Some(value) = number(item, from) else {
         return Err(DataFault);
@@ -168,7 +170,8 @@ fn put_number(item: Numeric, from: &[u8], right: bool, bytes: &mut [u8]) -> Resu
 /// Writes an item's characters.
 fn put_item(item: Item, from: &[u8], right: bool, bytes: &mut [u8]) -> Result<(), DataFault>
     requires { HasLengthOf item from.now }
-    ensures { Writes result bytes.old bytes.new (option_map (spec.aligned_characters right (length bytes.old)) (characters_in item.kind from.now)) }
+    ensures { Writes result bytes.old bytes.new (option_map
+        (spec.aligned_characters right (length bytes.old)) (characters_in item.kind from.now)) }
 {
     match item.kind {
         Kind::Numeric(numeric) => put_number(numeric, from, right, bytes),

@@ -88,7 +88,8 @@ impl HostDevice {
     fn make_place_for(&mut self, sector: u32) -> Result<(), DeviceError>
         ensures volume { volume_of self.new ≡ volume_of self.old }
         ensures failures { CountsFailure result (failure_count self.old) (failure_count self.new) }
-        ensures fits { OnOk result (FollowsBytes self.new.gathered.first self.new.gathered.bytes.items sector) }
+        ensures fits { OnOk result
+            (FollowsBytes self.new.gathered.first self.new.gathered.bytes.items sector) }
     {
         if self.gathered.has_place_for(sector) {
             return Ok(());

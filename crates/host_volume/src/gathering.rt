@@ -44,7 +44,8 @@ impl GatheredWrites {
     pub(crate) fn add(&mut self, sector: u32, bytes: &[u8; 4096]) -> Result<(), AllocError>
         requires { FollowsBytes self.old.first self.old.bytes.items sector }
         ensures bytes { OnOk result (self.new.bytes.items ≡ self.old.bytes.items ++ bytes.now) }
-        ensures place { OnOk result (sector * 4096 ≡ self.new.first * 4096 + length self.old.bytes.items) }
+        ensures place { OnOk result
+            (sector * 4096 ≡ self.new.first * 4096 + length self.old.bytes.items) }
         ensures refused { OnErr result (self.new.bytes.items ≡ self.old.bytes.items) }
         ensures first { OnErr result (self.new.first ≡ self.old.first) }
     {

@@ -21,7 +21,8 @@ pub(crate) fn sync_and_rewrite_roots<D: Device>(device: &mut D) -> Result<(), De
 pub fn rewrite_roots<D: Device>(device: &mut D) -> Result<(), DeviceError>
     ensures only { OnlyWrites D.Device (IsErr result) device.old device.new }
     ensures state { D.is_honest device.old →
-        OnOk result (D.state device.new ≡ roots_rewritten (D.sectors device.old) (D.state device.old)) }
+        OnOk result
+        (D.state device.new ≡ roots_rewritten (D.sectors device.old) (D.state device.old)) }
 {
     let sectors = device.count();
     if sectors > 0 {

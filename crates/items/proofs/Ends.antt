@@ -1,5 +1,6 @@
 -- A text and the character behind it.
-use Rattle.std.proofs.Common.{◌≡◌, ℕ, ◌-◌, List, [], ◌∷◌, ◌++◌, take, length, length-append, get_or, refl, ap, ◌∙◌, arith}
+use Rattle.std.proofs.Common.{◌≡◌, ℕ, ◌-◌, List, [], ◌∷◌, ◌++◌, take, length, length-append, get_or, refl, ap, ◌∙◌}
+use Rattle.std.proofs.Common.{arith}
 use Rattle.std.proofs.Math.Seq.{take-append_seam}
 
 at_seam : (text : List ℕ) (c : ℕ) → get_or (text ++ c ∷ []) (length text) 0 ≡ c

@@ -1,5 +1,6 @@
 -- What bytes hold, their item can hold.
-use Rattle.std.proofs.Common.{◌≡◌, ◌<◌, ◌^◌, ℕ, Bool, true, false, not, ◌&&◌, ◌||◌, ℤ, nat_lt, if◌then◌else◌, unsigned_abs, List, Option, Some, None, refl, subst, arith}
+use Rattle.std.proofs.Common.{◌≡◌, ◌<◌, ◌^◌, ℕ, Bool, true, false, not, ◌&&◌, ◌||◌, ℤ, nat_lt, if◌then◌else◌}
+use Rattle.std.proofs.Common.{unsigned_abs, List, Option, Some, None, refl, subst, arith}
 use Rattle.std.proofs.lemmas.Bool.Decides.{nat_tests}
 use Rattle.decimal18.specs.Fraction.{Fraction, is_negative}
 use Rattle.items.specs.declared.numeric.Numeric.{Numeric}
@@ -22,7 +23,8 @@ of_integer n z e =
 of_held : (n : Numeric) (z : ℤ) (x : Fraction) → value_if_held n (Some z) ≡ Some x → CanHold n x
 of_held n z x e = go (is_held n z) refl e
   where
-    go : (b : Bool) → is_held n z ≡ b → (if b then Some (record { coefficient = z; scale = n.scale }) else None) ≡ Some x → CanHold n x
+    go : (b : Bool) → is_held n z ≡ b
+        → (if b then Some (record { coefficient = z; scale = n.scale }) else None) ≡ Some x → CanHold n x
     go true is e = subst (CanHold n) (some_is e) (of_integer n z is)
     go false is e = cc
 

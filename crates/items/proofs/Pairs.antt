@@ -1,5 +1,6 @@
 -- The table that tells the number of a byte's two digits.
-use Rattle.std.proofs.Common.{◌≡◌, ℕ, zero, suc, ◌+◌, ◌*◌, ◌/◌, ◌%◌, ◌<◌, ◌≤◌, ◌⊎◌, inl, inr, ◌&&◌, List, [], ◌∷◌, get_or, nat_le, if◌then◌else◌, ap, ◌∙◌, arith}
+use Rattle.std.proofs.Common.{◌≡◌, ℕ, zero, suc, ◌+◌, ◌*◌, ◌/◌, ◌%◌, ◌<◌, ◌≤◌, ◌⊎◌, inl, inr, ◌&&◌, List, [], ◌∷◌}
+use Rattle.std.proofs.Common.{get_or, nat_le, if◌then◌else◌, ap, ◌∙◌, arith}
 use Rattle.std.proofs.lemmas.Bool.{cases_lt, le-leb, lt-leb, and_left, and_right}
 
 -- The number of two digits, or 255.
@@ -28,9 +29,11 @@ Bad b = ((9 < b / 16) ⊎ ((b / 16 ≤ 9) × (9 < b % 16))) × (pair_value b ≡
 
 by_halves : (b : ℕ) → Good b ⊎ Bad b
 by_halves b = elim (cases_lt 9 (b / 16)) [
-  | inl high ↦ inr (inl high, ap (λ t. if t then 10 * (b / 16) + b % 16 else 255) (and_left _ _ (lt-leb (b / 16) 9 high)))
+  | inl high ↦
+      inr (inl high, ap (λ t. if t then 10 * (b / 16) + b % 16 else 255) (and_left _ _ (lt-leb (b / 16) 9 high)))
   | inr few ↦ elim (cases_lt 9 (b % 16)) [
-    | inl low ↦ inr (inr (few, low), ap (λ t. if t then 10 * (b / 16) + b % 16 else 255) (and_right _ _ (lt-leb (b % 16) 9 low)))
+    | inl low ↦ inr
+        (inr (few, low), ap (λ t. if t then 10 * (b / 16) + b % 16 else 255) (and_right _ _ (lt-leb (b % 16) 9 low)))
     | inr less ↦ inl (
       few,
       less,
@@ -47,7 +50,8 @@ pair_found b d within few = elim (by_halves b) [
   | inr h ↦ absurd (omega (arith, value_of_table b d within, h.1, few))
 ]
 
-pub no_pair_found : (b d : ℕ) → b < 256 → 99 < get_or (values_from 256 0) b d → (9 < b / 16) ⊎ ((b / 16 ≤ 9) × (9 < b % 16))
+pub no_pair_found : (b d : ℕ) → b < 256 → 99 < get_or (values_from 256 0) b d
+    → (9 < b / 16) ⊎ ((b / 16 ≤ 9) × (9 < b % 16))
 no_pair_found b d within more = elim (by_halves b) [
   | inl h ↦ absurd (omega (arith, value_of_table b d within, h.0, h.1, h.2, more))
   | inr h ↦ h.0

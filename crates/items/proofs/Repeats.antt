@@ -1,6 +1,8 @@
 -- A text over and over.
-use Rattle.std.proofs.Common.{◌≡◌, ℕ, zero, suc, ◌+◌, ◌-◌, ◌<◌, ◌≤◌, ◌⊎◌, inl, inr, List, [], ◌∷◌, ◌++◌, length, take, drop, get_or, set, ap, sym, ◌∙◌, arith, subst}
-use Rattle.std.proofs.lemmas.List.{append_assoc, append-nil, length-append, length-set, take-append-le, at_drop_more, take_more_set, drop_all}
+use Rattle.std.proofs.Common.{◌≡◌, ℕ, zero, suc, ◌+◌, ◌-◌, ◌<◌, ◌≤◌, ◌⊎◌, inl, inr, List, [], ◌∷◌, ◌++◌, length, take}
+use Rattle.std.proofs.Common.{drop, get_or, set, ap, sym, ◌∙◌, arith, subst}
+use Rattle.std.proofs.lemmas.List.{append_assoc, append-nil, length-append, length-set, take-append-le, at_drop_more}
+use Rattle.std.proofs.lemmas.List.{take_more_set, drop_all}
 use Rattle.std.specs.List.{repeat}
 use Rattle.std.specs.Prelude.{replicate}
 use Rattle.items.specs.Texts.{repeated_text, padded_text, space}
@@ -11,10 +13,12 @@ repeat_long (suc n) text h = omega (arith, repeat_long n text h, length-append t
 
 repeat_other_end : (n : ℕ) (text : List ℕ) → text ++ repeat n text ≡ repeat n text ++ text
 repeat_other_end zero text = append-nil text
-repeat_other_end (suc n) text = ap (λ t. text ++ t) (repeat_other_end n text) ∙ sym (append_assoc text (repeat n text) text)
+repeat_other_end (suc n) text =
+    ap (λ t. text ++ t) (repeat_other_end n text) ∙ sym (append_assoc text (repeat n text) text)
 
 -- a text in front changes nothing of the beginning
-pub once_more : (m n : ℕ) (text : List ℕ) → 1 ≤ length text → m ≤ n → take m (text ++ repeat n text) ≡ take m (repeat n text)
+pub once_more : (m n : ℕ) (text : List ℕ) → 1 ≤ length text → m ≤ n
+    → take m (text ++ repeat n text) ≡ take m (repeat n text)
 once_more m n text h k =
     let room : m ≤ length (repeat n text) = omega (arith, repeat_long n text h) in
     ap (take m) (repeat_other_end n text) ∙ take-append-le m (repeat n text) text room
@@ -30,7 +34,8 @@ come_next k size at text h = at_drop_more (λ rest. take (suc k) (rest ++ repeat
 -- one character written
 pub written_next : (bytes text : List ℕ) (i at : ℕ) → i < length bytes → at < length text
     → take i bytes ++ to_come (length bytes - i) (length bytes) text at ≡ repeated_text (length bytes) text
-    → take (i + 1) (set bytes i (get_or text at 0)) ++ to_come (length bytes - (i + 1)) (length bytes) text (at + 1) ≡ repeated_text (length bytes) text
+    → take (i + 1) (set bytes i (get_or text at 0)) ++ to_come (length bytes - (i + 1)) (length bytes) text (at + 1)
+    ≡ repeated_text (length bytes) text
 written_next bytes text i at h w e =
     let c = get_or text at 0 in
     let k = length bytes - (i + 1) in
@@ -42,7 +47,8 @@ written_next bytes text i at h w e =
     ∙ e
 
 -- at the text's end it begins again
-pub come_again : (k size : ℕ) (text : List ℕ) (at : ℕ) → 1 ≤ length text → k ≤ size → at ≡ length text → to_come k size text at ≡ to_come k size text 0
+pub come_again : (k size : ℕ) (text : List ℕ) (at : ℕ) → 1 ≤ length text → k ≤ size → at ≡ length text
+    → to_come k size text at ≡ to_come k size text 0
 come_again k size text at some few e =
     let past : length text ≤ at = omega arith in
     ap (λ t. take k (t ++ repeat size text)) (drop_all at text past) ∙ sym (once_more k size text some few)
@@ -52,14 +58,17 @@ pub turn : (bytes text : List ℕ) (i at next : ℕ) → 1 ≤ length text → i
     → take i bytes ++ to_come (length bytes - i) (length bytes) text at ≡ repeated_text (length bytes) text
     → ((at + 1 ≡ length text) × (next ≡ 0)) ⊎ ((at + 1 ≡ length text → ⊥) × (next ≡ at + 1))
     → let new = set bytes i (get_or text at 0) in
-    (next < length text) × (take (i + 1) new ++ to_come (length new - (i + 1)) (length new) text next ≡ repeated_text (length new) text)
+    (next < length text)
+    × (take (i + 1) new ++ to_come (length new - (i + 1)) (length new) text next ≡ repeated_text (length new) text)
 turn bytes text i at next some h w e place =
     let new = set bytes i (get_or text at 0) in
-    let P : ℕ → Type 0 = λ n. (next < length text) × (take (i + 1) new ++ to_come (n - (i + 1)) n text next ≡ repeated_text n text) in
+    let P : ℕ → Type 0 =
+    λ n. (next < length text) × (take (i + 1) new ++ to_come (n - (i + 1)) n text next ≡ repeated_text n text) in
     subst P (sym (length-set bytes i (get_or text at 0))) (by_place place)
   where
     by_place : ((at + 1 ≡ length text) × (next ≡ 0)) ⊎ ((at + 1 ≡ length text → ⊥) × (next ≡ at + 1))
-        → (next < length text) × (take (i + 1) (set bytes i (get_or text at 0)) ++ to_come (length bytes - (i + 1)) (length bytes) text next ≡ repeated_text (length bytes) text)
+        → (next < length text) × (take (i + 1) (set bytes i (get_or text at 0))
+        ++ to_come (length bytes - (i + 1)) (length bytes) text next ≡ repeated_text (length bytes) text)
     by_place (inl again) =
         let k = length bytes - (i + 1) in
         let few : k ≤ length bytes = omega arith in
@@ -67,7 +76,8 @@ turn bytes text i at next some h w e place =
         let first : next < length text = omega arith in (
           first,
           ap (λ p. take (i + 1) (set bytes i (get_or text at 0)) ++ to_come k (length bytes) text p) begin
-              ∙ ap (λ t. take (i + 1) (set bytes i (get_or text at 0)) ++ t) (sym (come_again k (length bytes) text (at + 1) some few again.0))
+              ∙ ap (λ t. take (i + 1) (set bytes i (get_or text at 0)) ++ t)
+              (sym (come_again k (length bytes) text (at + 1) some few again.0))
               ∙ written_next bytes text i at h w e,
         )
     by_place (inr on) =
@@ -75,7 +85,8 @@ turn bytes text i at next some h w e place =
         let step = on.1 in
         let inside : next < length text = omega (arith, end, step) in (
           inside,
-          ap (λ p. take (i + 1) (set bytes i (get_or text at 0)) ++ to_come (length bytes - (i + 1)) (length bytes) text p) on.1
+          ap (λ p. take (i + 1) (set bytes i (get_or text at 0))
+              ++ to_come (length bytes - (i + 1)) (length bytes) text p) on.1
               ∙ written_next bytes text i at h w e,
         )
 

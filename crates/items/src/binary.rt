@@ -32,7 +32,8 @@ pub fn put_binary(digits: u8, integer: i64, bytes: &mut [u8])
     requires length { length bytes.old ≡ numbers.binary_length digits }
     requires most { digits ≤ 18 }
     requires bound { unsigned_abs integer < 10 ^ digits }
-    ensures { bytes.new ≡ spec.binary_bytes (length bytes.old) (is_negative integer) (unsigned_abs integer) }
+    ensures { bytes.new
+        ≡ spec.binary_bytes (length bytes.old) (is_negative integer) (unsigned_abs integer) }
 {
     if digits <= HALFWORD_DIGITS {
         BigEndian::write_i16(bytes, integer as i16);

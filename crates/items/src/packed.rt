@@ -105,7 +105,8 @@ fn sign_half(signed: bool, negative: bool) -> u8
 /// The number of a byte's two digits, or a greater one where its halves aren't digits.
 #[inline]
 fn pair(byte: u8) -> u8
-    ensures digits { result ≤ 99 → (byte / 16 ≤ 9) × (byte % 16 ≤ 9) × (result ≡ 10 * (byte / 16) + byte % 16) }
+    ensures digits { result ≤ 99 → (byte / 16 ≤ 9) × (byte % 16 ≤ 9)
+        × (result ≡ 10 * (byte / 16) + byte % 16) }
     ensures none { 99 < result → (9 < byte / 16) ⊎ ((byte / 16 ≤ 9) × (9 < byte % 16)) }
 {
     NUMBERS[byte as usize]
@@ -114,7 +115,8 @@ fn pair(byte: u8) -> u8
 /// The number that the bytes are, two digits a byte, if their halves are digits.
 fn pairs(bytes: &[u8]) -> Option<u64>
     requires { length bytes.now ≤ 9 }
-    ensures value { result ≡ (if are_digits (spec.characters_of (spec.halves bytes.now)) then Some (digits_behind 0 (spec.characters_of (spec.halves bytes.now))) else None) }
+    ensures value { result ≡ (if are_digits (spec.characters_of (spec.halves bytes.now))
+        then Some (digits_behind 0 (spec.characters_of (spec.halves bytes.now))) else None) }
     ensures bound { IfSome result (λ number. number < 100 ^ length bytes.now) }
 {
     let mut number = 0;
@@ -138,7 +140,8 @@ fn signed_number(negative: bool, magnitude: u64) -> i128
 
 /// Writes the last digits of a number, two a byte.
 fn put_pairs(magnitude: u64, bytes: &mut [u8])
-    ensures { bytes.new ≡ spec.bytes_of_halves (spec.digit_halves (2 * length bytes.old) magnitude) }
+    ensures { bytes.new
+        ≡ spec.bytes_of_halves (spec.digit_halves (2 * length bytes.old) magnitude) }
 {
     let mut rest = magnitude;
     let mut at = bytes.len();

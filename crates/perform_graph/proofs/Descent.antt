@@ -11,10 +11,13 @@ module _ (performed : List PerformedRange) (height : ℕ → ℕ) (among : ℕ �
   none_below (suc bound) paragraph marked below =
       let to = each paragraph marked in
       let at = slice_get_within performed to.at to.one to.stands in
-      let fall = subst (Decreases height) (get_or_from_slice_get performed to.at to.one to.one to.stands) (falls to.at to.one at) in
+      let fall = subst (Decreases height) (get_or_from_slice_get performed to.at to.one to.one to.stands)
+      (falls to.at to.one at) in
       let lower = fall to.other to.within in
       let same = ap height to.performer in
       none_below bound to.other to.marked (omega arith)
 
-pub none_leads_back : (performed : List PerformedRange) (height : ℕ → ℕ) (among : ℕ → Bool) → AllDecrease height performed → PerformOneAnother among performed → ⊥
-none_leads_back performed height among falls ring = none_below performed height among falls ring.each (suc (height ring.some)) ring.some ring.marked (omega arith)
+pub none_leads_back : (performed : List PerformedRange) (height : ℕ → ℕ) (among : ℕ → Bool)
+    → AllDecrease height performed → PerformOneAnother among performed → ⊥
+none_leads_back performed height among falls ring =
+    none_below performed height among falls ring.each (suc (height ring.some)) ring.some ring.marked (omega arith)

@@ -16,7 +16,8 @@ first_of : (ring : List Visit) → 0 < length ring → (visit : Visit) × (slice
 first_of [] some = absurd (omega arith)
 first_of (visit ∷ ring) some = (visit, refl)
 
-module _ (performed : List PerformedRange) (count : ℕ) (ring : List Visit) (all : List Bool) (is : IsCycle performed count ring) (are : AreMarks ring all) where
+module _ (performed : List PerformedRange) (count : ℕ) (ring : List Visit) (all : List Bool)
+    (is : IsCycle performed count ring) (are : AreMarks ring all) where
   performs_one : (paragraph : ℕ) → marks all paragraph ≡ true → PerformsOneOf (marks all) performed paragraph
   performs_one paragraph marked =
       let of = are.of paragraph marked in
@@ -29,7 +30,8 @@ module _ (performed : List PerformedRange) (count : ℕ) (ring : List Visit) (al
         performer = to.leads.performer ∙ of.1.same;
         other = of.1.visit.next;
         within = to.leads.within;
-        marked = ap (marks all) to.next ∙ are.marked back.depth back.later (slice_get_within ring back.depth back.later back.stands) back.stands;
+        marked = ap (marks all) to.next
+            ∙ are.marked back.depth back.later (slice_get_within ring back.depth back.later back.stands) back.stands;
       }
 
   pub perform_one_another : PerformOneAnother (marks all) performed
@@ -37,18 +39,22 @@ module _ (performed : List PerformedRange) (count : ℕ) (ring : List Visit) (al
       let first = first_of ring is.some in
       record { some = first.0.paragraph; marked = are.marked 0 first.0 is.some first.1; each = performs_one }
 
-pub ring_within : (performed : List PerformedRange) (count size : ℕ) (ring : List Visit) → size ≡ count → IsCycle performed size ring → All (λ (visit : Visit). visit.paragraph < count) ring
+pub ring_within : (performed : List PerformedRange) (count size : ℕ) (ring : List Visit) → size ≡ count
+    → IsCycle performed size ring → All (λ (visit : Visit). visit.paragraph < count) ring
 ring_within performed count size ring same is number default lt =
     let within = is.within number (get_or ring number default) (slice_get-get_or ring number default lt) in
     omega arith
 
-seen_height : (one : Progress) → is_seen one ≡ true → ((depth : ℕ) → one ≡ Open depth → ⊥) → (height : ℕ) × (one ≡ Placed height)
+seen_height : (one : Progress) → is_seen one ≡ true → ((depth : ℕ) → one ≡ Open depth → ⊥)
+    → (height : ℕ) × (one ≡ Placed height)
 seen_height Unseen e closed = absurd (false≢true e)
 seen_height (Open depth) e closed = absurd (closed depth refl)
 seen_height (Placed height) e closed = (height, refl)
 
-module _ (count : ℕ) (performed : List PerformedRange) (states : List Progress) (placed : ℕ) (stands : IsWalkState performed states [] placed)
-    (size : length states ≡ count) (seen : (paragraph : ℕ) → paragraph < count → is_seen (state states paragraph) ≡ true) (ranges : All (IsRange count) performed) where
+module _ (count : ℕ) (performed : List PerformedRange) (states : List Progress) (placed : ℕ)
+    (stands : IsWalkState performed states [] placed)
+    (size : length states ≡ count) (seen : (paragraph : ℕ) → paragraph < count
+    → is_seen (state states paragraph) ≡ true) (ranges : All (IsRange count) performed) where
   closed : (paragraph depth : ℕ) → state states paragraph ≡ Open depth → ⊥
   closed paragraph depth e =
       let at = (stands.visited paragraph depth e).stands in
@@ -57,8 +63,10 @@ module _ (count : ℕ) (performed : List PerformedRange) (states : List Progress
   placed_at : (paragraph : ℕ) → paragraph < count → (height : ℕ) × (state states paragraph ≡ Placed height)
   placed_at paragraph within = seen_height (state states paragraph) (seen paragraph within) (closed paragraph)
 
-  read : (paragraph default height : ℕ) → paragraph < count → state states paragraph ≡ Placed height → get_or (map rank_of states) paragraph default ≡ height
-  read paragraph default height within e = get_or-map rank_of states paragraph Unseen default (omega arith) ∙ ap rank_of e
+  read : (paragraph default height : ℕ) → paragraph < count → state states paragraph ≡ Placed height
+      → get_or (map rank_of states) paragraph default ≡ height
+  read paragraph default height within e =
+      get_or-map rank_of states paragraph Unseen default (omega arith) ∙ ap rank_of e
 
   below : All (λ (height : ℕ). height < count) (map rank_of states)
   below paragraph default lt =
@@ -70,7 +78,8 @@ module _ (count : ℕ) (performed : List PerformedRange) (states : List Progress
       let counted = stands.count in
       omega arith
 
-  fall : (one : PerformedRange) (number : ℕ) → slice_get performed number ≡ Some one → IsRange count one → (paragraph : ℕ) → IsIn one paragraph
+  fall : (one : PerformedRange) (number : ℕ) → slice_get performed number ≡ Some one → IsRange count one
+      → (paragraph : ℕ) → IsIn one paragraph
       → rank_in (map rank_of states) paragraph < rank_in (map rank_of states) one.performer
   fall one number stands_at range paragraph inside =
       let most = range.last in
@@ -86,5 +95,6 @@ module _ (count : ℕ) (performed : List PerformedRange) (states : List Progress
   are_heights = record {
     one_each = length-map states rank_of ∙ size;
     below = below;
-    fall = λ number default lt. fall (get_or performed number default) number (slice_get-get_or performed number default lt) (ranges number default lt);
+    fall = λ number default lt. fall (get_or performed number default) number
+        (slice_get-get_or performed number default lt) (ranges number default lt);
   }

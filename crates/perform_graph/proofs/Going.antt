@@ -1,5 +1,6 @@
 -- What the walk does at a visit: it places the paragraph, or goes on to one that it performs.
-use Rattle.std.proofs.Common.{◌≡◌, ℕ, ◌<◌, ◌+◌, inl, inr, true, List, [], ◌∷◌, ◌++◌, length, get_or, set, None, Some, refl, sym, ap, subst, ◌∙◌, arith}
+use Rattle.std.proofs.Common.{◌≡◌, ℕ, ◌<◌, ◌+◌, inl, inr, true, List, [], ◌∷◌, ◌++◌, length, get_or, set, None, Some}
+use Rattle.std.proofs.Common.{refl, sym, ap, subst, ◌∙◌, arith}
 use Rattle.std.specs.Prelude.{Option, slice_get}
 use Rattle.std.proofs.lemmas.List.{length-set, length_push}
 use Rattle.std.proofs.lemmas.List.Sums.{count_by-le-length}
@@ -9,19 +10,23 @@ use Rattle.perform_graph.specs.declared.progress.Progress.{Progress}
 use Rattle.perform_graph.specs.declared.progress.Progress.TheVariants.{Unseen, Open, Placed}
 use Rattle.perform_graph.specs.declared.visit.Visit.{Visit}
 use Rattle.perform_graph.specs.Grouped.{IsGrouped}
-use Rattle.perform_graph.specs.Walk.{AllPlaced, Advances, PerformsVisit, IsWalkState, IsLaterWalkState, is_placed, is_seen, state, weight}
+use Rattle.perform_graph.specs.Walk.{AllPlaced, Advances, PerformsVisit, IsWalkState, IsLaterWalkState, is_placed}
+use Rattle.perform_graph.specs.Walk.{is_seen, state, weight}
 use Rattle.perform_graph.proofs.Lists.{pushed_cases}
 use Rattle.perform_graph.proofs.States.{count_more, less_ahead, seen_kept}
 use Rattle.perform_graph.proofs.Steps.{last_open, last_within, placed_stands, entered_stands}
 use Rattle.perform_graph.proofs.Groups.{begun}
 
 -- the same walk, by equal parts
-same_stands : (performed : List PerformedRange) (old new : List Progress) (path later : List Visit) (placed now : ℕ) → new ≡ old → later ≡ path → now ≡ placed
+same_stands : (performed : List PerformedRange) (old new : List Progress) (path later : List Visit) (placed now : ℕ)
+    → new ≡ old → later ≡ path → now ≡ placed
     → IsWalkState performed old path placed → IsWalkState performed new later now
 same_stands performed old new path later placed now e f g h =
-    subst (λ s. IsWalkState performed s later now) (sym e) (subst (λ p. IsWalkState performed old p now) (sym f) (subst (IsWalkState performed old path) (sym g) h))
+    subst (λ s. IsWalkState performed s later now) (sym e)
+    (subst (λ p. IsWalkState performed old p now) (sym f) (subst (IsWalkState performed old path) (sym g) h))
 
-goes_on : (states new : List Progress) (paragraph : ℕ) (now : Progress) → paragraph < length states → is_seen now ≡ true → weight now < weight (state states paragraph)
+goes_on : (states new : List Progress) (paragraph : ℕ) (now : Progress) → paragraph < length states → is_seen now ≡ true
+    → weight now < weight (state states paragraph)
     → new ≡ set states paragraph now → Advances states new
 goes_on states new paragraph now within seen less e =
     subst (Advances states) (sym e) (record {
@@ -30,7 +35,8 @@ goes_on states new paragraph now within seen less e =
       less = less_ahead states paragraph now within less;
     })
 
-pub last_room : (performed : List PerformedRange) (states : List Progress) (path : List Visit) (placed : ℕ) (visit : Visit) → IsWalkState performed states (path ++ visit ∷ []) placed
+pub last_room : (performed : List PerformedRange) (states : List Progress) (path : List Visit) (placed : ℕ)
+    (visit : Visit) → IsWalkState performed states (path ++ visit ∷ []) placed
     → placed < length states
 last_room performed states path placed visit stands =
     let within = last_within performed states path placed visit stands in
@@ -41,37 +47,51 @@ last_room performed states path placed visit stands =
     let count = stands.count in
     omega arith
 
-pub placed_on : (performed : List PerformedRange) (states new : List Progress) (path later : List Visit) (placed now : ℕ) (visit : Visit)
+pub placed_on : (performed : List PerformedRange) (states new : List Progress) (path later : List Visit)
+    (placed now : ℕ) (visit : Visit)
     → IsWalkState performed states (path ++ visit ∷ []) placed → AllPlaced performed states visit.paragraph
-    → new ≡ set states visit.paragraph (Placed placed) → later ≡ path → now ≡ placed + 1 → IsLaterWalkState performed states new later now
+    → new ≡ set states visit.paragraph (Placed placed) → later ≡ path → now ≡ placed + 1
+    → IsLaterWalkState performed states new later now
 placed_on performed states new path later placed now visit stands all e f g =
     let opened = ap weight (last_open performed states path placed visit stands) in
     record {
-      stands = same_stands performed (set states visit.paragraph (Placed placed)) new path later (placed + 1) now e f g (placed_stands performed states path placed visit stands all);
-      on = goes_on states new visit.paragraph (Placed placed) (last_within performed states path placed visit stands) refl (omega arith) e;
+      stands = same_stands performed (set states visit.paragraph (Placed placed)) new path later (placed + 1) now e f g
+          (placed_stands performed states path placed visit stands all);
+      on = goes_on states new visit.paragraph (Placed placed) (last_within performed states path placed visit stands)
+          refl (omega arith) e;
     }
 
 -- A paragraph that wasn't seen comes to the end of the path.
-module _ (performed : List PerformedRange) (states new : List Progress) (path later : List Visit) (placed now : ℕ) (visit : Visit) (last before : List (Option ℕ))
-    (grouped : IsGrouped (length states) performed last before) (stands : IsWalkState performed states path placed) (within : visit.paragraph < length states)
-    (unseen : state states visit.paragraph ≡ Unseen) (at : visit.at ≡ get_or last visit.paragraph None) (next : visit.next ≡ 0)
-    (leads : (depth : ℕ) (one : Visit) → depth + 1 ≡ length path → slice_get path depth ≡ Some one → PerformsVisit performed one visit)
-    (new_is : new ≡ set states visit.paragraph (Open (length path))) (later_is : later ≡ path ++ visit ∷ []) (now_is : now ≡ placed) where
+module _ (performed : List PerformedRange) (states new : List Progress) (path later : List Visit) (placed now : ℕ)
+    (visit : Visit) (last before : List (Option ℕ))
+    (grouped : IsGrouped (length states) performed last before) (stands : IsWalkState performed states path placed)
+    (within : visit.paragraph < length states)
+    (unseen : state states visit.paragraph ≡ Unseen) (at : visit.at ≡ get_or last visit.paragraph None)
+    (next : visit.next ≡ 0)
+    (leads : (depth : ℕ) (one : Visit) → depth + 1 ≡ length path → slice_get path depth ≡ Some one
+    → PerformsVisit performed one visit)
+    (new_is : new ≡ set states visit.paragraph (Open (length path))) (later_is : later ≡ path ++ visit ∷ [])
+    (now_is : now ≡ placed) where
   pub entered_on : IsLaterWalkState performed states new later now
   entered_on =
       let heavy = ap weight unseen in
       record {
-        stands = same_stands performed (set states visit.paragraph (Open (length path))) new (path ++ visit ∷ []) later placed now new_is later_is now_is
-            (entered_stands performed states path placed visit stands unseen within (begun (length states) performed states last before visit grouped within at next) leads);
+        stands = same_stands performed (set states visit.paragraph (Open (length path))) new (path ++ visit ∷ []) later
+            placed now new_is later_is now_is
+            (entered_stands performed states path placed visit stands unseen within
+            (begun (length states) performed states last before visit grouped within at next) leads);
         on = goes_on states new visit.paragraph (Open (length path)) within refl (omega arith) new_is;
       }
 
 -- only the last visit of a path is at its end
-pub only_last_leads : (performed : List PerformedRange) (path middle : List Visit) (next visit : Visit) → middle ≡ path ++ next ∷ [] → PerformsVisit performed next visit
-    → (depth : ℕ) (one : Visit) → depth + 1 ≡ length middle → slice_get middle depth ≡ Some one → PerformsVisit performed one visit
+pub only_last_leads : (performed : List PerformedRange) (path middle : List Visit) (next visit : Visit)
+    → middle ≡ path ++ next ∷ [] → PerformsVisit performed next visit
+    → (depth : ℕ) (one : Visit) → depth + 1 ≡ length middle → slice_get middle depth ≡ Some one
+    → PerformsVisit performed one visit
 only_last_leads performed path middle next visit e leads depth one end at =
     let size = ap (λ (l : List Visit). length l) e in
     elim (pushed_cases path next one depth (ap (λ (l : List Visit). slice_get l depth) (sym e) ∙ at)) [
-      | inl h ↦ (let below = slice_get_within path depth one h in let pushed = length_push path next in absurd (omega arith))
+      | inl h ↦
+          (let below = slice_get_within path depth one h in let pushed = length_push path next in absurd (omega arith))
       | inr h ↦ subst (λ v. PerformsVisit performed v visit) (sym h.1) leads
     ]

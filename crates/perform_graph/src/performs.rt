@@ -29,7 +29,8 @@ impl<'a> Performs<'a> {
     ) -> Result<Performs<'a>, AllocError>
         requires { All (IsRange count) performed.now }
         ensures performed { IfOk result (λ performs. performs.performed.now ≡ performed.entry.now) }
-        ensures grouped { IfOk result (λ performs. IsGrouped count performed.entry.now performs.last.items performs.before.items) }
+        ensures grouped { IfOk result (λ performs.
+            IsGrouped count performed.entry.now performs.last.items performs.before.items) }
     {
         let mut last = vec![in alloc; None; count]?;
         let mut before = Vec::new(alloc);
@@ -61,9 +62,11 @@ impl<'a> Performs<'a> {
     /// The visit, moved on to the next paragraph that isn't placed, if there is one that it performs.
     pub fn moved(&self, states: &[Progress], mut visit: Visit) -> Option<Visit>
         requires ranges { All (IsRange (length states.now)) self.now.performed.now }
-        requires grouped { IsGrouped (length states.now) self.now.performed.now self.now.last.items self.now.before.items }
+        requires grouped { IsGrouped (length states.now) self.now.performed.now self.now.last.items
+            self.now.before.items }
         requires over { HasGoneOver self.now.performed.now states.now visit }
-        ensures { MatchOption result (AllPlaced self.now.performed.now states.now visit.paragraph) (HasNext self.now.performed.now states.now visit.paragraph) }
+        ensures { MatchOption result (AllPlaced self.now.performed.now states.now visit.paragraph)
+            (HasNext self.now.performed.now states.now visit.paragraph) }
     {
         'performs: while let Some(at) = visit.at {
             let one = self.performed[at];

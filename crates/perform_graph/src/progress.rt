@@ -44,7 +44,9 @@ impl Progress {
 /// The first paragraph from one to another that isn't placed.
 pub fn first_unplaced(states: &[Progress], first: usize, last: usize) -> Option<usize>
     requires { last < length states.now }
-    ensures { MatchOption result ((paragraph : ℕ) → first ≤ paragraph → paragraph ≤ last → walk.is_placed (walk.state states.now paragraph) ≡ true) (walk.IsFirstUnplaced states.now first last) }
+    ensures { MatchOption result ((paragraph : ℕ) → first ≤ paragraph → paragraph ≤ last
+        → walk.is_placed (walk.state states.now paragraph) ≡ true)
+        (walk.IsFirstUnplaced states.now first last) }
 {
     for paragraph in first..=last {
         if !states[paragraph].is_placed() {

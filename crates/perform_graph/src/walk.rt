@@ -38,7 +38,8 @@ impl Walk {
     /// Puts a visit at the end of the path.
     fn enter(&mut self, visit: Visit) -> Result<(), AllocError>
         requires { visit.paragraph < length self.old.states.items }
-        ensures states { OnOk result (self.new.states.items ≡ slice_set self.old.states.items visit.paragraph (Open (length self.old.path.items))) }
+        ensures states { OnOk result (self.new.states.items
+            ≡ slice_set self.old.states.items visit.paragraph (Open (length self.old.path.items))) }
         ensures path { OnOk result (self.new.path.items ≡ self.old.path.items ++ visit ∷ []) }
         ensures placed { self.new.placed ≡ self.old.placed }
     {
@@ -51,7 +52,8 @@ impl Walk {
     fn place(&mut self, paragraph: usize)
         requires within { paragraph < length self.old.states.items }
         requires room { self.old.placed < length self.old.states.items }
-        ensures states { self.new.states.items ≡ slice_set self.old.states.items paragraph (Placed self.old.placed) }
+        ensures states { self.new.states.items
+            ≡ slice_set self.old.states.items paragraph (Placed self.old.placed) }
         ensures path { self.new.path.items ≡ self.old.path.items }
         ensures placed { self.new.placed ≡ self.old.placed + 1 }
     {
@@ -63,9 +65,14 @@ impl Walk {
     /// of the path from where on the paragraphs perform one another, if it comes back to the path.
     fn go_on(&mut self, performs: &Performs<'_>, visit: Visit) -> Result<Option<usize>, AllocError>
         requires ranges { All (IsRange (length self.old.states.items)) performs.now.performed.now }
-        requires grouped { IsGrouped (length self.old.states.items) performs.now.performed.now performs.now.last.items performs.now.before.items }
-        requires stands { IsWalkState performs.now.performed.now self.old.states.items (self.old.path.items ++ visit ∷ []) self.old.placed }
-        ensures { IfOk result (λ ring. MatchOption ring (IsLaterWalkState performs.now.performed.now self.old.states.items self.new.states.items self.new.path.items self.new.placed) (λ depth. IsCycle performs.now.performed.now (length self.old.states.items) (drop depth self.new.path.items))) }
+        requires grouped { IsGrouped (length self.old.states.items) performs.now.performed.now
+            performs.now.last.items performs.now.before.items }
+        requires stands { IsWalkState performs.now.performed.now self.old.states.items
+            (self.old.path.items ++ visit ∷ []) self.old.placed }
+        ensures { IfOk result (λ ring. MatchOption ring (IsLaterWalkState performs.now.performed.now
+            self.old.states.items self.new.states.items self.new.path.items self.new.placed)
+            (λ depth. IsCycle performs.now.performed.now (length self.old.states.items)
+            (drop depth self.new.path.items))) }
     {
         let Some(visit) = performs.moved(&self.states, visit) else {
             self.place(visit.paragraph);
@@ -87,12 +94,17 @@ impl Walk {
         root: usize,
     ) -> Result<Option<usize>, AllocError>
         requires ranges { All (IsRange (length self.old.states.items)) performs.now.performed.now }
-        requires grouped { IsGrouped (length self.old.states.items) performs.now.performed.now performs.now.last.items performs.now.before.items }
-        requires stands { IsWalkState performs.now.performed.now self.old.states.items [] self.old.placed }
+        requires grouped { IsGrouped (length self.old.states.items) performs.now.performed.now
+            performs.now.last.items performs.now.before.items }
+        requires stands { IsWalkState performs.now.performed.now self.old.states.items []
+            self.old.placed }
         requires path { self.old.path.items ≡ [] }
         requires within { root < length self.old.states.items }
         requires unseen { state self.old.states.items root ≡ Unseen }
-        ensures { IfOk result (λ ring. MatchOption ring (IsWalked performs.now.performed.now root self.old.states.items self.new.states.items self.new.path.items self.new.placed) (λ depth. IsCycle performs.now.performed.now (length self.old.states.items) (drop depth self.new.path.items))) }
+        ensures { IfOk result (λ ring. MatchOption ring (IsWalked performs.now.performed.now root
+            self.old.states.items self.new.states.items self.new.path.items self.new.placed)
+            (λ depth. IsCycle performs.now.performed.now (length self.old.states.items)
+            (drop depth self.new.path.items))) }
     {
         self.enter(performs.visit(root))?;
         'steps: while let Some(visit) = self.path.pop() {

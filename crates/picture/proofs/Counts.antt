@@ -1,5 +1,6 @@
 -- Counts of symbols and places are at most those of all symbols.
-use Rattle.std.proofs.Common.{◌≡◌, ◌≤◌, ◌<◌, ◌+◌, ◌*◌, ℕ, Bool, true, false, if◌then◌else◌, List, [], ◌∷◌, drop, length, slice_index_or, refl, ap, sym, ◌∙◌, add-one, arith, drop-cons}
+use Rattle.std.proofs.Common.{◌≡◌, ◌≤◌, ◌<◌, ◌+◌, ◌*◌, ℕ, Bool, true, false, if◌then◌else◌, List, [], ◌∷◌, drop, length}
+use Rattle.std.proofs.Common.{slice_index_or, refl, ap, sym, ◌∙◌, add-one, arith, drop-cons}
 use Rattle.picture.specs.declared.run.Run.{Run}
 use Rattle.picture.specs.declared.class.Class.{Class}
 use Rattle.picture.specs.declared.class.Class.TheVariants as c
@@ -43,17 +44,20 @@ unfolding size_of symbol_count
 size_at_most [] = omega arith
 size_at_most (run ∷ more) = let w = width_most run.symbol run.count in let m = size_at_most more in omega arith
 
-pub rest_total : (runs : List Run) (i : ℕ) (d : Run) → i < length runs → symbol_count (drop i runs) ≡ (slice_index_or runs i d).count + symbol_count (drop (i + 1) runs)
+pub rest_total : (runs : List Run) (i : ℕ) (d : Run) → i < length runs
+    → symbol_count (drop i runs) ≡ (slice_index_or runs i d).count + symbol_count (drop (i + 1) runs)
 unfolding symbol_count
 rest_total runs i d h = rw (add-one, drop-cons runs i d) refl
 
 pub rest_occurrences : (class : Class) (runs : List Run) (i : ℕ) (d : Run) → i < length runs
-    → occurrences class (drop i runs) ≡ (if class_has class (slice_index_or runs i d).symbol then (slice_index_or runs i d).count else 0) + occurrences class (drop (i + 1) runs)
+    → occurrences class (drop i runs) ≡ (if class_has class (slice_index_or runs i d).symbol
+    then (slice_index_or runs i d).count else 0) + occurrences class (drop (i + 1) runs)
 unfolding occurrences
 rest_occurrences class runs i d h = rw (add-one, drop-cons runs i d) refl
 
 pub rest_size : (runs : List Run) (i : ℕ) (d : Run) → i < length runs
-    → size_of (drop i runs) ≡ width (slice_index_or runs i d).symbol * (slice_index_or runs i d).count + size_of (drop (i + 1) runs)
+    → size_of (drop i runs)
+    ≡ width (slice_index_or runs i d).symbol * (slice_index_or runs i d).count + size_of (drop (i + 1) runs)
 unfolding size_of
 rest_size runs i d h = rw (add-one, drop-cons runs i d) refl
 
@@ -63,20 +67,24 @@ taken false n f m all t h = cc
 
 -- one more run of the class is still counted within them all
 pub counted_within : (class : Class) (runs : List Run) (i : ℕ) (d : Run) (found : ℕ) → i < length runs
-    → found + occurrences class (drop i runs) ≡ occurrences class runs → class_has class (slice_index_or runs i d).symbol ≡ true
+    → found + occurrences class (drop i runs) ≡ occurrences class runs
+    → class_has class (slice_index_or runs i d).symbol ≡ true
     → found + (slice_index_or runs i d).count ≤ symbol_count runs
 counted_within class runs i d found h e t =
     let most = at_most_all class runs in
-    let one = taken (class_has class (slice_index_or runs i d).symbol) (slice_index_or runs i d).count found (occurrences class (drop (i + 1) runs)) _ t
+    let one = taken (class_has class (slice_index_or runs i d).symbol) (slice_index_or runs i d).count found
+    (occurrences class (drop (i + 1) runs)) _ t
     (ap (λ n. found + n) (sym (rest_occurrences class runs i d h)) ∙ e) in
     omega arith
 
-pub sized_within : (runs : List Run) (i : ℕ) (d : Run) (places : ℕ) → i < length runs → places + size_of (drop i runs) ≡ size_of runs
+pub sized_within : (runs : List Run) (i : ℕ) (d : Run) (places : ℕ) → i < length runs
+    → places + size_of (drop i runs) ≡ size_of runs
     → places + width (slice_index_or runs i d).symbol * (slice_index_or runs i d).count ≤ 2 * symbol_count runs
 sized_within runs i d places h e =
     let most = size_at_most runs in let r = rest_size runs i d h in omega arith
 
-pub from_rest : (class other : Class) (runs : List Run) → occurrences class (from_first other runs) ≤ occurrences class runs
+pub from_rest : (class other : Class) (runs : List Run)
+    → occurrences class (from_first other runs) ≤ occurrences class runs
 unfolding from_first occurrences
 from_rest class other [] = omega arith
 from_rest class other (run ∷ more) = go (class_has other run.symbol) (from_rest class other more)

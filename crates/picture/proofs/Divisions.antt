@@ -1,5 +1,6 @@
 -- The principle that divides a picture loses none: however a picture is divided, the reader passes it.
-use Rattle.std.proofs.Common.{◌≡◌, Bool, true, false, not, ◌&&◌, if◌then◌else◌, nat_lt, List, [], ◌∷◌, ◌++◌, inl, inr, refl, sym, ap, ◌∙◌, subst, arith}
+use Rattle.std.proofs.Common.{◌≡◌, Bool, true, false, not, ◌&&◌, if◌then◌else◌, nat_lt, List, [], ◌∷◌, ◌++◌, inl, inr}
+use Rattle.std.proofs.Common.{refl, sym, ap, ◌∙◌, subst, arith}
 use Rattle.picture.specs.declared.run.Run.{Run}
 use Rattle.picture.specs.declared.class.Class.{Class}
 use Rattle.picture.specs.declared.class.Class.TheVariants as c
@@ -9,7 +10,8 @@ use Rattle.picture.specs.declared.symbol.Suppression.{Suppression}
 use Rattle.picture.specs.declared.symbol.Suppression.TheVariants as z
 use Rattle.picture.specs.Symbols.{class_has}
 use Rattle.picture.specs.Runs.{runs_past, past_one, is_one, occurrences}
-use Rattle.picture.specs.Forms.{Part, ◌then◌, whole_picture, Each, one, stretch, some_of, perhaps, numeric_arrangement, any_numeric_arrangement, arrangement, any_arrangement, decimals}
+use Rattle.picture.specs.Forms.{Part, ◌then◌, whole_picture, Each, one, stretch, some_of, perhaps, numeric_arrangement}
+use Rattle.picture.specs.Forms.{any_numeric_arrangement, arrangement, any_arrangement, decimals}
 use Rattle.picture.proofs.Parts.{none_passed, passed_one}
 use Rattle.picture.proofs.Forms.{numeric_steps, edited_steps}
 
@@ -23,12 +25,15 @@ apart one other x = not (class_has one x && class_has other x)
 
 unfoldable pub every_symbol : (Symbol → Bool) → Bool
 every_symbol test =
-    test s.A && test s.X && test s.Nine && test s.S && test s.V && test s.B && test s.Zero && test s.Slash && test s.Comma
-    && test s.Point && test s.Z && test s.Star && test s.Plus && test s.Minus && test s.Currency && test s.Cr && test s.Db
+    test s.A && test s.X && test s.Nine && test s.S && test s.V && test s.B && test s.Zero && test s.Slash
+    && test s.Comma
+    && test s.Point && test s.Z && test s.Star && test s.Plus && test s.Minus && test s.Currency && test s.Cr
+    && test s.Db
 
 unfoldable pub every_suppression : (Suppression → Bool) → Bool
 every_suppression test =
-    test z.Nothing && test z.Spaces && test z.Asterisks && test z.FloatingCurrency && test z.FloatingPlus && test z.FloatingMinus
+    test z.Nothing && test z.Spaces && test z.Asterisks && test z.FloatingCurrency && test z.FloatingPlus
+    && test z.FloatingMinus
 
 pub symbol_holds : (test : Symbol → Bool) → every_symbol test ≡ true → (x : Symbol) → test x ≡ true
 unfolding every_symbol
@@ -50,7 +55,8 @@ symbol_holds test h s.Currency = grind arith
 symbol_holds test h s.Cr = grind arith
 symbol_holds test h s.Db = grind arith
 
-pub suppression_holds : (test : Suppression → Bool) → every_suppression test ≡ true → (by : Suppression) → test by ≡ true
+pub suppression_holds : (test : Suppression → Bool) → every_suppression test ≡ true → (by : Suppression)
+    → test by ≡ true
 unfolding every_suppression
 suppression_holds test h z.Nothing = grind arith
 suppression_holds test h z.Spaces = grind arith
@@ -69,9 +75,11 @@ unfolding apart Apart
 are_apart one other h = λ x. both (class_has one x) (class_has other x) (symbol_holds (apart one other) h x)
 
 -- whatever suppresses zeros
-always_apart : (one other : Suppression → Class) → every_suppression (λ by. every_symbol (apart (one by) (other by))) ≡ true
+always_apart : (one other : Suppression → Class)
+    → every_suppression (λ by. every_symbol (apart (one by) (other by))) ≡ true
     → (by : Suppression) → Apart (one by) (other by)
-always_apart one other h by = are_apart (one by) (other by) (suppression_holds (λ by. every_symbol (apart (one by) (other by))) h by)
+always_apart one other h by =
+    are_apart (one by) (other by) (suppression_holds (λ by. every_symbol (apart (one by) (other by))) h by)
 
 nines_end : (by : Suppression) → Apart c.NinesAndInsertions (c.TrailingSign by)
 unfolding every_suppression every_symbol apart class_has
@@ -130,7 +138,8 @@ unfolding Apart
 swap one other h = λ x e f. h x f e
 
 -- decimals are nines or suppressed places, and insertions
-decimals_apart : (by : Suppression) (runs : List Run) (other : Class) → Apart c.NinesAndInsertions other → Apart (c.SuppressedAndInsertions by) other → Apart (decimals by runs) other
+decimals_apart : (by : Suppression) (runs : List Run) (other : Class) → Apart c.NinesAndInsertions other
+    → Apart (c.SuppressedAndInsertions by) other → Apart (decimals by runs) other
 decimals_apart by runs other nines zeros = go (nat_lt 0 (occurrences (c.Digits z.Nothing) runs))
   where
     go : (b : Bool) → Apart (if b then c.NinesAndInsertions else c.SuppressedAndInsertions by) other
@@ -143,11 +152,13 @@ decimals_apart by runs other nines zeros = go (nat_lt 0 (occurrences (c.Digits z
 Closed : Class → Part → Type 0
 Closed class p = (runs : List Run) → p runs [] → p (runs_past class runs) []
 
-past_it : (class : Class) (run : Run) (more : List Run) → class_has class run.symbol ≡ true → runs_past class (run ∷ more) ≡ runs_past class more
+past_it : (class : Class) (run : Run) (more : List Run) → class_has class run.symbol ≡ true
+    → runs_past class (run ∷ more) ≡ runs_past class more
 unfolding runs_past
 past_it class run more h = rw h refl
 
-past_stops : (class : Class) (run : Run) (more : List Run) → class_has class run.symbol ≡ false → runs_past class (run ∷ more) ≡ run ∷ more
+past_stops : (class : Class) (run : Run) (more : List Run) → class_has class run.symbol ≡ false
+    → runs_past class (run ∷ more) ≡ run ∷ more
 unfolding runs_past
 past_stops class run more h = rw h refl
 
@@ -166,7 +177,8 @@ one_in false b e = e
 in_class : (class : Class) (run : Run) → is_one class run ≡ true → class_has class run.symbol ≡ true
 in_class class run h = one_in (class_has class run.symbol) _ h
 
-stays : (class other : Class) → Apart class other → (run : Run) (more : List Run) → is_one other run ≡ true → runs_past class (run ∷ more) ≡ run ∷ more
+stays : (class other : Class) → Apart class other → (run : Run) (more : List Run) → is_one other run ≡ true
+    → runs_past class (run ∷ more) ≡ run ∷ more
 unfolding Apart
 stays class other separate run more h =
     past_stops class run more (not_in (class_has class run.symbol) (λ e. separate run.symbol e (in_class other run h)))
@@ -176,26 +188,33 @@ unfolding Closed
 closed_stretch class other q closed runs (middle, (front, e, each), h) =
     subst (λ l. (some_of other then q) (runs_past class l) []) (sym e) (go front each)
   where
-    in_or_out : (run : Run) (front : List Run) → Each other (run ∷ front) → (some_of other then q) (runs_past class (front ++ middle)) []
-        → (b : Bool) → class_has class run.symbol ≡ b → (some_of other then q) (runs_past class (run ∷ (front ++ middle))) []
-    in_or_out run front each after true e = subst (λ l. (some_of other then q) l []) (sym (past_it class run (front ++ middle) e)) after
-    in_or_out run front each after false e = subst (λ l. (some_of other then q) l []) (sym (past_stops class run (front ++ middle) e)) (middle, (run ∷ front, refl, each), h)
+    in_or_out : (run : Run) (front : List Run) → Each other (run ∷ front)
+        → (some_of other then q) (runs_past class (front ++ middle)) []
+        → (b : Bool) → class_has class run.symbol ≡ b
+        → (some_of other then q) (runs_past class (run ∷ (front ++ middle))) []
+    in_or_out run front each after true e =
+        subst (λ l. (some_of other then q) l []) (sym (past_it class run (front ++ middle) e)) after
+    in_or_out run front each after false e = subst (λ l. (some_of other then q) l [])
+        (sym (past_stops class run (front ++ middle) e)) (middle, (run ∷ front, refl, each), h)
 
     go : (front : List Run) → Each other front → (some_of other then q) (runs_past class (front ++ middle)) []
     go [] each = (runs_past class middle, ([], refl, tt), closed middle h)
     go (run ∷ front) each = in_or_out run front each (go front each.1) (class_has class run.symbol) refl
 
-closed_perhaps : (class other : Class) (q : Part) → Apart class other → Closed class q → Closed class (perhaps other then q)
+closed_perhaps : (class other : Class) (q : Part) → Apart class other → Closed class q
+    → Closed class (perhaps other then q)
 unfolding Closed
 closed_perhaps class other q separate closed runs (middle, inl (run, e, is), h) =
-    subst (λ l. (perhaps other then q) l []) (sym (ap (runs_past class) e ∙ stays class other separate run middle is)) (middle, (inl (run, refl, is)), h)
+    subst (λ l. (perhaps other then q) l []) (sym (ap (runs_past class) e ∙ stays class other separate run middle is))
+    (middle, (inl (run, refl, is)), h)
 closed_perhaps class other q separate closed runs (middle, inr e, h) =
     (runs_past class runs, inr refl, closed runs (subst (λ l. q l []) (sym e) h))
 
 closed_end : (class other : Class) → Apart class other → Closed class (perhaps other)
 unfolding Closed
 closed_end class other separate runs (inl (run, e, is)) =
-    subst (λ l. perhaps other l []) (sym (ap (runs_past class) e ∙ stays class other separate run [] is)) (inl (run, refl, is))
+    subst (λ l. perhaps other l []) (sym (ap (runs_past class) e ∙ stays class other separate run [] is))
+    (inl (run, refl, is))
 closed_end class other separate runs (inr e) = inr (ap (runs_past class) e ∙ past_nothing class)
 
 -- ---- what the reader passes of each part
@@ -204,26 +223,31 @@ closed_end class other separate runs (inr e) = inr (ap (runs_past class) e ∙ p
 Passes : Part → (List Run → List Run) → Type 0
 Passes p pass = (runs : List Run) → p runs [] → pass runs ≡ []
 
-past_front : (class : Class) (front rest : List Run) → Each class front → runs_past class (front ++ rest) ≡ runs_past class rest
+past_front : (class : Class) (front rest : List Run) → Each class front
+    → runs_past class (front ++ rest) ≡ runs_past class rest
 past_front class [] rest each = refl
 past_front class (run ∷ front) rest each = past_it class run (front ++ rest) each.0 ∙ past_front class front rest each.1
 
-passes_stretch : (class : Class) (q : Part) (pass : List Run → List Run) → Closed class q → Passes q pass → Passes (some_of class then q) (λ runs. pass (runs_past class runs))
+passes_stretch : (class : Class) (q : Part) (pass : List Run → List Run) → Closed class q → Passes q pass
+    → Passes (some_of class then q) (λ runs. pass (runs_past class runs))
 unfolding Closed Passes
 passes_stretch class q pass closed passes runs (middle, (front, e, each), h) =
-    ap (λ l. pass (runs_past class l)) e ∙ ap pass (past_front class front middle each) ∙ passes (runs_past class middle) (closed middle h)
+    ap (λ l. pass (runs_past class l)) e ∙ ap pass (past_front class front middle each)
+    ∙ passes (runs_past class middle) (closed middle h)
 
 -- a part that begins with one symbol of the class may only be that symbol
 Avoids : Class → Part → (List Run → List Run) → Type 0
 Avoids class q pass = (run : Run) (more : List Run) → is_one class run ≡ true → q (run ∷ more) [] → pass more ≡ []
 
-passes_perhaps : (class : Class) (q : Part) (pass : List Run → List Run) → Avoids class q pass → Passes q pass → Passes (perhaps class then q) (λ runs. pass (past_one class runs))
+passes_perhaps : (class : Class) (q : Part) (pass : List Run → List Run) → Avoids class q pass → Passes q pass
+    → Passes (perhaps class then q) (λ runs. pass (past_one class runs))
 unfolding Avoids Passes
 passes_perhaps class q pass avoids passes runs (middle, inl (run, e, is), h) =
     ap (λ l. pass (past_one class l)) e ∙ ap pass (passed_one class run middle is) ∙ passes middle h
 passes_perhaps class q pass avoids passes runs (middle, inr e, h) = go runs (subst (λ l. q l []) (sym e) h)
   where
-    inner : (run : Run) (more : List Run) (b : Bool) → is_one class run ≡ b → q (run ∷ more) [] → pass (past_one class (run ∷ more)) ≡ []
+    inner : (run : Run) (more : List Run) (b : Bool) → is_one class run ≡ b → q (run ∷ more) []
+        → pass (past_one class (run ∷ more)) ≡ []
     inner run more true is h = ap pass (passed_one class run more is) ∙ avoids run more is h
     inner run more false is h = ap pass (none_passed class (run ∷ more) is) ∙ passes (run ∷ more) h
 
@@ -236,32 +260,39 @@ unfolding Passes
 passes_end class runs (inl (run, e, is)) = ap (past_one class) e ∙ passed_one class run [] is
 passes_end class runs (inr e) = ap (past_one class) e ∙ none_passed class [] refl
 
-avoids_stretch : (class other : Class) (q : Part) (pass : List Run → List Run) → Apart class other → Avoids class q pass → Avoids class (some_of other then q) pass
+avoids_stretch : (class other : Class) (q : Part) (pass : List Run → List Run) → Apart class other → Avoids class q pass
+    → Avoids class (some_of other then q) pass
 unfolding Avoids Apart
-avoids_stretch class other q pass separate avoids run more is (middle, ([], e, each), h) = avoids run more is (subst (λ l. q l []) (sym e) h)
+avoids_stretch class other q pass separate avoids run more is (middle, ([], e, each), h) =
+    avoids run more is (subst (λ l. q l []) (sym e) h)
 avoids_stretch class other q pass separate avoids run more is (middle, (first ∷ front, e, each), h) =
     let same : run ≡ first = cc in
     absurd (separate run.symbol (in_class class run is) (ap (λ r. class_has other r.symbol) same ∙ each.0))
 
-avoids_perhaps : (class other : Class) (q : Part) (pass : List Run → List Run) → Apart class other → Avoids class q pass → Avoids class (perhaps other then q) pass
+avoids_perhaps : (class other : Class) (q : Part) (pass : List Run → List Run) → Apart class other → Avoids class q pass
+    → Avoids class (perhaps other then q) pass
 unfolding Avoids Apart
-avoids_perhaps class other q pass separate avoids run more is (middle, inr e, h) = avoids run more is (subst (λ l. q l []) (sym e) h)
+avoids_perhaps class other q pass separate avoids run more is (middle, inr e, h) =
+    avoids run more is (subst (λ l. q l []) (sym e) h)
 avoids_perhaps class other q pass separate avoids run more is (middle, inl (first, e, one_is), h) =
     let same : run ≡ first = cc in
-    absurd (separate run.symbol (in_class class run is) (ap (λ r. class_has other r.symbol) same ∙ in_class other first one_is))
+    absurd (separate run.symbol (in_class class run is) (ap (λ r. class_has other r.symbol) same
+    ∙ in_class other first one_is))
 
 avoids_end : (class other : Class) (pass : List Run → List Run) → Apart class other → Avoids class (perhaps other) pass
 unfolding Avoids Apart
 avoids_end class other pass separate run more is (inr e) = cc
 avoids_end class other pass separate run more is (inl (first, e, one_is)) =
     let same : run ≡ first = cc in
-    absurd (separate run.symbol (in_class class run is) (ap (λ r. class_has other r.symbol) same ∙ in_class other first one_is))
+    absurd (separate run.symbol (in_class class run is) (ap (λ r. class_has other r.symbol) same
+    ∙ in_class other first one_is))
 
 -- a sign in front may be the sign at the end, where nothing else stands
 sign_at_end : (class other : Class) (pass : List Run → List Run) → pass [] ≡ [] → Avoids class (perhaps other) pass
 unfolding Avoids
 sign_at_end class other pass none run more is (inr e) = cc
-sign_at_end class other pass none run more is (inl (first, e, one_is)) = let same : more ≡ [] = cc in ap pass same ∙ none
+sign_at_end class other pass none run more is (inl (first, e, one_is)) = let same : more ≡ [] =
+    cc in ap pass same ∙ none
 
 nothing_passed : (class : Class) → past_one class [] ≡ []
 nothing_passed class = none_passed class [] refl
@@ -269,7 +300,8 @@ nothing_passed class = none_passed class [] refl
 -- ---- pictures of characters, which are one stretch
 
 -- However such a picture is divided, the principle divides it too.
-pub characters_divide : (class : Class) (runs : List Run) → whole_picture (some_of class) runs → whole_picture (stretch class) runs
+pub characters_divide : (class : Class) (runs : List Run) → whole_picture (some_of class) runs
+    → whole_picture (stretch class) runs
 characters_divide class runs (front, e, each) = (front, e, each, refl)
 
 -- ---- the numeric picture
@@ -291,12 +323,16 @@ point_digits = swap (c.Digits z.Nothing) c.AssumedPoint digits_point
 
 closed_last : (class other : Class) → Closed class (some_of other)
 unfolding Closed
-closed_last class other runs (front, e, each) = subst (λ l. some_of other (runs_past class l) []) (sym e) (go front each)
+closed_last class other runs (front, e, each) =
+    subst (λ l. some_of other (runs_past class l) []) (sym e) (go front each)
   where
-    in_or_out : (run : Run) (front : List Run) → Each other (run ∷ front) → some_of other (runs_past class (front ++ [])) []
+    in_or_out : (run : Run) (front : List Run) → Each other (run ∷ front)
+        → some_of other (runs_past class (front ++ [])) []
         → (b : Bool) → class_has class run.symbol ≡ b → some_of other (runs_past class (run ∷ (front ++ []))) []
-    in_or_out run front each after true is = subst (λ l. some_of other l []) (sym (past_it class run (front ++ []) is)) after
-    in_or_out run front each after false is = subst (λ l. some_of other l []) (sym (past_stops class run (front ++ []) is)) (run ∷ front, refl, each)
+    in_or_out run front each after true is =
+        subst (λ l. some_of other l []) (sym (past_it class run (front ++ []) is)) after
+    in_or_out run front each after false is =
+        subst (λ l. some_of other l []) (sym (past_stops class run (front ++ []) is)) (run ∷ front, refl, each)
 
     go : (front : List Run) → Each other front → some_of other (runs_past class (front ++ [])) []
     go [] each = ([], past_nothing class, tt)
@@ -317,23 +353,28 @@ abbrev nines : Class
 nines = c.Digits z.Nothing
 
 pass_decimals : Passes (perhaps c.AssumedPoint then some_of nines) (λ r. runs_past nines (past_one c.AssumedPoint r))
-pass_decimals = passes_perhaps c.AssumedPoint (some_of nines) (runs_past nines) (avoids_last c.AssumedPoint nines (runs_past nines) point_digits) (passes_last nines)
+pass_decimals = passes_perhaps c.AssumedPoint (some_of nines) (runs_past nines)
+    (avoids_last c.AssumedPoint nines (runs_past nines) point_digits) (passes_last nines)
 
-pass_nines : Passes (some_of nines then perhaps c.AssumedPoint then some_of nines) (λ r. runs_past nines (past_one c.AssumedPoint (runs_past nines r)))
+pass_nines : Passes (some_of nines then perhaps c.AssumedPoint then some_of nines)
+    (λ r. runs_past nines (past_one c.AssumedPoint (runs_past nines r)))
 pass_nines =
     passes_stretch nines (perhaps c.AssumedPoint then some_of nines) (λ r. runs_past nines (past_one c.AssumedPoint r))
     (closed_perhaps nines c.AssumedPoint (some_of nines) digits_point (closed_last nines nines)) pass_decimals
 
-pass_numeric : Passes any_numeric_arrangement (λ r. runs_past nines (past_one c.AssumedPoint (runs_past nines (past_one c.OperationalSign r))))
+pass_numeric : Passes any_numeric_arrangement
+    (λ r. runs_past nines (past_one c.AssumedPoint (runs_past nines (past_one c.OperationalSign r))))
 pass_numeric =
     let pass : List Run → List Run = λ r. runs_past nines (past_one c.AssumedPoint (runs_past nines r)) in
     passes_perhaps c.OperationalSign (some_of nines then perhaps c.AssumedPoint then some_of nines) pass
     (avoids_stretch c.OperationalSign nines (perhaps c.AssumedPoint then some_of nines) pass sign_digits
-    (avoids_perhaps c.OperationalSign c.AssumedPoint (some_of nines) pass sign_assumed (avoids_last c.OperationalSign nines pass sign_digits)))
+    (avoids_perhaps c.OperationalSign c.AssumedPoint (some_of nines) pass sign_assumed
+    (avoids_last c.OperationalSign nines pass sign_digits)))
     pass_nines
 
 -- However a numeric picture is divided into its parts, the principle divides it too.
-pub numeric_divides : (runs : List Run) → whole_picture any_numeric_arrangement runs → whole_picture numeric_arrangement runs
+pub numeric_divides : (runs : List Run) → whole_picture any_numeric_arrangement runs
+    → whole_picture numeric_arrangement runs
 unfolding Passes
 numeric_divides runs h = subst (numeric_arrangement runs) (pass_numeric runs h) (numeric_steps.does runs)
 
@@ -346,44 +387,113 @@ module _ (by : Suppression) (runs : List Run) where
   pass6 : Passes (perhaps (c.TrailingSign by)) (past_one (c.TrailingSign by))
   pass6 = passes_end (c.TrailingSign by)
 
-  pass5 : Passes (some_of (decimals by runs) then perhaps (c.TrailingSign by)) (λ r. past_one (c.TrailingSign by) (runs_past (decimals by runs) r))
-  pass5 = passes_stretch (decimals by runs) (perhaps (c.TrailingSign by)) (past_one (c.TrailingSign by)) (closed_end (decimals by runs) (c.TrailingSign by) d_end) pass6
+  pass5 : Passes (some_of (decimals by runs) then perhaps (c.TrailingSign by))
+      (λ r. past_one (c.TrailingSign by) (runs_past (decimals by runs) r))
+  pass5 = passes_stretch (decimals by runs) (perhaps (c.TrailingSign by)) (past_one (c.TrailingSign by))
+      (closed_end (decimals by runs) (c.TrailingSign by) d_end) pass6
 
-  closed5 : (class : Class) → Apart class (c.TrailingSign by) → Closed class (some_of (decimals by runs) then perhaps (c.TrailingSign by))
-  closed5 = λ class separate. closed_stretch class (decimals by runs) (perhaps (c.TrailingSign by)) (closed_end class (c.TrailingSign by) separate)
+  closed5 : (class : Class) → Apart class (c.TrailingSign by)
+      → Closed class (some_of (decimals by runs) then perhaps (c.TrailingSign by))
+  closed5 = λ class separate. closed_stretch class (decimals by runs) (perhaps (c.TrailingSign by))
+      (closed_end class (c.TrailingSign by) separate)
 
-  closed4 : (class : Class) → Apart class c.Points → Apart class (c.TrailingSign by) → Closed class (perhaps c.Points then some_of (decimals by runs) then perhaps (c.TrailingSign by))
-  closed4 = λ class point end. closed_perhaps class c.Points (some_of (decimals by runs) then perhaps (c.TrailingSign by)) point (closed5 class end)
+  closed4 : (class : Class) → Apart class c.Points → Apart class (c.TrailingSign by)
+      → Closed class (perhaps c.Points then some_of (decimals by runs) then perhaps (c.TrailingSign by))
+  closed4 = λ class point end. closed_perhaps class c.Points
+      (some_of (decimals by runs) then perhaps (c.TrailingSign by)) point (closed5 class end)
 
-  closed3 : (class : Class) → Apart class c.Points → Apart class (c.TrailingSign by) → Closed class (some_of c.NinesAndInsertions then perhaps c.Points then some_of (decimals by runs) then perhaps (c.TrailingSign by))
-  closed3 = λ class point end. closed_stretch class c.NinesAndInsertions (perhaps c.Points then some_of (decimals by runs) then perhaps (c.TrailingSign by)) (closed4 class point end)
+  closed3 : (class : Class) → Apart class c.Points → Apart class (c.TrailingSign by)
+      → Closed class (some_of c.NinesAndInsertions then perhaps c.Points then some_of (decimals by runs)
+      then perhaps (c.TrailingSign by))
+  closed3 = λ class point end. closed_stretch class c.NinesAndInsertions
+      (perhaps c.Points then some_of (decimals by runs) then perhaps (c.TrailingSign by)) (closed4 class point end)
 
-  avoid5 : (class : Class) (pass : List Run → List Run) → Apart class (decimals by runs) → Avoids class (perhaps (c.TrailingSign by)) pass → Avoids class (some_of (decimals by runs) then perhaps (c.TrailingSign by)) pass
-  avoid5 = λ class pass digits end. avoids_stretch class (decimals by runs) (perhaps (c.TrailingSign by)) pass digits end
+  avoid5 : (class : Class) (pass : List Run → List Run)
+      → Apart class (decimals by runs) → Avoids class (perhaps (c.TrailingSign by)) pass
+      → Avoids class (some_of (decimals by runs) then perhaps (c.TrailingSign by)) pass
+  avoid5 =
+      λ class pass digits end. avoids_stretch class (decimals by runs) (perhaps (c.TrailingSign by)) pass digits end
 
-  pass4 : Passes (perhaps c.Points then some_of (decimals by runs) then perhaps (c.TrailingSign by)) (λ r. past_one (c.TrailingSign by) (runs_past (decimals by runs) (past_one c.Points r)))
-  pass4 = passes_perhaps c.Points (some_of (decimals by runs) then perhaps (c.TrailingSign by)) (λ r. past_one (c.TrailingSign by) (runs_past (decimals by runs) r)) (avoid5 c.Points (λ r. past_one (c.TrailingSign by) (runs_past (decimals by runs) r)) (swap (decimals by runs) c.Points (decimals_apart by runs c.Points (nines_point by) (zeros_point by))) (avoids_end c.Points (c.TrailingSign by) (λ r. past_one (c.TrailingSign by) (runs_past (decimals by runs) r)) (point_end by))) pass5
+  pass4 : Passes (perhaps c.Points then some_of (decimals by runs) then perhaps (c.TrailingSign by))
+      (λ r. past_one (c.TrailingSign by) (runs_past (decimals by runs) (past_one c.Points r)))
+  pass4 = passes_perhaps c.Points (some_of (decimals by runs) then perhaps (c.TrailingSign by))
+      (λ r. past_one (c.TrailingSign by) (runs_past (decimals by runs) r))
+      (avoid5 c.Points (λ r. past_one (c.TrailingSign by) (runs_past (decimals by runs) r)) (swap (decimals by runs)
+      c.Points (decimals_apart by runs c.Points (nines_point by) (zeros_point by))) (avoids_end c.Points
+      (c.TrailingSign by) (λ r. past_one (c.TrailingSign by) (runs_past (decimals by runs) r)) (point_end by))) pass5
 
-  pass3 : Passes (some_of c.NinesAndInsertions then perhaps c.Points then some_of (decimals by runs) then perhaps (c.TrailingSign by)) (λ r. past_one (c.TrailingSign by) (runs_past (decimals by runs) (past_one c.Points (runs_past c.NinesAndInsertions r))))
-  pass3 = passes_stretch c.NinesAndInsertions (perhaps c.Points then some_of (decimals by runs) then perhaps (c.TrailingSign by)) (λ r. past_one (c.TrailingSign by) (runs_past (decimals by runs) (past_one c.Points r))) (closed4 c.NinesAndInsertions (nines_point by) (nines_end by)) pass4
+  pass3 : Passes (some_of c.NinesAndInsertions then perhaps c.Points
+      then some_of (decimals by runs) then perhaps (c.TrailingSign by)) (λ r. past_one (c.TrailingSign by)
+      (runs_past (decimals by runs) (past_one c.Points (runs_past c.NinesAndInsertions r))))
+  pass3 = passes_stretch c.NinesAndInsertions (perhaps c.Points then some_of (decimals by runs) then perhaps
+      (c.TrailingSign by)) (λ r. past_one (c.TrailingSign by) (runs_past (decimals by runs) (past_one c.Points r)))
+      (closed4 c.NinesAndInsertions (nines_point by) (nines_end by)) pass4
 
-  pass2 : Passes (some_of (c.SuppressedAndInsertions by) then some_of c.NinesAndInsertions then perhaps c.Points then some_of (decimals by runs) then perhaps (c.TrailingSign by)) (λ r. past_one (c.TrailingSign by) (runs_past (decimals by runs) (past_one c.Points (runs_past c.NinesAndInsertions (runs_past (c.SuppressedAndInsertions by) r)))))
-  pass2 = passes_stretch (c.SuppressedAndInsertions by) (some_of c.NinesAndInsertions then perhaps c.Points then some_of (decimals by runs) then perhaps (c.TrailingSign by)) (λ r. past_one (c.TrailingSign by) (runs_past (decimals by runs) (past_one c.Points (runs_past c.NinesAndInsertions r)))) (closed3 (c.SuppressedAndInsertions by) (zeros_point by) (zeros_end by)) pass3
+  pass2 : Passes (some_of (c.SuppressedAndInsertions by) then some_of c.NinesAndInsertions
+      then perhaps c.Points then some_of (decimals by runs) then perhaps (c.TrailingSign by))
+      (λ r. past_one (c.TrailingSign by) (runs_past (decimals by runs)
+      (past_one c.Points (runs_past c.NinesAndInsertions (runs_past (c.SuppressedAndInsertions by) r)))))
+  pass2 = passes_stretch (c.SuppressedAndInsertions by) (some_of c.NinesAndInsertions
+      then perhaps c.Points then some_of (decimals by runs) then perhaps (c.TrailingSign by)) (λ r. past_one
+      (c.TrailingSign by) (runs_past (decimals by runs) (past_one c.Points (runs_past c.NinesAndInsertions r))))
+      (closed3 (c.SuppressedAndInsertions by) (zeros_point by) (zeros_end by)) pass3
 
-  avoid2 : (class : Class) (pass : List Run → List Run) → Apart class (c.SuppressedAndInsertions by) → Apart class c.NinesAndInsertions → Apart class c.Points → Avoids class (perhaps (c.TrailingSign by)) pass → Avoids class (some_of (c.SuppressedAndInsertions by) then some_of c.NinesAndInsertions then perhaps c.Points then some_of (decimals by runs) then perhaps (c.TrailingSign by)) pass
-  avoid2 = λ class pass zeros nines point end. avoids_stretch class (c.SuppressedAndInsertions by) (some_of c.NinesAndInsertions then perhaps c.Points then some_of (decimals by runs) then perhaps (c.TrailingSign by)) pass zeros (avoids_stretch class c.NinesAndInsertions (perhaps c.Points then some_of (decimals by runs) then perhaps (c.TrailingSign by)) pass nines (avoids_perhaps class c.Points (some_of (decimals by runs) then perhaps (c.TrailingSign by)) pass point (avoid5 class pass (swap (decimals by runs) class (decimals_apart by runs class (swap class c.NinesAndInsertions nines) (swap class (c.SuppressedAndInsertions by) zeros))) end)))
+  avoid2 : (class : Class) (pass : List Run → List Run) → Apart class (c.SuppressedAndInsertions by)
+      → Apart class c.NinesAndInsertions → Apart class c.Points → Avoids class (perhaps (c.TrailingSign by)) pass
+      → Avoids class (some_of (c.SuppressedAndInsertions by) then some_of c.NinesAndInsertions then perhaps c.Points
+      then some_of (decimals by runs) then perhaps (c.TrailingSign by)) pass
+  avoid2 = λ class pass zeros nines point end. avoids_stretch class (c.SuppressedAndInsertions by) (some_of
+      c.NinesAndInsertions then perhaps c.Points then some_of (decimals by runs) then perhaps (c.TrailingSign by))
+      pass zeros (avoids_stretch class c.NinesAndInsertions (perhaps c.Points then some_of (decimals by runs)
+      then perhaps (c.TrailingSign by)) pass nines (avoids_perhaps class c.Points (some_of (decimals by runs)
+      then perhaps (c.TrailingSign by)) pass point (avoid5 class pass (swap (decimals by runs) class (decimals_apart by
+      runs class (swap class c.NinesAndInsertions nines) (swap class (c.SuppressedAndInsertions by) zeros))) end)))
 
-  pass1 : Passes (perhaps (c.FixedCurrency by) then some_of (c.SuppressedAndInsertions by) then some_of c.NinesAndInsertions then perhaps c.Points then some_of (decimals by runs) then perhaps (c.TrailingSign by)) (λ r. past_one (c.TrailingSign by) (runs_past (decimals by runs) (past_one c.Points (runs_past c.NinesAndInsertions (runs_past (c.SuppressedAndInsertions by) (past_one (c.FixedCurrency by) r))))))
-  pass1 = passes_perhaps (c.FixedCurrency by) (some_of (c.SuppressedAndInsertions by) then some_of c.NinesAndInsertions then perhaps c.Points then some_of (decimals by runs) then perhaps (c.TrailingSign by)) (λ r. past_one (c.TrailingSign by) (runs_past (decimals by runs) (past_one c.Points (runs_past c.NinesAndInsertions (runs_past (c.SuppressedAndInsertions by) r))))) (avoid2 (c.FixedCurrency by) (λ r. past_one (c.TrailingSign by) (runs_past (decimals by runs) (past_one c.Points (runs_past c.NinesAndInsertions (runs_past (c.SuppressedAndInsertions by) r))))) (currency_zeros by) (currency_nines by) (currency_point by) (avoids_end (c.FixedCurrency by) (c.TrailingSign by) (λ r. past_one (c.TrailingSign by) (runs_past (decimals by runs) (past_one c.Points (runs_past c.NinesAndInsertions (runs_past (c.SuppressedAndInsertions by) r))))) (currency_end by))) pass2
+  pass1 : Passes (perhaps (c.FixedCurrency by) then some_of (c.SuppressedAndInsertions by) then some_of
+      c.NinesAndInsertions then perhaps c.Points then some_of (decimals by runs) then perhaps (c.TrailingSign by))
+      (λ r. past_one (c.TrailingSign by) (runs_past (decimals by runs) (past_one c.Points
+      (runs_past c.NinesAndInsertions (runs_past (c.SuppressedAndInsertions by) (past_one (c.FixedCurrency by) r))))))
+  pass1 = passes_perhaps (c.FixedCurrency by) (some_of (c.SuppressedAndInsertions by) then some_of c.NinesAndInsertions
+      then perhaps c.Points then some_of (decimals by runs) then perhaps (c.TrailingSign by))
+      (λ r. past_one (c.TrailingSign by) (runs_past (decimals by runs)
+      (past_one c.Points (runs_past c.NinesAndInsertions (runs_past (c.SuppressedAndInsertions by) r)))))
+      (avoid2 (c.FixedCurrency by) (λ r. past_one (c.TrailingSign by) (runs_past (decimals by runs)
+      (past_one c.Points (runs_past c.NinesAndInsertions (runs_past (c.SuppressedAndInsertions by) r)))))
+      (currency_zeros by) (currency_nines by) (currency_point by) (avoids_end (c.FixedCurrency by)
+      (c.TrailingSign by) (λ r. past_one (c.TrailingSign by) (runs_past (decimals by runs) (past_one c.Points
+      (runs_past c.NinesAndInsertions (runs_past (c.SuppressedAndInsertions by) r))))) (currency_end by))) pass2
 
-  none_left : past_one (c.TrailingSign by) (runs_past (decimals by runs) (past_one c.Points (runs_past c.NinesAndInsertions (runs_past (c.SuppressedAndInsertions by) (past_one (c.FixedCurrency by) []))))) ≡ []
-  none_left = ap (λ r. past_one (c.TrailingSign by) (runs_past (decimals by runs) (past_one c.Points (runs_past c.NinesAndInsertions (runs_past (c.SuppressedAndInsertions by) r))))) (nothing_passed (c.FixedCurrency by)) ∙ ap (λ r. past_one (c.TrailingSign by) (runs_past (decimals by runs) (past_one c.Points (runs_past c.NinesAndInsertions r)))) (past_nothing (c.SuppressedAndInsertions by)) ∙ ap (λ r. past_one (c.TrailingSign by) (runs_past (decimals by runs) (past_one c.Points r))) (past_nothing c.NinesAndInsertions) ∙ ap (λ r. past_one (c.TrailingSign by) (runs_past (decimals by runs) r)) (nothing_passed c.Points) ∙ ap (past_one (c.TrailingSign by)) (past_nothing (decimals by runs)) ∙ nothing_passed (c.TrailingSign by)
+  none_left : past_one (c.TrailingSign by) (runs_past (decimals by runs) (past_one c.Points (runs_past
+      c.NinesAndInsertions (runs_past (c.SuppressedAndInsertions by) (past_one (c.FixedCurrency by) []))))) ≡ []
+  none_left = ap (λ r. past_one (c.TrailingSign by) (runs_past (decimals by runs)
+      (past_one c.Points (runs_past c.NinesAndInsertions (runs_past (c.SuppressedAndInsertions by) r)))))
+      (nothing_passed (c.FixedCurrency by)) ∙ ap (λ r. past_one (c.TrailingSign by) (runs_past (decimals by runs)
+      (past_one c.Points (runs_past c.NinesAndInsertions r)))) (past_nothing (c.SuppressedAndInsertions by))
+      ∙ ap (λ r. past_one (c.TrailingSign by) (runs_past (decimals by runs) (past_one c.Points r)))
+      (past_nothing c.NinesAndInsertions)
+      ∙ ap (λ r. past_one (c.TrailingSign by) (runs_past (decimals by runs) r)) (nothing_passed c.Points)
+      ∙ ap (past_one (c.TrailingSign by)) (past_nothing (decimals by runs)) ∙ nothing_passed (c.TrailingSign by)
 
-  pass0 : Passes (any_arrangement by runs) (λ r. past_one (c.TrailingSign by) (runs_past (decimals by runs) (past_one c.Points (runs_past c.NinesAndInsertions (runs_past (c.SuppressedAndInsertions by) (past_one (c.FixedCurrency by) (past_one (c.LeadingSign by) r)))))))
-  pass0 = passes_perhaps (c.LeadingSign by) (perhaps (c.FixedCurrency by) then some_of (c.SuppressedAndInsertions by) then some_of c.NinesAndInsertions then perhaps c.Points then some_of (decimals by runs) then perhaps (c.TrailingSign by)) (λ r. past_one (c.TrailingSign by) (runs_past (decimals by runs) (past_one c.Points (runs_past c.NinesAndInsertions (runs_past (c.SuppressedAndInsertions by) (past_one (c.FixedCurrency by) r)))))) (avoids_perhaps (c.LeadingSign by) (c.FixedCurrency by) (some_of (c.SuppressedAndInsertions by) then some_of c.NinesAndInsertions then perhaps c.Points then some_of (decimals by runs) then perhaps (c.TrailingSign by)) (λ r. past_one (c.TrailingSign by) (runs_past (decimals by runs) (past_one c.Points (runs_past c.NinesAndInsertions (runs_past (c.SuppressedAndInsertions by) (past_one (c.FixedCurrency by) r)))))) (sign_currency by) (avoid2 (c.LeadingSign by) (λ r. past_one (c.TrailingSign by) (runs_past (decimals by runs) (past_one c.Points (runs_past c.NinesAndInsertions (runs_past (c.SuppressedAndInsertions by) (past_one (c.FixedCurrency by) r)))))) (sign_zeros by) (sign_nines by) (sign_point by) (sign_at_end (c.LeadingSign by) (c.TrailingSign by) (λ r. past_one (c.TrailingSign by) (runs_past (decimals by runs) (past_one c.Points (runs_past c.NinesAndInsertions (runs_past (c.SuppressedAndInsertions by) (past_one (c.FixedCurrency by) r)))))) none_left))) pass1
+  pass0 : Passes (any_arrangement by runs) (λ r.
+      past_one (c.TrailingSign by) (runs_past (decimals by runs) (past_one c.Points (runs_past c.NinesAndInsertions
+      (runs_past (c.SuppressedAndInsertions by) (past_one (c.FixedCurrency by) (past_one (c.LeadingSign by) r)))))))
+  pass0 = passes_perhaps (c.LeadingSign by) (perhaps (c.FixedCurrency by) then some_of (c.SuppressedAndInsertions by)
+      then some_of c.NinesAndInsertions then perhaps c.Points then some_of (decimals by runs) then perhaps
+      (c.TrailingSign by)) (λ r. past_one (c.TrailingSign by) (runs_past (decimals by runs) (past_one c.Points
+      (runs_past c.NinesAndInsertions (runs_past (c.SuppressedAndInsertions by) (past_one (c.FixedCurrency by) r))))))
+      (avoids_perhaps (c.LeadingSign by) (c.FixedCurrency by) (some_of (c.SuppressedAndInsertions by) then some_of
+      c.NinesAndInsertions then perhaps c.Points then some_of (decimals by runs) then perhaps (c.TrailingSign by)) (λ r.
+      past_one (c.TrailingSign by) (runs_past (decimals by runs) (past_one c.Points (runs_past c.NinesAndInsertions
+      (runs_past (c.SuppressedAndInsertions by) (past_one (c.FixedCurrency by) r)))))) (sign_currency by)
+      (avoid2 (c.LeadingSign by) (λ r. past_one (c.TrailingSign by) (runs_past (decimals by runs) (past_one c.Points
+      (runs_past c.NinesAndInsertions (runs_past (c.SuppressedAndInsertions by) (past_one (c.FixedCurrency by) r))))))
+      (sign_zeros by) (sign_nines by) (sign_point by) (sign_at_end (c.LeadingSign by) (c.TrailingSign by) (λ r.
+      past_one (c.TrailingSign by) (runs_past (decimals by runs) (past_one c.Points (runs_past c.NinesAndInsertions
+      (runs_past (c.SuppressedAndInsertions by) (past_one (c.FixedCurrency by) r)))))) none_left))) pass1
 
 -- However an edited picture is divided into its parts, the principle divides it too.
-pub edited_divides : (by : Suppression) (runs : List Run) → whole_picture (any_arrangement by runs) runs → whole_picture (arrangement by runs) runs
+pub edited_divides : (by : Suppression) (runs : List Run) → whole_picture (any_arrangement by runs) runs
+    → whole_picture (arrangement by runs) runs
 unfolding Passes
 edited_divides by runs h =
     let steps = edited_steps by runs in

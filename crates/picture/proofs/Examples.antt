@@ -14,7 +14,8 @@ use Rattle.picture.specs.Forms.{suppression_of}
 use Rattle.picture.specs.Categories.{kind_of}
 use Rattle.picture.specs.Deciding as d
 use Rattle.picture.specs.Places.{repeated_places, each_place, region_from}
-use Rattle.picture.specs.Text.{symbol_of, number_at, count_before_parenthesis, count_at, character_at, pair_at, run_from, run_at, runs_from, runs_of}
+use Rattle.picture.specs.Text.{symbol_of, number_at, count_before_parenthesis, count_at, character_at, pair_at}
+use Rattle.picture.specs.Text.{run_from, run_at, runs_from, runs_of}
 use Rattle.picture.specs.Pictures.{of_digits, of_characters, of_form, picture_of, scale_of}
 
 record Summary : Type 0 where
@@ -25,7 +26,8 @@ record Summary : Type 0 where
 
 told : Option Description → Option Summary
 told None = None
-told (Some picture) = Some (record { category = picture.category; size = picture.size; digits = picture.digits; scale = picture.scale })
+told (Some picture) =
+    Some (record { category = picture.category; size = picture.size; digits = picture.digits; scale = picture.scale })
 
 -- each of these texts is read so
 abbrev Holds : List (List ℕ × Option Summary) → Type 0
@@ -34,7 +36,8 @@ Holds (row ∷ more) = (told (picture_of row.0) ≡ row.1) × Holds more
 
 -- a row: the text, its category, its size in characters, its digit places, and how many of them stand after the point
 abbrev row : List ℕ → Category → ℕ → ℕ → ℕ → List ℕ × Option Summary
-row text category size digits scale = (text, Some (record { category = category; size = size; digits = digits; scale = scale }))
+row text category size digits scale =
+    (text, Some (record { category = category; size = size; digits = digits; scale = scale }))
 
 abbrev refused : List ℕ → List ℕ × Option Summary
 refused text = (text, None)
@@ -61,8 +64,30 @@ edited : Holds (
     ∷ row (codes "ZZV99") k.NumericEdited 4 4 2
     ∷ row (codes "B(159)9") k.NumericEdited 160 1 0
     ∷ [])
-unfolding told picture_of of_form runs_of runs_from run_at run_from pair_at character_at count_at count_before_parenthesis number_at symbol_of d.category_of d.is_of d.is_edited d.is_arranged d.past_core d.has_one_sign d.begins_before_point d.has_digits d.is_numeric_picture d.is_only kind_of suppression_of class_has runs_past past_one from_first occurrences ends_in size_of of_digits of_characters scale_of each_place repeated_places region_from
-edited = (refl, (refl, (refl, (refl, (refl, (refl, (refl, (refl, (refl, (refl, (refl, (refl, (refl, (refl, (refl, (refl, (refl, (refl, (refl, tt)))))))))))))))))))
+unfolding told picture_of of_form runs_of runs_from run_at run_from pair_at
+    character_at count_at count_before_parenthesis number_at symbol_of d.category_of d.is_of d.is_edited d.is_arranged
+    d.past_core d.has_one_sign d.begins_before_point d.has_digits d.is_numeric_picture d.is_only kind_of suppression_of
+    class_has runs_past past_one from_first occurrences ends_in size_of of_digits of_characters scale_of each_place
+    repeated_places region_from
+edited = (
+  refl,
+  (
+    refl,
+    (
+      refl,
+      (
+        refl,
+        (
+          refl,
+          (
+            refl,
+            (refl, (refl, (refl, (refl, (refl, (refl, (refl, (refl, (refl, (refl, (refl, (refl, (refl, tt))))))))))))),
+          ),
+        ),
+      ),
+    ),
+  ),
+)
 
 -- the other categories
 plain : Holds (
@@ -82,8 +107,15 @@ plain : Holds (
     ∷ row (codes "XXBXX/X") k.AlphanumericEdited 7 0 0
     ∷ row (codes "X(9999999999)B") k.AlphanumericEdited 10000000000 0 0
     ∷ [])
-unfolding told picture_of of_form runs_of runs_from run_at run_from pair_at character_at count_at count_before_parenthesis number_at symbol_of d.category_of d.is_of d.is_edited d.is_arranged d.past_core d.has_one_sign d.begins_before_point d.has_digits d.is_numeric_picture d.is_only kind_of suppression_of class_has runs_past past_one from_first occurrences ends_in size_of of_digits of_characters scale_of each_place repeated_places region_from
-plain = (refl, (refl, (refl, (refl, (refl, (refl, (refl, (refl, (refl, (refl, (refl, (refl, (refl, (refl, (refl, tt)))))))))))))))
+unfolding told picture_of of_form runs_of runs_from run_at run_from pair_at
+    character_at count_at count_before_parenthesis number_at symbol_of d.category_of d.is_of d.is_edited d.is_arranged
+    d.past_core d.has_one_sign d.begins_before_point d.has_digits d.is_numeric_picture d.is_only kind_of suppression_of
+    class_has runs_past past_one from_first occurrences ends_in size_of of_digits of_characters scale_of each_place
+    repeated_places region_from
+plain = (
+  refl,
+  (refl, (refl, (refl, (refl, (refl, (refl, (refl, (refl, (refl, (refl, (refl, (refl, (refl, (refl, tt)))))))))))))),
+)
 
 -- texts without a form
 without_form : Holds (
@@ -118,8 +150,72 @@ without_form : Holds (
     ∷ refused (codes "X,X")
     ∷ refused (codes "$9$9")
     ∷ [])
-unfolding told picture_of of_form runs_of runs_from run_at run_from pair_at character_at count_at count_before_parenthesis number_at symbol_of d.category_of d.is_of d.is_edited d.is_arranged d.past_core d.has_one_sign d.begins_before_point d.has_digits d.is_numeric_picture d.is_only kind_of suppression_of class_has runs_past past_one from_first occurrences ends_in size_of of_digits of_characters scale_of each_place repeated_places region_from
-without_form = (refl, (refl, (refl, (refl, (refl, (refl, (refl, (refl, (refl, (refl, (refl, (refl, (refl, (refl, (refl, (refl, (refl, (refl, (refl, (refl, (refl, (refl, (refl, (refl, (refl, (refl, (refl, (refl, (refl, (refl, tt))))))))))))))))))))))))))))))
+unfolding told picture_of of_form runs_of runs_from run_at run_from pair_at
+    character_at count_at count_before_parenthesis number_at symbol_of d.category_of d.is_of d.is_edited d.is_arranged
+    d.past_core d.has_one_sign d.begins_before_point d.has_digits d.is_numeric_picture d.is_only kind_of suppression_of
+    class_has runs_past past_one from_first occurrences ends_in size_of of_digits of_characters scale_of each_place
+    repeated_places region_from
+without_form = (
+  refl,
+  (
+    refl,
+    (
+      refl,
+      (
+        refl,
+        (
+          refl,
+          (
+            refl,
+            (
+              refl,
+              (
+                refl,
+                (
+                  refl,
+                  (
+                    refl,
+                    (
+                      refl,
+                      (
+                        refl,
+                        (
+                          refl,
+                          (
+                            refl,
+                            (
+                              refl,
+                              (
+                                refl,
+                                (
+                                  refl,
+                                  (
+                                    refl,
+                                    (
+                                      refl,
+                                      (
+                                        refl,
+                                        (refl, (refl, (refl, (refl, (refl, (refl, (refl, (refl, (refl, (refl, tt)))))))))),
+                                      ),
+                                    ),
+                                  ),
+                                ),
+                              ),
+                            ),
+                          ),
+                        ),
+                      ),
+                    ),
+                  ),
+                ),
+              ),
+            ),
+          ),
+        ),
+      ),
+    ),
+  ),
+)
 
 -- The places of an edited picture, and the region of its floating symbol.
 places : Option Description → List Place
@@ -130,10 +226,19 @@ region : Option Description → Option Region
 region None = None
 region (Some picture) = picture.region
 
-shown : places (picture_of (codes "$$,$9.9CR")) ≡ p.FirstFloating ∷ p.Floating ∷ p.Insertion 44 ∷ p.Floating ∷ p.Digit ∷ p.Point ∷ p.Digit ∷ p.Negative 67 ∷ p.Negative 82 ∷ []
-unfolding places picture_of of_form runs_of runs_from run_at run_from pair_at character_at count_at count_before_parenthesis number_at symbol_of d.category_of d.is_of d.is_edited d.is_arranged d.past_core d.has_one_sign d.begins_before_point d.has_digits d.is_numeric_picture d.is_only kind_of suppression_of class_has runs_past past_one from_first occurrences ends_in size_of of_digits of_characters scale_of each_place repeated_places region_from
+shown : places (picture_of (codes "$$,$9.9CR")) ≡ p.FirstFloating ∷ p.Floating ∷ p.Insertion 44 ∷ p.Floating ∷ p.Digit
+    ∷ p.Point ∷ p.Digit ∷ p.Negative 67 ∷ p.Negative 82 ∷ []
+unfolding places picture_of of_form runs_of runs_from run_at run_from pair_at
+    character_at count_at count_before_parenthesis number_at symbol_of d.category_of d.is_of d.is_edited d.is_arranged
+    d.past_core d.has_one_sign d.begins_before_point d.has_digits d.is_numeric_picture d.is_only kind_of suppression_of
+    class_has runs_past past_one from_first occurrences ends_in size_of of_digits of_characters scale_of each_place
+    repeated_places region_from
 shown = refl
 
 suppressed : region (picture_of (codes "$**9.99DB")) ≡ Some (record { by = z.Asterisks; begin = 1; end = 3 })
-unfolding region picture_of of_form runs_of runs_from run_at run_from pair_at character_at count_at count_before_parenthesis number_at symbol_of d.category_of d.is_of d.is_edited d.is_arranged d.past_core d.has_one_sign d.begins_before_point d.has_digits d.is_numeric_picture d.is_only kind_of suppression_of class_has runs_past past_one from_first occurrences ends_in size_of of_digits of_characters scale_of each_place repeated_places region_from
+unfolding region picture_of of_form runs_of runs_from run_at run_from pair_at
+    character_at count_at count_before_parenthesis number_at symbol_of d.category_of d.is_of d.is_edited d.is_arranged
+    d.past_core d.has_one_sign d.begins_before_point d.has_digits d.is_numeric_picture d.is_only kind_of suppression_of
+    class_has runs_past past_one from_first occurrences ends_in size_of of_digits of_characters scale_of each_place
+    repeated_places region_from
 suppressed = refl

@@ -1,5 +1,7 @@
 -- Runs fit where a text spells them, and the text that is told is the shortest.
-use Rattle.std.proofs.Common.{◌≡◌, ◌≤◌, ◌<◌, ◌+◌, ◌-◌, ◌*◌, ◌/◌, ◌%◌, ◌^◌, ◌==◌, ℕ, zero, suc, Bool, true, false, ◌&&◌, nat_le, nat_lt, IsTrue, if◌then◌else◌, List, [], ◌∷◌, ◌++◌, length, inl, inr, refl, sym, ap, ◌∙◌, subst, length-append, arith, lit<, lit≤}
+use Rattle.std.proofs.Common.{◌≡◌, ◌≤◌, ◌<◌, ◌+◌, ◌-◌, ◌*◌, ◌/◌, ◌%◌, ◌^◌, ◌==◌, ℕ, zero, suc, Bool, true, false, ◌&&◌}
+use Rattle.std.proofs.Common.{nat_le, nat_lt, IsTrue, if◌then◌else◌, List, [], ◌∷◌, ◌++◌, length, inl, inr, refl, sym}
+use Rattle.std.proofs.Common.{ap, ◌∙◌, subst, length-append, arith, lit<, lit≤}
 use Rattle.std.specs.Cmp.Derive.{both_true}
 use Rattle.std.proofs.lemmas.Bool.{eqb-true, leb-true, le-leb}
 use Rattle.std.proofs.lemmas.Bool.Decides.{nat_tests}
@@ -9,8 +11,10 @@ use Rattle.picture.specs.declared.symbol.Symbol.{Symbol}
 use Rattle.picture.specs.declared.symbol.Symbol.TheVariants as s
 use Rattle.std.specs.Char.{to_ascii_uppercase}
 use Rattle.picture.specs.Runs.{symbol_count}
-use Rattle.picture.specs.Text.{left_parenthesis, right_parenthesis, is_digit, number_from, AreDigits, Times, InParentheses, Repeats, Pair, Writes, SpellsRuns}
-use Rattle.picture.specs.Spelling.{decimal, repeat_count_text, count_most, can_repeat, letters, run_text, spelling_of, fit_in}
+use Rattle.picture.specs.Text.{left_parenthesis, right_parenthesis, is_digit, number_from, AreDigits, Times}
+use Rattle.picture.specs.Text.{InParentheses, Repeats, Pair, Writes, SpellsRuns}
+use Rattle.picture.specs.Spelling.{decimal, repeat_count_text, count_most, can_repeat, letters, run_text, spelling_of}
+use Rattle.picture.specs.Spelling.{fit_in}
 use Rattle.picture.proofs.Numbers.{below_power, one_more}
 
 split : (a b : Bool) → (a && b) ≡ true → (a ≡ true) × (b ≡ true)
@@ -53,10 +57,12 @@ is_decimal : (n k : ℕ) → 1 ≤ n → k < 10 ^ n → IsDecimal k (decimal n k
 is_decimal zero k h e = absurd (omega arith)
 is_decimal (suc n) k h e = go (λ i j. is_decimal n (k / 10) i j) (nat_lt k 10) refl
   where
-    go : (1 ≤ n → k / 10 < 10 ^ n → IsDecimal (k / 10) (decimal n (k / 10))) → (b : Bool) → nat_lt k 10 ≡ b → IsDecimal k (decimal (suc n) k)
+    go : (1 ≤ n → k / 10 < 10 ^ n → IsDecimal (k / 10) (decimal n (k / 10))) → (b : Bool) → nat_lt k 10 ≡ b
+        → IsDecimal k (decimal (suc n) k)
     go less true is =
         let small : k < 10 = grind (arith, nat_tests) in
-        subst (IsDecimal k) (sym (decimal_last n k small)) (record { value = omega arith; digits = (is_one_digit k small, tt) })
+        subst (IsDecimal k) (sym (decimal_last n k small))
+        (record { value = omega arith; digits = (is_one_digit k small, tt) })
     go less false is =
         let large : 10 ≤ k = grind (arith, nat_tests) in
         let front = less (some_left n k large e) (tenth n k e) in
@@ -73,7 +79,8 @@ decimal_short zero m k h e = omega arith
 decimal_short (suc n) zero k h e = absurd (omega arith)
 decimal_short (suc n) (suc m) k h e = go (λ i j. decimal_short n m (k / 10) i j) (nat_lt k 10) refl
   where
-    go : (1 ≤ m → k / 10 < 10 ^ m → length (decimal n (k / 10)) ≤ m) → (b : Bool) → nat_lt k 10 ≡ b → length (if b then (48 + k) ∷ [] else decimal n (k / 10) ++ (48 + k % 10) ∷ []) ≤ suc m
+    go : (1 ≤ m → k / 10 < 10 ^ m → length (decimal n (k / 10)) ≤ m) → (b : Bool) → nat_lt k 10 ≡ b
+        → length (if b then (48 + k) ∷ [] else decimal n (k / 10) ++ (48 + k % 10) ∷ []) ≤ suc m
     go less true is = omega arith
     go less false is =
         let large : 10 ≤ k = grind (arith, nat_tests) in
@@ -87,7 +94,8 @@ number_below : (v : ℕ) (digits : List ℕ) → AreDigits digits → number_fro
 number_below v [] h = below_power v 1 (lit≤ tt)
 number_below v (digit ∷ more) h =
     let rest = number_below (v * 10 + (digit - 48)) more h.1 in
-    let step = one_more v (digit - 48) (10 ^ length more) (10 ^ suc (length more)) (digit_most digit h.0) (pow-succ' 10 (length more)) in
+    let step = one_more v (digit - 48) (10 ^ length more) (10 ^ suc (length more)) (digit_most digit h.0)
+    (pow-succ' 10 (length more)) in
     omega arith
 
 -- ---- counts
@@ -115,22 +123,36 @@ parentheses_short count text h most = go (count == 1)
         some_digit [] e = let one = h.4 in absurd (omega arith)
         some_digit (digit ∷ more) e = omega arith
 
-    go : (b : Bool) → (1 ≤ count) × (count < 10 ^ 27) × (length (if b then [] else left_parenthesis ∷ (decimal 27 count ++ right_parenthesis ∷ [])) ≤ length text)
-    go b = (h.4, (let p = pow-le-pow_right {n = 10} (lit< tt) (let e : length digits ≤ 27 = omega (arith, long) in e) in omega (arith, below, p)), inner b)
+    go : (b : Bool) → (1 ≤ count) × (count < 10 ^ 27)
+        × (length (if b then [] else left_parenthesis ∷ (decimal 27 count ++ right_parenthesis ∷ [])) ≤ length text)
+    go b = (
+      h.4,
+      (let p = pow-le-pow_right {n = 10} (lit< tt) (let e : length digits ≤ 27 = omega (arith, long) in e) in
+          omega (arith, below, p)),
+      inner b,
+    )
       where
-        inner : (b : Bool) → length (if b then [] else left_parenthesis ∷ (decimal 27 count ++ right_parenthesis ∷ [])) ≤ length text
+        inner : (b : Bool)
+            → length (if b then [] else left_parenthesis ∷ (decimal 27 count ++ right_parenthesis ∷ [])) ≤ length text
         inner true = omega arith
-        inner false = omega (arith, long, decimal_short 27 (length digits) count some below, length-append (decimal 27 count) (right_parenthesis ∷ []))
+        inner false = omega (
+          arith,
+          long,
+          decimal_short 27 (length digits) count some below,
+          length-append (decimal 27 count) (right_parenthesis ∷ []),
+        )
 
 times_short : (count : ℕ) (text : List ℕ) → Times count text → length text ≤ 29 → Short count text
 unfolding Short
-times_short count text (inl (none, one)) most = subst (λ n. (1 ≤ n) × (n < 10 ^ 27) × (length (repeat_count_text n) ≤ length text)) (sym one) (lit≤ tt, lit< tt, omega arith)
+times_short count text (inl (none, one)) most = subst (λ n. (1 ≤ n) × (n < 10 ^ 27)
+    × (length (repeat_count_text n) ≤ length text)) (sym one) (lit≤ tt, lit< tt, omega arith)
 times_short count text (inr h) most = parentheses_short count text h most
 
 times_told : (count : ℕ) → 1 ≤ count → count < 10 ^ 27 → Times count (repeat_count_text count)
 times_told count h most = go (count == 1) refl
   where
-    go : (b : Bool) → (count == 1) ≡ b → Times count (if b then [] else left_parenthesis ∷ (decimal 27 count ++ right_parenthesis ∷ []))
+    go : (b : Bool) → (count == 1) ≡ b
+        → Times count (if b then [] else left_parenthesis ∷ (decimal 27 count ++ right_parenthesis ∷ []))
     go true is = inl (refl, eqb-true count 1 is)
     go false is = let d = is_decimal 27 count (lit≤ tt) most in inr (decimal 27 count, refl, d.digits, d.value, h)
 
@@ -157,8 +179,10 @@ pair : (first second count : ℕ) (text : List ℕ) → Pair first second count 
 pair first second count text h =
     (omega (arith, once first 1 h.1 h.4, once second 1 h.2 h.5, ap length h.3, length-append h.1 h.2), h.0)
 
-pair_least : (count : ℕ) (text : List ℕ) → (2 ≤ length text) × (count ≡ 1) → ((nat_le 1 count && nat_lt count 2) ≡ true) × (suc (suc (length (repeat_count_text count))) ≤ length text)
-pair_least count text h = subst (λ n. ((nat_le 1 n && nat_lt n 2) ≡ true) × (suc (suc (length (repeat_count_text n))) ≤ length text)) (sym h.1) (refl, h.0)
+pair_least : (count : ℕ) (text : List ℕ) → (2 ≤ length text) × (count ≡ 1) → ((nat_le 1 count && nat_lt count 2) ≡ true)
+    × (suc (suc (length (repeat_count_text count))) ≤ length text)
+pair_least count text h = subst (λ n. ((nat_le 1 n && nat_lt n 2) ≡ true)
+    × (suc (suc (length (repeat_count_text n))) ≤ length text)) (sym h.1) (refl, h.0)
 
 least : (x : Symbol) (count : ℕ) (text : List ℕ) → Writes x count text → length text ≤ 30 → Least x count text
 least s.A count text h most = single 65 count text h most
@@ -185,16 +209,25 @@ limits count limit e =
     let more = h.1 in
     (leb-true 1 count h.0, (let less : count < limit = grind (arith, nat_tests) in less))
 
-single_told : (c count : ℕ) → to_ascii_uppercase c ≡ c → (nat_le 1 count && nat_lt count count_most) ≡ true → Repeats c count (c ∷ repeat_count_text count)
-single_told c count upper e = let h = limits count count_most e in (c, repeat_count_text count, refl, upper, times_told count h.0 h.1)
+single_told : (c count : ℕ) → to_ascii_uppercase c ≡ c → (nat_le 1 count && nat_lt count count_most) ≡ true
+    → Repeats c count (c ∷ repeat_count_text count)
+single_told c count upper e = let h =
+    limits count count_most e in (c, repeat_count_text count, refl, upper, times_told count h.0 h.1)
 
-pair_told : (first second count : ℕ) → to_ascii_uppercase first ≡ first → to_ascii_uppercase second ≡ second → (nat_le 1 count && nat_lt count 2) ≡ true
+pair_told : (first second count : ℕ) → to_ascii_uppercase first ≡ first → to_ascii_uppercase second ≡ second
+    → (nat_le 1 count && nat_lt count 2) ≡ true
     → Pair first second count (first ∷ second ∷ repeat_count_text count)
 pair_told first second count one two e =
     let h = limits count 2 e in
     let is : 1 ≡ count = omega arith in
-    subst (λ n. Pair first second n (first ∷ second ∷ repeat_count_text n)) is
-    (refl, first ∷ [], second ∷ [], refl, (first, [], refl, one, inl (refl, refl)), (second, [], refl, two, inl (refl, refl)))
+    subst (λ n. Pair first second n (first ∷ second ∷ repeat_count_text n)) is (
+      refl,
+      first ∷ [],
+      second ∷ [],
+      refl,
+      (first, [], refl, one, inl (refl, refl)),
+      (second, [], refl, two, inl (refl, refl)),
+    )
 
 told : (x : Symbol) (count : ℕ) → can_repeat x count ≡ true → Writes x count (letters x ++ repeat_count_text count)
 told s.A count e = single_told 65 count refl e
@@ -218,25 +251,30 @@ told s.Db count e = pair_told 68 66 count refl refl e
 -- ---- runs
 
 -- Runs that fit are spelled by their text, and it fits.
-pub spelled : (room : ℕ) (runs : List Run) → fit_in room runs ≡ true → SpellsRuns runs (spelling_of runs) × (length (spelling_of runs) ≤ room)
+pub spelled : (room : ℕ) (runs : List Run) → fit_in room runs ≡ true
+    → SpellsRuns runs (spelling_of runs) × (length (spelling_of runs) ≤ room)
 unfolding fit_in
 spelled room [] e = (refl, omega arith)
 spelled room (run ∷ more) e =
     let both = split (can_repeat run.symbol run.count && nat_le (length (run_text run)) room) _ e in
     let each = split (can_repeat run.symbol run.count) (nat_le (length (run_text run)) room) both.0 in
     let rest = spelled (room - length (run_text run)) more both.1 in
-    let fits = leb-true (length (run_text run)) room each.1 in
-    ((run_text run, spelling_of more, refl, told run.symbol run.count each.0, rest.0), omega (arith, rest.1, length-append (run_text run) (spelling_of more)))
+    let fits = leb-true (length (run_text run)) room each.1 in (
+      (run_text run, spelling_of more, refl, told run.symbol run.count each.0, rest.0),
+      omega (arith, rest.1, length-append (run_text run) (spelling_of more)),
+    )
 
 -- Runs that a text spells fit where it does.
-pub spells_fit : (room : ℕ) (runs : List Run) (text : List ℕ) → room ≤ 30 → SpellsRuns runs text → length text ≤ room → fit_in room runs ≡ true
+pub spells_fit : (room : ℕ) (runs : List Run) (text : List ℕ) → room ≤ 30 → SpellsRuns runs text → length text ≤ room
+    → fit_in room runs ≡ true
 unfolding fit_in
 spells_fit room [] text most h short = refl
 spells_fit room (run ∷ more) text most h short =
     let all = ap length h.2 ∙ length-append h.0 h.1 in
     let first = least run.symbol run.count h.0 h.3 (omega arith) in
     let fits = first.1 in
-    both_true (both_true first.0 (le-leb (length (run_text run)) room (omega arith))) (spells_fit (room - length (run_text run)) more h.1 (omega arith) h.4 (omega arith))
+    both_true (both_true first.0 (le-leb (length (run_text run)) room (omega arith)))
+    (spells_fit (room - length (run_text run)) more h.1 (omega arith) h.4 (omega arith))
 
 at_least_one : (x : Symbol) (rest : List ℕ) → 1 ≤ length (letters x ++ rest)
 at_least_one s.Cr rest = omega arith
@@ -283,11 +321,14 @@ bounded false runs e h = cc
 -- one digit more is counted
 pub counted : (number digits rest : ℕ) → 10 ≤ rest → 1 ≤ digits → rest < 10 ^ (27 - (digits - 1))
     → length (decimal 27 number) + 1 ≡ digits + length (decimal (27 - (digits - 1)) rest)
-    → (digits + 1 ≤ 27) × (rest / 10 < 10 ^ (27 - (digits + 1 - 1))) × (length (decimal 27 number) + 1 ≡ digits + 1 + length (decimal (27 - (digits + 1 - 1)) (rest / 10)))
+    → (digits + 1 ≤ 27) × (rest / 10 < 10 ^ (27 - (digits + 1 - 1)))
+    × (length (decimal 27 number) + 1 ≡ digits + 1 + length (decimal (27 - (digits + 1 - 1)) (rest / 10)))
 counted number digits rest large one small is = go (27 - (digits - 1)) refl small is
   where
-    go : (room : ℕ) → 27 - (digits - 1) ≡ room → rest < 10 ^ room → length (decimal 27 number) + 1 ≡ digits + length (decimal room rest)
-        → (digits + 1 ≤ 27) × (rest / 10 < 10 ^ (27 - (digits + 1 - 1))) × (length (decimal 27 number) + 1 ≡ digits + 1 + length (decimal (27 - (digits + 1 - 1)) (rest / 10)))
+    go : (room : ℕ) → 27 - (digits - 1) ≡ room → rest < 10 ^ room
+        → length (decimal 27 number) + 1 ≡ digits + length (decimal room rest)
+        → (digits + 1 ≤ 27) × (rest / 10 < 10 ^ (27 - (digits + 1 - 1)))
+        × (length (decimal 27 number) + 1 ≡ digits + 1 + length (decimal (27 - (digits + 1 - 1)) (rest / 10)))
     go zero e small is = absurd (omega arith)
     go (suc room) e small is =
         let left = some_left room rest large small in
@@ -300,9 +341,11 @@ counted number digits rest large one small is = go (27 - (digits - 1)) refl smal
         )
 
 pub counted_last : (number digits rest : ℕ) → rest < 10 → 1 ≤ digits → digits ≤ 27
-    → length (decimal 27 number) + 1 ≡ digits + length (decimal (27 - (digits - 1)) rest) → digits ≡ length (decimal 27 number)
+    → length (decimal 27 number) + 1 ≡ digits + length (decimal (27 - (digits - 1)) rest)
+    → digits ≡ length (decimal 27 number)
 counted_last number digits rest small one most is = go (27 - (digits - 1)) refl is
   where
-    go : (room : ℕ) → 27 - (digits - 1) ≡ room → length (decimal 27 number) + 1 ≡ digits + length (decimal room rest) → digits ≡ length (decimal 27 number)
+    go : (room : ℕ) → 27 - (digits - 1) ≡ room → length (decimal 27 number) + 1 ≡ digits + length (decimal room rest)
+        → digits ≡ length (decimal 27 number)
     go zero e is = absurd (omega arith)
     go (suc room) e is = omega (arith, ap length (decimal_last room rest small))

@@ -1,5 +1,6 @@
 -- The number that at most 30 digits write is below 10 ^ 30.
-use Rattle.std.proofs.Common.{◌≡◌, ◌≤◌, ◌<◌, ◌+◌, ◌-◌, ◌*◌, ◌^◌, ℕ, suc, Bool, true, false, if◌then◌else◌, List, [], ◌∷◌, length, refl, ap, arith, lit<, lit≤}
+use Rattle.std.proofs.Common.{◌≡◌, ◌≤◌, ◌<◌, ◌+◌, ◌-◌, ◌*◌, ◌^◌, ℕ, suc, Bool, true, false, if◌then◌else◌, List, []}
+use Rattle.std.proofs.Common.{◌∷◌, length, refl, ap, arith, lit<, lit≤}
 use Rattle.std.proofs.lemmas.Bool.Decides.{nat_tests}
 use Rattle.std.proofs.Math.Nat.{one-le-pow, pow-le-pow_right, pow-succ', mul-le-mul_left}
 use Rattle.picture.specs.Text.{is_digit, number_at}
@@ -22,9 +23,12 @@ unfolding number_at
 number_bound v [] = below_power v 1 (lit≤ tt)
 number_bound v (byte ∷ more) = go (is_digit byte) refl (number_bound (v * 10 + (byte - 48)) more)
   where
-    go : (b : Bool) → is_digit byte ≡ b → (number_at (v * 10 + (byte - 48)) more).0 < (v * 10 + (byte - 48) + 1) * 10 ^ length more
-        → (if b then number_at (v * 10 + (byte - 48)) more else (v, byte ∷ more)).0 < (v + 1) * 10 ^ length (byte ∷ more)
-    go true e h = let s = one_more v (byte - 48) (10 ^ length more) (10 ^ suc (length more)) (digit_most byte e) (pow-succ' 10 (length more)) in omega arith
+    go : (b : Bool) → is_digit byte ≡ b
+        → (number_at (v * 10 + (byte - 48)) more).0 < (v * 10 + (byte - 48) + 1) * 10 ^ length more
+        → (if b then number_at (v * 10 + (byte - 48)) more else (v, byte ∷ more)).0
+        < (v + 1) * 10 ^ length (byte ∷ more)
+    go true e h = let s = one_more v (byte - 48) (10 ^ length more) (10 ^ suc (length more)) (digit_most byte e)
+        (pow-succ' 10 (length more)) in omega arith
     go false e h = below_power v (10 ^ suc (length more)) (one-le-pow (suc (length more)) 10 (lit< tt))
 
 pub number_grows : (v : ℕ) (text : List ℕ) → v ≤ (number_at v text).0

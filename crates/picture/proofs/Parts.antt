@@ -12,7 +12,8 @@ pub record Steps (p : Part) (pass : List Run → List Run) : Type 0 where
   -- the part is what is passed
   pub only : (from rest : List Run) → p from rest → pass from ≡ rest
 
-pub steps_then : {p q : Part} {f g : List Run → List Run} → Steps p f → Steps q g → Steps (p then q) (λ runs. g (f runs))
+pub steps_then : {p q : Part} {f g : List Run → List Run} → Steps p f → Steps q g
+    → Steps (p then q) (λ runs. g (f runs))
 steps_then {f = f} {g = g} first second = record {
   does = λ from. (f from, first.does from, second.does (f from));
   only = λ from rest h. ap g (first.only from h.0 h.1) ∙ second.only h.0 rest h.2;
@@ -30,12 +31,14 @@ past_stretch class (run ∷ more) = go (class_has class run.symbol) refl (past_s
     go true e h = (run ∷ h.0, ap (λ l. run ∷ l) h.1, (e, h.2), h.3)
     go false e h = ([], refl, tt, e)
 
-past_rest : (class : Class) (rest : List Run) → begins_with_run (is_in_class class) rest ≡ false → runs_past class rest ≡ rest
+past_rest : (class : Class) (rest : List Run) → begins_with_run (is_in_class class) rest ≡ false
+    → runs_past class rest ≡ rest
 unfolding runs_past
 past_rest class [] h = refl
 past_rest class (run ∷ more) h = rw h refl
 
-past_front : (class : Class) (front rest : List Run) → Each class front → begins_with_run (is_in_class class) rest ≡ false → runs_past class (front ++ rest) ≡ rest
+past_front : (class : Class) (front rest : List Run) → Each class front
+    → begins_with_run (is_in_class class) rest ≡ false → runs_past class (front ++ rest) ≡ rest
 unfolding runs_past
 past_front class [] rest each stops = past_rest class rest stops
 past_front class (run ∷ front) rest each stops = rw each.0 (past_front class front rest each.1 stops)
@@ -57,12 +60,14 @@ one_passed class (run ∷ more) = go (is_one class run) refl
     go true e = inl (run, refl, e)
     go false e = inr (refl, e)
 
-pub none_passed : (class : Class) (rest : List Run) → begins_with_run (is_one class) rest ≡ false → past_one class rest ≡ rest
+pub none_passed : (class : Class) (rest : List Run) → begins_with_run (is_one class) rest ≡ false
+    → past_one class rest ≡ rest
 unfolding past_one
 none_passed class [] h = refl
 none_passed class (run ∷ more) h = rw h refl
 
-pub passed_one : (class : Class) (run : Run) (rest : List Run) → is_one class run ≡ true → past_one class (run ∷ rest) ≡ rest
+pub passed_one : (class : Class) (run : Run) (rest : List Run) → is_one class run ≡ true
+    → past_one class (run ∷ rest) ≡ rest
 unfolding past_one
 passed_one class run rest h = rw h refl
 

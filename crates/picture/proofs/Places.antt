@@ -1,5 +1,7 @@
 -- The places of runs, one turn of the loops that make them at a time.
-use Rattle.std.proofs.Common.{◌≡◌, ◌<◌, ◌+◌, ◌*◌, ℕ, zero, suc, Bool, true, false, if◌then◌else◌, List, [], ◌∷◌, ◌++◌, drop, length, set, slice_index_or, Option, Some, None, refl, sym, ap, ◌∙◌, append_assoc, add-one, arith, drop-cons, length-append}
+use Rattle.std.proofs.Common.{◌≡◌, ◌<◌, ◌+◌, ◌*◌, ℕ, zero, suc, Bool, true, false, if◌then◌else◌, List, [], ◌∷◌, ◌++◌}
+use Rattle.std.proofs.Common.{drop, length, set, slice_index_or, Option, Some, None, refl, sym, ap, ◌∙◌, append_assoc}
+use Rattle.std.proofs.Common.{add-one, arith, drop-cons, length-append}
 use Rattle.std.proofs.lemmas.List.{append-nil, length-set}
 use Rattle.picture.specs.declared.run.Run.{Run}
 use Rattle.picture.specs.declared.place.Place.{Place}
@@ -44,10 +46,12 @@ unfolding each_place size_of
 length-each by [] = refl
 length-each by (run ∷ more) =
     let l = length-append (repeated_places run.count (symbol_places by run.symbol)) (each_place by more) in
-    let r = length-repeated run.count (symbol_places by run.symbol) ∙ ap (λ n. n * run.count) (length-shown by run.symbol) in
+    let r =
+    length-repeated run.count (symbol_places by run.symbol) ∙ ap (λ n. n * run.count) (length-shown by run.symbol) in
     let h = length-each by more in omega arith
 
-length-marked : (region : Option Region) (places : List Place) → length (places_with_floating region places) ≡ length places
+length-marked : (region : Option Region) (places : List Place)
+    → length (places_with_floating region places) ≡ length places
 length-marked None places = refl
 length-marked (Some region) places = go (is_floating region.by)
   where
@@ -73,7 +77,8 @@ unfolding repeated_places
 repeated_none places = refl
 
 pub rest_places : (by : Suppression) (runs : List Run) (i : ℕ) (d : Run) → i < length runs
-    → each_place by (drop i runs) ≡ repeated_places (slice_index_or runs i d).count (symbol_places by (slice_index_or runs i d).symbol) ++ each_place by (drop (i + 1) runs)
+    → each_place by (drop i runs) ≡ repeated_places (slice_index_or runs i d).count
+    (symbol_places by (slice_index_or runs i d).symbol) ++ each_place by (drop (i + 1) runs)
 unfolding each_place
 rest_places by runs i d h = rw (add-one, drop-cons runs i d) refl
 

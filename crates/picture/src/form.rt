@@ -12,13 +12,15 @@ use crate::symbol::Suppression;
 
 /// Each text is one picture at the most.
 pub fn one_form()
-    ensures { (text : List ℕ) (one other : Description) → IsPicture text one → IsPicture text other → one ≡ other }
+    ensures { (text : List ℕ) (one other : Description) → IsPicture text one → IsPicture text other
+        → one ≡ other }
 {}
 
 /// No two pictures have the same spelling.
 #[tactic(auto, using(crate::proofs::Pictures::one_spelling))]
 pub fn one_spelling()
-    ensures { (one other : Description) → IsAnyPicture one → IsAnyPicture other → spelling_of one.runs ≡ spelling_of other.runs → one ≡ other }
+    ensures { (one other : Description) → IsAnyPicture one → IsAnyPicture other
+        → spelling_of one.runs ≡ spelling_of other.runs → one ≡ other }
 {}
 
 /// Digit places are 1 to 18 in numeric and numeric edited pictures and 0 in others, the scale is at most the digit places, and
@@ -30,7 +32,10 @@ pub fn bounds()
 /// However a picture can be divided into its parts, it can be where each part takes all that it can.
 pub fn any_division()
     // Pictures of characters, which are one stretch.
-    ensures characters { (class : Class) (runs : List Run) → whole_picture (some_of class) runs → whole_picture (stretch class) runs }
-    ensures numeric { (runs : List Run) → whole_picture any_numeric_arrangement runs → whole_picture numeric_arrangement runs }
-    ensures edited { (by : Suppression) (runs : List Run) → whole_picture (any_arrangement by runs) runs → whole_picture (arrangement by runs) runs }
+    ensures characters { (class : Class) (runs : List Run) → whole_picture (some_of class) runs
+        → whole_picture (stretch class) runs }
+    ensures numeric { (runs : List Run) → whole_picture any_numeric_arrangement runs
+        → whole_picture numeric_arrangement runs }
+    ensures edited { (by : Suppression) (runs : List Run)
+        → whole_picture (any_arrangement by runs) runs → whole_picture (arrangement by runs) runs }
 {}

@@ -56,7 +56,8 @@ fn of_form(alloc: Global, runs: Items<Run>) -> Result<Description, PictureError>
 /// The picture that the text is.
 #[tactic(auto, unfolding(crate::specs::Pictures::picture_of))]
 fn picture_of(alloc: Global, text: &[u8]) -> Result<Description, PictureError>
-    ensures { Gives (λ description. description) fault_of result (or_no_form (spec.picture_of text.now)) }
+    ensures { Gives (λ description. description) fault_of result
+        (or_no_form (spec.picture_of text.now)) }
 {
     let runs = runs_of(alloc, text)?;
     of_form(alloc, runs)
@@ -65,7 +66,8 @@ fn picture_of(alloc: Global, text: &[u8]) -> Result<Description, PictureError>
 /// The picture of the runs.
 #[tactic(auto, unfolding(crate::specs::Pictures::picture_from))]
 fn picture_from(alloc: Global, runs: &[Run]) -> Result<Description, PictureError>
-    ensures { Gives (λ description. description) fault_of result (or_no_form (spec.picture_from runs.now)) }
+    ensures { Gives (λ description. description) fault_of result
+        (or_no_form (spec.picture_from runs.now)) }
 {
     if !are_spelled(runs) {
         return Err(PictureError::Refused(PictureFault::NoForm));
@@ -78,7 +80,8 @@ fn picture_from(alloc: Global, runs: &[Run]) -> Result<Description, PictureError
 fn read_text(alloc: Global, text: &[u8]) -> Result<Description, PictureError>
     ensures form { IfOk result (λ picture. IsPicture text.now picture) }
     ensures only { (picture : Description) → IsPicture text.now picture → IsAnswer picture result }
-    ensures exact { Gives (λ description. description) fault_of result (or_no_form (spec.picture_of text.now)) }
+    ensures exact { Gives (λ description. description) fault_of result
+        (or_no_form (spec.picture_of text.now)) }
 {
     picture_of(alloc, text)
 }
@@ -87,7 +90,8 @@ fn read_text(alloc: Global, text: &[u8]) -> Result<Description, PictureError>
 fn read_runs(alloc: Global, runs: &[Run]) -> Result<Description, PictureError>
     ensures form { IfOk result (λ picture. IsOfRuns runs.now picture) }
     ensures only { (picture : Description) → IsOfRuns runs.now picture → IsAnswer picture result }
-    ensures exact { Gives (λ description. description) fault_of result (or_no_form (spec.picture_from runs.now)) }
+    ensures exact { Gives (λ description. description) fault_of result
+        (or_no_form (spec.picture_from runs.now)) }
 {
     picture_from(alloc, runs)
 }
@@ -99,7 +103,8 @@ impl Picture {
         ensures form { IfOk result (λ picture. IsPicture text.now picture) }
         // A text with a form is answered with its picture, unless memory runs out.
         ensures only { (picture : Picture) → IsPicture text.now picture → IsAnswer picture result }
-        ensures exact { Gives (λ picture. picture) fault_of result (or_no_form (spec.picture_of text.now)) }
+        ensures exact { Gives (λ picture. picture) fault_of result
+            (or_no_form (spec.picture_of text.now)) }
     {
         let description = read_text(alloc, text)?;
         Ok(Picture { description, alloc })
@@ -111,7 +116,8 @@ impl Picture {
         ensures form { IfOk result (λ picture. IsOfRuns runs.now picture) }
         // The runs of a picture are answered with it, unless memory runs out.
         ensures only { (picture : Picture) → IsOfRuns runs.now picture → IsAnswer picture result }
-        ensures exact { Gives (λ picture. picture) fault_of result (or_no_form (spec.picture_from runs.now)) }
+        ensures exact { Gives (λ picture. picture) fault_of result
+            (or_no_form (spec.picture_from runs.now)) }
     {
         let description = read_runs(alloc, runs)?;
         Ok(Picture { description, alloc })

@@ -84,7 +84,8 @@ fn push_symbol(places: &mut Items<Place>, symbol: Symbol, by: Suppression) -> Re
 }
 
 fn push_run(places: &mut Items<Place>, run: Run, by: Suppression) -> Result<(), AllocError>
-    ensures { OnOk result (places.new ≡ places.old ++ spec.repeated_places run.count (spec.symbol_places by run.symbol)) }
+    ensures { OnOk result (places.new
+        ≡ places.old ++ spec.repeated_places run.count (spec.symbol_places by run.symbol)) }
 {
     for _time in 0..run.count {
         push_symbol(places, run.symbol, by)?;
@@ -138,7 +139,8 @@ pub fn places_of(
     region: Option<Region>,
     by: Suppression,
 ) -> Result<Items<Place>, AllocError>
-    ensures { IfOk result (λ places. places ≡ spec.places_with_floating region (spec.each_place by runs.now)) }
+    ensures { IfOk result
+        (λ places. places ≡ spec.places_with_floating region (spec.each_place by runs.now)) }
 {
     let mut places = each_place(alloc, runs, by)?;
     if let Some(region) = region {

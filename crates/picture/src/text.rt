@@ -122,7 +122,8 @@ fn symbol_of(character: u8) -> Option<Symbol>
 #[tactic(auto, unfolding(crate::specs::Text::pair_at))]
 fn pair_at(second: u8, symbol: Symbol, count: u128, rest: &[u8]) -> Option<(Run, &[u8])>
     requires { length rest.now ≤ spec.most_characters }
-    ensures value { option_map (λ x. (x.0, x.1.now)) result ≡ spec.pair_at second symbol count rest.now }
+    ensures value { option_map (λ x. (x.0, x.1.now)) result
+        ≡ spec.pair_at second symbol count rest.now }
     ensures bound { IfSome result (λ x. x.0.count < spec.count_limit) }
     ensures within { IfSome result (λ x. length x.1.now ≤ length rest.now) }
 {

@@ -22,7 +22,11 @@ pub(crate) fn is_name(name: &[u8]) -> bool
 
 /// Whether records are from 1 to 1,000 bytes long, and only an indexed file has keys, in order of place and within the record.
 pub(crate) fn is_spec(organization: Organization, record_length: u16, keys: &[AlternateKey]) -> bool
-    ensures { result ≡ spec.is_spec (record { organization = organization; record_length = record_length; alternates = keys.now }) }
+    ensures { result ≡ spec.is_spec (record {
+      organization = organization;
+      record_length = record_length;
+      alternates = keys.now;
+    }) }
 {
     1 <= record_length
         && record_length <= LONGEST_RECORD

@@ -37,25 +37,38 @@ pub trait FileVerbs: Keeps {
         requires file { file < length (entries self.old) }
         requires verb { Suits (entry_at (entries self.old) file) verb }
         requires bytes { length bytes.old ≡ (entry_at (entries self.old) file).spec.record_length }
-        ensures changes { Changes Self.Keeps D.Device result self.old device.old self.new device.new }
+        ensures changes { Changes Self.Keeps D.Device result self.old device.old self.new
+            device.new }
         ensures entries { entries self.new ≡ entries self.old }
 
         // A CLOSE, and what a test of the connectors bars, isn't refused, and its step asks nothing of the files.
-        ensures sure { needs_no_store (entries self.old) (connectors self.old) file verb ≡ true → IsOk result }
-        ensures step { (files : Files) → (Represents Self.Keeps D.Device self.old device.old files) ⊎ (needs_no_store (entries self.old) (connectors self.old) file verb ≡ true) →
-            IfOk result (λ status. IsStep (connectors self.old) file (file_step (entries self.old) files (connectors self.old) file verb (area bytes.old number.old)) status (connectors self.new) (area bytes.new number.new)) }
+        ensures sure { needs_no_store (entries self.old) (connectors self.old) file verb ≡ true
+            → IsOk result }
+        ensures step { (files : Files) → (Represents Self.Keeps D.Device self.old device.old files)
+            ⊎ (needs_no_store (entries self.old) (connectors self.old) file verb ≡ true) →
+            IfOk result (λ status. IsStep (connectors self.old) file (file_step (entries self.old)
+            files (connectors self.old) file verb (area bytes.old number.old)) status
+            (connectors self.new) (area bytes.new number.new)) }
         ensures turns { (files : Files) → Represents Self.Keeps D.Device self.old device.old files →
-            ChangesFiles Self.Keeps D.Device result (makes_file verb) (entry_at (entries self.old) file).name files
-            (file_step (entries self.old) files (connectors self.old) file verb (area bytes.old number.old)).files self.old device.old self.new device.new }
+            ChangesFiles Self.Keeps D.Device result (makes_file verb)
+            (entry_at (entries self.old) file).name files
+            (file_step (entries self.old) files (connectors self.old) file verb
+            (area bytes.old number.old)).files self.old device.old self.new device.new }
 
         // `Full` is answered only by a statement that would change a file, and by no verb that cannot change one, whatever the disk holds.
-        ensures full { (files : Files) → Represents Self.Keeps D.Device self.old device.old files → result ≡ Err StoreFault.Full →
-            has_changed verb (file_step (entries self.old) files (connectors self.old) file verb (area bytes.old number.old)).status ≡ true }
+        ensures full { (files : Files) → Represents Self.Keeps D.Device self.old device.old files
+            → result ≡ Err StoreFault.Full →
+            has_changed verb (file_step (entries self.old) files (connectors self.old) file verb
+            (area bytes.old number.old)).status ≡ true }
         ensures never_full { can_change_files verb ≡ false → result ≢ Err StoreFault.Full }
-        ensures idle { D.is_honest device.old → IfOk result (λ status. has_changed verb status ≡ false → D.state device.new ≡ D.state device.old) }
-        ensures refused { OnErr result (SameConnectors (connectors self.old) (connectors self.new) (area bytes.old number.old) (area bytes.new number.new)) }
-        ensures rests { OnErr result (Rests Self.Keeps D.Device self.old device.old self.new device.new) };
+        ensures idle { D.is_honest device.old → IfOk result
+            (λ status. has_changed verb status ≡ false → D.state device.new ≡ D.state device.old) }
+        ensures refused { OnErr result (SameConnectors (connectors self.old) (connectors self.new)
+            (area bytes.old number.old) (area bytes.new number.new)) }
+        ensures rests { OnErr result
+            (Rests Self.Keeps D.Device self.old device.old self.new device.new) };
 
     /// Whatever a crash leaves of a disk holds the files.
-    ghost held: { (verbs : Self) (disk : Disk) (image : List Sector) (files : Files) → Self.stands verbs disk files → IsCrashImage disk image → Self.holds image files };
+    ghost held: { (verbs : Self) (disk : Disk) (image : List Sector) (files : Files)
+        → Self.stands verbs disk files → IsCrashImage disk image → Self.holds image files };
 }

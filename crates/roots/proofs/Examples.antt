@@ -56,13 +56,16 @@ a_generation_of_63_bits = refl
 an_unknown_mark : root_in (later ∷ foreign ∷ []) 1024 0 four ≡ Broken
 an_unknown_mark = refl
 
-the_newer_is_taken : newest_root 2 (Valid (root 0 4 1024)) (Valid (root 0 3 1024)) ≡ Ok (record { newest = root 0 4 1024; older = Some (root 0 3 1024) })
+the_newer_is_taken : newest_root 2 (Valid (root 0 4 1024)) (Valid (root 0 3 1024))
+    ≡ Ok (record { newest = root 0 4 1024; older = Some (root 0 3 1024) })
 the_newer_is_taken = refl
 
-the_newer_is_taken_in_the_second_sector_too : newest_root 2 (Valid (root 0 4 1024)) (Valid (root 0 5 1024)) ≡ Ok (record { newest = root 0 5 1024; older = Some (root 0 4 1024) })
+the_newer_is_taken_in_the_second_sector_too : newest_root 2 (Valid (root 0 4 1024)) (Valid (root 0 5 1024))
+    ≡ Ok (record { newest = root 0 5 1024; older = Some (root 0 4 1024) })
 the_newer_is_taken_in_the_second_sector_too = refl
 
-one_root_beside_zeros : newest_root 2 (Valid (root 0 0 1024)) Blank ≡ Ok (record { newest = root 0 0 1024; older = None })
+one_root_beside_zeros : newest_root 2 (Valid (root 0 0 1024)) Blank
+    ≡ Ok (record { newest = root 0 0 1024; older = None })
 one_root_beside_zeros = refl
 
 two_blank_sectors : newest_root 2 Blank Blank ≡ Err Damaged
@@ -77,7 +80,8 @@ generations_apart = refl
 unequal_numbers_of_sectors : newest_root 2 (Valid (root 0 4 1024)) (Valid (root 0 5 1025)) ≡ Err Damaged
 unequal_numbers_of_sectors = refl
 
-a_later_mark_after_an_earlier : newest_root 2 (Valid (root 0 4 1024)) (Valid (root 1 5 1024)) ≡ Ok (record { newest = root 1 5 1024; older = Some (root 0 4 1024) })
+a_later_mark_after_an_earlier : newest_root 2 (Valid (root 0 4 1024)) (Valid (root 1 5 1024))
+    ≡ Ok (record { newest = root 1 5 1024; older = Some (root 0 4 1024) })
 a_later_mark_after_an_earlier = refl
 
 an_earlier_mark_after_a_later : newest_root 2 (Valid (root 1 4 1024)) (Valid (root 0 5 1024)) ≡ Err Damaged

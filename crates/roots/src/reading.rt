@@ -22,7 +22,8 @@ pub fn read_roots<D: Device>(
     ensures only { OnlyReads D.Device (result ≡ Err RootsError.Device) device.old device.new }
 
     // The roots of the present image, or the fault that it has.
-    ensures roots { D.is_honest device.old → Gives (λ roots. roots) fault_of result (roots_in known.now own (D.state device.old).disk.present) }
+    ensures roots { D.is_honest device.old → Gives (λ roots. roots) fault_of result
+        (roots_in known.now own (D.state device.old).disk.present) }
 
     // On any device they are within the bounds of a volume.
     ensures within { IfOk result (λ roots. EachRoot (IsWithinVolume (D.sectors device.old)) roots) }
@@ -46,7 +47,8 @@ fn root_of<D: Device>(
 ) -> Result<RootSector, RootsError>
     requires { number < D.sectors device.old }
     ensures only { OnlyReads D.Device (result ≡ Err RootsError.Device) device.old device.new }
-    ensures root { D.is_honest device.old → IfOk result (λ root. root ≡ root_in known.now (D.sectors device.old) number (sector_at (D.state device.old).disk.present number)) }
+    ensures root { D.is_honest device.old → IfOk result (λ root. root ≡ root_in known.now
+        (D.sectors device.old) number (sector_at (D.state device.old).disk.present number)) }
     ensures within { IfOk result (λ root. IfValid root (IsWithinVolume (D.sectors device.old))) }
     ensures cause { IfErr result (λ error. error ≡ RootsError.Device) }
 {

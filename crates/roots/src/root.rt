@@ -117,7 +117,8 @@ fn put(bytes: &mut [u8; 4096], at: usize, part: &[u8])
 
 /// Puts what stands in front of a root's payload into its sector: this mark, its generation and the number of sectors.
 pub fn put_head(bytes: &mut [u8; 4096], mark: &[u8; 8], generation: u64, sectors: u32)
-    ensures { bytes.new ≡ mark.now ++ big_bytes 8 generation ++ big_bytes 4 sectors ++ drop 20 bytes.old }
+    ensures { bytes.new
+        ≡ mark.now ++ big_bytes 8 generation ++ big_bytes 4 sectors ++ drop 20 bytes.old }
 {
     put(bytes, 0, mark);
     put(bytes, 8, &generation.to_be_bytes());

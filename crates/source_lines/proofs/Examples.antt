@@ -1,15 +1,18 @@
 -- Worked examples of the reference format.
-use Rattle.std.proofs.Common.{◌≡◌, ℕ, List, [], ◌∷◌, ◌++◌, map, take, drop, replicate, Result, Ok, Err, refl, sym, ◌∙◌, arith}
+use Rattle.std.proofs.Common.{◌≡◌, ℕ, List, [], ◌∷◌, ◌++◌, map, take, drop, replicate, Result, Ok, Err, refl, sym, ◌∙◌}
+use Rattle.std.proofs.Common.{arith}
 use Rattle.std.specs.Prelude.{codes}
 use Rattle.source_lines.specs.declared.fault.SourceFault.{SourceFault}
 use Rattle.source_lines.specs.declared.fault.FaultKind.{FaultKind}
-use Rattle.source_lines.specs.declared.fault.FaultKind.TheVariants.{ByteOutsideCharacterSet, UnknownIndicator, WrongContinuation, UnclosedLiteral}
+use Rattle.source_lines.specs.declared.fault.FaultKind.TheVariants.{ByteOutsideCharacterSet, UnknownIndicator}
+use Rattle.source_lines.specs.declared.fault.FaultKind.TheVariants.{WrongContinuation, UnclosedLiteral}
 use Rattle.source_lines.specs.declared.lines.Character.{Character}
 use Rattle.source_lines.specs.declared.literal.OpenLiteral.{OpenLiteral}
 use Rattle.lexical.specs.declared.place.Place.{Place}
 use Rattle.source_lines.specs.Format.{Each, Continues, IsSkipped}
 use Rattle.source_lines.specs.Line.{characters, columns_of}
-use Rattle.source_lines.specs.Reading.{after_continuation, after_line, after_lines, after_plain, plain_line_step, characters_of, line_continued, literal_continued, line_step}
+use Rattle.source_lines.specs.Reading.{after_continuation, after_line, after_lines, after_plain, plain_line_step}
+use Rattle.source_lines.specs.Reading.{characters_of, line_continued, literal_continued, line_step}
 use Rattle.source_lines.specs.Unclosed.{HasUnclosed, LeavesOpen, Leaves, IsUncontinued}
 use Rattle.source_lines.proofs.Unclosed.{unclosed}
 use Rattle.source_lines.proofs.UnclosedFound.{continuation_not, same_kind}
@@ -39,7 +42,8 @@ fault kind line column = Err (record { kind = kind; place = at line column })
 -- ---- a program of six lines
 
 hello : List ℕ
-hello = text (codes "       IDENTIFICATION DIVISION." ∷ codes "       PROGRAM-ID. HELLO." ∷ codes "       PROCEDURE DIVISION." ∷ codes "       MAIN."
+hello = text (codes "       IDENTIFICATION DIVISION." ∷ codes "       PROGRAM-ID. HELLO."
+    ∷ codes "       PROCEDURE DIVISION." ∷ codes "       MAIN."
     ∷ codes "           DISPLAY \"HELLO\"." ∷ codes "           STOP RUN." ∷ [])
 
 six_lines : bytes_of (characters_of hello)
@@ -48,7 +52,8 @@ unfolding text bytes_of hello characters characters_of after_lines after_line af
 six_lines = refl
 
 -- the first character, the end of the first line, and the opening mark
-three_places : take 1 (places_of (characters_of hello)) ++ take 1 (drop 24 (places_of (characters_of hello))) ++ take 1 (drop 82 (places_of (characters_of hello)))
+three_places : take 1 (places_of (characters_of hello)) ++ take 1 (drop 24 (places_of (characters_of hello)))
+    ++ take 1 (drop 82 (places_of (characters_of hello)))
     ≡ at 1 8 ∷ at 1 32 ∷ at 5 20 ∷ []
 unfolding text places_of at hello characters characters_of after_lines after_line after_plain plain_line_step line_step
 three_places = refl
@@ -56,7 +61,8 @@ three_places = refl
 -- ---- columns
 
 -- a tab leads to column 9, and one after column 9 to column 17
-tabs : take 18 (columns_of (9 ∷ codes "A" ++ 9 ∷ codes "B")) ≡ spaces 8 ++ codes "A" ++ spaces 7 ++ codes "B" ++ spaces 1
+tabs : take 18 (columns_of (9 ∷ codes "A" ++ 9 ∷ codes "B"))
+    ≡ spaces 8 ++ codes "A" ++ spaces 7 ++ codes "B" ++ spaces 1
 unfolding spaces
 tabs = refl
 
@@ -64,11 +70,13 @@ carriage_return_before_a_line_feed : bytes_of (characters_of (codes "       A" +
 unfolding bytes_of characters characters_of after_lines after_line after_plain plain_line_step line_step
 carriage_return_before_a_line_feed = refl
 
-carriage_return_in_a_line : characters_of (codes "       A" ++ 13 ∷ codes "B" ++ 10 ∷ []) ≡ fault ByteOutsideCharacterSet 1 9
+carriage_return_in_a_line : characters_of (codes "       A" ++ 13 ∷ codes "B" ++ 10 ∷ [])
+    ≡ fault ByteOutsideCharacterSet 1 9
 unfolding at fault characters characters_of after_lines after_line after_plain plain_line_step line_step
 carriage_return_in_a_line = refl
 
-byte_e9_in_column_20 : characters_of (text (codes "       A." ∷ (codes "           DISPLAY " ++ 0xe9 ∷ []) ∷ [])) ≡ fault ByteOutsideCharacterSet 2 20
+byte_e9_in_column_20 : characters_of (text (codes "       A." ∷ (codes "           DISPLAY " ++ 0xe9 ∷ []) ∷ []))
+    ≡ fault ByteOutsideCharacterSet 2 20
 unfolding text at fault characters characters_of after_lines after_line after_plain plain_line_step line_step
 byte_e9_in_column_20 = refl
 
@@ -80,7 +88,8 @@ byte_e9_in_column_7 : characters_of (codes "      " ++ 0xe9 ∷ codes " A") ≡ 
 unfolding at fault characters characters_of after_lines after_line
 byte_e9_in_column_7 = refl
 
-comment_line : bytes_of (characters_of (text (codes "       A" ∷ (codes "      * " ++ 0xe9 ∷ []) ∷ codes "      DB" ∷ codes "       C" ∷ []))) ≡ codes "A C "
+comment_line : bytes_of (characters_of (text
+    (codes "       A" ∷ (codes "      * " ++ 0xe9 ∷ []) ∷ codes "      DB" ∷ codes "       C" ∷ []))) ≡ codes "A C "
 unfolding text bytes_of characters characters_of after_lines after_line after_plain plain_line_step line_step
 comment_line = refl
 
@@ -90,9 +99,11 @@ unknown_indicator = refl
 
 -- ---- dropped paragraphs
 
-dropped_paragraph : bytes_of (characters_of (text (codes "       A." ∷ codes "       Author. 'x" ∷ codes "           B" ∷ codes "      -    C" ∷ codes "       D." ∷ [])))
+dropped_paragraph : bytes_of (characters_of (text (codes "       A." ∷ codes "       Author. 'x" ∷ codes "           B"
+    ∷ codes "      -    C" ∷ codes "       D." ∷ [])))
     ≡ codes "A. D. "
-unfolding text bytes_of characters characters_of after_lines after_line after_plain after_continuation plain_line_step line_step
+unfolding text bytes_of characters characters_of after_lines after_line after_plain after_continuation plain_line_step
+    line_step
 dropped_paragraph = refl
 
 -- ---- continuations
@@ -100,13 +111,17 @@ dropped_paragraph = refl
 open_line : List ℕ
 open_line = codes "           DISPLAY \"AB"
 
-continued_literal : bytes_of (characters_of (text (open_line ∷ codes "      * A COMMENT" ∷ codes "      -    \"CD\"." ∷ [])))
+continued_literal :
+    bytes_of (characters_of (text (open_line ∷ codes "      * A COMMENT" ∷ codes "      -    \"CD\"." ∷ [])))
     ≡ codes "    DISPLAY \"AB" ++ spaces 50 ++ codes "CD\". "
-unfolding spaces text open_line bytes_of characters characters_of after_lines after_line after_plain after_continuation literal_continued plain_line_step line_step
+unfolding spaces text open_line bytes_of characters characters_of after_lines after_line after_plain after_continuation
+    literal_continued plain_line_step line_step
 continued_literal = refl
 
-continued_word : bytes_of (characters_of (text (codes "           DIS" ∷ [] ∷ codes "      -    PLAY" ∷ []))) ≡ codes "    DISPLAY "
-unfolding text bytes_of characters characters_of after_lines after_line after_plain after_continuation line_continued plain_line_step line_step
+continued_word : bytes_of (characters_of (text (codes "           DIS" ∷ [] ∷ codes "      -    PLAY" ∷ [])))
+    ≡ codes "    DISPLAY "
+unfolding text bytes_of characters characters_of after_lines after_line after_plain after_continuation line_continued
+    plain_line_step line_step
 continued_word = refl
 
 not_continued : characters_of (text (open_line ∷ codes "           STOP RUN." ∷ [])) ≡ fault UnclosedLiteral 1 20
@@ -117,12 +132,15 @@ open_at_the_end : characters_of open_line ≡ fault UnclosedLiteral 1 20
 unfolding at fault open_line characters characters_of after_lines after_line after_plain plain_line_step line_step
 open_at_the_end = refl
 
-continued_without_its_mark : characters_of (text (open_line ∷ codes "      -    'CD\"." ∷ [])) ≡ fault WrongContinuation 2 12
-unfolding at fault text open_line characters characters_of after_lines after_line after_plain after_continuation literal_continued plain_line_step line_step
+continued_without_its_mark : characters_of (text (open_line ∷ codes "      -    'CD\"." ∷ []))
+    ≡ fault WrongContinuation 2 12
+unfolding at fault text open_line characters characters_of after_lines after_line after_plain after_continuation
+    literal_continued plain_line_step line_step
 continued_without_its_mark = refl
 
 mark_in_area_a : characters_of (text (open_line ∷ codes "      - \"CD\"." ∷ [])) ≡ fault WrongContinuation 2 9
-unfolding at fault text open_line characters characters_of after_lines after_line after_plain after_continuation literal_continued plain_line_step line_step
+unfolding at fault text open_line characters characters_of after_lines after_line after_plain after_continuation
+    literal_continued plain_line_step line_step
 mark_in_area_a = refl
 
 nothing_before : characters_of (codes "      -    A") ≡ fault WrongContinuation 1 7
@@ -140,17 +158,21 @@ unfolding at text open_line quoted_at characters
 stays_open = record {
   size = omega arith;
   text = LeavesOpen.this_one refl refl refl
-      (Leaves.here (record { in_character_set = refl; literal = refl; counts = refl }) Each.none (IsUncontinued.plain refl refl));
+      (Leaves.here (record { in_character_set = refl; literal = refl; counts = refl }) Each.none
+      (IsUncontinued.plain refl refl));
 }
 
 -- A comment line is skipped. The continuation closes the literal and opens another, which is open where the text ends.
-stays_open_in_a_continuation : HasUnclosed (text (open_line ∷ codes "      * A COMMENT" ∷ codes "      -    \"CD\" \"E" ∷ [])) (quoted_at (at 3 17))
+stays_open_in_a_continuation : HasUnclosed
+    (text (open_line ∷ codes "      * A COMMENT" ∷ codes "      -    \"CD\" \"E" ∷ [])) (quoted_at (at 3 17))
 unfolding at text open_line quoted_at characters
 stays_open_in_a_continuation = record {
   size = omega arith;
   text = LeavesOpen.this_one refl refl refl
-      (Leaves.further (record { in_character_set = refl; literal = refl; counts = refl }) (Each.one (IsSkipped.comment refl) Each.none)
-      (Continues.mark refl refl refl (omega arith) refl) (Leaves.here (record { in_character_set = refl; literal = refl; counts = refl }) Each.none IsUncontinued.at_end));
+      (Leaves.further (record { in_character_set = refl; literal = refl; counts = refl })
+      (Each.one (IsSkipped.comment refl) Each.none)
+      (Continues.mark refl refl refl (omega arith) refl) (Leaves.here
+      (record { in_character_set = refl; literal = refl; counts = refl }) Each.none IsUncontinued.at_end));
 }
 
 -- a continuation without the mark is a fault of its own, so no literal stays open

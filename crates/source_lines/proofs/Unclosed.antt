@@ -13,13 +13,15 @@ use Rattle.source_lines.proofs.UnclosedFound.{open_text_found, same_kind}
 use Rattle.source_lines.proofs.UnclosedRead.{open_text_read}
 use Rattle.source_lines.proofs.Written.{Fresh}
 
-pub unclosed : (source : List ℕ) (literal : OpenLiteral) → HasUnclosed source literal → characters_of source ≡ Err (reading.unclosed_fault literal)
+pub unclosed : (source : List ℕ) (literal : OpenLiteral) → HasUnclosed source literal
+    → characters_of source ≡ Err (reading.unclosed_fault literal)
 unclosed source literal h = within_limit source h.size ∙ open_text_read h.text [] Nothing Fresh.nothing
 
 large_not : SourceTooLarge ≡ UnclosedLiteral → ⊥
 large_not e = cc
 
-by_size : (source : List ℕ) (fault : SourceFault) (small : Bool) → nat_le (length source) 8000000 ≡ small → fault.kind ≡ UnclosedLiteral
+by_size : (source : List ℕ) (fault : SourceFault) (small : Bool) → nat_le (length source) 8000000 ≡ small
+    → fault.kind ≡ UnclosedLiteral
     → cond small (and_then (after_lines (lines_of source) at_start) at_end) (Err too_large) ≡ Err fault
     → (literal : OpenLiteral) × HasUnclosed source literal × (fault ≡ reading.unclosed_fault literal)
 by_size source fault true small told e =
@@ -27,7 +29,8 @@ by_size source fault true small told e =
     (found.0, record { size = within (length source) small; text = found.1 }, found.2)
 by_size source fault false large told e = absurd (large_not (same_kind e told))
 
-pub unclosed_only : (source : List ℕ) (fault : SourceFault) → characters_of source ≡ Err fault → fault.kind ≡ UnclosedLiteral
+pub unclosed_only : (source : List ℕ) (fault : SourceFault) → characters_of source ≡ Err fault
+    → fault.kind ≡ UnclosedLiteral
     → (literal : OpenLiteral) × HasUnclosed source literal × (fault ≡ reading.unclosed_fault literal)
 unfolding characters_of
 unclosed_only source fault e told = by_size source fault (nat_le (length source) 8000000) refl told e

@@ -13,9 +13,15 @@ ghost use Rattle.source_lines.specs.declared.literal.OpenLiteral.{OpenLiteral};
 /// What `logical` answers are the characters that the reference format gives a source text, and it gives no others. That a literal
 /// isn't closed is told exactly of the texts in which one stays open, and stands at its opening mark.
 pub fn reference_format()
-    ensures answered { (source : List ℕ) (given : List Character) → characters_of source ≡ Ok given → HasCharacters source given }
-    ensures only { (source : List ℕ) (given : List Character) → HasCharacters source given → characters_of source ≡ Ok given }
-    ensures unique { (source : List ℕ) (one two : List Character) → HasCharacters source one → HasCharacters source two → one ≡ two }
-    ensures unclosed { (source : List ℕ) (literal : OpenLiteral) → HasUnclosed source literal → characters_of source ≡ Err (reading.unclosed_fault literal) }
-    ensures unclosed_only { (source : List ℕ) (fault : SourceFault) → characters_of source ≡ Err fault → fault.kind ≡ UnclosedLiteral → (literal : OpenLiteral) × HasUnclosed source literal × (fault ≡ reading.unclosed_fault literal) }
+    ensures answered { (source : List ℕ) (given : List Character) → characters_of source ≡ Ok given
+        → HasCharacters source given }
+    ensures only { (source : List ℕ) (given : List Character) → HasCharacters source given
+        → characters_of source ≡ Ok given }
+    ensures unique { (source : List ℕ) (one two : List Character) → HasCharacters source one
+        → HasCharacters source two → one ≡ two }
+    ensures unclosed { (source : List ℕ) (literal : OpenLiteral) → HasUnclosed source literal
+        → characters_of source ≡ Err (reading.unclosed_fault literal) }
+    ensures unclosed_only { (source : List ℕ) (fault : SourceFault)
+        → characters_of source ≡ Err fault → fault.kind ≡ UnclosedLiteral → (literal : OpenLiteral)
+        × HasUnclosed source literal × (fault ≡ reading.unclosed_fault literal) }
 {}

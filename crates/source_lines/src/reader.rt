@@ -81,7 +81,8 @@ impl Reader {
 
     #[tactic(auto, unfolding(crate::specs::Reading::after_continuation))]
     fn read_continuation(&mut self, line: &Line) -> Result<(), SourceError>
-        ensures { Gives (λ _. self.new) fault_of result (spec.after_continuation line.now self.old) }
+        ensures { Gives (λ _. self.new) fault_of result
+            (spec.after_continuation line.now self.old) }
     {
         match self.before {
             Before::Nothing => Err(line.refuse(FaultKind::WrongContinuation, INDICATOR_COLUMN)),
@@ -96,7 +97,8 @@ impl Reader {
     fn begin(&mut self, line: &Line, first: u8) -> Result<(), SourceError>
         requires low { 8 ≤ first }
         requires high { first ≤ 72 }
-        ensures { Gives (λ _. self.new) fault_of result (spec.plain_line_step line.now first self.old) }
+        ensures { Gives (λ _. self.new) fault_of result
+            (spec.plain_line_step line.now first self.old) }
     {
         if begins_dropped(line, first) {
             self.before = Before::Dropped;
@@ -122,7 +124,8 @@ impl Reader {
     /// Joins a continuation to the line before, in which this literal is open.
     #[tactic(auto, unfolding(crate::specs::Reading::literal_continued))]
     fn continue_literal(&mut self, line: &Line, literal: OpenLiteral) -> Result<(), SourceError>
-        ensures { Gives (λ _. self.new) fault_of result (spec.literal_continued line.now literal self.old) }
+        ensures { Gives (λ _. self.new) fault_of result
+            (spec.literal_continued line.now literal self.old) }
     {
         let Some(first) = line.first_nonblank() else {
             return Err(line.refuse(FaultKind::WrongContinuation, INDICATOR_COLUMN));
@@ -147,7 +150,8 @@ impl Reader {
     ) -> Result<(), SourceError>
         requires low { 8 ≤ from }
         requires high { from ≤ 73 }
-        ensures { Gives (λ _. self.new) fault_of result (spec.line_step line.now from literal self.old) }
+        ensures { Gives (λ _. self.new) fault_of result
+            (spec.line_step line.now from literal self.old) }
     {
         if let Some(column) = line.first_outside() {
             return Err(line.refuse(FaultKind::ByteOutsideCharacterSet, column));

@@ -39,7 +39,8 @@ pub fn logical(alloc: Global, source: &[u8]) -> Result<Lines, SourceError>
 
 fn read_lines(reader: &mut Reader, source: &[u8]) -> Result<(), SourceError>
     requires { length source.now ≤ 8000000 }
-    ensures { Gives (λ _. reader.new) fault_of result (spec.after_lines (spec.lines_of source.now) reader.old) }
+    ensures { Gives (λ _. reader.new) fault_of result
+        (spec.after_lines (spec.lines_of source.now) reader.old) }
 {
     let mut number = 1;
     let mut rest = source;
@@ -53,7 +54,8 @@ fn read_lines(reader: &mut Reader, source: &[u8]) -> Result<(), SourceError>
 
 /// The first line and the bytes after it.
 fn first_line(rest: &[u8]) -> Option<(&[u8], &[u8])>
-    ensures parts { MatchOption result (lines rest.now ≡ []) (λ parts. lines rest.now ≡ parts.0.now ∷ lines parts.1.now) }
+    ensures parts { MatchOption result (lines rest.now ≡ [])
+        (λ parts. lines rest.now ≡ parts.0.now ∷ lines parts.1.now) }
     ensures shorter { IfSome result (λ parts. length parts.1.now < length rest.now) }
 {
     match memchr(LINE_FEED, rest) {

@@ -1,7 +1,9 @@
 -- Worked examples of the definitions.
 use Rattle.std.proofs.Common.{◌≡◌, [], ◌∷◌, refl}
 use Rattle.station.specs.Disk.{Disk, Sector, idle_disk}
-use Rattle.station.specs.State.{State, Shown, Noted, wrote, state_after_failed_write, state_after_sync, state_after_show, states_while_showing, took_line, states_after_line, overlaid, bytes_of}
+use Rattle.station.specs.State.{State, Shown, Noted, wrote, state_after_failed_write, state_after_sync}
+use Rattle.station.specs.State.{state_after_show, states_while_showing, took_line, states_after_line, overlaid}
+use Rattle.station.specs.State.{bytes_of}
 use Rattle.station.specs.Choice.{chosen_sectors, state_after_crash}
 use Rattle.station.specs.Blocks.{with_all}
 use Rattle.station.specs.Plan.{fate_of, plan_after, count_after_call}
@@ -29,7 +31,8 @@ written_now : (wrote start 1 c).disk ≡ record { present = a ∷ c ∷ []; stab
 written_now = refl
 
 -- a failed write that is kept isn't present
-kept_now : (state_after_failed_write start 1 c).disk ≡ record { present = a ∷ b ∷ []; stable = a ∷ b ∷ []; written = (1, c) ∷ [] }
+kept_now : (state_after_failed_write start 1 c).disk
+    ≡ record { present = a ∷ b ∷ []; stable = a ∷ b ∷ []; written = (1, c) ∷ [] }
 kept_now = refl
 
 -- a sync makes stable what is present, and drops what failed
@@ -66,7 +69,8 @@ crash_keeps_events : (state_after_crash (wrote (state_after_show start (72 ∷ [
 crash_keeps_events = refl
 
 -- one state after each byte
-shows_two : states_while_showing start (72 ∷ 73 ∷ []) ≡ state_after_show start (72 ∷ []) ∷ state_after_show start (72 ∷ 73 ∷ []) ∷ []
+shows_two : states_while_showing start (72 ∷ 73 ∷ [])
+    ≡ state_after_show start (72 ∷ []) ∷ state_after_show start (72 ∷ 73 ∷ []) ∷ []
 shows_two = refl
 
 told_bytes : bytes_of (Shown 72 ∷ Noted (record { file = 0; status = 48 ∷ 48 ∷ [] }) ∷ Shown 73 ∷ []) ≡ 72 ∷ 73 ∷ []
@@ -96,5 +100,6 @@ failed_counts = refl
 stopped_counts_not : count_after_call fates.Stopped 5 ≡ 5
 stopped_counts_not = refl
 
-two_blocks : with_all (a ∷ b ∷ c ∷ []) (record { sector = 2; bytes = d } ∷ record { sector = 0; bytes = b } ∷ []) ≡ b ∷ b ∷ d ∷ []
+two_blocks : with_all (a ∷ b ∷ c ∷ []) (record { sector = 2; bytes = d } ∷ record { sector = 0; bytes = b } ∷ [])
+    ≡ b ∷ b ∷ d ∷ []
 two_blocks = refl

@@ -19,7 +19,8 @@ pub struct Block<'a> {
 pub fn write_blocks<D: Device>(device: &mut D, blocks: &[Block]) -> Result<(), DeviceError>
     requires { SectorsAre (λ s. s < D.sectors device.old) blocks.now }
     ensures only { OnlyWrites D.Device (IsErr result) device.old device.new }
-    ensures wrote { D.is_honest device.old → OnOk result (D.state device.new ≡ wrote_all (D.state device.old) blocks.now) }
+    ensures wrote { D.is_honest device.old
+        → OnOk result (D.state device.new ≡ wrote_all (D.state device.old) blocks.now) }
 
     // At each moment all that waits is writes to the blocks' sectors.
     ensures moments { D.is_honest device.old → IsSettled (D.state device.old).disk →

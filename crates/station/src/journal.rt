@@ -23,7 +23,8 @@ pub struct Journal {
     /// How many of the calls came before the last crash.
     before: usize,
     ghost few_sectors: { length start.items < 2 ^ 32 },
-    ghost current: { present.items ≡ (state_after_calls (made_of start.items lines.items) calls.items).disk.present },
+    ghost current: { present.items
+        ≡ (state_after_calls (made_of start.items lines.items) calls.items).disk.present },
     ghost before_within: { before ≤ length calls.items },
 }
 
@@ -39,7 +40,8 @@ impl Journal {
         requires { length sectors.items < 2 ^ 32 }
         ensures sectors { IfOk result (λ j. journal_sectors j ≡ length sectors.items) }
         ensures state { IfOk result (λ j. journal_state j ≡ made_of sectors.items lines.items) }
-        ensures history { IfOk result (λ j. journal_history j ≡ made_of sectors.items lines.items ∷ []) }
+        ensures history { IfOk result
+            (λ j. journal_history j ≡ made_of sectors.items lines.items ∷ []) }
     {
         let mut present = Vec::new(alloc);
         present.extend_from_slice(&sectors)?;
@@ -74,7 +76,8 @@ impl Journal {
         ensures lines { self.new.lines ≡ self.old.lines }
         ensures sectors { journal_sectors self.new ≡ journal_sectors self.old }
         ensures state { OnOk result (journal_state self.new ≡ next (journal_state self.old) call) }
-        ensures history { OnOk result (journal_history self.new ≡ journal_history self.old ++ passes (journal_state self.old) call) }
+        ensures history { OnOk result (journal_history self.new
+            ≡ journal_history self.old ++ passes (journal_state self.old) call) }
         ensures same_state { OnErr result (journal_state self.new ≡ journal_state self.old) }
         ensures same_history { OnErr result (journal_history self.new ≡ journal_history self.old) }
     {
@@ -86,8 +89,10 @@ impl Journal {
     pub fn write(&mut self, sector: u32, bytes: &[u8; 4096]) -> Result<(), AllocError>
         requires { sector < journal_sectors self.old }
         ensures sectors { journal_sectors self.new ≡ journal_sectors self.old }
-        ensures state { OnOk result (journal_state self.new ≡ wrote (journal_state self.old) sector bytes.now) }
-        ensures history { OnOk result (journal_history self.new ≡ journal_history self.old ++ wrote (journal_state self.old) sector bytes.now ∷ []) }
+        ensures state { OnOk result
+            (journal_state self.new ≡ wrote (journal_state self.old) sector bytes.now) }
+        ensures history { OnOk result (journal_history self.new
+            ≡ journal_history self.old ++ wrote (journal_state self.old) sector bytes.now ∷ []) }
         ensures same_state { OnErr result (journal_state self.new ≡ journal_state self.old) }
         ensures same_history { OnErr result (journal_history self.new ≡ journal_history self.old) }
     {
@@ -100,8 +105,10 @@ impl Journal {
     /// Adds a write that failed.
     pub fn keep(&mut self, sector: u32, bytes: &[u8; 4096]) -> Result<(), AllocError>
         ensures sectors { journal_sectors self.new ≡ journal_sectors self.old }
-        ensures state { OnOk result (journal_state self.new ≡ state_after_failed_write (journal_state self.old) sector bytes.now) }
-        ensures history { OnOk result (journal_history self.new ≡ journal_history self.old ++ state_after_failed_write (journal_state self.old) sector bytes.now ∷ []) }
+        ensures state { OnOk result (journal_state self.new
+            ≡ state_after_failed_write (journal_state self.old) sector bytes.now) }
+        ensures history { OnOk result (journal_history self.new ≡ journal_history self.old
+            ++ state_after_failed_write (journal_state self.old) sector bytes.now ∷ []) }
         ensures same_state { OnErr result (journal_state self.new ≡ journal_state self.old) }
         ensures same_history { OnErr result (journal_history self.new ≡ journal_history self.old) }
     {
@@ -112,8 +119,10 @@ impl Journal {
     /// Adds bytes that were shown.
     pub fn show(&mut self, bytes: &[u8]) -> Result<(), AllocError>
         ensures sectors { journal_sectors self.new ≡ journal_sectors self.old }
-        ensures state { OnOk result (journal_state self.new ≡ state_after_show (journal_state self.old) bytes.now) }
-        ensures history { OnOk result (journal_history self.new ≡ journal_history self.old ++ states_while_showing (journal_state self.old) bytes.now) }
+        ensures state { OnOk result
+            (journal_state self.new ≡ state_after_show (journal_state self.old) bytes.now) }
+        ensures history { OnOk result (journal_history self.new
+            ≡ journal_history self.old ++ states_while_showing (journal_state self.old) bytes.now) }
         ensures same_state { OnErr result (journal_state self.new ≡ journal_state self.old) }
         ensures same_history { OnErr result (journal_history self.new ≡ journal_history self.old) }
     {
@@ -125,8 +134,10 @@ impl Journal {
     pub fn line(&mut self, into: &mut [u8]) -> Result<Option<usize>, AllocError>
         ensures sectors { journal_sectors self.new ≡ journal_sectors self.old }
         ensures bound { IfOk result (λ taken. IfSome taken (λ n. n ≤ length into.old)) }
-        ensures taken { IfOk result (λ taken. TakesLine (journal_state self.old) into.old taken into.new (journal_state self.new)) }
-        ensures history { OnOk result (journal_history self.new ≡ journal_history self.old ++ states_after_line (journal_state self.old)) }
+        ensures taken { IfOk result (λ taken.
+            TakesLine (journal_state self.old) into.old taken into.new (journal_state self.new)) }
+        ensures history { OnOk result (journal_history self.new
+            ≡ journal_history self.old ++ states_after_line (journal_state self.old)) }
         ensures same_state { OnErr result (journal_state self.new ≡ journal_state self.old) }
         ensures same_history { OnErr result (journal_history self.new ≡ journal_history self.old) }
     {
@@ -141,8 +152,10 @@ impl Journal {
     /// Leaves an image of a crash, and begins anew with it. Console calls stay.
     pub fn crash(&mut self, choose: &[u32])
         ensures sectors { journal_sectors self.new ≡ journal_sectors self.old }
-        ensures state { journal_state self.new ≡ state_after_crash (journal_state self.old) choose.now }
-        ensures history { journal_history self.new ≡ state_after_crash (journal_state self.old) choose.now ∷ [] }
+        ensures state { journal_state self.new
+            ≡ state_after_crash (journal_state self.old) choose.now }
+        ensures history { journal_history self.new
+            ≡ state_after_crash (journal_state self.old) choose.now ∷ [] }
     {
         leave_image(&mut self.start, &self.calls, choose);
         self.calls.retain(|call| call.is_of_console());

@@ -9,24 +9,33 @@ ghost use Rattle.station.specs.Changes.{ChangesOnly};
 /// Of what a crash may leave.
 pub fn crash_laws()
     // After a successful sync exactly one image is possible.
-    ensures synced { (base image : List Sector) → IsCrashImage (idle_disk base) image ↔ (image ≡ base) }
+    ensures synced { (base image : List Sector) → IsCrashImage (idle_disk base) image
+        ↔ (image ≡ base) }
 
     // A write, failed or not, changes only its sector in every image.
-    ensures write { (old : State) (i : ℕ) (bytes : Sector) (new : State) → MayHaveWritten old i bytes new → ChangesOnly i old new }
+    ensures write { (old : State) (i : ℕ) (bytes : Sector) (new : State)
+        → MayHaveWritten old i bytes new → ChangesOnly i old new }
 
     // A crash leaves, by any choice, an image that was possible, and then that image alone is.
-    ensures chosen { (s : State) (choose : List ℕ) → IsCrashImage s.disk (chosen_sectors s.disk choose) }
-    ensures crashed { (s : State) (choose : List ℕ) → EachImage (λ image. image ≡ chosen_sectors s.disk choose) (state_after_crash s choose) }
+    ensures chosen { (s : State) (choose : List ℕ)
+        → IsCrashImage s.disk (chosen_sectors s.disk choose) }
+    ensures crashed { (s : State) (choose : List ℕ)
+        → EachImage (λ image. image ≡ chosen_sectors s.disk choose) (state_after_crash s choose) }
 {}
 
 /// Of each state that calls pass through.
 pub fn moment_laws()
-    ensures composes { (a b c : List State) (p : State → Bool) → Spans a b (λ s. IsTrue (p s)) → Spans b c (λ s. IsTrue (p s)) → Spans a c (λ s. IsTrue (p s)) }
-    ensures weakens { (a b : List State) (p q : State → Bool) → ((s : State) → IsTrue (p s) → IsTrue (q s)) → Spans a b (λ s. IsTrue (p s)) → Spans a b (λ s. IsTrue (q s)) }
+    ensures composes { (a b c : List State) (p : State → Bool) → Spans a b (λ s. IsTrue (p s))
+        → Spans b c (λ s. IsTrue (p s)) → Spans a c (λ s. IsTrue (p s)) }
+    ensures weakens { (a b : List State) (p q : State → Bool)
+        → ((s : State) → IsTrue (p s) → IsTrue (q s)) → Spans a b (λ s. IsTrue (p s))
+        → Spans a b (λ s. IsTrue (q s)) }
 
     // What is so at the entry, and at each moment after it, is so of the state that was left.
-    ensures arrives { (a b : List State) (old new : State) (p : State → Bool) → EndsIn a old → EndsIn b new → IsTrue (p old) → Spans a b (λ s. IsTrue (p s)) → IsTrue (p new) }
+    ensures arrives { (a b : List State) (old new : State) (p : State → Bool) → EndsIn a old
+        → EndsIn b new → IsTrue (p old) → Spans a b (λ s. IsTrue (p s)) → IsTrue (p new) }
 
     // Whatever a failed show has told is a beginning of what it would have told.
-    ensures told { (old : State) (bytes : List ℕ) (s : State) → HasShownSome old bytes s → Begins s.events (state_after_show old bytes).events }
+    ensures told { (old : State) (bytes : List ℕ) (s : State) → HasShownSome old bytes s
+        → Begins s.events (state_after_show old bytes).events }
 {}

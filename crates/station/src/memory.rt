@@ -40,7 +40,17 @@ impl MemoryStation {
     ) -> Result<Self, AllocError>
         requires { length sectors.items < 2 ^ 32 }
         ensures { let start = made_of sectors.items lines.items in
-            IfOk result (λ m. memory m ≡ record { sectors = length sectors.items; state = start; history = start ∷ []; plan = Plan.Works; failures = 0; refused = 0; reads = 0; writes = 0; syncs = 0 }) }
+            IfOk result (λ m. memory m ≡ record {
+              sectors = length sectors.items;
+              state = start;
+              history = start ∷ [];
+              plan = Plan.Works;
+              failures = 0;
+              refused = 0;
+              reads = 0;
+              writes = 0;
+              syncs = 0;
+            }) }
     {
         Ok(MemoryStation {
             journal: Journal::new(alloc, sectors, lines)?,
@@ -71,9 +81,12 @@ impl MemoryStation {
     /// where the i-th choice is 0, and else at the value of that write. A missing choice is 0, a greater one the last.
     pub fn crash(&mut self, choose: &[u32])
         ensures memory { let left = state_after_crash (memory self.old).state choose.now in
-            memory self.new ≡ record (memory self.old) { state = left; history = left ∷ []; plan = Plan.Works } }
-        ensures image { IsCrashImage (memory self.old).state.disk (memory self.new).state.disk.present }
-        ensures alone { EachImage (λ image. image ≡ (memory self.new).state.disk.present) (memory self.new).state }
+            memory self.new
+            ≡ record (memory self.old) { state = left; history = left ∷ []; plan = Plan.Works } }
+        ensures image { IsCrashImage (memory self.old).state.disk
+            (memory self.new).state.disk.present }
+        ensures alone { EachImage (λ image. image ≡ (memory self.new).state.disk.present)
+            (memory self.new).state }
     {
         self.journal.crash(choose);
         self.plan = Plan::Works;
@@ -138,7 +151,8 @@ impl MemoryStation {
         ensures err { (e : _) → grown ≡ Err e → result ≡ Err DeviceError.Failed }
         ensures failures { CountsFailure result self.old.failures self.new.failures }
         ensures same { IsOk grown → memory self.new ≡ memory self.old }
-        ensures refused { IsErr grown → memory self.new ≡ memory_after_failure (record (memory self.old) { refused = saturated_successor (memory self.old).refused }) }
+        ensures refused { IsErr grown → memory self.new ≡ memory_after_failure
+            (record (memory self.old) { refused = saturated_successor (memory self.old).refused }) }
         ensures journal { self.new.journal ≡ self.old.journal }
     {
         match grown {
@@ -165,13 +179,17 @@ impl Device for MemoryStation {
 
     ghost sectors = { λ m. journal_sectors m.journal };
 
-    ghost all_present = { λ m _. all_present_after m.journal.start.items m.journal.lines.items m.journal.calls.items };
+    ghost all_present = { λ m _.
+        all_present_after m.journal.start.items m.journal.lines.items m.journal.calls.items };
 
-    ghost all_stable = { λ m _. all_stable_after m.journal.start.items m.journal.lines.items m.journal.calls.items };
+    ghost all_stable = { λ m _.
+        all_stable_after m.journal.start.items m.journal.lines.items m.journal.calls.items };
 
-    ghost newest = { λ m _. since_ends (made_of m.journal.start.items m.journal.lines.items) m.journal.calls.items m.journal.before };
+    ghost newest = { λ m _. since_ends (made_of m.journal.start.items m.journal.lines.items)
+        m.journal.calls.items m.journal.before };
 
-    ghost possible = { λ m _. all_possible_after m.journal.start.items m.journal.lines.items m.journal.calls.items };
+    ghost possible = { λ m _.
+        all_possible_after m.journal.start.items m.journal.lines.items m.journal.calls.items };
 
     fn count(&self) -> u32 {
         self.journal.count()
@@ -180,11 +198,14 @@ impl Device for MemoryStation {
     fn read(&mut self, sector: u32, bytes: &mut [u8; 4096]) -> Result<(), DeviceError>
         requires { sector < (memory self.old).sectors }
         ensures sectors { (memory self.new).sectors ≡ (memory self.old).sectors }
-        ensures failures { CountsFailure result (memory self.old).failures (memory self.new).failures }
+        ensures failures { CountsFailure result (memory self.old).failures
+            (memory self.new).failures }
         ensures state { (memory self.new).state ≡ (memory self.old).state }
         ensures history { (memory self.new).history ≡ (memory self.old).history }
-        ensures memory { Obeys (fate_of (memory self.old).plan) (memory_after_read (memory self.old)) result (memory self.new) }
-        ensures bytes { OnOk result (bytes.new ≡ sector_at (memory self.old).state.disk.present sector) }
+        ensures memory { Obeys (fate_of (memory self.old).plan)
+            (memory_after_read (memory self.old)) result (memory self.new) }
+        ensures bytes { OnOk result
+            (bytes.new ≡ sector_at (memory self.old).state.disk.present sector) }
     {
         let fate = self.plan.step();
         fate.count(&mut self.reads);
@@ -198,12 +219,17 @@ impl Device for MemoryStation {
     fn write(&mut self, sector: u32, bytes: &[u8; 4096]) -> Result<(), DeviceError>
         requires { sector < (memory self.old).sectors }
         ensures sectors { (memory self.new).sectors ≡ (memory self.old).sectors }
-        ensures failures { CountsFailure result (memory self.old).failures (memory self.new).failures }
-        ensures wrote { OnOk result ((memory self.new).state ≡ wrote (memory self.old).state sector bytes.now) }
-        ensures perhaps { MayHaveWritten (memory self.old).state sector bytes.now (memory self.new).state }
-        ensures moves { Moves (memory self.old).history (memory self.old).state (memory self.new).history (memory self.new).state }
+        ensures failures { CountsFailure result (memory self.old).failures
+            (memory self.new).failures }
+        ensures wrote { OnOk result
+            ((memory self.new).state ≡ wrote (memory self.old).state sector bytes.now) }
+        ensures perhaps { MayHaveWritten (memory self.old).state sector bytes.now
+            (memory self.new).state }
+        ensures moves { Moves (memory self.old).history (memory self.old).state
+            (memory self.new).history (memory self.new).state }
         ensures memory { let m = memory self.old in let begun = memory_after_write m in
-            Follows (fate_of m.plan) begun (went begun (wrote m.state sector bytes.now)) (went begun (state_after_failed_write m.state sector bytes.now)) result (memory self.new) }
+            Follows (fate_of m.plan) begun (went begun (wrote m.state sector bytes.now)) (went begun
+            (state_after_failed_write m.state sector bytes.now)) result (memory self.new) }
     {
         let fate = self.plan.step();
         fate.count(&mut self.writes);
@@ -223,12 +249,16 @@ impl Device for MemoryStation {
 
     fn sync(&mut self) -> Result<(), DeviceError>
         ensures sectors { (memory self.new).sectors ≡ (memory self.old).sectors }
-        ensures failures { CountsFailure result (memory self.old).failures (memory self.new).failures }
-        ensures synced { OnOk result ((memory self.new).state ≡ state_after_sync (memory self.old).state) }
+        ensures failures { CountsFailure result (memory self.old).failures
+            (memory self.new).failures }
+        ensures synced { OnOk result
+            ((memory self.new).state ≡ state_after_sync (memory self.old).state) }
         ensures unsynced { OnErr result ((memory self.new).state ≡ (memory self.old).state) }
-        ensures moves { Moves (memory self.old).history (memory self.old).state (memory self.new).history (memory self.new).state }
+        ensures moves { Moves (memory self.old).history (memory self.old).state
+            (memory self.new).history (memory self.new).state }
         ensures memory { let m = memory self.old in let begun = memory_after_sync m in
-            Follows (fate_of m.plan) begun (went begun (state_after_sync m.state)) begun result (memory self.new) }
+            Follows (fate_of m.plan) begun (went begun (state_after_sync m.state)) begun result
+            (memory self.new) }
     {
         let fate = self.plan.step();
         fate.count(&mut self.syncs);
@@ -245,13 +275,17 @@ impl Station for MemoryStation {
 
     fn line(&mut self, into: &mut [u8]) -> Result<Option<usize>, DeviceError>
         ensures sectors { (memory self.new).sectors ≡ (memory self.old).sectors }
-        ensures failures { CountsFailure result (memory self.old).failures (memory self.new).failures }
+        ensures failures { CountsFailure result (memory self.old).failures
+            (memory self.new).failures }
         ensures untaken { OnErr result ((memory self.new).state ≡ (memory self.old).state) }
-        ensures moves { Moves (memory self.old).history (memory self.old).state (memory self.new).history (memory self.new).state }
+        ensures moves { Moves (memory self.old).history (memory self.old).state
+            (memory self.new).history (memory self.new).state }
         ensures bound { IfOk result (λ taken. IfSome taken (λ n. n ≤ length into.old)) }
-        ensures taken { IfOk result (λ taken. TakesLine (memory self.old).state into.old taken into.new (memory self.new).state) }
+        ensures taken { IfOk result (λ taken.
+            TakesLine (memory self.old).state into.old taken into.new (memory self.new).state) }
         ensures memory { let m = memory self.old in let begun = memory_after_call m in
-            Follows (fate_of m.plan) begun (memory_after_line begun) begun result (memory self.new) }
+            Follows (fate_of m.plan) begun (memory_after_line begun) begun result
+            (memory self.new) }
     {
         let takes = self.plan.step() == Fate::Works;
         if !takes {
@@ -263,11 +297,15 @@ impl Station for MemoryStation {
 
     fn show(&mut self, bytes: &[u8]) -> Result<(), DeviceError>
         ensures sectors { (memory self.new).sectors ≡ (memory self.old).sectors }
-        ensures failures { CountsFailure result (memory self.old).failures (memory self.new).failures }
-        ensures shown { OnOk result (Shows (memory self.old).history (memory self.old).state bytes.now (memory self.new).history (memory self.new).state) }
-        ensures cut { (n : ℕ) × Shows (memory self.old).history (memory self.old).state (take n bytes.now) (memory self.new).history (memory self.new).state }
+        ensures failures { CountsFailure result (memory self.old).failures
+            (memory self.new).failures }
+        ensures shown { OnOk result (Shows (memory self.old).history (memory self.old).state
+            bytes.now (memory self.new).history (memory self.new).state) }
+        ensures cut { (n : ℕ) × Shows (memory self.old).history (memory self.old).state
+            (take n bytes.now) (memory self.new).history (memory self.new).state }
         ensures memory { let m = memory self.old in let begun = memory_after_call m in
-            Follows (fate_of m.plan) begun (memory_after_show begun bytes.now) begun result (memory self.new) }
+            Follows (fate_of m.plan) begun (memory_after_show begun bytes.now) begun result
+            (memory self.new) }
     {
         let shows = self.plan.step() == Fate::Works;
         if !shows {
@@ -279,12 +317,16 @@ impl Station for MemoryStation {
 
     fn note(&mut self, note: Note) -> Result<(), DeviceError>
         ensures sectors { (memory self.new).sectors ≡ (memory self.old).sectors }
-        ensures failures { CountsFailure result (memory self.old).failures (memory self.new).failures }
-        ensures noted { OnOk result ((memory self.new).state ≡ state_after_note (memory self.old).state note) }
+        ensures failures { CountsFailure result (memory self.old).failures
+            (memory self.new).failures }
+        ensures noted { OnOk result
+            ((memory self.new).state ≡ state_after_note (memory self.old).state note) }
         ensures unheard { OnErr result ((memory self.new).state ≡ (memory self.old).state) }
-        ensures moves { Moves (memory self.old).history (memory self.old).state (memory self.new).history (memory self.new).state }
+        ensures moves { Moves (memory self.old).history (memory self.old).state
+            (memory self.new).history (memory self.new).state }
         ensures memory { let m = memory self.old in let begun = memory_after_call m in
-            Follows (fate_of m.plan) begun (went begun (state_after_note m.state note)) begun result (memory self.new) }
+            Follows (fate_of m.plan) begun (went begun (state_after_note m.state note)) begun result
+            (memory self.new) }
     {
         let hears = self.plan.step() == Fate::Works;
         if !hears {

@@ -12,12 +12,14 @@ use crate::{Device, DeviceError};
 pub fn write_blocks_through<D: Device>(device: &mut D, blocks: &[Block]) -> Result<(), DeviceError>
     requires { SectorsAre (λ s. s < D.sectors device.old) blocks.now }
     ensures only { OnlyWrites D.Device (IsErr result) device.old device.new }
-    ensures durable { D.is_honest device.old → OnOk result ((D.state device.new).disk ≡ idle_disk (with_all (D.state device.old).disk.present blocks.now)) }
+    ensures durable { D.is_honest device.old → OnOk result ((D.state device.new).disk
+        ≡ idle_disk (with_all (D.state device.old).disk.present blocks.now)) }
 
     // At each moment a crash leaves all other sectors as they were.
     ensures moments { D.is_honest device.old → IsSettled (D.state device.old).disk →
         Through (D.history device.old) (D.history device.new) (D.state device.new)
-        (CrashLeaves (D.state device.old).events (SameOutside (D.state device.old).disk.present blocks.now)) }
+        (CrashLeaves (D.state device.old).events
+        (SameOutside (D.state device.old).disk.present blocks.now)) }
 {
     write_blocks(device, blocks)?;
     device.sync()
@@ -31,12 +33,14 @@ pub fn write_through<D: Device>(
 ) -> Result<(), DeviceError>
     requires { sector < D.sectors device.old }
     ensures only { OnlyWrites D.Device (IsErr result) device.old device.new }
-    ensures durable { D.is_honest device.old → OnOk result ((D.state device.new).disk ≡ idle_disk (slice_set (D.state device.old).disk.present sector bytes.now)) }
+    ensures durable { D.is_honest device.old → OnOk result ((D.state device.new).disk
+        ≡ idle_disk (slice_set (D.state device.old).disk.present sector bytes.now)) }
 
     // At each moment a crash leaves all as it was, or with that sector written.
     ensures moments { D.is_honest device.old → IsSettled (D.state device.old).disk →
         Through (D.history device.old) (D.history device.new) (D.state device.new)
-        (CrashLeaves (D.state device.old).events (WithOrWithout (D.state device.old).disk.present sector bytes.now)) }
+        (CrashLeaves (D.state device.old).events
+        (WithOrWithout (D.state device.old).disk.present sector bytes.now)) }
 {
     device.write(sector, bytes)?;
     device.sync()
@@ -52,16 +56,19 @@ pub fn two_phase_write<D: Device>(
     requires blocks { SectorsAre (λ s. s < D.sectors device.old) blocks.now }
     requires root { root < D.sectors device.old }
     ensures only { OnlyWrites D.Device (IsErr result) device.old device.new }
-    ensures durable { D.is_honest device.old → OnOk result ((D.state device.new).disk ≡ idle_disk (slice_set (with_all (D.state device.old).disk.present blocks.now) root bytes.now)) }
+    ensures durable { D.is_honest device.old → OnOk result ((D.state device.new).disk ≡ idle_disk
+        (slice_set (with_all (D.state device.old).disk.present blocks.now) root bytes.now)) }
 
     // At each moment a crash leaves the old root and all sectors but the blocks', or the new root and all blocks.
     ensures moments { D.is_honest device.old → IsSettled (D.state device.old).disk →
         Through (D.history device.old) (D.history device.new) (D.state device.new)
-        (CrashLeaves (D.state device.old).events (OldOrNew (D.state device.old).disk.present blocks.now root bytes.now)) }
+        (CrashLeaves (D.state device.old).events
+        (OldOrNew (D.state device.old).disk.present blocks.now root bytes.now)) }
 
     // After `Ok` a crash leaves the new root and all blocks.
     ensures new { D.is_honest device.old → OnOk result (EachImage
-        (λ image. image ≡ slice_set (with_all (D.state device.old).disk.present blocks.now) root bytes.now) (D.state device.new)) }
+        (λ image. image ≡ slice_set (with_all (D.state device.old).disk.present blocks.now) root
+        bytes.now) (D.state device.new)) }
 {
     write_blocks_through(device, blocks)?;
     write_through(device, root, bytes)

@@ -1,5 +1,7 @@
 -- What follows where a character begins no fit.
-use Rattle.std.proofs.Common.{◌≡◌, ◌&&◌, leb, eqb, nat_eq, ℕ, zero, suc, ◌+◌, ◌<◌, ◌≤◌, Bool, true, false, List, [], ◌∷◌, length, drop, length-drop, drop-drop, get_or, set, refl, ap, sym, subst, ◌∙◌, arith, inl, inr}
+use Rattle.std.proofs.Common.{◌≡◌, ◌&&◌, leb, eqb, nat_eq, ℕ, zero, suc, ◌+◌, ◌<◌, ◌≤◌, Bool, true, false, List, []}
+use Rattle.std.proofs.Common.{◌∷◌, length, drop, length-drop, drop-drop, get_or, set, refl, ap, sym, subst, ◌∙◌, arith}
+use Rattle.std.proofs.Common.{inl, inr}
 use Rattle.std.specs.Prelude.{Some, None, replicate, if◌then◌else◌}
 use Rattle.std.specs.Option.{option_map}
 use Rattle.std.specs.List.{starts_with}
@@ -19,14 +21,18 @@ use Rattle.text_ops.specs.declared.progress.Fitted.{Fitted}
 use Rattle.text_ops.proofs.Walks.{Goes, goes_on}
 
 -- where no entry fits, none is the first that does
-pub none_fits : (texts : List ℕ) (marks : List Bool) (active : List Progress) (at : ℕ) (rest : List ℕ) → AreMarked texts marks active → 1 ≤ length rest → get_or marks (get_or rest 0 0) true ≡ false → first_fit texts active at rest ≡ None
+pub none_fits : (texts : List ℕ) (marks : List Bool) (active : List Progress) (at : ℕ) (rest : List ℕ)
+    → AreMarked texts marks active → 1 ≤ length rest → get_or marks (get_or rest 0 0) true ≡ false
+    → first_fit texts active at rest ≡ None
 none_fits texts marks [] at rest are some un = refl
 none_fits texts marks (p ∷ more) at rest are some un =
     let P : Progress → Type 0 = λ x. Skips texts marks x.entry in
     let no : fits texts p at rest ≡ false = All-head P p more are p at rest refl some un in
-    let others : first_fit texts more at rest ≡ None = none_fits texts marks more at rest (All-tail P p more are) some un in
+    let others : first_fit texts more at rest ≡ None =
+    none_fits texts marks more at rest (All-tail P p more are) some un in
     let here : Fitted = record { number = 0; progress = p; at = at } in
-    ap (λ (b : Bool). if b then Some here else option_map later (first_fit texts more at rest)) no ∙ ap (option_map later) others
+    ap (λ (b : Bool). if b then Some here else option_map later (first_fit texts more at rest)) no
+    ∙ ap (option_map later) others
 
 -- the same entries are marked
 head_same : (e g : Entry) (es gs : List Entry) → e ∷ es ≡ g ∷ gs → e ≡ g
@@ -35,15 +41,19 @@ head_same e g es gs is = cc
 tail_same : (e g : Entry) (es gs : List Entry) → e ∷ es ≡ g ∷ gs → es ≡ gs
 tail_same e g es gs is = cc
 
-pub still_marked : (texts : List ℕ) (marks : List Bool) (old new : List Progress) → entries_on new ≡ entries_on old → AreMarked texts marks old → AreMarked texts marks new
+pub still_marked : (texts : List ℕ) (marks : List Bool) (old new : List Progress) → entries_on new ≡ entries_on old
+    → AreMarked texts marks old → AreMarked texts marks new
 still_marked texts marks old [] same are k d h = absurd (omega arith)
 still_marked texts marks [] (n ∷ new) same are k d h = absurd (cc)
 still_marked texts marks (o ∷ old) (n ∷ new) same are zero d h =
-    subst (Skips texts marks) (sym (head_same n.entry o.entry (entries_on new) (entries_on old) same)) (are zero d (omega arith))
+    subst (Skips texts marks) (sym (head_same n.entry o.entry (entries_on new) (entries_on old) same))
+    (are zero d (omega arith))
 still_marked texts marks (o ∷ old) (n ∷ new) same are (suc k) d h =
-    still_marked texts marks old new (tail_same n.entry o.entry (entries_on new) (entries_on old) same) (λ j e l. are (suc j) e (omega arith)) k d (omega arith)
+    still_marked texts marks old new (tail_same n.entry o.entry (entries_on new) (entries_on old) same)
+    (λ j e l. are (suc j) e (omega arith)) k d (omega arith)
 
-pub entries_stay : (active : List Progress) (k : ℕ) (x : Progress) → ((d : Progress) → (get_or active k d).entry ≡ x.entry) → entries_on (set active k x) ≡ entries_on active
+pub entries_stay : (active : List Progress) (k : ℕ) (x : Progress)
+    → ((d : Progress) → (get_or active k d).entry ≡ x.entry) → entries_on (set active k x) ≡ entries_on active
 entries_stay [] k x is = refl
 entries_stay (p ∷ more) zero x is = ap (λ (e : Entry). e ∷ entries_on more) (sym (is p))
 entries_stay (p ∷ more) (suc k) x is = ap (λ (es : List Entry). p.entry ∷ es) (entries_stay more k x is)
@@ -73,28 +83,39 @@ one_more (m ∷ marks) (suc k) (suc c) un =
     let below = one_more marks k c un in
     record { before = below.before; other = λ is. below.other (omega arith) }
 
-pub others_skip : (texts : List ℕ) (marks : List Bool) (k : ℕ) (entry : Entry) → Skips texts marks entry → Skips texts (set marks k true) entry
-others_skip texts marks k entry skips = λ p at rest same some un. skips p at rest same some (one_more marks k (get_or rest 0 0) un).before
+pub others_skip : (texts : List ℕ) (marks : List Bool) (k : ℕ) (entry : Entry) → Skips texts marks entry
+    → Skips texts (set marks k true) entry
+others_skip texts marks k entry skips =
+    λ p at rest same some un. skips p at rest same some (one_more marks k (get_or rest 0 0) un).before
 
 -- a text that begins with another character doesn't stand there
-differs : (text rest : List ℕ) → 1 ≤ length text → 1 ≤ length rest → (get_or rest 0 0 ≡ get_or text 0 0 → ⊥) → starts_with nat_eq rest text ≡ false
+differs : (text rest : List ℕ) → 1 ≤ length text → 1 ≤ length rest → (get_or rest 0 0 ≡ get_or text 0 0 → ⊥)
+    → starts_with nat_eq rest text ≡ false
 differs [] rest some more not = absurd (omega arith)
 differs (c ∷ text) [] some more not = absurd (omega arith)
-differs (c ∷ text) (r ∷ rest) some more not = ap (λ (b : Bool). b && starts_with nat_eq rest text) (ne_eqb c r (λ is. not (sym is)))
+differs (c ∷ text) (r ∷ rest) some more not =
+    ap (λ (b : Bool). b && starts_with nat_eq rest text) (ne_eqb c r (λ is. not (sym is)))
 
-stands_not : (texts : List ℕ) (p : Progress) (what : Fit) (at : ℕ) (rest : List ℕ) (text : Span) → text_of what ≡ Some text → starts_with nat_eq rest (bytes_in texts text) ≡ false → fits_at texts p what at rest ≡ false
+stands_not : (texts : List ℕ) (p : Progress) (what : Fit) (at : ℕ) (rest : List ℕ) (text : Span)
+    → text_of what ≡ Some text → starts_with nat_eq rest (bytes_in texts text) ≡ false
+    → fits_at texts p what at rest ≡ false
 stands_not texts p f.Characters at rest text is not = absurd (cc)
 stands_not texts p (f.All span) at rest text is not =
     let same : span ≡ text = cc in
-    ap (λ (s : Span). leb p.first at && starts_with nat_eq rest (bytes_in texts s)) same ∙ ap (λ (b : Bool). leb p.first at && b) not ∙ and-false (leb p.first at)
+    ap (λ (s : Span). leb p.first at && starts_with nat_eq rest (bytes_in texts s)) same
+    ∙ ap (λ (b : Bool). leb p.first at && b) not ∙ and-false (leb p.first at)
 stands_not texts p (f.Leading span) at rest text is not =
     let same : span ≡ text = cc in
-    ap (λ (s : Span). eqb p.first at && starts_with nat_eq rest (bytes_in texts s)) same ∙ ap (λ (b : Bool). eqb p.first at && b) not ∙ and-false (eqb p.first at)
+    ap (λ (s : Span). eqb p.first at && starts_with nat_eq rest (bytes_in texts s)) same
+    ∙ ap (λ (b : Bool). eqb p.first at && b) not ∙ and-false (eqb p.first at)
 stands_not texts p (f.First span) at rest text is not =
     let same : span ≡ text = cc in
-    ap (λ (s : Span). leb p.first at && starts_with nat_eq rest (bytes_in texts s)) same ∙ ap (λ (b : Bool). leb p.first at && b) not ∙ and-false (leb p.first at)
+    ap (λ (s : Span). leb p.first at && starts_with nat_eq rest (bytes_in texts s)) same
+    ∙ ap (λ (b : Bool). leb p.first at && b) not ∙ and-false (leb p.first at)
 
-pub own_skips : (texts : List ℕ) (marks : List Bool) (entry : Entry) (text : Span) (first : ℕ) → text_of entry.fit ≡ Some text → 1 ≤ length (bytes_in texts text) → first ≡ get_or (bytes_in texts text) 0 0 → Skips texts (set marks first true) entry
+pub own_skips : (texts : List ℕ) (marks : List Bool) (entry : Entry) (text : Span) (first : ℕ)
+    → text_of entry.fit ≡ Some text → 1 ≤ length (bytes_in texts text) → first ≡ get_or (bytes_in texts text) 0 0
+    → Skips texts (set marks first true) entry
 own_skips texts marks entry text first is some front = λ p at rest same more un.
     let other = (one_more marks first (get_or rest 0 0) un).other in
     let not = differs (bytes_in texts text) rest some more (λ e. other (e ∙ sym front)) in
@@ -103,20 +124,28 @@ own_skips texts marks entry text first is some front = λ p at rest same more un
     ap (λ (b : Bool). bound && b) (stands_not texts p p.entry.fit at rest text looks not) ∙ and-false bound
 
 -- a walk passes over characters that aren't marked
-pub past_unmarked : (texts : List ℕ) (marks : List Bool) (active : List Progress) (at n : ℕ) (subject rest : List ℕ) (all : List Fitted) → Goes texts active at (drop at subject) all → rest ≡ drop at subject → n ≤ length rest → AreMarked texts marks active
-    → ((k : ℕ) → k < n → get_or marks (get_or rest k 0) true ≡ false) → Goes texts active (at + n) (drop (at + n) subject) all
+pub past_unmarked : (texts : List ℕ) (marks : List Bool) (active : List Progress) (at n : ℕ) (subject rest : List ℕ)
+    (all : List Fitted) → Goes texts active at (drop at subject) all → rest ≡ drop at subject → n ≤ length rest
+    → AreMarked texts marks active
+    → ((k : ℕ) → k < n → get_or marks (get_or rest k 0) true ≡ false)
+    → Goes texts active (at + n) (drop (at + n) subject) all
 past_unmarked texts marks active at zero subject rest all goes is low are un =
     let same : at + 0 ≡ at = omega arith in
     subst (λ (place : ℕ). Goes texts active place (drop place subject) all) (sym same) goes
 past_unmarked texts marks active at (suc n) subject rest all goes is low are un =
-    let before = past_unmarked texts marks active at n subject rest all goes is (omega arith) are (λ k h. un k (omega arith)) in
+    let before =
+    past_unmarked texts marks active at n subject rest all goes is (omega arith) are (λ k h. un k (omega arith)) in
     let place = at + n in
     let long : length rest ≡ length (drop at subject) = ap length is in
-    let some : 1 ≤ length (drop place subject) = omega (arith, length-drop place subject, length-drop at subject, long) in
+    let some : 1 ≤ length (drop place subject) =
+    omega (arith, length-drop place subject, length-drop at subject, long) in
     let first : get_or (drop place subject) 0 0 ≡ get_or rest n 0 =
-    get_or-drop place subject 0 0 ∙ ap (λ (k : ℕ). get_or subject k 0) (let e : place + 0 ≡ at + n = omega arith in e) ∙ sym (get_or-drop at subject n 0) ∙ ap (λ (xs : List ℕ). get_or xs n 0) (sym is) in
-    let none = none_fits texts marks active place (drop place subject) are some (ap (λ (c : ℕ). get_or marks c true) first ∙ un n (omega arith)) in
+    get_or-drop place subject 0 0 ∙ ap (λ (k : ℕ). get_or subject k 0) (let e : place + 0 ≡ at + n = omega arith in e)
+    ∙ sym (get_or-drop at subject n 0) ∙ ap (λ (xs : List ℕ). get_or xs n 0) (sym is) in
+    let none = none_fits texts marks active place (drop place subject) are some
+    (ap (λ (c : ℕ). get_or marks c true) first ∙ un n (omega arith)) in
     let next : Goes texts active (place + 1) (drop (place + 1) subject) all =
-    subst (λ (xs : List ℕ). Goes texts active (place + 1) xs all) (drop-drop 1 place subject) (goes_on texts active place (drop place subject) all before some none) in
+    subst (λ (xs : List ℕ). Goes texts active (place + 1) xs all) (drop-drop 1 place subject)
+    (goes_on texts active place (drop place subject) all before some none) in
     let same : place + 1 ≡ at + suc n = omega arith in
     subst (λ (k : ℕ). Goes texts active k (drop k subject) all) same next

@@ -26,7 +26,8 @@ pub fn beginnings(texts: &[u8], active: &[Progress]) -> [bool; CHARACTERS]
 /// How many characters in front of a text aren't marked.
 pub fn unmarked(marks: &[bool; CHARACTERS], text: &[u8]) -> usize
     ensures within { result ≤ length text.now }
-    ensures unmarked { (k : ℕ) → k < result → slice_index_or marks.now (slice_index text.now k) true ≡ false }
+    ensures unmarked { (k : ℕ) → k < result
+        → slice_index_or marks.now (slice_index text.now k) true ≡ false }
 {
     for (count, character) in text.iter().enumerate() {
         if marks[*character as usize] {
@@ -40,7 +41,8 @@ pub fn unmarked(marks: &[bool; CHARACTERS], text: &[u8]) -> usize
 fn mark(texts: &[u8], entry: Entry, marks: &mut [bool; CHARACTERS])
     requires { IsEntry (length texts.now) entry }
     ensures own { Skips texts.now marks.new entry }
-    ensures others { (other : Entry) → Skips texts.now marks.old other → Skips texts.now marks.new other }
+    ensures others { (other : Entry) → Skips texts.now marks.old other
+        → Skips texts.now marks.new other }
 {
     match entry.fit.text() {
         None => marks.fill(true),

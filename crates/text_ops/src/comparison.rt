@@ -69,7 +69,8 @@ fn number_of(taken: Taken, bytes: &[u8]) -> Option<Dec>
 fn order_of_numbers(one: Taken, ones: &[u8], other: Taken, others: &[u8]) -> Option<Ordering>
     requires one { IsTaken one ones.now }
     requires other { IsTaken other others.now }
-    ensures { result ≡ spec.both order (spec.operand_number one ones.now) (spec.operand_number other others.now) }
+    ensures { result ≡ spec.both order (spec.operand_number one ones.now)
+        (spec.operand_number other others.now) }
 {
     let left = number_of(one, ones)?;
     let right = number_of(other, others)?;
@@ -79,7 +80,8 @@ fn order_of_numbers(one: Taken, ones: &[u8], other: Taken, others: &[u8]) -> Opt
 /// The order of a text beside an operand by its bytes; a constant and ALL are repeated to the text's size.
 fn order_beside(text: &[u8], beside: Taken, bytes: &[u8]) -> Ordering
     requires { IsTaken beside bytes.now }
-    ensures { result ≡ spec.order_of_texts text.now (plain_bytes beside bytes.now (length text.now)) }
+    ensures { result
+        ≡ spec.order_of_texts text.now (plain_bytes beside bytes.now (length text.now)) }
 {
     match beside {
         Taken::Item(_) => order_of_texts(text, bytes),
@@ -93,7 +95,8 @@ fn order_of_item(item: Item, ones: &[u8], beside: Taken, others: &[u8]) -> Optio
     requires item { HasLengthOf item ones.now }
     requires beside { IsTaken beside others.now }
     ensures { result ≡ option_map
-        (λ text. spec.order_of_texts text (plain_bytes beside others.now (spec.size_in item.kind item.length)))
+        (λ text. spec.order_of_texts text
+        (plain_bytes beside others.now (spec.size_in item.kind item.length)))
         (characters_in item.kind ones.now) }
 {
     let Kind::Numeric(numeric) = item.kind else {
@@ -112,7 +115,8 @@ fn order_behind(one: Taken, ones: &[u8], item: Item, others: &[u8]) -> Option<Or
     requires one { IsTaken one ones.now }
     requires item { HasLengthOf item others.now }
     ensures { result ≡ option_map ordering_reverse (option_map
-        (λ text. spec.order_of_texts text (plain_bytes one ones.now (spec.size_in item.kind item.length)))
+        (λ text. spec.order_of_texts text
+        (plain_bytes one ones.now (spec.size_in item.kind item.length)))
         (characters_in item.kind others.now)) }
 {
     let order = order_of_item(item, others, one, ones)?;

@@ -138,7 +138,8 @@ pub fn step(texts: &[u8], active: &mut [Progress], at: usize, rest: &[u8]) -> Op
     ensures after { active.new ≡ spec.walk_after active.old result }
     ensures entries { entries_on active.new ≡ entries_on active.old }
     ensures within { AreActive active.new (length texts.now) }
-    ensures fitted { IfSome result (IsFitted (length texts.now) (length active.old) at (length rest.now)) }
+    ensures fitted { IfSome result
+        (IsFitted (length texts.now) (length active.old) at (length rest.now)) }
 {
     let fitted = first_fit(texts, active, at, rest)?;
     active[fitted.number] = fitted.progress.passed(at);

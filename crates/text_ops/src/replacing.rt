@@ -26,7 +26,8 @@ pub fn replace(texts: &[u8], entries: &[Entry], room: &mut [Progress], subject: 
 fn put_replacement(texts: &[u8], entry: Entry, at: usize, subject: &mut [u8])
     requires entry { IsEntry (length texts.now) entry }
     requires within { at + fit_length entry.fit ≤ length subject.old }
-    ensures { subject.new ≡ spec.text_written_at at (spec.replacement texts.now entry.by) subject.old }
+    ensures { subject.new
+        ≡ spec.text_written_at at (spec.replacement texts.now entry.by) subject.old }
 {
     if let Some(by) = entry.by {
         let text = by.of(texts);
@@ -38,7 +39,8 @@ fn put_replacement(texts: &[u8], entry: Entry, at: usize, subject: &mut [u8])
 fn replace_fits(texts: &[u8], active: &mut [Progress], subject: &mut [u8])
     requires { AreActive active.old (length texts.now) }
     ensures { subject.new
-        ≡ spec.with_each texts.now (walk (length subject.old) texts.now active.old 0 subject.old) subject.old }
+        ≡ spec.with_each texts.now (walk (length subject.old) texts.now active.old 0 subject.old)
+        subject.old }
 {
     let marks = beginnings(texts, active);
     let mut at = 0;

@@ -22,7 +22,8 @@ pub fn delimited<'a>(delimiter: &[u8], text: &'a [u8]) -> &'a [u8]
 #[tactic(auto, unfolding(crate::specs::Strings::string_of_senders))]
 pub fn string_into(text: &[u8], pointer: usize, receiver: &mut [u8]) -> (usize, bool)
     requires { length receiver.old < 2 ^ 63 }
-    ensures { spec.string_of_senders pointer text.now receiver.old ≡ record { receiver = receiver.new; pointer = result.0; overflow = result.1 } }
+    ensures { spec.string_of_senders pointer text.now receiver.old
+        ≡ record { receiver = receiver.new; pointer = result.0; overflow = result.1 } }
 {
     if pointer < 1 || pointer > receiver.len() {
         return (pointer, true);

@@ -1,5 +1,7 @@
 -- The token or separator at the front has at least one character, and no more than there are.
-use Rattle.std.proofs.Common.{IfOk, Result, ◌&&◌, not, ◌≡◌, ◌≤◌, ◌+◌, ◌-◌, ℕ, zero, suc, Bool, true, false, ◌||◌, cond, eqb, List, [], ◌∷◌, length, drop, Option, None, Some, Ok, Err, refl, subst, arith, length-drop, one-add}
+use Rattle.std.proofs.Common.{IfOk, Result, ◌&&◌, not, ◌≡◌, ◌≤◌, ◌+◌, ◌-◌, ℕ, zero, suc, Bool, true, false, ◌||◌, cond}
+use Rattle.std.proofs.Common.{eqb, List, [], ◌∷◌, length, drop, Option, None, Some, Ok, Err, refl, subst, arith}
+use Rattle.std.proofs.Common.{length-drop, one-add}
 use Rattle.std.proofs.Math.Dec.{eqb-suc-zero}
 use Rattle.std.proofs.lemmas.List.Sums.{prefix_len-le-length}
 use Rattle.source_lines.specs.declared.lines.Character.{Character}
@@ -18,8 +20,10 @@ use Rattle.tokens.specs.Characters.{is_in, run_size, begins_with_class}
 use Rattle.tokens.specs.Contexts.{awaits_picture, is_joined}
 use Rattle.answers.specs.Answer.{Gives}
 use Rattle.tokens.specs.Faults.{fault_of}
-use Rattle.tokens.specs.Lexemes.{lexeme, plain_lexeme, punctuation, comparison, is_equal_sign, begins_word, word_or_number, signed_lexeme, sign_here}
-use Rattle.tokens.specs.Literals.{numeric, nonnumeric, quoted_characters, closed_literal, after_point, begins_number, point_size, sign_size}
+use Rattle.tokens.specs.Lexemes.{lexeme, plain_lexeme, punctuation, comparison, is_equal_sign, begins_word}
+use Rattle.tokens.specs.Lexemes.{word_or_number, signed_lexeme, sign_here}
+use Rattle.tokens.specs.Literals.{numeric, nonnumeric, quoted_characters, closed_literal, after_point, begins_number}
+use Rattle.tokens.specs.Literals.{point_size, sign_size}
 use Rattle.tokens.specs.Pictures.{picture, picture_size}
 use Rattle.tokens.specs.Words.{Outcome, word}
 
@@ -38,7 +42,8 @@ pub sized_if : {n : ℕ} {x y : Outcome} (b : Bool) → Sized n x → Sized n y 
 sized_if true s t = s
 sized_if false s t = t
 
-pub sized_by : {n : ℕ} {x y : Outcome} (b : Bool) → (b ≡ true → Sized n x) → (b ≡ false → Sized n y) → Sized n (cond b x y)
+pub sized_by : {n : ℕ} {x y : Outcome} (b : Bool) → (b ≡ true → Sized n x) → (b ≡ false → Sized n y)
+    → Sized n (cond b x y)
 sized_by true s t = s refl
 sized_by false s t = t refl
 
@@ -63,19 +68,27 @@ fraction_fits (c ∷ more) n h = go (eqb c.byte 46) h
     go true h = elim (eqb n 0) as (λ z. n + cond z 0 1 ≤ suc (length more)) [ true ↦ omega arith | false ↦ omega arith ]
     go false h = let z : n ≡ 0 = omega arith in rw z (omega arith)
 
-pub some_digit : (cs : List Character) → begins_number cs ≡ true → 1 ≤ run_size class.Digit cs + run_size class.Digit (after_point (drop (run_size class.Digit cs) cs))
+pub some_digit : (cs : List Character) → begins_number cs ≡ true
+    → 1 ≤ run_size class.Digit cs + run_size class.Digit (after_point (drop (run_size class.Digit cs) cs))
 some_digit cs b = go (begins_with_class class.Digit cs) refl b
   where
-    go : (x : Bool) → begins_with_class class.Digit cs ≡ x → (x || begins_with_class class.Digit (after_point cs)) ≡ true → 1 ≤ run_size class.Digit cs + run_size class.Digit (after_point (drop (run_size class.Digit cs) cs))
+    go : (x : Bool)
+        → begins_with_class class.Digit cs ≡ x → (x || begins_with_class class.Digit (after_point cs)) ≡ true
+        → 1 ≤ run_size class.Digit cs + run_size class.Digit (after_point (drop (run_size class.Digit cs) cs))
     go true is b = omega (arith, run_begins class.Digit cs is)
     go false is b = rw (no_run class.Digit cs is) (omega (arith, run_begins class.Digit (after_point cs) b))
 
-pub numeric_sized : (place : Place) (sign : Sign) (cs : List Character) (n : ℕ) → begins_number cs ≡ true → sign_size sign + length cs ≤ n → Sized n (numeric place sign cs)
+pub numeric_sized : (place : Place) (sign : Sign) (cs : List Character) (n : ℕ) → begins_number cs ≡ true
+    → sign_size sign + length cs ≤ n → Sized n (numeric place sign cs)
 unfolding numeric
 numeric_sized place sign cs n b h =
     let whole_fits : run_size class.Digit cs ≤ length cs = run_le class.Digit cs in
-    let part_fits : run_size class.Digit (after_point (drop (run_size class.Digit cs) cs)) + point_size (run_size class.Digit (after_point (drop (run_size class.Digit cs) cs))) ≤ length (drop (run_size class.Digit cs) cs) =
-    fraction_fits (drop (run_size class.Digit cs) cs) (run_size class.Digit (after_point (drop (run_size class.Digit cs) cs))) (run_le class.Digit (after_point (drop (run_size class.Digit cs) cs))) in
+    let part_fits : run_size class.Digit (after_point (drop (run_size class.Digit cs) cs))
+    + point_size (run_size class.Digit (after_point (drop (run_size class.Digit cs) cs)))
+    ≤ length (drop (run_size class.Digit cs) cs) =
+    fraction_fits (drop (run_size class.Digit cs) cs)
+    (run_size class.Digit (after_point (drop (run_size class.Digit cs) cs)))
+    (run_le class.Digit (after_point (drop (run_size class.Digit cs) cs))) in
     let left = length-drop (run_size class.Digit cs) cs in
     let least = some_digit cs b in
     sized_if _ none (some (omega arith) (omega arith))
@@ -89,16 +102,20 @@ passed_if : {l h : ℕ} {x y : Option (List ℕ × ℕ)} (b : Bool) → Passed l
 passed_if true s t = s
 passed_if false s t = t
 
-passed_more : {size : ℕ} (more : ℕ) {x : Option (List ℕ × ℕ)} → Passed (size + 1) ((size + 1) + more) x → Passed size (size + suc more) x
+passed_more : {size : ℕ} (more : ℕ) {x : Option (List ℕ × ℕ)} → Passed (size + 1) ((size + 1) + more) x
+    → Passed size (size + suc more) x
 passed_more more open_text = open_text
 passed_more more (closed_text l h) = closed_text (omega arith) (omega arith)
 
-quoted_passed : (mark : ℕ) (after : Bool) (text : List ℕ) (size : ℕ) (cs : List Character) → Passed size (size + length cs) (quoted_characters mark after text size cs)
+quoted_passed : (mark : ℕ) (after : Bool) (text : List ℕ) (size : ℕ) (cs : List Character)
+    → Passed size (size + length cs) (quoted_characters mark after text size cs)
 quoted_passed mark true text size [] = closed_text (omega arith) (omega arith)
 quoted_passed mark false text size [] = open_text
-quoted_passed mark true text size (c ∷ more) = passed_if (eqb c.byte mark) (passed_more (length more) (quoted_passed mark false _ (size + 1) more)) (closed_text (omega arith) (omega arith))
+quoted_passed mark true text size (c ∷ more) = passed_if (eqb c.byte mark)
+    (passed_more (length more) (quoted_passed mark false _ (size + 1) more)) (closed_text (omega arith) (omega arith))
 quoted_passed mark false text size (c ∷ more) =
-    passed_if (eqb c.byte mark) (passed_more (length more) (quoted_passed mark true _ (size + 1) more)) (passed_more (length more) (quoted_passed mark false _ (size + 1) more))
+    passed_if (eqb c.byte mark) (passed_more (length more) (quoted_passed mark true _ (size + 1) more))
+    (passed_more (length more) (quoted_passed mark false _ (size + 1) more))
 
 closed_sized : (place : Place) {n : ℕ} {x : Option (List ℕ × ℕ)} → Passed 1 n x → Sized n (closed_literal place x)
 closed_sized place open_text = none
@@ -106,7 +123,8 @@ closed_sized place (closed_text l h) = sized_if _ none (some l h)
 
 nonnumeric_sized : (place : Place) (mark : ℕ) (cs : List Character) → Sized (suc (length cs)) (nonnumeric place mark cs)
 unfolding nonnumeric
-nonnumeric_sized place mark cs = closed_sized place (subst (λ n. Passed 1 n (quoted_characters mark false [] 1 cs)) (one-add (length cs)) (quoted_passed mark false [] 1 cs))
+nonnumeric_sized place mark cs = closed_sized place (subst (λ n. Passed 1 n (quoted_characters mark false [] 1 cs))
+    (one-add (length cs)) (quoted_passed mark false [] 1 cs))
 
 -- ---- words and pictures
 
@@ -134,11 +152,14 @@ fits_if : (most : ℕ) (x y : Lexeme) (b : Bool) → Fits most x → Fits most y
 fits_if most x y true s t = s
 fits_if most x y false s t = t
 
-pub picture_sized : (before : Context) (first : ℕ) (cs : List Character) → 1 ≤ length cs → Sized (length cs) (Ok (picture before first cs))
+pub picture_sized : (before : Context) (first : ℕ) (cs : List Character) → 1 ≤ length cs
+    → Sized (length cs) (Ok (picture before first cs))
 unfolding picture
 picture_sized before first cs h =
     let le = picture_size_le cs in
-    let fits : Fits (length cs) (picture before first cs) = at_least_one (picture_size cs) (length cs) _ _ (fits_if (length cs) _ _ (eqb first 46) (omega arith, h) (omega arith, h)) (λ positive. fits_if (length cs) _ _ _ (positive, le) (positive, le)) in
+    let fits : Fits (length cs) (picture before first cs) =
+    at_least_one (picture_size cs) (length cs) _ _ (fits_if (length cs) _ _ (eqb first 46) (omega arith, h)
+    (omega arith, h)) (λ positive. fits_if (length cs) _ _ _ (positive, le) (positive, le)) in
     some {one = picture before first cs} fits.0 fits.1
 
 -- ---- everything at the front
@@ -147,14 +168,17 @@ equal_sign_is_one : (more : List Character) → is_equal_sign more ≡ true → 
 equal_sign_is_one [] e = cc
 equal_sign_is_one (c ∷ more) e = omega arith
 
-comparison_sized : (alone both : Operator) (more : List Character) → Sized (suc (length more)) (comparison alone both more)
+comparison_sized : (alone both : Operator) (more : List Character)
+    → Sized (suc (length more)) (comparison alone both more)
 unfolding comparison
-comparison_sized alone both more = sized_by (is_equal_sign more) (λ e. let l = equal_sign_is_one more e in some (omega arith) (omega arith)) (λ e. some (omega arith) (omega arith))
+comparison_sized alone both more = sized_by (is_equal_sign more) (λ e. let l =
+    equal_sign_is_one more e in some (omega arith) (omega arith)) (λ e. some (omega arith) (omega arith))
 
 one_sized : {n : ℕ} {one : Lexeme} → one.size ≡ 1 → Sized (suc n) (Ok one)
 one_sized e = some (omega arith) (omega arith)
 
-punctuation_sized : (place : Place) (first : ℕ) (more : List Character) → Sized (suc (length more)) (punctuation place first more)
+punctuation_sized : (place : Place) (first : ℕ) (more : List Character)
+    → Sized (suc (length more)) (punctuation place first more)
 unfolding punctuation
 punctuation_sized place first more =
     sized_if (eqb first 46) (sized_if (begins_with_class class.Nonblank more) none (one_sized refl))
@@ -176,7 +200,8 @@ is_left true upper lower e f = refl
 is_left false upper lower e f = cc
 
 -- what begins with a letter or digit and is no word begins with a digit
-pub digit_first : (c : Character) (more : List Character) → is_in class.LetterOrDigit c.byte ≡ true → begins_word (c ∷ more) ≡ false → begins_with_class class.Digit (c ∷ more) ≡ true
+pub digit_first : (c : Character) (more : List Character) → is_in class.LetterOrDigit c.byte ≡ true
+    → begins_word (c ∷ more) ≡ false → begins_with_class class.Digit (c ∷ more) ≡ true
 digit_first c more alphanumeric no_word = go (is_in class.Letter c.byte) refl
   where
     letter_is_word : is_in class.Letter c.byte ≡ true → begins_word (c ∷ more) ≡ true
@@ -186,42 +211,53 @@ digit_first c more alphanumeric no_word = go (is_in class.Letter c.byte) refl
     go true is = let w = letter_is_word is in cc
     go false is = is_left _ _ _ alphanumeric is
 
-word_or_number_sized : (place : Place) (c : Character) (more : List Character) → is_in class.LetterOrDigit c.byte ≡ true → Sized (suc (length more)) (word_or_number place (c ∷ more))
+word_or_number_sized : (place : Place) (c : Character) (more : List Character) → is_in class.LetterOrDigit c.byte ≡ true
+    → Sized (suc (length more)) (word_or_number place (c ∷ more))
 word_or_number_sized place c more e =
     sized_by (begins_word (c ∷ more))
     (λ is. word_sized place (c ∷ more) (run_begins class.InWord (c ∷ more) (in_word c.byte e)))
-    (λ is. numeric_sized place Unsigned (c ∷ more) (suc (length more)) (rw (digit_first c more e is) refl) (omega arith))
+    (λ is.
+    numeric_sized place Unsigned (c ∷ more) (suc (length more)) (rw (digit_first c more e is) refl) (omega arith))
 
-signed_sized : (before : Context) (place : Place) (first : ℕ) (more : List Character) → Sized (suc (length more)) (signed_lexeme (sign_here before first more) place first more)
+signed_sized : (before : Context) (place : Place) (first : ℕ) (more : List Character)
+    → Sized (suc (length more)) (signed_lexeme (sign_here before first more) place first more)
 signed_sized before place first more = go (not (is_joined before)) (begins_number more) refl
   where
-    by_sign : (sign : Option Sign) → begins_number more ≡ true → Sized (suc (length more)) (signed_lexeme sign place first more)
+    by_sign : (sign : Option Sign) → begins_number more ≡ true
+        → Sized (suc (length more)) (signed_lexeme sign place first more)
     by_sign None b = punctuation_sized place first more
     by_sign (Some Unsigned) b = numeric_sized place Unsigned more (suc (length more)) b (omega arith)
     by_sign (Some Plus) b = numeric_sized place Plus more (suc (length more)) b (omega arith)
     by_sign (Some Minus) b = numeric_sized place Minus more (suc (length more)) b (omega arith)
 
     go : (apart number : Bool) → begins_number more ≡ number
-        → Sized (suc (length more)) (signed_lexeme (cond (apart && number) (cond (eqb first 43) (Some Plus) (cond (eqb first 45) (Some Minus) None)) None) place first more)
+        → Sized (suc (length more)) (signed_lexeme (cond (apart && number)
+        (cond (eqb first 43) (Some Plus) (cond (eqb first 45) (Some Minus) None)) None) place first more)
     go true true b = by_sign _ b
     go true false b = punctuation_sized place first more
     go false true b = punctuation_sized place first more
     go false false b = punctuation_sized place first more
 
-pub plain_sized : (before : Context) (first : Character) (more : List Character) → Sized (suc (length more)) (plain_lexeme before first more)
+pub plain_sized : (before : Context) (first : Character) (more : List Character)
+    → Sized (suc (length more)) (plain_lexeme before first more)
 unfolding plain_lexeme
 plain_sized before first more =
     sized_if (is_in class.Separator first.byte) (one_sized refl)
     (sized_by (is_in class.LetterOrDigit first.byte) (word_or_number_sized first.place first more)
-    (λ _. sized_by (begins_number (first ∷ more)) (λ is. numeric_sized first.place Unsigned (first ∷ more) (suc (length more)) is (omega arith))
-    (λ _. sized_if (is_in class.Mark first.byte) (nonnumeric_sized first.place first.byte more) (signed_sized before first.place first.byte more))))
+    (λ _. sized_by (begins_number (first ∷ more))
+    (λ is. numeric_sized first.place Unsigned (first ∷ more) (suc (length more)) is (omega arith))
+    (λ _. sized_if (is_in class.Mark first.byte) (nonnumeric_sized first.place first.byte more)
+    (signed_sized before first.place first.byte more))))
 
-pub lexeme_sized : (before : Context) (first : Character) (more : List Character) → Sized (suc (length more)) (lexeme before first more)
+pub lexeme_sized : (before : Context) (first : Character) (more : List Character)
+    → Sized (suc (length more)) (lexeme before first more)
 unfolding lexeme
 lexeme_sized before first more =
-    sized_if (awaits_picture before && is_in class.Nonblank first.byte) (picture_sized before first.byte (first ∷ more) (omega arith)) (plain_sized before first more)
+    sized_if (awaits_picture before && is_in class.Nonblank first.byte)
+    (picture_sized before first.byte (first ∷ more) (omega arith)) (plain_sized before first more)
 
 -- what was returned has a size within
-pub returned_sized : {n : ℕ} {says : Outcome} (result : Result Lexeme TokenError) → Sized n says → Gives (λ one. one) fault_of result says → IfOk result (λ one. (1 ≤ one.size) × (one.size ≤ n))
+pub returned_sized : {n : ℕ} {says : Outcome} (result : Result Lexeme TokenError) → Sized n says
+    → Gives (λ one. one) fault_of result says → IfOk result (λ one. (1 ≤ one.size) × (one.size ≤ n))
 returned_sized (Ok one) s e = let t = subst (Sized _) e s in (low t, high t)
 returned_sized (Err error) s e = tt

@@ -93,7 +93,8 @@ pub fn bytes(alloc: Global, characters: &[Character]) -> Result<Vec<u8>, TokenEr
 }
 
 pub fn bytes_in_upper_case(alloc: Global, characters: &[Character]) -> Result<Vec<u8>, TokenError>
-    ensures { Gives (λ text. text.items) fault_of result (Ok (spec.bytes_in_upper_case characters.now)) }
+    ensures { Gives (λ text. text.items) fault_of result
+        (Ok (spec.bytes_in_upper_case characters.now)) }
 {
     Ok(
         characters

@@ -15,21 +15,31 @@ ghost use Rattle.tokens.specs.Spelled.{AreSpelledBy, AreSeparated};
 /// Characters have at most one list of tokens, the one that `scan` answers, and its spans and places are theirs.
 pub fn laws()
     // What the function answers is in the relation.
-    ensures answered { (characters : List Character) (found : List Token) → spec.tokens characters ≡ Ok found → TokensOf characters found }
+    ensures answered { (characters : List Character) (found : List Token)
+        → spec.tokens characters ≡ Ok found → TokensOf characters found }
     // What is in the relation is what the function answers.
-    ensures only { (characters : List Character) (found : List Token) → TokensOf characters found → spec.tokens characters ≡ Ok found }
+    ensures only { (characters : List Character) (found : List Token) → TokensOf characters found
+        → spec.tokens characters ≡ Ok found }
     // A token or separator is the longest that can begin at its place, after what stands before it.
-    ensures longest { (before : Context) (kind : Option Kind) (c : Character) (text rest : List Character) → IsFront before kind (c ∷ text) rest → NoLonger before c (text ++ rest) (c ∷ text) }
+    ensures longest { (before : Context) (kind : Option Kind)
+        (c : Character) (text rest : List Character) → IsFront before kind (c ∷ text) rest
+        → NoLonger before c (text ++ rest) (c ∷ text) }
     // Spans are in order, not empty and apart.
-    ensures spans { (characters : List Character) (found : List Token) → spec.tokens characters ≡ Ok found → InOrder 0 (length characters) found }
+    ensures spans { (characters : List Character) (found : List Token)
+        → spec.tokens characters ≡ Ok found → InOrder 0 (length characters) found }
     // A token's place is that of its first character.
-    ensures places { (characters : List Character) (found : List Token) → spec.tokens characters ≡ Ok found → ArePlacedBy characters found }
+    ensures places { (characters : List Character) (found : List Token)
+        → spec.tokens characters ≡ Ok found → ArePlacedBy characters found }
     // Each token's kind is what the characters at its span spell.
-    ensures texts { (characters : List Character) (found : List Token) → spec.tokens characters ≡ Ok found → AreSpelledBy characters found }
+    ensures texts { (characters : List Character) (found : List Token)
+        → spec.tokens characters ≡ Ok found → AreSpelledBy characters found }
     // What lies before, between and after the spans is separators.
-    ensures separators { (characters : List Character) (found : List Token) → spec.tokens characters ≡ Ok found → AreSeparated 0 characters found }
+    ensures separators { (characters : List Character) (found : List Token)
+        → spec.tokens characters ≡ Ok found → AreSeparated 0 characters found }
     // The fault that the function answers stands where no token and no separator begins, the first such place.
-    ensures refused { (characters : List Character) (fault : TokenFault) → spec.tokens characters ≡ Err fault → RefusesCharacters characters fault }
+    ensures refused { (characters : List Character) (fault : TokenFault)
+        → spec.tokens characters ≡ Err fault → RefusesCharacters characters fault }
     // Where there is such a place, the function answers that fault.
-    ensures refused_only { (characters : List Character) (fault : TokenFault) → RefusesCharacters characters fault → spec.tokens characters ≡ Err fault }
+    ensures refused_only { (characters : List Character) (fault : TokenFault)
+        → RefusesCharacters characters fault → spec.tokens characters ≡ Err fault }
 {}

@@ -163,7 +163,8 @@ pub fn next_lexeme(
 ) -> Result<Lexeme, TokenError>
     requires { characters.now ≡ first ∷ more.now }
     ensures value { Gives (λ lexeme. lexeme) fault_of result (spec.lexeme before first more.now) }
-    ensures within { IfOk result (λ lexeme. (1 ≤ lexeme.size) × (lexeme.size ≤ length characters.now)) }
+    ensures within { IfOk result
+        (λ lexeme. (1 ≤ lexeme.size) × (lexeme.size ≤ length characters.now)) }
 {
     if before.awaits_picture() && is_in(Class::Nonblank, first.byte) {
         picture(alloc, before, first.byte, characters)

@@ -102,7 +102,8 @@ fn quoted(
     mark: u8,
     characters: &[Character],
 ) -> Result<Option<(Items<u8>, usize)>, TokenError>
-    ensures { Gives (λ text. text) fault_of result (Ok (spec.quoted_characters mark false [] 1 characters.now)) }
+    ensures { Gives (λ text. text) fault_of result
+        (Ok (spec.quoted_characters mark false [] 1 characters.now)) }
 {
     let mut text = Vec::new(alloc);
     let mut is_after_mark = false;

@@ -23,7 +23,8 @@ pub fn picture(
     first: u8,
     characters: &[Character],
 ) -> Result<Lexeme, TokenError>
-    ensures { Gives (λ lexeme. lexeme) fault_of result (Ok (spec.picture before first characters.now)) }
+    ensures { Gives (λ lexeme. lexeme) fault_of result
+        (Ok (spec.picture before first characters.now)) }
 {
     let size = picture_size(characters);
     if size == 0 {

@@ -41,7 +41,8 @@ fn add(
     span: Span,
     place: Place,
 ) -> Result<(), TokenError>
-    ensures { Gives (λ _. tokens.new) fault_of result (Ok (tokens.old ++ spec.token_of kind span place)) }
+    ensures { Gives (λ _. tokens.new) fault_of result
+        (Ok (tokens.old ++ spec.token_of kind span place)) }
 {
     match kind {
         Some(kind) => {

@@ -31,12 +31,15 @@ returns-in_err-release_pages-clause-damaged g t c = λ honest agrees is levels f
     let pages = pages_of_map c.args.pages.now image in
     let told = rw is at c.from_residual-in_err-release_pages.ensures.1 in
     let same = ap (λ (m : Map). m.pages) (c.below.ensures.unchanged.map image) in
-    let here : IsDown c.args.layout pages c.as_slice-2.result.now levels = subst (λ (n : List ℕ). IsDown c.args.layout pages n levels) (sym c.as_slice-2.ensures.value) down in
+    let here : IsDown c.args.layout pages c.as_slice-2.result.now levels =
+    subst (λ (n : List ℕ). IsDown c.args.layout pages n levels) (sym c.as_slice-2.ensures.value) down in
     let between = top_between c.args.layout pages c.as_slice-2.result.now levels here in
-    c.in_err-release_pages.ensures.damaged (cc told) image (subst (λ (p : List (Option Sector)). All (λ page. (0 < page) × (page < length p)) c.as_slice-2.result.now) (sym same) between)
+    c.in_err-release_pages.ensures.damaged (cc told) image (subst (λ (p : List (Option Sector)).
+    All (λ page. (0 < page) × (page < length p)) c.as_slice-2.result.now) (sym same) between)
 
 pub returns-in_err-release_pages-clause-catalog : goal.returns-in_err-release_pages-clause-catalog
-returns-in_err-release_pages-clause-catalog g t c = c.release_pages.ensures.keeps.catalog ∙ ap (λ (m : Map). m.catalog) (c.below.ensures.unchanged.map [])
+returns-in_err-release_pages-clause-catalog g t c =
+    c.release_pages.ensures.keeps.catalog ∙ ap (λ (m : Map). m.catalog) (c.below.ensures.unchanged.map [])
 
 pub returns-clause-cleared : goal.returns-clause-cleared
 returns-clause-cleared g t c = λ honest agrees levels few down.
@@ -47,18 +50,24 @@ returns-clause-cleared g t c = λ honest agrees levels few down.
     let three = pages_of_map c.clear_levels.new.pages image in
     let numbers : List ℕ = c.args.numbers.items in
     let children : List ℕ = c.in_ok-children.children.items in
-    let has : HasPages children (levels_below levels) = c.in_ok-children.ensures.below honest agrees levels few (subst (λ (n : List ℕ). IsDown c.args.layout one n levels) (sym c.as_slice.ensures.value) down) in
+    let has : HasPages children (levels_below levels) = c.in_ok-children.ensures.below honest agrees levels few
+    (subst (λ (n : List ℕ). IsDown c.args.layout one n levels) (sym c.as_slice.ensures.value) down) in
     let first : Moves one numbers two [] =
     subst (λ (n : List ℕ). Moves one n two []) c.as_slice-2.ensures.value
-    (subst (λ (p : List (Option Sector)). Moves p c.as_slice-2.result.now two []) (ap (λ (m : Map). m.pages) (below.unchanged.map image)) (c.in_ok-release_pages.ensures.released image)) in
+    (subst (λ (p : List (Option Sector)). Moves p c.as_slice-2.result.now two [])
+    (ap (λ (m : Map). m.pages) (below.unchanged.map image)) (c.in_ok-release_pages.ensures.released image)) in
     let after = down_after c.args.layout one two numbers children levels down has first in
-    let Rest : State → Type 0 = λ s. IsSmall (pages_of_map c.release_pages.new.pages s.disk.present) → IsDown c.args.layout (pages_of_map c.release_pages.new.pages s.disk.present) children (levels_below levels) →
-    OnOk c.clear_levels.result (Moves (pages_of_map c.release_pages.new.pages s.disk.present) (pages_of (levels_below levels)) (pages_of_map c.clear_levels.new.pages s.disk.present) []) in
+    let Rest : State → Type 0 = λ s. IsSmall (pages_of_map c.release_pages.new.pages s.disk.present)
+    → IsDown c.args.layout (pages_of_map c.release_pages.new.pages s.disk.present) children (levels_below levels) →
+    OnOk c.clear_levels.result (Moves (pages_of_map c.release_pages.new.pages s.disk.present)
+    (pages_of (levels_below levels)) (pages_of_map c.clear_levels.new.pages s.disk.present) []) in
     let rest : Rest (g.D.Device.state c.args.device.now) =
     subst Rest (below.only.state honest)
-    (c.clear_levels.ensures.cleared (below.only.honest.0 honest) (c.release_pages.ensures.keeps.agrees (g.D.Device.state c.below.new.device).disk (below.agrees honest agrees)) (levels_below levels)) in
+    (c.clear_levels.ensures.cleared (below.only.honest.0 honest) (c.release_pages.ensures.keeps.agrees
+    (g.D.Device.state c.below.new.device).disk (below.agrees honest agrees)) (levels_below levels)) in
     let small : IsSmall two = subst (λ (n : ℕ). n ≤ 2 ^ 20) (sym first.count) few in
-    on_ok_weaker c.clear_levels.result (λ second. cleared_after c.args.layout one two three numbers levels down first second) (rest small after)
+    on_ok_weaker c.clear_levels.result
+    (λ second. cleared_after c.args.layout one two three numbers levels down first second) (rest small after)
 
 pub returns-clause-damaged : goal.returns-clause-damaged
 returns-clause-damaged g t c = λ honest agrees is levels few down deep.
@@ -68,21 +77,26 @@ returns-clause-damaged g t c = λ honest agrees is levels few down deep.
     let two = pages_of_map c.release_pages.new.pages image in
     let numbers : List ℕ = c.args.numbers.items in
     let children : List ℕ = c.in_ok-children.children.items in
-    let here : IsDown c.args.layout one c.as_slice.result.now levels = subst (λ (n : List ℕ). IsDown c.args.layout one n levels) (sym c.as_slice.ensures.value) down in
+    let here : IsDown c.args.layout one c.as_slice.result.now levels =
+    subst (λ (n : List ℕ). IsDown c.args.layout one n levels) (sym c.as_slice.ensures.value) down in
     let has : HasPages children (levels_below levels) = c.in_ok-children.ensures.below honest agrees levels few here in
     let first : Moves one numbers two [] =
     subst (λ (n : List ℕ). Moves one n two []) c.as_slice-2.ensures.value
-    (subst (λ (p : List (Option Sector)). Moves p c.as_slice-2.result.now two []) (ap (λ (m : Map). m.pages) (below.unchanged.map image)) (c.in_ok-release_pages.ensures.released image)) in
+    (subst (λ (p : List (Option Sector)). Moves p c.as_slice-2.result.now two [])
+    (ap (λ (m : Map). m.pages) (below.unchanged.map image)) (c.in_ok-release_pages.ensures.released image)) in
     let after = down_after c.args.layout one two numbers children levels down has first in
-    let Rest : State → Type 0 = λ s. IsSmall (pages_of_map c.release_pages.new.pages s.disk.present) → IsDown c.args.layout (pages_of_map c.release_pages.new.pages s.disk.present) children (levels_below levels) →
+    let Rest : State → Type 0 = λ s. IsSmall (pages_of_map c.release_pages.new.pages s.disk.present)
+    → IsDown c.args.layout (pages_of_map c.release_pages.new.pages s.disk.present) children (levels_below levels) →
     length (levels_below levels) ≤ c.args.depth - 1 → ⊥ in
     let rest : Rest (g.D.Device.state c.args.device.now) =
     subst Rest (below.only.state honest)
-    (c.clear_levels.ensures.damaged (below.only.honest.0 honest) (c.release_pages.ensures.keeps.agrees (g.D.Device.state c.below.new.device).disk (below.agrees honest agrees)) is (levels_below levels)) in
+    (c.clear_levels.ensures.damaged (below.only.honest.0 honest) (c.release_pages.ensures.keeps.agrees
+    (g.D.Device.state c.below.new.device).disk (below.agrees honest agrees)) is (levels_below levels)) in
     let small : IsSmall two = subst (λ (n : ℕ). n ≤ 2 ^ 20) (sym first.count) few in
     let some : 0 < length c.as_slice.result.now = search rules in
     let count = fewer_levels c.args.layout one c.as_slice.result.now levels some here in
     rest small after (omega arith)
 
 pub returns-clause-catalog : goal.returns-clause-catalog
-returns-clause-catalog g t c = c.clear_levels.ensures.catalog ∙ c.release_pages.ensures.keeps.catalog ∙ ap (λ (m : Map). m.catalog) (c.below.ensures.unchanged.map [])
+returns-clause-catalog g t c = c.clear_levels.ensures.catalog ∙ c.release_pages.ensures.keeps.catalog
+    ∙ ap (λ (m : Map). m.catalog) (c.below.ensures.unchanged.map [])

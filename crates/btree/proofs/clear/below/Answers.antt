@@ -25,19 +25,24 @@ returns-in-Leaf-clause-below g c = λ honest agrees levels few down.
     let pages = pages_of_map c.args.pages.now (g.D.Device.state c.args.device.now).disk.present in
     let leaf : c.in_ok-first.first.kind ≡ Leaf = search rules in
     subst (λ (xs : List ℕ). HasPages xs (levels_below levels)) (sym c.new.ensures.items)
-    (below_leaves c.args.layout pages c.args.numbers.now levels c.in_ok-first.first c.requires.some down (c.in_ok-first.ensures.node honest agrees) leaf)
+    (below_leaves c.args.layout pages c.args.numbers.now levels c.in_ok-first.first c.requires.some down
+    (c.in_ok-first.ensures.node honest agrees) leaf)
 
 pub returns-in-Inner-clause-unchanged : goal.returns-in-Inner-clause-unchanged
-returns-in-Inner-clause-unchanged g c = unchanged_on c.args.pages.now c.read_node.new.pages c.children_of.new.pages c.read_node.ensures.unchanged c.children_of.ensures.unchanged
+returns-in-Inner-clause-unchanged g c = unchanged_on c.args.pages.now c.read_node.new.pages c.children_of.new.pages
+    c.read_node.ensures.unchanged c.children_of.ensures.unchanged
 
 pub returns-in-Inner-clause-below : goal.returns-in-Inner-clause-below
 returns-in-Inner-clause-below g c = λ honest agrees levels few down.
     let read = c.read_node.ensures in
     let pages = pages_of_map c.args.pages.now (g.D.Device.state c.args.device.now).disk.present in
-    let same = same_pages c.args.pages.now c.read_node.new.pages (g.D.Device.state c.args.device.now) (g.D.Device.state c.read_node.new.device) read.unchanged (read.only.state honest) in
+    let same = same_pages c.args.pages.now c.read_node.new.pages (g.D.Device.state c.args.device.now)
+    (g.D.Device.state c.read_node.new.device) read.unchanged (read.only.state honest) in
     let inner : c.in_ok-first.first.kind ≡ Inner = search rules in
-    let top = below_inner c.args.layout pages c.args.numbers.now levels c.in_ok-first.first c.requires.some down (c.in_ok-first.ensures.node honest agrees) inner in
-    IfOk-weaker c.children_of.result _ (λ children. HasPages children.items (levels_below levels)) (λ children is. subst (λ (xs : List ℕ). HasPages xs (levels_below levels)) (sym is) (top.next few))
+    let top = below_inner c.args.layout pages c.args.numbers.now levels c.in_ok-first.first c.requires.some down
+    (c.in_ok-first.ensures.node honest agrees) inner in
+    IfOk-weaker c.children_of.result _ (λ children. HasPages children.items (levels_below levels))
+    (λ children is. subst (λ (xs : List ℕ). HasPages xs (levels_below levels)) (sym is) (top.next few))
     (c.children_of.ensures.children (read.only.honest.0 honest) (read.agrees honest agrees) top.level
     (subst (λ (p : List (Option Sector)). All (IsOnPage c.args.layout p Inner) top.level) (sym same) top.stand) top.is)
 
@@ -45,9 +50,11 @@ pub returns-in-Inner-clause-damaged : goal.returns-in-Inner-clause-damaged
 returns-in-Inner-clause-damaged g c = λ honest agrees is levels down.
     let read = c.read_node.ensures in
     let pages = pages_of_map c.args.pages.now (g.D.Device.state c.args.device.now).disk.present in
-    let same = same_pages c.args.pages.now c.read_node.new.pages (g.D.Device.state c.args.device.now) (g.D.Device.state c.read_node.new.device) read.unchanged (read.only.state honest) in
+    let same = same_pages c.args.pages.now c.read_node.new.pages (g.D.Device.state c.args.device.now)
+    (g.D.Device.state c.read_node.new.device) read.unchanged (read.only.state honest) in
     let inner : c.in_ok-first.first.kind ≡ Inner = search rules in
-    let top = below_inner c.args.layout pages c.args.numbers.now levels c.in_ok-first.first c.requires.some down (c.in_ok-first.ensures.node honest agrees) inner in
+    let top = below_inner c.args.layout pages c.args.numbers.now levels c.in_ok-first.first c.requires.some down
+    (c.in_ok-first.ensures.node honest agrees) inner in
     c.children_of.ensures.damaged (read.only.honest.0 honest) (read.agrees honest agrees) is top.level
     (subst (λ (p : List (Option Sector)). All (IsOnPage c.args.layout p Inner) top.level) (sym same) top.stand) top.is
     (subst (λ (p : List (Option Sector)). length (rows_of top.level) ≤ length p) (sym same) top.few)

@@ -16,31 +16,36 @@ use Rattle.btree.proofs.Clearing.{page_at, as_many, children_more, few_children}
 use Rattle.btree.proofs.clear.children_of.Goals as goal
 
 pub returns-in_err-node-clause-unchanged : goal.returns-in_err-node-clause-unchanged
-returns-in_err-node-clause-unchanged g c = unchanged_on c.args.pages.now c.loop-place.pages c.read_node.new.pages c.loop-place.invariant.unchanged c.read_node.ensures.unchanged
+returns-in_err-node-clause-unchanged g c = unchanged_on c.args.pages.now c.loop-place.pages c.read_node.new.pages
+    c.loop-place.invariant.unchanged c.read_node.ensures.unchanged
 
 pub returns-in_err-node-clause-damaged : goal.returns-in_err-node-clause-damaged
 returns-in_err-node-clause-damaged g c = λ honest agrees is level stand numbers below.
     let loop = c.loop-place in
     let from = err_from_is_err_and c.from_residual.result c.from_residual.ensures.1 in
     let damaged : c.read_node.result ≡ Err Damaged = cc in
-    let same = same_pages c.args.pages.now loop.pages (g.D.Device.state c.args.device.now) (g.D.Device.state loop.device) loop.invariant.unchanged (loop.invariant.only.state honest) in
+    let same = same_pages c.args.pages.now loop.pages (g.D.Device.state c.args.device.now)
+    (g.D.Device.state loop.device) loop.invariant.unchanged (loop.invariant.only.state honest) in
     let none : TreeNode = node_with 0 [] in
     let here : TreeNode = slice_index_or level loop.place none in
     let count = as_many level c.args.numbers.now numbers in
     let test = c.loop-place-test.true in
     let low : loop.place < length level = omega arith in
-    c.read_node.ensures.damaged (loop.invariant.only.honest.0 honest) (loop.invariant.agrees honest agrees) damaged Inner here (page_at level c.args.numbers.now loop.place none numbers low)
+    c.read_node.ensures.damaged (loop.invariant.only.honest.0 honest) (loop.invariant.agrees honest agrees) damaged
+    Inner here (page_at level c.args.numbers.now loop.place none numbers low)
     (subst (λ (p : List (Option Sector)). IsOnPage c.args.layout p Inner here) (sym same) (stand loop.place none low))
 
 pub returns-then-ne-clause-unchanged : goal.returns-then-ne-clause-unchanged
-returns-then-ne-clause-unchanged g c = unchanged_on c.args.pages.now c.loop-place.pages c.read_node.new.pages c.loop-place.invariant.unchanged c.read_node.ensures.unchanged
+returns-then-ne-clause-unchanged g c = unchanged_on c.args.pages.now c.loop-place.pages c.read_node.new.pages
+    c.loop-place.invariant.unchanged c.read_node.ensures.unchanged
 
 pub returns-then-ne-clause-damaged : goal.returns-then-ne-clause-damaged
 returns-then-ne-clause-damaged g c = λ honest agrees is level stand numbers below.
     let loop = c.loop-place in
     let node = c.in_ok-node.node in
     let pages = pages_of_map c.args.pages.now (g.D.Device.state c.args.device.now).disk.present in
-    let same = same_pages c.args.pages.now loop.pages (g.D.Device.state c.args.device.now) (g.D.Device.state loop.device) loop.invariant.unchanged (loop.invariant.only.state honest) in
+    let same = same_pages c.args.pages.now loop.pages (g.D.Device.state c.args.device.now)
+    (g.D.Device.state loop.device) loop.invariant.unchanged (loop.invariant.only.state honest) in
     let none : TreeNode = node_with 0 [] in
     let here : TreeNode = slice_index_or level loop.place none in
     let count = as_many level c.args.numbers.now numbers in
@@ -48,17 +53,21 @@ returns-then-ne-clause-damaged g c = λ honest agrees is level stand numbers bel
     let low : loop.place < length level = omega arith in
     let number : ℕ = slice_index_or c.args.numbers.now loop.place 0 in
     let read : node_at c.args.layout pages number ≡ Some node =
-    subst (λ (p : List (Option Sector)). node_at c.args.layout p number ≡ Some node) same (c.in_ok-node.ensures.node (loop.invariant.only.honest.0 honest) (loop.invariant.agrees honest agrees)) in
-    let inner : Inner ≡ node.kind = kind_read c.args.layout pages Inner here number node (page_at level c.args.numbers.now loop.place none numbers low) (stand loop.place none low) read in
+    subst (λ (p : List (Option Sector)). node_at c.args.layout p number ≡ Some node) same
+    (c.in_ok-node.ensures.node (loop.invariant.only.honest.0 honest) (loop.invariant.agrees honest agrees)) in
+    let inner : Inner ≡ node.kind = kind_read c.args.layout pages Inner here number node
+    (page_at level c.args.numbers.now loop.place none numbers low) (stand loop.place none low) read in
     let other : node.kind ≡ Leaf = search rules in
     let clash : Inner ≡ Leaf = inner ∙ other in
     cc
 
 pub returns-in_err-push_children-clause-unchanged : goal.returns-in_err-push_children-clause-unchanged
-returns-in_err-push_children-clause-unchanged g c = unchanged_on c.args.pages.now c.loop-place.pages c.read_node.new.pages c.loop-place.invariant.unchanged c.read_node.ensures.unchanged
+returns-in_err-push_children-clause-unchanged g c = unchanged_on c.args.pages.now c.loop-place.pages
+    c.read_node.new.pages c.loop-place.invariant.unchanged c.read_node.ensures.unchanged
 
 pub returns-then-room-len-clause-unchanged : goal.returns-then-room-len-clause-unchanged
-returns-then-room-len-clause-unchanged g c = unchanged_on c.args.pages.now c.loop-place.pages c.read_node.new.pages c.loop-place.invariant.unchanged c.read_node.ensures.unchanged
+returns-then-room-len-clause-unchanged g c = unchanged_on c.args.pages.now c.loop-place.pages c.read_node.new.pages
+    c.loop-place.invariant.unchanged c.read_node.ensures.unchanged
 
 pub returns-then-room-len-clause-damaged : goal.returns-then-room-len-clause-damaged
 returns-then-room-len-clause-damaged g c = λ honest agrees is level stand numbers below.
@@ -66,7 +75,8 @@ returns-then-room-len-clause-damaged g c = λ honest agrees is level stand numbe
     let node = c.in_ok-node.node in
     let image = (g.D.Device.state c.args.device.now).disk.present in
     let pages = pages_of_map c.args.pages.now image in
-    let same = same_pages c.args.pages.now loop.pages (g.D.Device.state c.args.device.now) (g.D.Device.state loop.device) loop.invariant.unchanged (loop.invariant.only.state honest) in
+    let same = same_pages c.args.pages.now loop.pages (g.D.Device.state c.args.device.now)
+    (g.D.Device.state loop.device) loop.invariant.unchanged (loop.invariant.only.state honest) in
     let none : TreeNode = node_with 0 [] in
     let here : TreeNode = slice_index_or level loop.place none in
     let count = as_many level c.args.numbers.now numbers in
@@ -74,12 +84,16 @@ returns-then-room-len-clause-damaged g c = λ honest agrees is level stand numbe
     let low : loop.place < length level = omega arith in
     let number : ℕ = slice_index_or c.args.numbers.now loop.place 0 in
     let at : node_at c.args.layout pages number ≡ Some node =
-    subst (λ (p : List (Option Sector)). node_at c.args.layout p number ≡ Some node) same (c.in_ok-node.ensures.node (loop.invariant.only.honest.0 honest) (loop.invariant.agrees honest agrees)) in
-    let rows : here.rows ≡ node.rows = rows_read c.args.layout pages Inner here number node (page_at level c.args.numbers.now loop.place none numbers low) (stand loop.place none low) at in
+    subst (λ (p : List (Option Sector)). node_at c.args.layout p number ≡ Some node) same
+    (c.in_ok-node.ensures.node (loop.invariant.only.honest.0 honest) (loop.invariant.agrees honest agrees)) in
+    let rows : here.rows ≡ node.rows = rows_read c.args.layout pages Inner here number node
+    (page_at level c.args.numbers.now loop.place none numbers low) (stand loop.place none low) at in
     let pushed : c.push_children.new.numbers.items ≡ loop.children.items ++ map (child_of c.args.layout) node.rows =
-    c.in_ok-push_children.ensures.numbers ∙ ap (λ (f : RowLayout). loop.children.items ++ map (child_of f) node.rows) c.in_ok-node.ensures.shape.0 in
+    c.in_ok-push_children.ensures.numbers
+    ∙ ap (λ (f : RowLayout). loop.children.items ++ map (child_of f) node.rows) c.in_ok-node.ensures.shape.0 in
     let few = few_children c.args.layout level (loop.place + 1) c.push_children.new.numbers.items
-    (children_more c.args.layout level loop.place none node.rows loop.children.items c.push_children.new.numbers.items low rows (loop.invariant.children honest agrees level stand numbers) pushed) in
+    (children_more c.args.layout level loop.place none node.rows loop.children.items c.push_children.new.numbers.items
+    low rows (loop.invariant.children honest agrees level stand numbers) pushed) in
     let room = c.page_count-room.ensures.pages image in
     let is_room = c.page_count-room.ensures.count in
     let beyond = c.if-room-len.true in
@@ -91,13 +105,16 @@ loop-place-preserved g c =
     let read = c.read_node.ensures in
     let node = c.in_ok-node.node in
     record {
-      only = reads_then g.D.Device ⊥ _ ⊥ c.args.device.now loop.device c.read_node.new.device (λ e. absurd e) loop.invariant.only read.only;
-      unchanged = unchanged_on c.args.pages.now loop.pages c.read_node.new.pages loop.invariant.unchanged read.unchanged;
+      only = reads_then g.D.Device ⊥ _ ⊥ c.args.device.now loop.device c.read_node.new.device (λ e. absurd e)
+          loop.invariant.only read.only;
+      unchanged =
+          unchanged_on c.args.pages.now loop.pages c.read_node.new.pages loop.invariant.unchanged read.unchanged;
       agrees = λ h a. read.agrees (loop.invariant.only.honest.0 h) (loop.invariant.agrees h a);
       is_open = read.open;
       children = λ h a level stand numbers.
           let pages = pages_of_map c.args.pages.now (g.D.Device.state c.args.device.now).disk.present in
-          let same = same_pages c.args.pages.now loop.pages (g.D.Device.state c.args.device.now) (g.D.Device.state loop.device) loop.invariant.unchanged (loop.invariant.only.state h) in
+          let same = same_pages c.args.pages.now loop.pages (g.D.Device.state c.args.device.now)
+          (g.D.Device.state loop.device) loop.invariant.unchanged (loop.invariant.only.state h) in
           let none : TreeNode = node_with 0 [] in
           let here : TreeNode = slice_index_or level loop.place none in
           let count = as_many level c.args.numbers.now numbers in
@@ -105,11 +122,16 @@ loop-place-preserved g c =
           let low : loop.place < length level = omega arith in
           let number : ℕ = slice_index_or c.args.numbers.now loop.place 0 in
           let at : node_at c.args.layout pages number ≡ Some node =
-          subst (λ (p : List (Option Sector)). node_at c.args.layout p number ≡ Some node) same (c.in_ok-node.ensures.node (loop.invariant.only.honest.0 h) (loop.invariant.agrees h a)) in
-          let rows : here.rows ≡ node.rows = rows_read c.args.layout pages Inner here number node (page_at level c.args.numbers.now loop.place none numbers low) (stand loop.place none low) at in
-          let pushed : c.push_children.new.numbers.items ≡ loop.children.items ++ map (child_of c.args.layout) node.rows =
-          c.in_ok-push_children.ensures.numbers ∙ ap (λ (f : RowLayout). loop.children.items ++ map (child_of f) node.rows) c.in_ok-node.ensures.shape.0 in
-          children_more c.args.layout level loop.place none node.rows loop.children.items c.push_children.new.numbers.items low rows (loop.invariant.children h a level stand numbers) pushed;
+          subst (λ (p : List (Option Sector)). node_at c.args.layout p number ≡ Some node) same
+          (c.in_ok-node.ensures.node (loop.invariant.only.honest.0 h) (loop.invariant.agrees h a)) in
+          let rows : here.rows ≡ node.rows = rows_read c.args.layout pages Inner here number node
+          (page_at level c.args.numbers.now loop.place none numbers low) (stand loop.place none low) at in
+          let pushed : c.push_children.new.numbers.items
+          ≡ loop.children.items ++ map (child_of c.args.layout) node.rows =
+          c.in_ok-push_children.ensures.numbers
+          ∙ ap (λ (f : RowLayout). loop.children.items ++ map (child_of f) node.rows) c.in_ok-node.ensures.shape.0 in
+          children_more c.args.layout level loop.place none node.rows loop.children.items
+          c.push_children.new.numbers.items low rows (loop.invariant.children h a level stand numbers) pushed;
       few = let inside = c.if-room-len.false in omega arith;
     }
 

@@ -13,10 +13,13 @@ abbrev pub invariant-loop-place : goal.invariant-loop-place
 invariant-loop-place g l = record {
   only : OnlyReads g.D.Device ⊥ l.fn.device l.device;
   unchanged : IsUnchanged l.fn.pages l.pages;
-  agrees : g.D.Device.is_honest l.fn.device → Agrees l.fn.pages (g.D.Device.state l.fn.device).disk → Agrees l.pages (g.D.Device.state l.device).disk;
+  agrees : g.D.Device.is_honest l.fn.device → Agrees l.fn.pages (g.D.Device.state l.fn.device).disk
+      → Agrees l.pages (g.D.Device.state l.device).disk;
   is_open : IsOpen l.pages;
-  children : g.D.Device.is_honest l.fn.device → Agrees l.fn.pages (g.D.Device.state l.fn.device).disk → (level : List TreeNode) →
-      All (IsOnPage l.fn.layout (pages_of_map l.fn.pages (g.D.Device.state l.fn.device).disk.present) Inner) level → numbers_of level ≡ l.numbers →
+  children : g.D.Device.is_honest l.fn.device → Agrees l.fn.pages (g.D.Device.state l.fn.device).disk
+      → (level : List TreeNode) →
+      All (IsOnPage l.fn.layout (pages_of_map l.fn.pages (g.D.Device.state l.fn.device).disk.present) Inner) level
+      → numbers_of level ≡ l.numbers →
       l.children.items ≡ map (child_of l.fn.layout) (rows_of (take l.place level));
   few : length l.children.items ≤ l.room;
 }

@@ -24,8 +24,10 @@ loop-place-preserved c =
           let pages = c.page_count.ensures.pages image in
           let is = c.page_count.ensures.count in
           let inside = c.if-page_count-page.false in
-          let low : slice_index_or c.args.numbers.now loop.place 0 < length (pages_of_map loop.pages image) = omega arith in
-          moves_next c.args.numbers.now loop.place (pages_of_map c.args.pages.now image) (pages_of_map loop.pages image) (pages_of_map c.release.new.self image) c.loop-place-test.true low (loop.invariant.moves image)
+          let low : slice_index_or c.args.numbers.now loop.place 0 < length (pages_of_map loop.pages image) =
+          omega arith in
+          moves_next c.args.numbers.now loop.place (pages_of_map c.args.pages.now image) (pages_of_map loop.pages image)
+          (pages_of_map c.release.new.self image) c.loop-place-test.true low (loop.invariant.moves image)
           (c.in_ok-release.ensures.map image);
       filled = omega (arith, c.release.ensures.filled, loop.invariant.filled);
       keeps = keeps_on c.args.pages.now loop.pages c.release.new.self loop.invariant.keeps
@@ -35,4 +37,5 @@ loop-place-preserved c =
 
 pub returns-clause-released : goal.returns-clause-released
 returns-clause-released c = λ image.
-    subst (λ (xs : List ℕ). Moves (pages_of_map c.args.pages.now image) xs (pages_of_map c.loop-place.pages image) []) (take_all c.loop-place.place c.args.numbers.now c.loop-place-test.false) (c.loop-place.invariant.moves image)
+    subst (λ (xs : List ℕ). Moves (pages_of_map c.args.pages.now image) xs (pages_of_map c.loop-place.pages image) [])
+    (take_all c.loop-place.place c.args.numbers.now c.loop-place-test.false) (c.loop-place.invariant.moves image)

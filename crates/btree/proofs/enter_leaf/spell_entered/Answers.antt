@@ -19,5 +19,6 @@ returns c = λ _.
       some = omega (arith, c.if-place-eq0.false);
       low = c.in-Err-find.ensures.missing;
       around = c.in-Err-find.ensures.around;
-      spelled = subst (λ (layout : RowLayout). node_in layout c.spell_inserted.new.spelled ≡ Some (node_with_row node place row)) c.in-Ok.ensures.shape.0 c.spell_inserted.ensures.reads;
+      spelled = subst (λ (layout : RowLayout). node_in layout c.spell_inserted.new.spelled
+          ≡ Some (node_with_row node place row)) c.in-Ok.ensures.shape.0 c.spell_inserted.ensures.reads;
     }

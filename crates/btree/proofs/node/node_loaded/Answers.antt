@@ -17,8 +17,10 @@ returns-in-Some-clause-node g c = λ honest agrees.
     let pages : List (Option Sector) = (map_now c.args.pages.now before.disk.present).pages in
     let bytes = c.in-Some.bytes.now in
     let seen = c.in-Some.ensures.page after.disk (c.in_ok-load.ensures.agrees honest agrees) in
-    let here = seen_before c.args.pages.now c.load.new.self before after c.args.page bytes c.in_ok-load.ensures.unchanged (c.in_ok-load.ensures.only.state honest) seen in
-    subst (λ (n : Option Node). IfOk c.copy_node.result (λ node. n ≡ Some node)) (sym (node_seen c.args.layout pages c.args.page bytes here)) c.copy_node.ensures.node
+    let here = seen_before c.args.pages.now c.load.new.self before after c.args.page bytes
+    c.in_ok-load.ensures.unchanged (c.in_ok-load.ensures.only.state honest) seen in
+    subst (λ (n : Option Node). IfOk c.copy_node.result (λ node. n ≡ Some node))
+    (sym (node_seen c.args.layout pages c.args.page bytes here)) c.copy_node.ensures.node
 
 pub returns-in-Some-clause-damaged : goal.returns-in-Some-clause-damaged
 returns-in-Some-clause-damaged g c = λ honest agrees is kind node at stands.
@@ -27,24 +29,31 @@ returns-in-Some-clause-damaged g c = λ honest agrees is kind node at stands.
     let pages : List (Option Sector) = (map_now c.args.pages.now before.disk.present).pages in
     let bytes = c.in-Some.bytes.now in
     let seen = c.in-Some.ensures.page after.disk (c.in_ok-load.ensures.agrees honest agrees) in
-    let here = seen_before c.args.pages.now c.load.new.self before after c.args.page bytes c.in_ok-load.ensures.unchanged (c.in_ok-load.ensures.only.state honest) seen in
-    spells_none c.args.layout pages c.args.page bytes here (subst (λ (r : Result Node PagesError). OnErr r (SpellsNoNode c.args.layout bytes)) is c.copy_node.ensures.damaged) kind node at stands
+    let here = seen_before c.args.pages.now c.load.new.self before after c.args.page bytes
+    c.in_ok-load.ensures.unchanged (c.in_ok-load.ensures.only.state honest) seen in
+    spells_none c.args.layout pages c.args.page bytes here (subst (λ (r : Result Node PagesError).
+    OnErr r (SpellsNoNode c.args.layout bytes)) is c.copy_node.ensures.damaged) kind node at stands
 
 pub returns-clause-unchanged : goal.returns-clause-unchanged
 returns-clause-unchanged g c =
-    unchanged_on c.args.pages.now c.load.new.self c.node_read.new.pages c.in_ok-load.ensures.unchanged c.node_read.ensures.unchanged
+    unchanged_on c.args.pages.now c.load.new.self c.node_read.new.pages c.in_ok-load.ensures.unchanged
+    c.node_read.ensures.unchanged
 
 pub returns-clause-node : goal.returns-clause-node
 returns-clause-node g c = λ honest agrees.
     let before = g.D.Device.state c.args.device.now in
     let after = g.D.Device.state c.load.new.device in
-    let same = same_pages c.args.pages.now c.load.new.self before after c.in_ok-load.ensures.unchanged (c.in_ok-load.ensures.only.state honest) in
-    subst (λ (p : List (Option Sector)). IfOk c.node_read.result (λ node. node_at c.args.layout p c.args.page ≡ Some node)) same
+    let same = same_pages c.args.pages.now c.load.new.self before after c.in_ok-load.ensures.unchanged
+    (c.in_ok-load.ensures.only.state honest) in
+    subst (λ (p : List (Option Sector)).
+    IfOk c.node_read.result (λ node. node_at c.args.layout p c.args.page ≡ Some node)) same
     (c.node_read.ensures.node (c.in_ok-load.ensures.only.honest.0 honest) (c.in_ok-load.ensures.agrees honest agrees))
 
 pub returns-clause-damaged : goal.returns-clause-damaged
 returns-clause-damaged g c = λ honest agrees is kind node at stands.
     let before = g.D.Device.state c.args.device.now in
     let after = g.D.Device.state c.load.new.device in
-    let same = same_pages c.args.pages.now c.load.new.self before after c.in_ok-load.ensures.unchanged (c.in_ok-load.ensures.only.state honest) in
-    c.node_read.ensures.damaged (c.in_ok-load.ensures.only.honest.0 honest) (c.in_ok-load.ensures.agrees honest agrees) is kind node at (subst (λ (p : List (Option Sector)). IsOnPage c.args.layout p kind node) (sym same) stands)
+    let same = same_pages c.args.pages.now c.load.new.self before after c.in_ok-load.ensures.unchanged
+    (c.in_ok-load.ensures.only.state honest) in
+    c.node_read.ensures.damaged (c.in_ok-load.ensures.only.honest.0 honest) (c.in_ok-load.ensures.agrees honest agrees)
+    is kind node at (subst (λ (p : List (Option Sector)). IsOnPage c.args.layout p kind node) (sym same) stands)

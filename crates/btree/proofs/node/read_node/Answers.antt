@@ -15,36 +15,47 @@ pub returns-in-Some-clause-node : goal.returns-in-Some-clause-node
 returns-in-Some-clause-node g c = λ honest agrees.
     let present = (g.D.Device.state c.args.device.now).disk.present in
     let pages : List (Option Sector) = (map_now c.args.pages.now present).pages in
-    let noted : page_of (map_now c.note_use.new.self present) c.args.page ≡ slice_index_or pages c.args.page None = ap (λ (m : Map). page_of m c.args.page) (c.note_use.ensures.unchanged.map present) in
+    let noted : page_of (map_now c.note_use.new.self present) c.args.page ≡ slice_index_or pages c.args.page None =
+    ap (λ (m : Map). page_of m c.args.page) (c.note_use.ensures.unchanged.map present) in
     let kept = c.note_use.ensures.keeps.agrees (g.D.Device.state c.args.device.now).disk agrees in
     let bytes = c.in-Some.bytes.now in
-    let here : slice_index_or pages c.args.page None ≡ Some bytes = sym noted ∙ c.in-Some.ensures.page (g.D.Device.state c.args.device.now).disk kept in
-    subst (λ (n : Option Node). IfOk c.copy_node.result (λ node. n ≡ Some node)) (sym (node_seen c.args.layout pages c.args.page bytes here)) c.copy_node.ensures.node
+    let here : slice_index_or pages c.args.page None ≡ Some bytes =
+    sym noted ∙ c.in-Some.ensures.page (g.D.Device.state c.args.device.now).disk kept in
+    subst (λ (n : Option Node). IfOk c.copy_node.result (λ node. n ≡ Some node))
+    (sym (node_seen c.args.layout pages c.args.page bytes here)) c.copy_node.ensures.node
 
 pub returns-in-Some-clause-damaged : goal.returns-in-Some-clause-damaged
 returns-in-Some-clause-damaged g c = λ honest agrees is kind node same stands.
     let present = (g.D.Device.state c.args.device.now).disk.present in
     let pages : List (Option Sector) = (map_now c.args.pages.now present).pages in
-    let noted : page_of (map_now c.note_use.new.self present) c.args.page ≡ slice_index_or pages c.args.page None = ap (λ (m : Map). page_of m c.args.page) (c.note_use.ensures.unchanged.map present) in
+    let noted : page_of (map_now c.note_use.new.self present) c.args.page ≡ slice_index_or pages c.args.page None =
+    ap (λ (m : Map). page_of m c.args.page) (c.note_use.ensures.unchanged.map present) in
     let kept = c.note_use.ensures.keeps.agrees (g.D.Device.state c.args.device.now).disk agrees in
     let bytes = c.in-Some.bytes.now in
-    let here : slice_index_or pages c.args.page None ≡ Some bytes = sym noted ∙ c.in-Some.ensures.page (g.D.Device.state c.args.device.now).disk kept in
-    spells_none c.args.layout pages c.args.page bytes here (subst (λ (r : Result Node PagesError). OnErr r (SpellsNoNode c.args.layout bytes)) is c.copy_node.ensures.damaged) kind node same stands
+    let here : slice_index_or pages c.args.page None ≡ Some bytes =
+    sym noted ∙ c.in-Some.ensures.page (g.D.Device.state c.args.device.now).disk kept in
+    spells_none c.args.layout pages c.args.page bytes here (subst (λ (r : Result Node PagesError).
+    OnErr r (SpellsNoNode c.args.layout bytes)) is c.copy_node.ensures.damaged) kind node same stands
 
 pub returns-clause-unchanged : goal.returns-clause-unchanged
 returns-clause-unchanged g c =
-    unchanged_on c.args.pages.now c.note_use.new.self c.node_loaded.new.pages c.note_use.ensures.unchanged c.node_loaded.ensures.unchanged
+    unchanged_on c.args.pages.now c.note_use.new.self c.node_loaded.new.pages c.note_use.ensures.unchanged
+    c.node_loaded.ensures.unchanged
 
 pub returns-clause-node : goal.returns-clause-node
 returns-clause-node g c = λ honest agrees.
     let present = (g.D.Device.state c.args.device.now).disk.present in
-    let noted : (map_now c.note_use.new.self present).pages ≡ (map_now c.args.pages.now present).pages = ap (λ (m : Map). m.pages) (c.note_use.ensures.unchanged.map present) in
+    let noted : (map_now c.note_use.new.self present).pages ≡ (map_now c.args.pages.now present).pages =
+    ap (λ (m : Map). m.pages) (c.note_use.ensures.unchanged.map present) in
     let kept = c.note_use.ensures.keeps.agrees (g.D.Device.state c.args.device.now).disk agrees in
-    subst (λ (p : List (Option Sector)). IfOk c.node_loaded.result (λ node. node_at c.args.layout p c.args.page ≡ Some node)) noted (c.node_loaded.ensures.node honest kept)
+    subst (λ (p : List (Option Sector)). IfOk c.node_loaded.result
+    (λ node. node_at c.args.layout p c.args.page ≡ Some node)) noted (c.node_loaded.ensures.node honest kept)
 
 pub returns-clause-damaged : goal.returns-clause-damaged
 returns-clause-damaged g c = λ honest agrees is kind node same stands.
     let present = (g.D.Device.state c.args.device.now).disk.present in
-    let noted : (map_now c.note_use.new.self present).pages ≡ (map_now c.args.pages.now present).pages = ap (λ (m : Map). m.pages) (c.note_use.ensures.unchanged.map present) in
+    let noted : (map_now c.note_use.new.self present).pages ≡ (map_now c.args.pages.now present).pages =
+    ap (λ (m : Map). m.pages) (c.note_use.ensures.unchanged.map present) in
     let kept = c.note_use.ensures.keeps.agrees (g.D.Device.state c.args.device.now).disk agrees in
-    c.node_loaded.ensures.damaged honest kept is kind node same (subst (λ (p : List (Option Sector)). IsOnPage c.args.layout p kind node) (sym noted) stands)
+    c.node_loaded.ensures.damaged honest kept is kind node same
+    (subst (λ (p : List (Option Sector)). IsOnPage c.args.layout p kind node) (sym noted) stands)

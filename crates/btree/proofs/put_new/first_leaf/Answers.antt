@@ -12,9 +12,11 @@ pub returns-clause-pages : goal.returns-clause-pages
 returns-clause-pages c = λ image.
     let row = c.args.key.now ++ c.args.value.now in
     let P = λ (row : List ℕ). length row ≡ row_length c.args.layout Leaf in
-    put_node c.args.layout Leaf c.insert.new.self (row ∷ []) c.in_ok-page.page (pages_of_map c.args.pages.now image) (pages_of_map c.put_new.new.pages image)
+    put_node c.args.layout Leaf c.insert.new.self (row ∷ []) c.in_ok-page.page (pages_of_map c.args.pages.now image)
+    (pages_of_map c.put_new.new.pages image)
     (c.insert.ensures ∙ ap (λ (n : Node). node_with_row n 0 row) c.new-leaf.ensures) (c.in_ok-page.ensures.pages image)
-    (All-cons P row [] (omega (arith, length-append c.args.key.now c.args.value.now, c.requires.key, c.requires.value)) (All-nil P)) (omega arith)
+    (All-cons P row [] (omega (arith, length-append c.args.key.now c.args.value.now, c.requires.key, c.requires.value))
+    (All-nil P)) (omega arith)
 
 pub returns-in_err-page-clause-full : goal.returns-in_err-page-clause-full
 returns-in_err-page-clause-full c = λ is.

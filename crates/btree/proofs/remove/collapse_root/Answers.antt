@@ -11,7 +11,9 @@ use Rattle.btree.proofs.Collapsing.{page_named}
 use Rattle.btree.proofs.remove.collapse_root.Goals as goal
 
 pub returns-then-not-is_page-clause-damaged : goal.returns-then-not-is_page-clause-damaged
-returns-then-not-is_page-clause-damaged c = λ is image some is_in. true_or_false (c.is_page.ensures.is.1 (has_room (pages_of_map c.args.pages.now image) (page_count c.args.pages.now) c.args.lone.page (c.is_page.ensures.count image) some is_in)) c.if-not-is_page.true
+returns-then-not-is_page-clause-damaged c =
+    λ is image some is_in. true_or_false (c.is_page.ensures.is.1 (has_room (pages_of_map c.args.pages.now image)
+    (page_count c.args.pages.now) c.args.lone.page (c.is_page.ensures.count image) some is_in)) c.if-not-is_page.true
 
 pub returns-clause-gives : goal.returns-clause-gives
 returns-clause-gives c = λ image.
@@ -19,9 +21,12 @@ returns-clause-gives c = λ image.
     let after = pages_of_map c.release.new.self image in
     let page : IsPage c.args.pages.now c.args.lone.page = c.is_page.ensures.is.0 c.if-not-is_page.false in
     let count : length before ≡ page_count c.args.pages.now = c.is_page.ensures.count image in
-    let unspent : is_spent c.args.pages.now ≡ false = false_unless (is_spent c.args.pages.now) (λ spent. ok_or_err c.in_ok-release.field-0 Spent (sym c.in_ok-release.was ∙ c.release.ensures.spent.1 spent)) in
-    let few : length before ≤ 2 ^ 20 = few_pages before (page_count c.args.pages.now) (page_count c.args.pages.now) count refl (c.is_page.ensures.few c.requires.open unspent) in
+    let unspent : is_spent c.args.pages.now ≡ false = false_unless (is_spent c.args.pages.now)
+    (λ spent. ok_or_err c.in_ok-release.field-0 Spent (sym c.in_ok-release.was ∙ c.release.ensures.spent.1 spent)) in
+    let few : length before ≤ 2 ^ 20 = few_pages before (page_count c.args.pages.now) (page_count c.args.pages.now)
+    count refl (c.is_page.ensures.few c.requires.open unspent) in
     record {
-      leaves = λ layout rows. write_none layout Inner before after c.args.lone.page rows (c.in_ok-release.ensures.map image) (omega (arith, page.1, count));
+      leaves = λ layout rows. write_none layout Inner before after c.args.lone.page rows
+          (c.in_ok-release.ensures.map image) (omega (arith, page.1, count));
       names = λ page is_in is. c.child.ensures ∙ page_named before page _ few is_in is;
     }

@@ -8,7 +8,9 @@ use Rattle.btree.proofs.Lessening.{has_room, true_or_false}
 use Rattle.btree.proofs.remove.keep_leaf.Goals as goal
 
 pub returns-then-not-is_page-clause-damaged : goal.returns-then-not-is_page-clause-damaged
-returns-then-not-is_page-clause-damaged c = λ is image some is_in. true_or_false (c.is_page.ensures.is.1 (has_room (pages_of_map c.args.pages.now image) (page_count c.args.pages.now) c.args.lone.page (c.is_page.ensures.count image) some is_in)) c.if-not-is_page.true
+returns-then-not-is_page-clause-damaged c =
+    λ is image some is_in. true_or_false (c.is_page.ensures.is.1 (has_room (pages_of_map c.args.pages.now image)
+    (page_count c.args.pages.now) c.args.lone.page (c.is_page.ensures.count image) some is_in)) c.if-not-is_page.true
 
 pub returns-clause-stays : goal.returns-clause-stays
 returns-clause-stays c = λ image.
@@ -18,6 +20,8 @@ returns-clause-stays c = λ image.
     let count : length before ≡ page_count c.args.pages.now = c.is_page.ensures.count image in
     record {
       page_is = refl;
-      own = λ rows. write_one node.layout Leaf before (pages_of_map c.edit.new.self image) c.args.lone.page c.bytes-spelled.result rows node.rows (c.in_ok-edit.ensures.map image) (omega (arith, page.1, count))
-          (spells_some node c.bytes-spelled.result c.requires.lone.0 c.count-count.ensures.node c.requires.lone.1 c.bytes-spelled.ensures.reads);
+      own = λ rows. write_one node.layout Leaf before (pages_of_map c.edit.new.self image) c.args.lone.page
+          c.bytes-spelled.result rows node.rows (c.in_ok-edit.ensures.map image) (omega (arith, page.1, count))
+          (spells_some node c.bytes-spelled.result c.requires.lone.0 c.count-count.ensures.node c.requires.lone.1
+          c.bytes-spelled.ensures.reads);
     }

@@ -18,5 +18,6 @@ returns c = λ _.
       low = c.in-Ok-find.ensures.found.0;
       here = c.in-Ok-find.ensures.found.1;
       around = c.in-Ok-find.ensures.around;
-      spelled = subst (λ (layout : RowLayout). node_in layout c.spell_with_rest.new.spelled ≡ Some (with_rest node place c.args.value.now)) c.in-Ok.ensures.shape.0 c.spell_with_rest.ensures.reads;
+      spelled = subst (λ (layout : RowLayout). node_in layout c.spell_with_rest.new.spelled
+          ≡ Some (with_rest node place c.args.value.now)) c.in-Ok.ensures.shape.0 c.spell_with_rest.ensures.reads;
     }

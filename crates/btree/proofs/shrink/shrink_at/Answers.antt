@@ -15,13 +15,15 @@ use Rattle.btree.specs.Changes.{pages_of_map, IsIn, CanStand}
 use Rattle.btree.specs.Outcomes.{IsRemovalResult, IsPair}
 use Rattle.btree.specs.Shrinks.{ShrinksOn, NeverShrinksOn}
 use Rattle.btree.proofs.Upward.{ReadNode}
-use Rattle.btree.proofs.Downward.{Rebalances, kept_on, renamed_on, gone_on, lone_on, never_read, never_led, never_rebalanced}
+use Rattle.btree.proofs.Downward.{Rebalances, kept_on, renamed_on, gone_on, lone_on, never_read, never_led}
+use Rattle.btree.proofs.Downward.{never_rebalanced}
 use Rattle.btree.proofs.shrink.shrink_at.Goals as goal
 
 pub returns-in_err-node-clause-damaged : goal.returns-in_err-node-clause-damaged
 returns-in_err-node-clause-damaged g c = λ honest agrees is.
     let told = rw is at c.from_residual.ensures.1 in
-    never_read c.args.layout (pages_of_map c.args.pages.now (g.D.Device.state c.args.device.now).disk.present) c.args.step c.args.below (c.in_err-node.ensures.damaged honest agrees (cc told))
+    never_read c.args.layout (pages_of_map c.args.pages.now (g.D.Device.state c.args.device.now).disk.present)
+    c.args.step c.args.below (c.in_err-node.ensures.damaged honest agrees (cc told))
 
 pub returns-in_err-node-clause-catalog : goal.returns-in_err-node-clause-catalog
 returns-in_err-node-clause-catalog g c = ap (λ (m : Map). m.catalog) (c.read_node.ensures.unchanged.map [])
@@ -31,8 +33,10 @@ returns-in-Kept-clause-shrinks g c = λ honest agrees.
     let image = (g.D.Device.state c.args.device.now).disk.present in
     let two = pages_of_map c.args.pages.now image in
     let still = ap (λ (m : Map). m.pages) (c.read_node.ensures.unchanged.map image) in
-    subst (λ (below : RemovalOutcome). ShrinksOn c.args.layout c.args.step two (pages_of_map c.read_node.new.pages image) below Kept) (sym c.in-Kept.is)
-    (subst (λ (pages : List (Option Sector)). ShrinksOn c.args.layout c.args.step two pages Kept Kept) (sym still) (kept_on c.args.layout two c.args.step))
+    subst (λ (below : RemovalOutcome).
+    ShrinksOn c.args.layout c.args.step two (pages_of_map c.read_node.new.pages image) below Kept) (sym c.in-Kept.is)
+    (subst (λ (pages : List (Option Sector)). ShrinksOn c.args.layout c.args.step two pages Kept Kept) (sym still)
+    (kept_on c.args.layout two c.args.step))
 
 pub returns-in-Kept-clause-catalog : goal.returns-in-Kept-clause-catalog
 returns-in-Kept-clause-catalog g c = ap (λ (m : Map). m.catalog) (c.read_node.ensures.unchanged.map [])
@@ -46,13 +50,16 @@ returns-in-Renamed-clause-shrinks g c = λ honest agrees.
     let step = c.args.step in
     let node = c.in_ok-node.node in
     let child = c.in-Renamed.child in
-    let read : ReadNode c.args.layout two step node = record { layout_is = c.in_ok-node.ensures.shape.0; read = c.in_ok-node.ensures.node honest agrees } in
+    let read : ReadNode c.args.layout two step node =
+    record { layout_is = c.in_ok-node.ensures.shape.0; read = c.in_ok-node.ensures.node honest agrees } in
     IfOk-weaker c.rename_at.result _ _
     (λ up fares.
     subst (λ (below : RemovalOutcome). ShrinksOn c.args.layout step two three below up) (sym c.in-Renamed.is)
     (renamed_on c.args.layout two three step child up node read
-    (subst (λ (pages : List (Option Sector)). CanStand pages step.page node → rest_of node.layout (slice_index_or node.rows step.place []) ≡ big_bytes 4 child.page
-    → IsRemovalResult node.layout Inner pages three step.page node.rows (take step.place node.rows ++ (row_of node.layout (node_with child.page child.node.rows) ∷ drop (step.place + 1) node.rows)) up) still (fares image))))
+    (subst (λ (pages : List (Option Sector)). CanStand pages step.page node
+    → rest_of node.layout (slice_index_or node.rows step.place []) ≡ big_bytes 4 child.page
+    → IsRemovalResult node.layout Inner pages three step.page node.rows (take step.place node.rows ++ (row_of
+    node.layout (node_with child.page child.node.rows) ∷ drop (step.place + 1) node.rows)) up) still (fares image))))
     c.rename_at.ensures.pages
 
 pub returns-in-Renamed-clause-damaged : goal.returns-in-Renamed-clause-damaged
@@ -60,12 +67,15 @@ returns-in-Renamed-clause-damaged g c = λ honest agrees is.
     let image = (g.D.Device.state c.args.device.now).disk.present in
     let two = pages_of_map c.args.pages.now image in
     let still = ap (λ (m : Map). m.pages) (c.read_node.ensures.unchanged.map image) in
-    let read : ReadNode c.args.layout two c.args.step c.in_ok-node.node = record { layout_is = c.in_ok-node.ensures.shape.0; read = c.in_ok-node.ensures.node honest agrees } in
+    let read : ReadNode c.args.layout two c.args.step c.in_ok-node.node =
+    record { layout_is = c.in_ok-node.ensures.shape.0; read = c.in_ok-node.ensures.node honest agrees } in
     never_led c.args.layout two c.args.step c.args.below c.in_ok-node.node read
-    (λ inner low some is_in. c.rename_at.ensures.damaged is image inner low some (subst (λ (pages : List (Option Sector)). IsIn pages c.args.step.page) (sym still) is_in))
+    (λ inner low some is_in. c.rename_at.ensures.damaged is image inner low some
+    (subst (λ (pages : List (Option Sector)). IsIn pages c.args.step.page) (sym still) is_in))
 
 pub returns-in-Renamed-clause-catalog : goal.returns-in-Renamed-clause-catalog
-returns-in-Renamed-clause-catalog g c = c.rename_at.ensures.keeps.catalog ∙ ap (λ (m : Map). m.catalog) (c.read_node.ensures.unchanged.map [])
+returns-in-Renamed-clause-catalog g c =
+    c.rename_at.ensures.keeps.catalog ∙ ap (λ (m : Map). m.catalog) (c.read_node.ensures.unchanged.map [])
 
 pub returns-in-Gone-clause-shrinks : goal.returns-in-Gone-clause-shrinks
 returns-in-Gone-clause-shrinks g c = λ honest agrees.
@@ -75,12 +85,15 @@ returns-in-Gone-clause-shrinks g c = λ honest agrees.
     let still = ap (λ (m : Map). m.pages) (c.read_node.ensures.unchanged.map image) in
     let step = c.args.step in
     let node = c.in_ok-node.node in
-    let read : ReadNode c.args.layout two step node = record { layout_is = c.in_ok-node.ensures.shape.0; read = c.in_ok-node.ensures.node honest agrees } in
+    let read : ReadNode c.args.layout two step node =
+    record { layout_is = c.in_ok-node.ensures.shape.0; read = c.in_ok-node.ensures.node honest agrees } in
     IfOk-weaker c.lose_at.result _ _
     (λ up fares.
     subst (λ (below : RemovalOutcome). ShrinksOn c.args.layout step two three below up) (sym c.in-Gone.is)
     (gone_on c.args.layout two three step up node read
-    (subst (λ (pages : List (Option Sector)). CanStand pages step.page node → IsRemovalResult node.layout Inner pages three step.page node.rows (take step.place node.rows ++ drop (step.place + 1) node.rows) up) still (fares image))))
+    (subst (λ (pages : List (Option Sector)). CanStand pages step.page node → IsRemovalResult node.layout Inner
+    pages three step.page node.rows (take step.place node.rows ++ drop (step.place + 1) node.rows) up) still
+    (fares image))))
     c.lose_at.ensures.pages
 
 pub returns-in-Gone-clause-damaged : goal.returns-in-Gone-clause-damaged
@@ -88,12 +101,15 @@ returns-in-Gone-clause-damaged g c = λ honest agrees is.
     let image = (g.D.Device.state c.args.device.now).disk.present in
     let two = pages_of_map c.args.pages.now image in
     let still = ap (λ (m : Map). m.pages) (c.read_node.ensures.unchanged.map image) in
-    let read : ReadNode c.args.layout two c.args.step c.in_ok-node.node = record { layout_is = c.in_ok-node.ensures.shape.0; read = c.in_ok-node.ensures.node honest agrees } in
+    let read : ReadNode c.args.layout two c.args.step c.in_ok-node.node =
+    record { layout_is = c.in_ok-node.ensures.shape.0; read = c.in_ok-node.ensures.node honest agrees } in
     never_led c.args.layout two c.args.step c.args.below c.in_ok-node.node read
-    (λ inner low some is_in. c.lose_at.ensures.damaged is image inner low some (subst (λ (pages : List (Option Sector)). IsIn pages c.args.step.page) (sym still) is_in))
+    (λ inner low some is_in. c.lose_at.ensures.damaged is image inner low some
+    (subst (λ (pages : List (Option Sector)). IsIn pages c.args.step.page) (sym still) is_in))
 
 pub returns-in-Gone-clause-catalog : goal.returns-in-Gone-clause-catalog
-returns-in-Gone-clause-catalog g c = c.lose_at.ensures.keeps.catalog ∙ ap (λ (m : Map). m.catalog) (c.read_node.ensures.unchanged.map [])
+returns-in-Gone-clause-catalog g c =
+    c.lose_at.ensures.keeps.catalog ∙ ap (λ (m : Map). m.catalog) (c.read_node.ensures.unchanged.map [])
 
 pub returns-in-Underfull-clause-shrinks : goal.returns-in-Underfull-clause-shrinks
 returns-in-Underfull-clause-shrinks g c = λ honest agrees.
@@ -104,27 +120,38 @@ returns-in-Underfull-clause-shrinks g c = λ honest agrees.
     let step = c.args.step in
     let node = c.in_ok-node.node in
     let child = c.in-Underfull.child in
-    let read : ReadNode c.args.layout two step node = record { layout_is = c.in_ok-node.ensures.shape.0; read = c.in_ok-node.ensures.node honest agrees } in
+    let read : ReadNode c.args.layout two step node =
+    record { layout_is = c.in_ok-node.ensures.shape.0; read = c.in_ok-node.ensures.node honest agrees } in
     IfOk-weaker c.rebalance_at.result _ _
     (λ up rebalances.
-    let at_state = subst (λ (s : State). Rebalances c.args.layout (pages_of_map c.read_node.new.pages s.disk.present) (pages_of_map c.rebalance_at.new.pages s.disk.present) step child node up) (c.read_node.ensures.only.state honest) rebalances in
+    let at_state =
+    subst (λ (s : State). Rebalances c.args.layout (pages_of_map c.read_node.new.pages s.disk.present) (pages_of_map
+    c.rebalance_at.new.pages s.disk.present) step child node up) (c.read_node.ensures.only.state honest) rebalances in
     subst (λ (below : RemovalOutcome). ShrinksOn c.args.layout step two three below up) (sym c.in-Underfull.is)
-    (lone_on c.args.layout two three step child up node read (subst (λ (pages : List (Option Sector)). Rebalances c.args.layout pages three step child node up) still at_state)))
-    (c.rebalance_at.ensures.rebalances (c.read_node.ensures.only.honest.0 honest) (c.read_node.ensures.agrees honest agrees))
+    (lone_on c.args.layout two three step child up node read (subst
+    (λ (pages : List (Option Sector)). Rebalances c.args.layout pages three step child node up) still at_state)))
+    (c.rebalance_at.ensures.rebalances (c.read_node.ensures.only.honest.0 honest)
+    (c.read_node.ensures.agrees honest agrees))
 
 pub returns-in-Underfull-clause-damaged : goal.returns-in-Underfull-clause-damaged
 returns-in-Underfull-clause-damaged g c = λ honest agrees is.
     let image = (g.D.Device.state c.args.device.now).disk.present in
     let two = pages_of_map c.args.pages.now image in
-    let same = ap (λ (s : State). pages_of_map c.read_node.new.pages s.disk.present) (c.read_node.ensures.only.state honest) ∙ ap (λ (m : Map). m.pages) (c.read_node.ensures.unchanged.map image) in
+    let same =
+    ap (λ (s : State). pages_of_map c.read_node.new.pages s.disk.present) (c.read_node.ensures.only.state honest)
+    ∙ ap (λ (m : Map). m.pages) (c.read_node.ensures.unchanged.map image) in
     let step = c.args.step in
     let node = c.in_ok-node.node in
     let child = c.in-Underfull.child in
-    let read : ReadNode c.args.layout two step node = record { layout_is = c.in_ok-node.ensures.shape.0; read = c.in_ok-node.ensures.node honest agrees } in
+    let read : ReadNode c.args.layout two step node =
+    record { layout_is = c.in_ok-node.ensures.shape.0; read = c.in_ok-node.ensures.node honest agrees } in
     subst (λ (below : RemovalOutcome). NeverShrinksOn c.args.layout step two below) (sym c.in-Underfull.is)
     (never_rebalanced c.args.layout two step child node read (λ left right kind place some one other pair.
-    c.rebalance_at.ensures.damaged (c.read_node.ensures.only.honest.0 honest) (c.read_node.ensures.agrees honest agrees) is left right kind place some one other
-    (subst (λ (pages : List (Option Sector)). IsPair c.args.layout child.node.kind pages step.page node.rows step.place child.page left right) (sym same) pair)))
+    c.rebalance_at.ensures.damaged (c.read_node.ensures.only.honest.0 honest) (c.read_node.ensures.agrees honest agrees)
+    is left right kind place some one other
+    (subst (λ (pages : List (Option Sector)). IsPair c.args.layout child.node.kind pages step.page node.rows step.place
+    child.page left right) (sym same) pair)))
 
 pub returns-in-Underfull-clause-catalog : goal.returns-in-Underfull-clause-catalog
-returns-in-Underfull-clause-catalog g c = c.rebalance_at.ensures.catalog ∙ ap (λ (m : Map). m.catalog) (c.read_node.ensures.unchanged.map [])
+returns-in-Underfull-clause-catalog g c =
+    c.rebalance_at.ensures.catalog ∙ ap (λ (m : Map). m.catalog) (c.read_node.ensures.unchanged.map [])

@@ -9,12 +9,21 @@ use Rattle.btree.proofs.shrink_page.rename_at.Goals as goal
 
 pub returns-then-not-leads-clause-damaged : goal.returns-then-not-leads-clause-damaged
 returns-then-not-leads-clause-damaged c = λ is image inner low some is_in.
-    true_or_false (c.leads.ensures.is.1 (inner, low, has_room (pages_of_map c.args.pages.now image) (page_count c.args.pages.now) c.args.step.page (c.leads.ensures.count image) some is_in)) c.if-not-leads.true
+    true_or_false (c.leads.ensures.is.1 (
+      inner,
+      low,
+      has_room (pages_of_map c.args.pages.now image) (page_count c.args.pages.now) c.args.step.page
+          (c.leads.ensures.count image) some is_in,
+    )) c.if-not-leads.true
 
 pub returns-clause-pages : goal.returns-clause-pages
 returns-clause-pages c = λ image can names.
     let node = c.args.node in
     let leads = c.leads.ensures.is.0 c.if-not-leads.false in
-    front_fares (pages_of_map c.args.pages.now image) (pages_of_map c.write_back.new.pages image) c.args.step.page c.args.step.place node c.set_key.new.self
-    (row_of node.layout (node_with c.args.child.now.page c.args.child.now.node.rows) ∷ drop (c.args.step.place + 1) node.rows) Inner c.in_ok-outcome.outcome
-    (renamed_rows node c.set_key.new.self c.args.step.place c.key.result.now c.args.child.now c.set_key.ensures leads.1 c.requires.layout c.key.ensures.key names) leads.0 leads.1 (c.in_ok-outcome.ensures.pages image node.rows can.is_in)
+    front_fares (pages_of_map c.args.pages.now image) (pages_of_map c.write_back.new.pages image) c.args.step.page
+    c.args.step.place node c.set_key.new.self
+    (row_of node.layout (node_with c.args.child.now.page c.args.child.now.node.rows)
+    ∷ drop (c.args.step.place + 1) node.rows) Inner c.in_ok-outcome.outcome
+    (renamed_rows node c.set_key.new.self c.args.step.place c.key.result.now
+    c.args.child.now c.set_key.ensures leads.1 c.requires.layout c.key.ensures.key names) leads.0 leads.1
+    (c.in_ok-outcome.ensures.pages image node.rows can.is_in)

@@ -13,18 +13,24 @@ use Rattle.btree.proofs.shrink_page.write_back.Goals.{In_ok-edit}
 pub returns-then-count-eq0-clause-pages : goal.returns-then-count-eq0-clause-pages
 returns-then-count-eq0-clause-pages c = λ image old is_in keeps.
     let pages = pages_of_map c.args.pages.now image in (
-      write_none c.args.node.layout c.args.node.kind pages (pages_of_map c.release.new.self image) c.args.page old (c.in_ok-release.ensures.map image) (is_low pages c.args.page is_in),
+      write_none c.args.node.layout c.args.node.kind pages (pages_of_map c.release.new.self image) c.args.page old
+          (c.in_ok-release.ensures.map image) (is_low pages c.args.page is_in),
       nil_from_length c.args.node.rows (omega arith),
     )
 
-written : (c : In_ok-edit) (image : List Sector) (old : List (List ℕ)) → IsIn (pages_of_map c.args.pages.now image) c.args.page
-    → ReplacesNodes c.args.node.layout c.args.node.kind (pages_of_map c.args.pages.now image) (node_with c.args.page old ∷ []) (pages_of_map c.edit.new.self image) (node_with c.args.page c.args.node.rows ∷ [])
+written : (c : In_ok-edit) (image : List Sector) (old : List (List ℕ))
+    → IsIn (pages_of_map c.args.pages.now image) c.args.page
+    → ReplacesNodes c.args.node.layout c.args.node.kind (pages_of_map c.args.pages.now image)
+    (node_with c.args.page old ∷ []) (pages_of_map c.edit.new.self image) (node_with c.args.page c.args.node.rows ∷ [])
 written c image old is_in =
     let node = c.args.node in
     let pages = pages_of_map c.args.pages.now image in
-    let enough : fewest node.kind ≤ length node.rows = enough_left node.layout node.kind (length node.rows) (λ none. omega arith) (λ short. true_or_false (c.is_short.ensures.1 short) c.if-is_short.false) in
-    write_one node.layout node.kind pages (pages_of_map c.edit.new.self image) c.args.page c.bytes-spelled.result old node.rows (c.in_ok-edit.ensures.map image) (is_low pages c.args.page is_in)
-    (spells_node node node c.bytes-spelled.result (record { layout = refl; kind = refl }) c.bytes-spelled.ensures.reads c.count-count.ensures.node.lengths enough)
+    let enough : fewest node.kind ≤ length node.rows = enough_left node.layout node.kind (length node.rows)
+    (λ none. omega arith) (λ short. true_or_false (c.is_short.ensures.1 short) c.if-is_short.false) in
+    write_one node.layout node.kind pages (pages_of_map c.edit.new.self image) c.args.page c.bytes-spelled.result old
+    node.rows (c.in_ok-edit.ensures.map image) (is_low pages c.args.page is_in)
+    (spells_node node node c.bytes-spelled.result (record { layout = refl; kind = refl }) c.bytes-spelled.ensures.reads
+    c.count-count.ensures.node.lengths enough)
 
 pub returns-then-keeps_least-clause-pages : goal.returns-then-keeps_least-clause-pages
 returns-then-keeps_least-clause-pages c = λ image old is_in keeps. (

@@ -17,8 +17,12 @@ returns-in_err-look_at-clause-damaged g c = λ honest agrees told node same stan
 
 pub returns-in-Below-clause-damaged : goal.returns-in-Below-clause-damaged
 returns-in-Below-clause-damaged g c = λ honest agrees told node same stands.
-    let pages : List (Option Sector) = (map_now c.args.pages.now (g.D.Device.state c.args.device.now).disk.present).pages in
-    let looks : LooksAt c.args.layout pages c.args.page c.args.key.now c.args.sought c.look_at.new.entry c.in_ok-look_at.field-0 = c.in_ok-look_at.ensures.look honest agrees in
-    let down : DescendsAt c.args.layout pages c.args.page c.args.key.now c.in-Below.field-0 = subst (LooksAt c.args.layout pages c.args.page c.args.key.now c.args.sought c.look_at.new.entry) c.in-Below.is looks in
-    let clash : Leaf ≡ Inner = kind_read c.args.layout pages Leaf node c.args.page down.node same stands down.read ∙ down.inner in
+    let pages : List (Option Sector) =
+    (map_now c.args.pages.now (g.D.Device.state c.args.device.now).disk.present).pages in
+    let looks : LooksAt c.args.layout pages c.args.page c.args.key.now c.args.sought c.look_at.new.entry
+    c.in_ok-look_at.field-0 = c.in_ok-look_at.ensures.look honest agrees in
+    let down : DescendsAt c.args.layout pages c.args.page c.args.key.now c.in-Below.field-0 = subst
+    (LooksAt c.args.layout pages c.args.page c.args.key.now c.args.sought c.look_at.new.entry) c.in-Below.is looks in
+    let clash : Leaf ≡ Inner =
+    kind_read c.args.layout pages Leaf node c.args.page down.node same stands down.read ∙ down.inner in
     cc

@@ -22,68 +22,104 @@ loop-depth-init g c = record {
   is_open = c.requires.open;
   spent = λ low. absurd (omega arith);
   way = λ unspent h a levels tree.
-      let pages : List (Option Sector) = (map_now c.args.pages.now (g.D.Device.state c.args.device.now).disk.present).pages in
+      let pages : List (Option Sector) =
+      (map_now c.args.pages.now (g.D.Device.state c.args.device.now).disk.present).pages in
       down_start c.args.layout pages c.args.root levels c.args.key.now
-      (few_pages pages (page_count c.args.pages.now) c.page_count-page_count.result (c.page_count-page_count.ensures.pages (g.D.Device.state c.args.device.now).disk.present) c.page_count-page_count.ensures.count (c.page_count-page_count.ensures.few c.requires.open unspent)) tree;
+      (few_pages pages (page_count c.args.pages.now) c.page_count-page_count.result
+      (c.page_count-page_count.ensures.pages (g.D.Device.state c.args.device.now).disk.present)
+      c.page_count-page_count.ensures.count (c.page_count-page_count.ensures.few c.requires.open unspent)) tree;
 }
 
 pub returns-in_err-child-clause-unchanged : goal.returns-in_err-child-clause-unchanged
-returns-in_err-child-clause-unchanged g c = unchanged_on c.args.pages.now c.loop-depth.pages c.look_at.new.pages c.loop-depth.invariant.unchanged c.look_at.ensures.unchanged
+returns-in_err-child-clause-unchanged g c = unchanged_on c.args.pages.now c.loop-depth.pages c.look_at.new.pages
+    c.loop-depth.invariant.unchanged c.look_at.ensures.unchanged
 
 pub returns-in_err-child-clause-damaged : goal.returns-in_err-child-clause-damaged
 returns-in_err-child-clause-damaged g c = λ h a is levels tree.
     let from = err_from_is_err_and c.from_residual.result c.from_residual.ensures.1 in
     let damaged : c.look_at.result ≡ Err Damaged = cc in
-    let here : is_spent c.loop-depth.pages ≡ false = false_unless (is_spent c.loop-depth.pages) (λ spent. let other : c.look_at.result ≡ Err Spent = c.look_at.ensures.spent.1 spent in cc) in
+    let here : is_spent c.loop-depth.pages ≡ false = false_unless (is_spent c.loop-depth.pages)
+    (λ spent. let other : c.look_at.result ≡ Err Spent = c.look_at.ensures.spent.1 spent in cc) in
     let unspent : is_spent c.args.pages.now ≡ false = sym c.loop-depth.invariant.unchanged.committed.spent ∙ here in
-    let pages : List (Option Sector) = (map_now c.args.pages.now (g.D.Device.state c.args.device.now).disk.present).pages in
+    let pages : List (Option Sector) =
+    (map_now c.args.pages.now (g.D.Device.state c.args.device.now).disk.present).pages in
     let down = c.loop-depth.invariant.way unspent h a levels tree in
-    let stands = along_stands c.args.layout pages levels c.args.key.now down.steps c.loop-depth.page down.right down.along in
-    let same = same_pages c.args.pages.now c.loop-depth.pages (g.D.Device.state c.args.device.now) (g.D.Device.state c.loop-depth.device) c.loop-depth.invariant.unchanged (c.loop-depth.invariant.only.state h) in
-    c.look_at.ensures.damaged (c.loop-depth.invariant.only.honest.0 h) (c.loop-depth.invariant.agrees h a) damaged stands.kind stands.node stands.same
+    let stands =
+    along_stands c.args.layout pages levels c.args.key.now down.steps c.loop-depth.page down.right down.along in
+    let same = same_pages c.args.pages.now c.loop-depth.pages (g.D.Device.state c.args.device.now)
+    (g.D.Device.state c.loop-depth.device) c.loop-depth.invariant.unchanged (c.loop-depth.invariant.only.state h) in
+    c.look_at.ensures.damaged (c.loop-depth.invariant.only.honest.0 h) (c.loop-depth.invariant.agrees h a) damaged
+    stands.kind stands.node stands.same
     (subst (λ (p : List (Option Sector)). IsOnPage c.args.layout p stands.kind stands.node) (sym same) stands.stands)
 
 pub returns-in-Here-clause-unchanged : goal.returns-in-Here-clause-unchanged
-returns-in-Here-clause-unchanged g c = unchanged_on c.args.pages.now c.loop-depth.pages c.look_at.new.pages c.loop-depth.invariant.unchanged c.look_at.ensures.unchanged
+returns-in-Here-clause-unchanged g c = unchanged_on c.args.pages.now c.loop-depth.pages c.look_at.new.pages
+    c.loop-depth.invariant.unchanged c.look_at.ensures.unchanged
 
 pub returns-in-Here-clause-finds : goal.returns-in-Here-clause-finds
 returns-in-Here-clause-finds g c = λ h a levels tree.
-    let here : is_spent c.loop-depth.pages ≡ false = false_unless (is_spent c.loop-depth.pages) (λ spent. ok_or_err c.in_ok-child.field-0 Spent (sym c.in_ok-child.was ∙ c.look_at.ensures.spent.1 spent)) in
+    let here : is_spent c.loop-depth.pages ≡ false = false_unless (is_spent c.loop-depth.pages)
+    (λ spent. ok_or_err c.in_ok-child.field-0 Spent (sym c.in_ok-child.was ∙ c.look_at.ensures.spent.1 spent)) in
     let unspent : is_spent c.args.pages.now ≡ false = sym c.loop-depth.invariant.unchanged.committed.spent ∙ here in
-    let pages : List (Option Sector) = (map_now c.args.pages.now (g.D.Device.state c.args.device.now).disk.present).pages in
-    let same = same_pages c.args.pages.now c.loop-depth.pages (g.D.Device.state c.args.device.now) (g.D.Device.state c.loop-depth.device) c.loop-depth.invariant.unchanged (c.loop-depth.invariant.only.state h) in
-    let P : List (Option Sector) → Look → Type 0 = λ p look. LooksAt c.args.layout p c.loop-depth.page c.args.key.now c.args.sought c.look_at.new.entry look in
-    let first : P pages c.in_ok-child.field-0 = subst (λ (p : List (Option Sector)). P p c.in_ok-child.field-0) same (c.in_ok-child.ensures.look (c.loop-depth.invariant.only.honest.0 h) (c.loop-depth.invariant.agrees h a)) in
-    finds_entry c.args.layout pages c.args.root levels c.args.key.now c.loop-depth.page c.loop-depth._depth c.args.sought c.look_at.new.entry tree (c.loop-depth.invariant.way unspent h a levels tree) (subst (P pages) c.in-Here.is first)
+    let pages : List (Option Sector) =
+    (map_now c.args.pages.now (g.D.Device.state c.args.device.now).disk.present).pages in
+    let same = same_pages c.args.pages.now c.loop-depth.pages (g.D.Device.state c.args.device.now)
+    (g.D.Device.state c.loop-depth.device) c.loop-depth.invariant.unchanged (c.loop-depth.invariant.only.state h) in
+    let P : List (Option Sector) → Look → Type 0 =
+    λ p look. LooksAt c.args.layout p c.loop-depth.page c.args.key.now c.args.sought c.look_at.new.entry look in
+    let first : P pages c.in_ok-child.field-0 = subst (λ (p : List (Option Sector)). P p c.in_ok-child.field-0) same
+    (c.in_ok-child.ensures.look (c.loop-depth.invariant.only.honest.0 h) (c.loop-depth.invariant.agrees h a)) in
+    finds_entry c.args.layout pages c.args.root levels c.args.key.now c.loop-depth.page
+    c.loop-depth._depth c.args.sought c.look_at.new.entry tree (c.loop-depth.invariant.way unspent h a levels tree)
+    (subst (P pages) c.in-Here.is first)
 
 pub returns-in-Missing-clause-unchanged : goal.returns-in-Missing-clause-unchanged
-returns-in-Missing-clause-unchanged g c = unchanged_on c.args.pages.now c.loop-depth.pages c.look_at.new.pages c.loop-depth.invariant.unchanged c.look_at.ensures.unchanged
+returns-in-Missing-clause-unchanged g c = unchanged_on c.args.pages.now c.loop-depth.pages c.look_at.new.pages
+    c.loop-depth.invariant.unchanged c.look_at.ensures.unchanged
 
 pub returns-in-Missing-clause-finds : goal.returns-in-Missing-clause-finds
 returns-in-Missing-clause-finds g c = λ h a levels tree.
-    let here : is_spent c.loop-depth.pages ≡ false = false_unless (is_spent c.loop-depth.pages) (λ spent. ok_or_err c.in_ok-child.field-0 Spent (sym c.in_ok-child.was ∙ c.look_at.ensures.spent.1 spent)) in
+    let here : is_spent c.loop-depth.pages ≡ false = false_unless (is_spent c.loop-depth.pages)
+    (λ spent. ok_or_err c.in_ok-child.field-0 Spent (sym c.in_ok-child.was ∙ c.look_at.ensures.spent.1 spent)) in
     let unspent : is_spent c.args.pages.now ≡ false = sym c.loop-depth.invariant.unchanged.committed.spent ∙ here in
-    let pages : List (Option Sector) = (map_now c.args.pages.now (g.D.Device.state c.args.device.now).disk.present).pages in
-    let same = same_pages c.args.pages.now c.loop-depth.pages (g.D.Device.state c.args.device.now) (g.D.Device.state c.loop-depth.device) c.loop-depth.invariant.unchanged (c.loop-depth.invariant.only.state h) in
-    let P : List (Option Sector) → Look → Type 0 = λ p look. LooksAt c.args.layout p c.loop-depth.page c.args.key.now c.args.sought c.look_at.new.entry look in
-    let first : P pages c.in_ok-child.field-0 = subst (λ (p : List (Option Sector)). P p c.in_ok-child.field-0) same (c.in_ok-child.ensures.look (c.loop-depth.invariant.only.honest.0 h) (c.loop-depth.invariant.agrees h a)) in
-    finds_none c.args.layout pages c.args.root levels c.args.key.now c.loop-depth.page c.loop-depth._depth c.args.sought c.look_at.new.entry tree (c.loop-depth.invariant.way unspent h a levels tree) (subst (P pages) c.in-Missing.is first)
+    let pages : List (Option Sector) =
+    (map_now c.args.pages.now (g.D.Device.state c.args.device.now).disk.present).pages in
+    let same = same_pages c.args.pages.now c.loop-depth.pages (g.D.Device.state c.args.device.now)
+    (g.D.Device.state c.loop-depth.device) c.loop-depth.invariant.unchanged (c.loop-depth.invariant.only.state h) in
+    let P : List (Option Sector) → Look → Type 0 =
+    λ p look. LooksAt c.args.layout p c.loop-depth.page c.args.key.now c.args.sought c.look_at.new.entry look in
+    let first : P pages c.in_ok-child.field-0 = subst (λ (p : List (Option Sector)). P p c.in_ok-child.field-0) same
+    (c.in_ok-child.ensures.look (c.loop-depth.invariant.only.honest.0 h) (c.loop-depth.invariant.agrees h a)) in
+    finds_none c.args.layout pages c.args.root levels c.args.key.now c.loop-depth.page
+    c.loop-depth._depth c.args.sought c.look_at.new.entry tree (c.loop-depth.invariant.way unspent h a levels tree)
+    (subst (P pages) c.in-Missing.is first)
 
 pub loop-depth-preserved : goal.loop-depth-preserved
 loop-depth-preserved g c =
-    let here : is_spent c.loop-depth.pages ≡ false = false_unless (is_spent c.loop-depth.pages) (λ spent. ok_or_err c.in_ok-child.field-0 Spent (sym c.in_ok-child.was ∙ c.look_at.ensures.spent.1 spent)) in
+    let here : is_spent c.loop-depth.pages ≡ false = false_unless (is_spent c.loop-depth.pages)
+    (λ spent. ok_or_err c.in_ok-child.field-0 Spent (sym c.in_ok-child.was ∙ c.look_at.ensures.spent.1 spent)) in
     record {
-      only = reads_then g.D.Device ⊥ _ ⊥ c.args.device.now c.loop-depth.device c.look_at.new.device (λ e. absurd e) c.loop-depth.invariant.only c.look_at.ensures.only;
-      unchanged = unchanged_on c.args.pages.now c.loop-depth.pages c.look_at.new.pages c.loop-depth.invariant.unchanged c.look_at.ensures.unchanged;
-      agrees = λ h a. c.look_at.ensures.agrees (c.loop-depth.invariant.only.honest.0 h) (c.loop-depth.invariant.agrees h a);
+      only = reads_then g.D.Device ⊥ _ ⊥ c.args.device.now c.loop-depth.device c.look_at.new.device (λ e. absurd e)
+          c.loop-depth.invariant.only c.look_at.ensures.only;
+      unchanged = unchanged_on c.args.pages.now c.loop-depth.pages c.look_at.new.pages c.loop-depth.invariant.unchanged
+          c.look_at.ensures.unchanged;
+      agrees =
+          λ h a. c.look_at.ensures.agrees (c.loop-depth.invariant.only.honest.0 h) (c.loop-depth.invariant.agrees h a);
       is_open = c.look_at.ensures.open;
       spent = λ low. sym c.loop-depth.invariant.unchanged.committed.spent ∙ here;
       way = λ unspent h a levels tree.
-          let pages : List (Option Sector) = (map_now c.args.pages.now (g.D.Device.state c.args.device.now).disk.present).pages in
-          let same = same_pages c.args.pages.now c.loop-depth.pages (g.D.Device.state c.args.device.now) (g.D.Device.state c.loop-depth.device) c.loop-depth.invariant.unchanged (c.loop-depth.invariant.only.state h) in
-          let P : List (Option Sector) → Look → Type 0 = λ p look. LooksAt c.args.layout p c.loop-depth.page c.args.key.now c.args.sought c.look_at.new.entry look in
-          let first : P pages c.in_ok-child.field-0 = subst (λ (p : List (Option Sector)). P p c.in_ok-child.field-0) same (c.in_ok-child.ensures.look (c.loop-depth.invariant.only.honest.0 h) (c.loop-depth.invariant.agrees h a)) in
-          down_on c.args.layout pages levels c.args.key.now c.loop-depth.page c.loop-depth._depth c.in-Below.child (c.loop-depth.invariant.way unspent h a levels tree) (subst (P pages) c.in-Below.is first);
+          let pages : List (Option Sector) =
+          (map_now c.args.pages.now (g.D.Device.state c.args.device.now).disk.present).pages in
+          let same =
+          same_pages c.args.pages.now c.loop-depth.pages (g.D.Device.state c.args.device.now) (g.D.Device.state
+          c.loop-depth.device) c.loop-depth.invariant.unchanged (c.loop-depth.invariant.only.state h) in
+          let P : List (Option Sector) → Look → Type 0 =
+          λ p look. LooksAt c.args.layout p c.loop-depth.page c.args.key.now c.args.sought c.look_at.new.entry look in
+          let first : P pages c.in_ok-child.field-0 =
+          subst (λ (p : List (Option Sector)). P p c.in_ok-child.field-0) same
+          (c.in_ok-child.ensures.look (c.loop-depth.invariant.only.honest.0 h) (c.loop-depth.invariant.agrees h a)) in
+          down_on c.args.layout pages levels c.args.key.now c.loop-depth.page c.loop-depth._depth c.in-Below.child
+          (c.loop-depth.invariant.way unspent h a levels tree) (subst (P pages) c.in-Below.is first);
     }
 
 pub returns-clause-damaged : goal.returns-clause-damaged
@@ -91,6 +127,10 @@ returns-clause-damaged g c = λ h a is levels tree.
     let done = c.loop-depth-test.false in
     let unspent : is_spent c.args.pages.now ≡ false = c.loop-depth.invariant.spent (omega arith) in
     let deep : 21 ≤ c.loop-depth._depth = omega arith in
-    let pages : List (Option Sector) = (map_now c.args.pages.now (g.D.Device.state c.args.device.now).disk.present).pages in
+    let pages : List (Option Sector) =
+    (map_now c.args.pages.now (g.D.Device.state c.args.device.now).disk.present).pages in
     down_deep c.args.layout pages c.args.root levels c.args.key.now c.loop-depth.page c.loop-depth._depth
-    (few_pages pages (page_count c.args.pages.now) c.page_count-page_count.result (c.page_count-page_count.ensures.pages (g.D.Device.state c.args.device.now).disk.present) c.page_count-page_count.ensures.count (c.page_count-page_count.ensures.few c.requires.open unspent)) tree (c.loop-depth.invariant.way unspent h a levels tree) deep
+    (few_pages pages (page_count c.args.pages.now) c.page_count-page_count.result
+    (c.page_count-page_count.ensures.pages (g.D.Device.state c.args.device.now).disk.present)
+    c.page_count-page_count.ensures.count (c.page_count-page_count.ensures.few c.requires.open unspent)) tree
+    (c.loop-depth.invariant.way unspent h a levels tree) deep

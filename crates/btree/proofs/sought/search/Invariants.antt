@@ -9,10 +9,13 @@ abbrev pub invariant-loop-depth : goal.invariant-loop-depth
 invariant-loop-depth g l = record {
   only : OnlyReads g.D.Device ⊥ l.fn.device l.device;
   unchanged : IsUnchanged l.fn.pages l.pages;
-  agrees : g.D.Device.is_honest l.fn.device → Agrees l.fn.pages (g.D.Device.state l.fn.device).disk → Agrees l.pages (g.D.Device.state l.device).disk;
+  agrees : g.D.Device.is_honest l.fn.device → Agrees l.fn.pages (g.D.Device.state l.fn.device).disk
+      → Agrees l.pages (g.D.Device.state l.device).disk;
   is_open : IsOpen l.pages;
   spent : 0 < l._depth → is_spent l.fn.pages ≡ false;
-  way : is_spent l.fn.pages ≡ false → g.D.Device.is_honest l.fn.device → Agrees l.fn.pages (g.D.Device.state l.fn.device).disk → (levels : List (List TreeNode)) →
+  way : is_spent l.fn.pages ≡ false → g.D.Device.is_honest l.fn.device
+      → Agrees l.fn.pages (g.D.Device.state l.fn.device).disk → (levels : List (List TreeNode)) →
       IsTree l.fn.layout (map_now l.fn.pages (g.D.Device.state l.fn.device).disk.present).pages l.fn.root levels →
-      Down l.fn.layout (map_now l.fn.pages (g.D.Device.state l.fn.device).disk.present).pages levels l.key l.page l._depth;
+      Down l.fn.layout (map_now l.fn.pages (g.D.Device.state l.fn.device).disk.present).pages levels l.key l.page
+      l._depth;
 }

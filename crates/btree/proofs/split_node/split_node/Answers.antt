@@ -24,4 +24,5 @@ returns-clause-rows c =
     ap (λ (n : Node). n.rows ++ c.insert-2.new.self.rows) c.split_off-right-2.ensures.left
     ∙ ap (λ (n : Node). take at node.rows ++ n.rows) c.insert-2.ensures
     ∙ ap (λ (n : Node). take at node.rows ++ insert n.rows (c.args.place - at) row) c.split_off-right-2.ensures.right
-    ∙ right_insert node.rows at c.args.place row (omega (arith, counted, c.requires.full)) (omega (arith, c.if-place-half.false))
+    ∙ right_insert node.rows at c.args.place row (omega (arith, counted, c.requires.full))
+    (omega (arith, c.if-place-half.false))

@@ -16,9 +16,12 @@ returns-in-Some-clause-step g c = λ honest agrees.
     let pages : List (Option Sector) = (map_now c.args.pages.now before.disk.present).pages in
     let bytes = c.in-Some.bytes.now in
     let seen = c.in-Some.ensures.page after.disk (c.in_ok-load.ensures.agrees honest agrees) in
-    let here = seen_before c.args.pages.now c.load.new.self before after c.args.page bytes c.in_ok-load.ensures.unchanged (c.in_ok-load.ensures.only.state honest) seen in
-    if_ok (λ child. StepsIn c.args.layout bytes c.args.key.now c.args.right.now c.step_in.new.right child) (λ child. StepsAt c.args.layout pages c.args.page c.args.key.now c.args.right.now c.step_in.new.right child) c.step_in.result
-    (λ child step. step_there c.args.layout pages c.args.page bytes c.args.key.now c.args.right.now c.step_in.new.right child here step) c.step_in.ensures.step
+    let here = seen_before c.args.pages.now c.load.new.self before after c.args.page bytes
+    c.in_ok-load.ensures.unchanged (c.in_ok-load.ensures.only.state honest) seen in
+    if_ok (λ child. StepsIn c.args.layout bytes c.args.key.now c.args.right.now c.step_in.new.right child) (λ child.
+    StepsAt c.args.layout pages c.args.page c.args.key.now c.args.right.now c.step_in.new.right child) c.step_in.result
+    (λ child step. step_there c.args.layout pages c.args.page bytes c.args.key.now c.args.right.now c.step_in.new.right
+    child here step) c.step_in.ensures.step
 
 pub returns-in-Some-clause-damaged : goal.returns-in-Some-clause-damaged
 returns-in-Some-clause-damaged g c = λ honest agrees is kind node at stands.
@@ -27,24 +30,30 @@ returns-in-Some-clause-damaged g c = λ honest agrees is kind node at stands.
     let pages : List (Option Sector) = (map_now c.args.pages.now before.disk.present).pages in
     let bytes = c.in-Some.bytes.now in
     let seen = c.in-Some.ensures.page after.disk (c.in_ok-load.ensures.agrees honest agrees) in
-    let here = seen_before c.args.pages.now c.load.new.self before after c.args.page bytes c.in_ok-load.ensures.unchanged (c.in_ok-load.ensures.only.state honest) seen in
+    let here = seen_before c.args.pages.now c.load.new.self before after c.args.page bytes
+    c.in_ok-load.ensures.unchanged (c.in_ok-load.ensures.only.state honest) seen in
     spells_none c.args.layout pages c.args.page bytes here (c.step_in.ensures.damaged is) kind node at stands
 
 pub returns-clause-unchanged : goal.returns-clause-unchanged
 returns-clause-unchanged g c =
-    unchanged_on c.args.pages.now c.load.new.self c.step_read.new.pages c.in_ok-load.ensures.unchanged c.step_read.ensures.unchanged
+    unchanged_on c.args.pages.now c.load.new.self c.step_read.new.pages c.in_ok-load.ensures.unchanged
+    c.step_read.ensures.unchanged
 
 pub returns-clause-step : goal.returns-clause-step
 returns-clause-step g c = λ honest agrees.
     let before = g.D.Device.state c.args.device.now in
     let after = g.D.Device.state c.load.new.device in
-    let same = same_pages c.args.pages.now c.load.new.self before after c.in_ok-load.ensures.unchanged (c.in_ok-load.ensures.only.state honest) in
-    subst (λ (p : List (Option Sector)). IfOk c.step_read.result (λ child. StepsAt c.args.layout p c.args.page c.args.key.now c.args.right.now c.step_read.new.right child)) same
+    let same = same_pages c.args.pages.now c.load.new.self before after c.in_ok-load.ensures.unchanged
+    (c.in_ok-load.ensures.only.state honest) in
+    subst (λ (p : List (Option Sector)). IfOk c.step_read.result
+    (λ child. StepsAt c.args.layout p c.args.page c.args.key.now c.args.right.now c.step_read.new.right child)) same
     (c.step_read.ensures.step (c.in_ok-load.ensures.only.honest.0 honest) (c.in_ok-load.ensures.agrees honest agrees))
 
 pub returns-clause-damaged : goal.returns-clause-damaged
 returns-clause-damaged g c = λ honest agrees is kind node at stands.
     let before = g.D.Device.state c.args.device.now in
     let after = g.D.Device.state c.load.new.device in
-    let same = same_pages c.args.pages.now c.load.new.self before after c.in_ok-load.ensures.unchanged (c.in_ok-load.ensures.only.state honest) in
-    c.step_read.ensures.damaged (c.in_ok-load.ensures.only.honest.0 honest) (c.in_ok-load.ensures.agrees honest agrees) is kind node at (subst (λ (p : List (Option Sector)). IsOnPage c.args.layout p kind node) (sym same) stands)
+    let same = same_pages c.args.pages.now c.load.new.self before after c.in_ok-load.ensures.unchanged
+    (c.in_ok-load.ensures.only.state honest) in
+    c.step_read.ensures.damaged (c.in_ok-load.ensures.only.honest.0 honest) (c.in_ok-load.ensures.agrees honest agrees)
+    is kind node at (subst (λ (p : List (Option Sector)). IsOnPage c.args.layout p kind node) (sym same) stands)

@@ -9,20 +9,28 @@ use Rattle.btree.proofs.step.step_read.Goals as goal
 
 pub returns-in-Some-clause-step : goal.returns-in-Some-clause-step
 returns-in-Some-clause-step g c = λ honest agrees.
-    let pages : List (Option Sector) = (map_now c.args.pages.now (g.D.Device.state c.args.device.now).disk.present).pages in
+    let pages : List (Option Sector) =
+    (map_now c.args.pages.now (g.D.Device.state c.args.device.now).disk.present).pages in
     let bytes = c.in-Some.bytes in
-    let here : slice_index_or pages c.args.page None ≡ Some bytes = sym (c.in_ok-bytes.ensures.page honest agrees) ∙ c.in-Some.is in
-    if_ok (λ child. StepsIn c.args.layout bytes c.args.key.now c.args.right.now c.step_in.new.right child) (λ child. StepsAt c.args.layout pages c.args.page c.args.key.now c.args.right.now c.step_in.new.right child) c.step_in.result
-    (λ child step. step_there c.args.layout pages c.args.page bytes c.args.key.now c.args.right.now c.step_in.new.right child here step) c.step_in.ensures.step
+    let here : slice_index_or pages c.args.page None ≡ Some bytes =
+    sym (c.in_ok-bytes.ensures.page honest agrees) ∙ c.in-Some.is in
+    if_ok (λ child. StepsIn c.args.layout bytes c.args.key.now c.args.right.now c.step_in.new.right child) (λ child.
+    StepsAt c.args.layout pages c.args.page c.args.key.now c.args.right.now c.step_in.new.right child) c.step_in.result
+    (λ child step. step_there c.args.layout pages c.args.page bytes c.args.key.now c.args.right.now c.step_in.new.right
+    child here step) c.step_in.ensures.step
 
 pub returns-in-Some-clause-damaged : goal.returns-in-Some-clause-damaged
 returns-in-Some-clause-damaged g c = λ honest agrees is kind node same stands.
-    let pages : List (Option Sector) = (map_now c.args.pages.now (g.D.Device.state c.args.device.now).disk.present).pages in
+    let pages : List (Option Sector) =
+    (map_now c.args.pages.now (g.D.Device.state c.args.device.now).disk.present).pages in
     let bytes = c.in-Some.bytes in
-    let here : slice_index_or pages c.args.page None ≡ Some bytes = sym (c.in_ok-bytes.ensures.page honest agrees) ∙ c.in-Some.is in
+    let here : slice_index_or pages c.args.page None ≡ Some bytes =
+    sym (c.in_ok-bytes.ensures.page honest agrees) ∙ c.in-Some.is in
     spells_none c.args.layout pages c.args.page bytes here (c.step_in.ensures.damaged is) kind node same stands
 
 pub returns-in-None-clause-damaged : goal.returns-in-None-clause-damaged
 returns-in-None-clause-damaged g c = λ honest agrees is kind node same stands.
-    let pages : List (Option Sector) = (map_now c.args.pages.now (g.D.Device.state c.args.device.now).disk.present).pages in
-    read_none c.args.layout pages c.args.page None kind node (sym c.in-None.is ∙ c.in_ok-bytes.ensures.page honest agrees) refl same stands
+    let pages : List (Option Sector) =
+    (map_now c.args.pages.now (g.D.Device.state c.args.device.now).disk.present).pages in
+    read_none c.args.layout pages c.args.page None kind node
+    (sym c.in-None.is ∙ c.in_ok-bytes.ensures.page honest agrees) refl same stands

@@ -14,46 +14,62 @@ pub returns-in_err-lower-clause-damaged : goal.returns-in_err-lower-clause-damag
 returns-in_err-lower-clause-damaged g t c = λ honest agrees is levels under can small few.
     let from = err_from_is_err_and c.from_residual.result c.from_residual.ensures.1 in
     let damaged : c.check_level.result ≡ Err Damaged = cc in
-    let pages : List (Option Sector) = (map_now c.args.pages.now (g.D.Device.state c.args.device.now).disk.present).pages in
+    let pages : List (Option Sector) =
+    (map_now c.args.pages.now (g.D.Device.state c.args.device.now).disk.present).pages in
     let separators : List Separator = c.as_slice.result.now in
-    let first = first_level c.args.layout pages separators c.args.seen.now levels (subst (λ (n : List Separator). IsUnder c.args.layout pages n levels) (sym c.as_slice.ensures.value) under) can in
+    let first = first_level c.args.layout pages separators c.args.seen.now levels
+    (subst (λ (n : List Separator). IsUnder c.args.layout pages n levels) (sym c.as_slice.ensures.value) under) can in
     c.check_level.ensures.damaged honest agrees damaged first.can first.kind first.level first.is first.up first.few
 
 pub returns-in-Some-clause-unchanged : goal.returns-in-Some-clause-unchanged
-returns-in-Some-clause-unchanged g t c = unchanged_on c.args.pages.now c.check_level.new.pages c.check_levels.new.pages c.check_level.ensures.unchanged c.check_levels.ensures.unchanged
+returns-in-Some-clause-unchanged g t c = unchanged_on c.args.pages.now c.check_level.new.pages c.check_levels.new.pages
+    c.check_level.ensures.unchanged c.check_levels.ensures.unchanged
 
 pub returns-in-Some-clause-finds : goal.returns-in-Some-clause-finds
 returns-in-Some-clause-finds g t c = λ honest agrees.
     let level = c.check_level.ensures in
-    let pages : List (Option Sector) = (map_now c.args.pages.now (g.D.Device.state c.args.device.now).disk.present).pages in
-    let same = same_pages c.args.pages.now c.check_level.new.pages (g.D.Device.state c.args.device.now) (g.D.Device.state c.check_level.new.device) level.unchanged (level.only.state honest) in
+    let pages : List (Option Sector) =
+    (map_now c.args.pages.now (g.D.Device.state c.args.device.now).disk.present).pages in
+    let same = same_pages c.args.pages.now c.check_level.new.pages (g.D.Device.state c.args.device.now)
+    (g.D.Device.state c.check_level.new.device) level.unchanged (level.only.state honest) in
     let told = rw c.in-Some.is at (c.in_ok-lower.ensures.level honest agrees) in
     let lower : List Separator = c.in-Some.lower.items in
     let separators : List Separator = c.as_slice.result.now in
     on_ok_weaker c.check_levels.result
-    (λ finds. subst (λ (n : List Separator). FindsLevels c.args.layout pages n c.args.seen.now c.check_levels.new.seen) c.as_slice.ensures.value
-    (finds_inner c.args.layout pages separators lower c.args.seen.now c.check_level.new.seen c.check_levels.new.seen told.0 told.1 told.2 c.in_ok-lower.ensures.marks
-    (subst (λ (p : List (Option Sector)). FindsLevels c.args.layout p lower c.check_level.new.seen c.check_levels.new.seen) same finds)))
+    (λ finds. subst (λ (n : List Separator). FindsLevels c.args.layout pages n c.args.seen.now c.check_levels.new.seen)
+    c.as_slice.ensures.value
+    (finds_inner c.args.layout pages separators lower c.args.seen.now c.check_level.new.seen c.check_levels.new.seen
+    told.0 told.1 told.2 c.in_ok-lower.ensures.marks
+    (subst (λ (p : List (Option Sector)).
+    FindsLevels c.args.layout p lower c.check_level.new.seen c.check_levels.new.seen) same finds)))
     (c.check_levels.ensures.finds (level.only.honest.0 honest) (level.agrees honest agrees))
 
 pub returns-in-Some-clause-damaged : goal.returns-in-Some-clause-damaged
 returns-in-Some-clause-damaged g t c = λ honest agrees is levels under can small few.
     let level = c.check_level.ensures in
-    let pages : List (Option Sector) = (map_now c.args.pages.now (g.D.Device.state c.args.device.now).disk.present).pages in
-    let same = same_pages c.args.pages.now c.check_level.new.pages (g.D.Device.state c.args.device.now) (g.D.Device.state c.check_level.new.device) level.unchanged (level.only.state honest) in
+    let pages : List (Option Sector) =
+    (map_now c.args.pages.now (g.D.Device.state c.args.device.now).disk.present).pages in
+    let same = same_pages c.args.pages.now c.check_level.new.pages (g.D.Device.state c.args.device.now)
+    (g.D.Device.state c.check_level.new.device) level.unchanged (level.only.state honest) in
     let told = rw c.in-Some.is at (c.in_ok-lower.ensures.level honest agrees) in
     let lower : List Separator = c.in-Some.lower.items in
     let separators : List Separator = c.as_slice.result.now in
-    let others = other_levels c.args.layout pages separators lower c.args.seen.now c.check_level.new.seen told.0 levels (subst (λ (n : List Separator). 0 < length n) (sym c.as_slice.ensures.value) c.requires.some) told.1 told.2
-    c.in_ok-lower.ensures.marks (subst (λ (n : List Separator). IsUnder c.args.layout pages n levels) (sym c.as_slice.ensures.value) under) can small in
+    let others = other_levels c.args.layout pages separators lower c.args.seen.now c.check_level.new.seen told.0 levels
+    (subst (λ (n : List Separator). 0 < length n) (sym c.as_slice.ensures.value) c.requires.some) told.1 told.2
+    c.in_ok-lower.ensures.marks (subst (λ (n : List Separator). IsUnder c.args.layout pages n levels)
+    (sym c.as_slice.ensures.value) under) can small in
     let fewer = others.fewer in
     c.check_levels.ensures.damaged (level.only.honest.0 honest) (level.agrees honest agrees) is others.levels
-    (subst (λ (p : List (Option Sector)). IsUnder c.args.layout p lower others.levels) (sym same) others.under) others.can others.small (omega arith)
+    (subst (λ (p : List (Option Sector)). IsUnder c.args.layout p lower others.levels) (sym same) others.under)
+    others.can others.small (omega arith)
 
 pub returns-clause-finds : goal.returns-clause-finds
 returns-clause-finds g t c = λ honest agrees.
-    let pages : List (Option Sector) = (map_now c.args.pages.now (g.D.Device.state c.args.device.now).disk.present).pages in
+    let pages : List (Option Sector) =
+    (map_now c.args.pages.now (g.D.Device.state c.args.device.now).disk.present).pages in
     let told = rw c.in-None.is at (c.in_ok-lower.ensures.level honest agrees) in
     let separators : List Separator = c.as_slice.result.now in
-    subst (λ (n : List Separator). FindsLevels c.args.layout pages n c.args.seen.now c.check_level.new.seen) c.as_slice.ensures.value
-    (finds_leaves c.args.layout pages separators c.args.seen.now c.check_level.new.seen told.0 told.1 told.2 c.in_ok-lower.ensures.marks)
+    subst (λ (n : List Separator). FindsLevels c.args.layout pages n c.args.seen.now c.check_level.new.seen)
+    c.as_slice.ensures.value
+    (finds_leaves c.args.layout pages separators c.args.seen.now c.check_level.new.seen told.0 told.1 told.2
+    c.in_ok-lower.ensures.marks)

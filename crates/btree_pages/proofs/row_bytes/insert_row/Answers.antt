@@ -9,5 +9,7 @@ returns c =
     let at : ℕ = c.start-at.result in
     let key = c.args.key.now in
     let rest = c.args.rest.now in
-    ap (rows_in c.args.row (c.args.count + 1)) (c.put-2.ensures ∙ ap (put_at (at + length key) rest) (c.put.ensures ∙ ap (put_at at key) c.copy_within.ensures.after))
-    ∙ rows_after_insert c.args.row c.args.count c.args.place at c.start-end.result key rest c.args.bytes.now c.requires.place c.start-at.ensures.start c.start-end.ensures.start c.requires.row (omega (arith, c.told-bytes))
+    ap (rows_in c.args.row (c.args.count + 1)) (c.put-2.ensures
+    ∙ ap (put_at (at + length key) rest) (c.put.ensures ∙ ap (put_at at key) c.copy_within.ensures.after))
+    ∙ rows_after_insert c.args.row c.args.count c.args.place at c.start-end.result key rest c.args.bytes.now
+    c.requires.place c.start-at.ensures.start c.start-end.ensures.start c.requires.row (omega (arith, c.told-bytes))

@@ -6,4 +6,5 @@ use Rattle.btree_pages.proofs.row_bytes.put_key.Goals as goal
 pub returns : goal.returns
 returns c =
     ap (rows_in c.args.row c.args.count) c.put.ensures
-    ∙ rows_after_key c.args.row c.args.count c.args.place c.start-at.result c.args.key.now c.args.bytes.now c.requires.place c.start-at.ensures.start (omega (arith, c.told-bytes)) c.requires.key
+    ∙ rows_after_key c.args.row c.args.count c.args.place c.start-at.result c.args.key.now c.args.bytes.now
+    c.requires.place c.start-at.ensures.start (omega (arith, c.told-bytes)) c.requires.key

@@ -5,6 +5,8 @@ use Rattle.decimal18.proofs.digit_text.put_by_four.Goals as goal
 
 pub returns : goal.returns
 returns c =
-    let all : length c.split_at_mut-front.result.0.now + 4 ≡ length c.args.bytes.now = omega (arith, c.split_at_mut-front.ensures.front_len, c.split_at_mut-front.ensures.back_len) in
-    text_halves c.args.number (length c.split_at_mut-front.result.0.now) 4 c.put_by_two-2.new.bytes c.put_four.new.bytes c.put_by_two-2.ensures c.put_four.ensures
+    let all : length c.split_at_mut-front.result.0.now + 4 ≡ length c.args.bytes.now =
+    omega (arith, c.split_at_mut-front.ensures.front_len, c.split_at_mut-front.ensures.back_len) in
+    text_halves c.args.number (length c.split_at_mut-front.result.0.now) 4 c.put_by_two-2.new.bytes c.put_four.new.bytes
+    c.put_by_two-2.ensures c.put_four.ensures
     ∙ ap (λ k. digit_text k c.args.number) all

@@ -14,5 +14,6 @@ loop-place-preserved c =
     record {
       rest = rest_divided c.args.number place c.loop-place.rest c.loop-place.invariant.rest;
       written = ap (λ k. drop (k - (place + 1)) (set xs i digit)) (length-set xs i digit)
-          ∙ digit_written c.args.number place c.loop-place.rest i (length xs) xs c.loop-place.invariant.rest refl room at c.loop-place.invariant.written;
+          ∙ digit_written c.args.number place c.loop-place.rest i (length xs) xs c.loop-place.invariant.rest refl room
+          at c.loop-place.invariant.written;
     }

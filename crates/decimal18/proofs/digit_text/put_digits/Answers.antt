@@ -5,6 +5,8 @@ use Rattle.decimal18.proofs.digit_text.put_digits.Goals as goal
 
 pub returns : goal.returns
 returns c =
-    let all : length c.split_at_mut-front.result.0.now + 8 ≡ length c.args.bytes.now = omega (arith, c.split_at_mut-front.ensures.front_len, c.split_at_mut-front.ensures.back_len) in
-    text_halves c.args.number (length c.split_at_mut-front.result.0.now) 8 c.put_by_eight.new.bytes c.put_eight.new.bytes c.put_by_eight.ensures c.put_eight.ensures
+    let all : length c.split_at_mut-front.result.0.now + 8 ≡ length c.args.bytes.now =
+    omega (arith, c.split_at_mut-front.ensures.front_len, c.split_at_mut-front.ensures.back_len) in
+    text_halves c.args.number (length c.split_at_mut-front.result.0.now) 8 c.put_by_eight.new.bytes
+    c.put_eight.new.bytes c.put_by_eight.ensures c.put_eight.ensures
     ∙ ap (λ k. digit_text k c.args.number) all

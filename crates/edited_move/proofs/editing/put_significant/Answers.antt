@@ -1,4 +1,5 @@
-use Rattle.std.proofs.Common.{◌≡◌, ◌≤◌, ◌+◌, ◌-◌, ◌*◌, ◌/◌, true, false, length, set, get_or, if◌then◌else◌, ap, ◌∙◌, sym, refl, arith}
+use Rattle.std.proofs.Common.{◌≡◌, ◌≤◌, ◌+◌, ◌-◌, ◌*◌, ◌/◌, true, false, length, set, get_or, if◌then◌else◌, ap, ◌∙◌}
+use Rattle.std.proofs.Common.{sym, refl, arith}
 use Rattle.std.proofs.lemmas.List.{length-set}
 use Rattle.picture.specs.declared.place.Place.TheVariants.{Digit}
 use Rattle.picture.specs.Regions.{is_digit_place}
@@ -17,11 +18,19 @@ loop-at-preserved-then-is_digit_place c =
     let shown = 48 + (rest - 10 * (rest / 10)) in
     let is_digit : is_digit_place place ≡ true = sym c.is_digit_place.ensures ∙ c.if-is_digit_place.true in
     let same : length c.loop-at.bytes ≡ length c.args.places.now = c.loop-at.auto.bytes ∙ c.requires in
-    let t = turn_with_digits c.args.region c.args.negative c.args.magnitude c.loop-at.at c.args.places.now place Digit rest shown c.loop-at.bytes
+    let t = turn_with_digits c.args.region c.args.negative c.args.magnitude c.loop-at.at c.args.places.now place Digit
+    rest shown c.loop-at.bytes
     c.loop-at-test.true c.if-rest-gt0.true c.loop-at.invariant.within same refl
-    (c.loop-at.invariant.rest, c.loop-at.invariant.stop, c.loop-at.invariant.written) (digit_shown c.args.negative rest place is_digit) in
-    let left : c.loop-at.at - 1 ≤ length (set c.loop-at.bytes (c.loop-at.at - 1) shown) = omega (arith, length-set c.loop-at.bytes (c.loop-at.at - 1) shown) in
-    record { within = left; rest = ap (λ b. if b then rest / 10 else rest) (sym is_digit) ∙ t.0; stop = t.1; written = t.2 }
+    (c.loop-at.invariant.rest, c.loop-at.invariant.stop, c.loop-at.invariant.written)
+    (digit_shown c.args.negative rest place is_digit) in
+    let left : c.loop-at.at - 1 ≤ length (set c.loop-at.bytes (c.loop-at.at - 1) shown) =
+    omega (arith, length-set c.loop-at.bytes (c.loop-at.at - 1) shown) in
+    record {
+      within = left;
+      rest = ap (λ b. if b then rest / 10 else rest) (sym is_digit) ∙ t.0;
+      stop = t.1;
+      written = t.2;
+    }
 
 pub loop-at-preserved : goal.loop-at-preserved
 loop-at-preserved c =
@@ -29,8 +38,15 @@ loop-at-preserved c =
     let rest = c.loop-at.rest in
     let is_none : is_digit_place place ≡ false = sym c.is_digit_place.ensures ∙ c.if-is_digit_place.false in
     let same : length c.loop-at.bytes ≡ length c.args.places.now = c.loop-at.auto.bytes ∙ c.requires in
-    let t = turn_with_digits c.args.region c.args.negative c.args.magnitude c.loop-at.at c.args.places.now place Digit rest c.printed.result c.loop-at.bytes
+    let t = turn_with_digits c.args.region c.args.negative c.args.magnitude c.loop-at.at c.args.places.now place Digit
+    rest c.printed.result c.loop-at.bytes
     c.loop-at-test.true c.if-rest-gt0.true c.loop-at.invariant.within same refl
     (c.loop-at.invariant.rest, c.loop-at.invariant.stop, c.loop-at.invariant.written) c.printed.ensures in
-    let left : c.loop-at.at - 1 ≤ length (set c.loop-at.bytes (c.loop-at.at - 1) c.printed.result) = omega (arith, length-set c.loop-at.bytes (c.loop-at.at - 1) c.printed.result) in
-    record { within = left; rest = ap (λ b. if b then rest / 10 else rest) (sym is_none) ∙ t.0; stop = t.1; written = t.2 }
+    let left : c.loop-at.at - 1 ≤ length (set c.loop-at.bytes (c.loop-at.at - 1) c.printed.result) =
+    omega (arith, length-set c.loop-at.bytes (c.loop-at.at - 1) c.printed.result) in
+    record {
+      within = left;
+      rest = ap (λ b. if b then rest / 10 else rest) (sym is_none) ∙ t.0;
+      stop = t.1;
+      written = t.2;
+    }

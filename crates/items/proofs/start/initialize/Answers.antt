@@ -5,4 +5,5 @@ use Rattle.items.proofs.Bounds.{zero_held}
 use Rattle.items.proofs.start.initialize.Goals as goal
 
 pub store-requires-clause-holds : goal.store-requires-clause-holds
-store-requires-clause-holds c = subst (λ (x : Fraction). CanHold c.in-Numeric.numeric x) (sym c.new.ensures) (zero_held c.in-Numeric.numeric)
+store-requires-clause-holds c =
+    subst (λ (x : Fraction). CanHold c.in-Numeric.numeric x) (sym c.new.ensures) (zero_held c.in-Numeric.numeric)

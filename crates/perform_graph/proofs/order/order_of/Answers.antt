@@ -11,14 +11,18 @@ use Rattle.perform_graph.proofs.order.order_of.Goals as goal
 use Rattle.perform_graph.proofs.order.order_of.Goals.{In-Some}
 
 -- the visits that are marked, from what the walk answers
-the_ring : (c : In-Some) → IsCycle c.in_ok-performs.performs.performed.now (length c.loop-paragraph.walk.states.items) (drop c.in-Some.depth c.cycle_from.new.self.path.items)
+the_ring : (c : In-Some) → IsCycle c.in_ok-performs.performs.performed.now (length c.loop-paragraph.walk.states.items)
+    (drop c.in-Some.depth c.cycle_from.new.self.path.items)
 the_ring c =
     MatchOption-at_some
-    (IsWalked c.in_ok-performs.performs.performed.now c.loop-paragraph.paragraph c.loop-paragraph.walk.states.items c.cycle_from.new.self.states.items c.cycle_from.new.self.path.items c.cycle_from.new.self.placed)
-    (λ from. IsCycle c.in_ok-performs.performs.performed.now (length c.loop-paragraph.walk.states.items) (drop from c.cycle_from.new.self.path.items)) c.in-Some.depth c.in-Some.is
+    (IsWalked c.in_ok-performs.performs.performed.now c.loop-paragraph.paragraph c.loop-paragraph.walk.states.items
+    c.cycle_from.new.self.states.items c.cycle_from.new.self.path.items c.cycle_from.new.self.placed)
+    (λ from. IsCycle c.in_ok-performs.performs.performed.now (length c.loop-paragraph.walk.states.items)
+    (drop from c.cycle_from.new.self.path.items)) c.in-Some.depth c.in-Some.is
     c.in_ok-depth.ensures
 
-cut_off : (path whole : List Visit) (depth : ℕ) → whole ≡ path → drop depth path ≡ take (length whole - depth) (drop depth whole)
+cut_off : (path whole : List Visit) (depth : ℕ) → whole ≡ path
+    → drop depth path ≡ take (length whole - depth) (drop depth whole)
 cut_off path whole depth e = ap (drop depth) (sym e) ∙ sym (take_rest whole depth)
 
 pub marks_of-requires : goal.marks_of-requires
@@ -27,7 +31,8 @@ marks_of-requires c =
     let size = length c.loop-paragraph.walk.states.items in
     let whole = c.deref.result.now in
     let cut = cut_off c.cycle_from.new.self.path.items whole c.in-Some.depth c.deref.ensures.value in
-    ring_within performed c.args.count size (take (length whole - c.in-Some.depth) (drop c.in-Some.depth whole)) c.loop-paragraph.invariant.same
+    ring_within performed c.args.count size (take (length whole - c.in-Some.depth) (drop c.in-Some.depth whole))
+    c.loop-paragraph.invariant.same
     (subst (IsCycle performed size) cut (the_ring (goal.at.marks_of-requires c).In-Some))
 
 pub returns-in-Some : goal.returns-in-Some
@@ -37,7 +42,8 @@ returns-in-Some c =
     let whole = c.deref.result.now in
     let cut = cut_off c.cycle_from.new.self.path.items whole c.in-Some.depth c.deref.ensures.value in
     subst (PerformOneAnother (marks c.in_ok-marks_of.field-0)) c.in_ok-performs.ensures.performed
-    (perform_one_another performed size (take (length whole - c.in-Some.depth) (drop c.in-Some.depth whole)) c.in_ok-marks_of.field-0
+    (perform_one_another performed size (take (length whole - c.in-Some.depth) (drop c.in-Some.depth whole))
+    c.in_ok-marks_of.field-0
     (subst (IsCycle performed size) cut (the_ring (goal.at.returns-in-Some c).In-Some)) c.in_ok-marks_of.ensures)
 
 pub returns : goal.returns
@@ -48,10 +54,12 @@ returns c =
     let end = c.loop-paragraph-test.false in
     let is = c.in_ok-ranks_of.ensures ∙ ap (map rank_of) c.deref-2.ensures.value in
     let ranges = subst (All (IsRange c.args.count)) (sym same) c.requires in
-    let seen = λ (paragraph : ℕ) (below : paragraph < c.args.count). c.loop-paragraph.invariant.seen paragraph (omega arith) in
+    let seen =
+    λ (paragraph : ℕ) (below : paragraph < c.args.count). c.loop-paragraph.invariant.seen paragraph (omega arith) in
     subst (AreRanks c.args.count c.args.performed.now) (sym is)
     (subst (λ p. AreRanks c.args.count p (map rank_of states)) same
-    (are_heights c.args.count performed states c.loop-paragraph.walk.placed c.loop-paragraph.invariant.stands c.loop-paragraph.invariant.same seen ranges))
+    (are_heights c.args.count performed states c.loop-paragraph.walk.placed c.loop-paragraph.invariant.stands
+    c.loop-paragraph.invariant.same seen ranges))
 
 pub loop-paragraph-init : goal.loop-paragraph-init
 loop-paragraph-init c = grind (arith, common_steps)

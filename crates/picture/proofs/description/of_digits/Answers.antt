@@ -14,5 +14,6 @@ pub overflow_cast-result-2 : goal.overflow_cast-result-2
 overflow_cast-result-2 c =
     let within = scale_within c.args.by c.args.runs in
     let same = ap (scale_of c.args.by) c.as_slice-3.ensures in
-    let digits = at_most_one_more (is_floating c.args.by) (occurrences (Digits c.args.by) c.args.runs) 18 c.requires.digits in
+    let digits =
+    at_most_one_more (is_floating c.args.by) (occurrences (Digits c.args.by) c.args.runs) 18 c.requires.digits in
     omega arith

@@ -7,11 +7,13 @@ use Rattle.picture.proofs.place.each_place.Goals as goal
 
 pub loop-run-preserved : goal.loop-run-preserved
 loop-run-preserved c =
-    let r = rest_places c.args.by c.args.runs.now c.loop-run.run-index (record { symbol = A; count = 0 }) c.loop-run-test.true in
+    let r = rest_places c.args.by c.args.runs.now c.loop-run.run-index (record { symbol = A; count = 0 })
+    c.loop-run-test.true in
     ap (λ l. l ++ each_place c.args.by (drop (c.loop-run.run-index + 1) c.args.runs.now)) c.in_ok-push_run.ensures
     ∙ append_assoc c.loop-run.places _ _ ∙ ap (λ l. c.loop-run.places ++ l) (sym r) ∙ c.loop-run.invariant
 
 pub returns : goal.returns
 returns c =
-    sym (append-nil c.loop-run.places) ∙ sym (ap (λ l. c.loop-run.places ++ l) (ap (each_place c.args.by) (drop_all c.loop-run.run-index c.args.runs.now c.loop-run-test.false) ∙ no_places c.args.by))
+    sym (append-nil c.loop-run.places) ∙ sym (ap (λ l. c.loop-run.places ++ l) (ap (each_place c.args.by)
+    (drop_all c.loop-run.run-index c.args.runs.now c.loop-run-test.false) ∙ no_places c.args.by))
     ∙ c.loop-run.invariant

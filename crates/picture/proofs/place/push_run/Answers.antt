@@ -10,5 +10,7 @@ pub loop-time-preserved : goal.loop-time-preserved
 loop-time-preserved c =
     let e = c.in_ok-push_symbol.ensures in
     e ∙ ap (λ l. l ++ symbol_places c.args.by c.args.run.symbol) c.loop-time.invariant
-    ∙ append_assoc c.args.places.now (repeated_places c.loop-time._time (symbol_places c.args.by c.args.run.symbol)) (symbol_places c.args.by c.args.run.symbol)
-    ∙ ap (λ l. c.args.places.now ++ l) (sym (repeated_next c.loop-time._time (symbol_places c.args.by c.args.run.symbol)))
+    ∙ append_assoc c.args.places.now (repeated_places c.loop-time._time (symbol_places c.args.by c.args.run.symbol))
+    (symbol_places c.args.by c.args.run.symbol)
+    ∙ ap (λ l. c.args.places.now ++ l)
+    (sym (repeated_next c.loop-time._time (symbol_places c.args.by c.args.run.symbol)))

@@ -5,6 +5,7 @@ use Rattle.picture.proofs.run.occurrences.Goals as goal
 
 pub overflow_add-found : goal.overflow_add-found
 overflow_add-found c =
-    let h = counted_within c.args.class c.args.runs.now c.loop-run.run-index (record { symbol = A; count = 0 }) c.loop-run.found
+    let h =
+    counted_within c.args.class c.args.runs.now c.loop-run.run-index (record { symbol = A; count = 0 }) c.loop-run.found
     c.loop-run-test.true c.loop-run.invariant (sym c.has.ensures ∙ c.if-has.true) in
     omega arith

@@ -25,7 +25,8 @@ loop-turn-preserved c =
     let bound = c.in-Some.ensures.bound in
     let within = c.in-Some.ensures.within in
     record {
-      read = c.loop-turn.invariant.read ∙ turn_takes c.loop-turn._turn c.loop-turn.runs c.loop-turn.rest.now c.in-Some.more.now c.in-Some.run' c.loop-turn-test.true full is
+      read = c.loop-turn.invariant.read ∙ turn_takes c.loop-turn._turn c.loop-turn.runs c.loop-turn.rest.now
+          c.in-Some.more.now c.in-Some.run' c.loop-turn-test.true full is
           ∙ ap (λ l. runs_from (30 - (c.loop-turn._turn + 1)) l c.in-Some.more.now) (sym pushed);
       most = omega arith;
       within = omega arith;

@@ -1,4 +1,5 @@
-use Rattle.records.proofs.Changed.{created_are_files, inserted_are_files, replaced_are_files, removed_are_files, there_is_file}
+use Rattle.records.proofs.Changed.{created_are_files, inserted_are_files, replaced_are_files, removed_are_files}
+use Rattle.records.proofs.Changed.{there_is_file}
 use Rattle.records.proofs.laws.changes_keep_files.Goals as goal
 
 pub returns-clause-create : goal.returns-clause-create

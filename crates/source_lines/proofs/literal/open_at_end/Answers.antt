@@ -11,7 +11,8 @@ loop-column-init c = rw (characters_none c.args.line.now c.args.from)
 
 pub loop-column-preserved : goal.loop-column-preserved
 loop-column-preserved c =
-    let more = characters_more c.args.line.now c.args.from c.loop-column.column (omega arith) (omega arith) (omega arith) (omega arith) in
+    let more = characters_more c.args.line.now c.args.from c.loop-column.column (omega arith) (omega arith)
+    (omega arith) (omega arith) in
     let before = characters c.args.line.now c.args.from c.loop-column.column in
     c.open_after-literal.ensures ∙ ap (λ literal. open_after literal c.character.result) c.loop-column.invariant
     ∙ ap (open_after (fold open_after c.args.before before)) c.character.ensures

@@ -9,7 +9,8 @@ pub returns-in-Some-clause-parts : goal.returns-in-Some-clause-parts
 returns-in-Some-clause-parts c =
     line_cut c.args.rest.now c.in-Some.end c.in-Some.ensures
     ∙ ap (λ line. line ∷ lines (drop (c.in-Some.end + 1) c.args.rest.now)) (sym c.without_carriage_return.ensures)
-    ∙ ap (λ more. c.without_carriage_return.result.now ∷ lines more) (sym (take_rest c.args.rest.now (c.in-Some.end + 1)))
+    ∙ ap (λ more. c.without_carriage_return.result.now ∷ lines more)
+    (sym (take_rest c.args.rest.now (c.in-Some.end + 1)))
 
 pub returns-in-None-2-clause-parts : goal.returns-in-None-2-clause-parts
 returns-in-None-2-clause-parts c =

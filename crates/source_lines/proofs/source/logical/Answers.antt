@@ -14,13 +14,15 @@ returns-in_err-read_lines c =
     let read = ap (λ reader. and_then (after_lines (lines_of c.args.source.now) reader) at_end) c.new-reader.ensures in
     let fact : Fails (fault_of c.in_err-read_lines.field-0.0) (characters_of c.args.source.now) =
     fails_as (fault_of c.in_err-read_lines.field-0.0) _ _ (within_limit c.args.source.now (omega arith) ∙ sym read)
-    (fails_too (fault_of c.in_err-read_lines.field-0.0) (after_lines (lines_of c.args.source.now) c.new-reader.result) at_end c.in_err-read_lines.ensures) in
+    (fails_too (fault_of c.in_err-read_lines.field-0.0) (after_lines (lines_of c.args.source.now) c.new-reader.result)
+    at_end c.in_err-read_lines.ensures) in
     first_of (search rules, grind (arith, common_steps))
 
 pub returns-in_err-finish : goal.returns-in_err-finish
 returns-in_err-finish c =
     let read = ap (λ reader. and_then (after_lines (lines_of c.args.source.now) reader) at_end) c.new-reader.ensures in
-    let all = within_limit c.args.source.now (omega arith) ∙ sym read ∙ ap (λ step. and_then step at_end) c.in_ok-read_lines.ensures in
+    let all = within_limit c.args.source.now (omega arith) ∙ sym read
+    ∙ ap (λ step. and_then step at_end) c.in_ok-read_lines.ensures in
     let fact : Fails (fault_of c.in_err-finish.field-0.0) (characters_of c.args.source.now) =
     fails_as (fault_of c.in_err-finish.field-0.0) _ _ all c.in_err-finish.ensures in
     first_of (search rules, grind (arith, common_steps))
@@ -28,5 +30,6 @@ returns-in_err-finish c =
 pub returns : goal.returns
 returns c =
     let read = ap (λ reader. and_then (after_lines (lines_of c.args.source.now) reader) at_end) c.new-reader.ensures in
-    within_limit c.args.source.now (omega arith) ∙ sym read ∙ ap (λ step. and_then step at_end) c.in_ok-read_lines.ensures
+    within_limit c.args.source.now (omega arith) ∙ sym read
+    ∙ ap (λ step. and_then step at_end) c.in_ok-read_lines.ensures
     ∙ c.in_ok-finish.ensures ∙ ap Ok (sym c.new.ensures)

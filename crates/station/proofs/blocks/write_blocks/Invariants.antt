@@ -13,5 +13,6 @@ invariant-loop-block g l =
       only : OnlyWrites g.D.Device ⊥ l.initial.device l.device;
       wrote : g.D.Device.is_honest l.initial.device → now ≡ wrote_all start (take l.block-index l.blocks);
       moments : g.D.Device.is_honest l.initial.device → IsSettled start.disk →
-          Through (g.D.Device.history l.initial.device) (g.D.Device.history l.device) now (IsWriting start.events start.disk.present l.blocks);
+          Through (g.D.Device.history l.initial.device) (g.D.Device.history l.device) now
+          (IsWriting start.events start.disk.present l.blocks);
     }

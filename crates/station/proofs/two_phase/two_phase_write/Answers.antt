@@ -11,15 +11,19 @@ use Rattle.station.proofs.two_phase.two_phase_write.Goals as goal
 pub returns-in_err-write_blocks_through-clause-moments : goal.returns-in_err-write_blocks_through-clause-moments
 returns-in_err-write_blocks_through-clause-moments g c = λ honest disk.
     let old = g.D.Device.state c.args.device.now in
-    weakens _ _ _ _ _ (early old.events old.disk.present c.args.blocks.now c.args.root c.args.bytes.now) (c.write_blocks_through.ensures.moments honest disk)
+    weakens _ _ _ _ _ (early old.events old.disk.present c.args.blocks.now c.args.root c.args.bytes.now)
+    (c.write_blocks_through.ensures.moments honest disk)
 
 pub returns-clause-durable : goal.returns-clause-durable
 returns-clause-durable g c = λ honest.
     let there = c.in_ok-write_blocks_through.ensures.durable honest in
-    on_ok c.write_through.result (λ is. is ∙ ap (λ (d : Disk). idle_disk (slice_set d.present c.args.root c.args.bytes.now)) there) (c.write_through.ensures.durable (c.write_blocks_through.ensures.only.honest.0 honest))
+    on_ok c.write_through.result
+    (λ is. is ∙ ap (λ (d : Disk). idle_disk (slice_set d.present c.args.root c.args.bytes.now)) there)
+    (c.write_through.ensures.durable (c.write_blocks_through.ensures.only.honest.0 honest))
 
 pub returns-clause-only : goal.returns-clause-only
-returns-clause-only g c = writes_then g.D.Device _ _ _ _ _ _ (λ failed. inr failed) c.write_blocks_through.ensures.only c.write_through.ensures.only
+returns-clause-only g c = writes_then g.D.Device _ _ _ _ _ _ (λ failed. inr failed) c.write_blocks_through.ensures.only
+    c.write_through.ensures.only
 
 pub returns-clause-moments : goal.returns-clause-moments
 returns-clause-moments g c = λ honest disk.
@@ -33,11 +37,15 @@ returns-clause-moments g c = λ honest disk.
     let there = c.in_ok-write_blocks_through.ensures.durable honest in
     let honest' = c.write_blocks_through.ensures.only.honest.0 honest in
     let settled_mid : IsSettled mid.disk = there ∙ sym (ap (λ (d : Disk). idle_disk d.present) there) in
-    goes (history c.args.device.now) (history c.write_blocks_through.new.device) (history c.write_through.new.device) mid new (CrashLeaves old.events (OldOrNew base blocks c.args.root c.args.bytes.now))
-    (weakens _ _ mid (CrashLeaves old.events (SameOutside base blocks)) _ (early old.events base blocks c.args.root c.args.bytes.now) (c.write_blocks_through.ensures.moments honest disk))
-    (weakens _ _ new _ _ (late old.events mid.events base mid.disk.present blocks c.args.root c.args.bytes.now (c.write_blocks_through.ensures.only.console honest).events
+    goes (history c.args.device.now) (history c.write_blocks_through.new.device) (history c.write_through.new.device)
+    mid new (CrashLeaves old.events (OldOrNew base blocks c.args.root c.args.bytes.now))
+    (weakens _ _ mid (CrashLeaves old.events (SameOutside base blocks)) _ (early old.events base blocks c.args.root
+    c.args.bytes.now) (c.write_blocks_through.ensures.moments honest disk))
+    (weakens _ _ new _ _ (late old.events mid.events base mid.disk.present blocks c.args.root c.args.bytes.now
+    (c.write_blocks_through.ensures.only.console honest).events
     (ap (λ (d : Disk). d.present) there)) (c.write_through.ensures.moments honest' settled_mid))
 
 pub returns-clause-new : goal.returns-clause-new
 returns-clause-new g c = λ honest.
-    on_ok c.write_through.result (λ disk image crash. settled_image _ image (subst (λ (d : Disk). IsCrashImage d image) disk crash)) (returns-clause-durable g c honest)
+    on_ok c.write_through.result (λ disk image crash.
+    settled_image _ image (subst (λ (d : Disk). IsCrashImage d image) disk crash)) (returns-clause-durable g c honest)

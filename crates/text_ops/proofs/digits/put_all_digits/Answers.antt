@@ -14,4 +14,6 @@ returns c =
     let size = length c.args.bytes.now in
     let room = below size c.magnitude.result _ c.magnitude.ensures.value c.requires.room c.requires.most in
     let zeros : c.fill.new.self ≡ replicate size 48 = search rules in
-    written size c.write_digits.result c.magnitude.result _ c.fill.new.self c.write_digits.new.buf zeros c.magnitude.ensures.value c.write_digits.ensures.start c.write_digits.ensures.written c.write_digits.ensures.before c.requires.some room.0 room.1
+    written size c.write_digits.result c.magnitude.result _ c.fill.new.self c.write_digits.new.buf zeros
+    c.magnitude.ensures.value c.write_digits.ensures.start c.write_digits.ensures.written c.write_digits.ensures.before
+    c.requires.some room.0 room.1

@@ -5,4 +5,5 @@ use Rattle.text_ops.proofs.progress.first_fit.Given as goal
 
 abbrev pub invariant-loop-number : goal.invariant-loop-number
 invariant-loop-number l =
-    first_fit l.fn.texts l.fn.active l.fn.at l.fn.rest ≡ counted_from l.number (first_fit l.fn.texts (drop l.number l.fn.active) l.fn.at l.fn.rest)
+    first_fit l.fn.texts l.fn.active l.fn.at l.fn.rest
+    ≡ counted_from l.number (first_fit l.fn.texts (drop l.number l.fn.active) l.fn.at l.fn.rest)

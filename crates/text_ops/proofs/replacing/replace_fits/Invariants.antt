@@ -13,7 +13,8 @@ invariant-loop-at l = record {
   marked : AreMarked l.fn.texts l.marks l.active;
   all : List Fitted;
   goes : Goes l.fn.texts l.active l.at (drop l.at l.subject) all;
-  written : with_each l.fn.texts all l.subject ≡ with_each l.fn.texts (walk (length l.fn.subject) l.fn.texts l.fn.active 0 l.fn.subject) l.fn.subject;
+  written : with_each l.fn.texts all l.subject
+      ≡ with_each l.fn.texts (walk (length l.fn.subject) l.fn.texts l.fn.active 0 l.fn.subject) l.fn.subject;
 }
 
 abbrev pub decreases-loop-at : goal.decreases-loop-at

@@ -15,7 +15,8 @@ invariant-loop-at l = record {
   small : (k : ℕ) → k < length l.counts → slice_index l.counts k ≤ l.at;
   all : List Fitted;
   goes : Goes l.fn.texts l.active l.at (drop l.at l.fn.subject) all;
-  counted : (k : ℕ) → k < length l.counts → slice_index l.counts k + count_of k all ≡ count_of k (walk (length l.fn.subject) l.fn.texts l.fn.active 0 l.fn.subject);
+  counted : (k : ℕ) → k < length l.counts → slice_index l.counts k + count_of k all ≡ count_of k
+      (walk (length l.fn.subject) l.fn.texts l.fn.active 0 l.fn.subject);
 }
 
 abbrev pub decreases-loop-at : goal.decreases-loop-at

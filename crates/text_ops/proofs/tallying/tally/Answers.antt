@@ -7,4 +7,5 @@ use Rattle.text_ops.proofs.tallying.tally.Goals as goal
 pub count_fits-requires-clause-within : goal.count_fits-requires-clause-within
 count_fits-requires-clause-within c =
     let P : List Progress → Type 0 = λ xs. AreActive xs (length c.args.texts.now) in
-    subst P (sym c.begin.ensures) (active_begun c.args.texts.now c.args.subject.now c.args.entries.now (length c.args.texts.now) c.requires.within)
+    subst P (sym c.begin.ensures)
+    (active_begun c.args.texts.now c.args.subject.now c.args.entries.now (length c.args.texts.now) c.requires.within)

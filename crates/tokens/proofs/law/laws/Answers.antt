@@ -22,23 +22,29 @@ returns-clause-only c characters found are = only are
 
 pub returns-clause-spans : goal.returns-clause-spans
 returns-clause-spans c characters found is =
-    subst (λ n. InOrder 0 n found) (zero-add (length characters)) (in_order 0 (omega arith) (answers characters found is))
+    subst (λ n. InOrder 0 n found) (zero-add (length characters))
+    (in_order 0 (omega arith) (answers characters found is))
 
 pub returns-clause-places : goal.returns-clause-places
-returns-clause-places c characters found is = let start : 0 ≡ length {A = Character} [] = omega arith in placed [] start (answers characters found is)
+returns-clause-places c characters found is = let start : 0 ≡ length {A = Character} [] =
+    omega arith in placed [] start (answers characters found is)
 
 pub returns-clause-texts : goal.returns-clause-texts
-returns-clause-texts c characters found is = let start : 0 ≡ length {A = Character} [] = omega arith in spelled [] start (answers characters found is)
+returns-clause-texts c characters found is = let start : 0 ≡ length {A = Character} [] =
+    omega arith in spelled [] start (answers characters found is)
 
 pub returns-clause-separators : goal.returns-clause-separators
-returns-clause-separators c characters found is = let start : 0 ≡ length {A = Character} [] + length {A = Character} [] = omega arith in separated [] [] start tt (answers characters found is)
+returns-clause-separators c characters found is =
+    let start : 0 ≡ length {A = Character} [] + length {A = Character} [] =
+    omega arith in separated [] [] start tt (answers characters found is)
 
 pub returns-clause-longest : goal.returns-clause-longest
 returns-clause-longest c before kind one text rest is = longest before kind one text rest is
 
 pub returns-clause-refused : goal.returns-clause-refused
 unfolding tokens
-returns-clause-refused c characters fault is = refused_within (length characters) context.Apart 0 characters fault (omega arith) is
+returns-clause-refused c characters fault is =
+    refused_within (length characters) context.Apart 0 characters fault (omega arith) is
 
 pub returns-clause-refused_only : goal.returns-clause-refused_only
 unfolding tokens

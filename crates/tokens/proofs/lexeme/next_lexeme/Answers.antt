@@ -4,7 +4,8 @@ use Rattle.tokens.proofs.lexeme.next_lexeme.Goals as goal
 
 pub returns-then-is_in-clause-within : goal.returns-then-is_in-clause-within
 returns-then-is_in-clause-within c =
-    returned_sized c.picture.result (picture_sized c.args.before c.args.first.byte c.args.characters.now (rw c.requires (omega arith))) c.picture.ensures
+    returned_sized c.picture.result (picture_sized c.args.before c.args.first.byte c.args.characters.now
+    (rw c.requires (omega arith))) c.picture.ensures
 
 pub returns-else-awaits_picture-clause-within : goal.returns-else-awaits_picture-clause-within
 returns-else-awaits_picture-clause-within c =

@@ -18,9 +18,11 @@ returns-in_err-clear_levels-clause-damaged g c = λ honest agrees is levels hold
     let pages = pages_of_map c.args.pages.now image in
     let layout = c.layout-layout.result in
     let top = c.root-top.result in
-    let here = subst (λ (f : RowLayout). IsTreeOrEmpty f pages top levels) (sym c.layout-layout.ensures.is) (subst (λ (r : ℕ). IsTreeOrEmpty c.args.self.now.layout pages r levels) (sym c.root-top.ensures) holds) in
+    let here = subst (λ (f : RowLayout). IsTreeOrEmpty f pages top levels) (sym c.layout-layout.ensures.is)
+    (subst (λ (r : ℕ). IsTreeOrEmpty c.args.self.now.layout pages r levels) (sym c.root-top.ensures) holds) in
     let tree = holds_tree layout pages top levels here c.if-top-eq0.false in
-    let numbers : c.push.new.self.items ≡ top ∷ [] = c.in_ok-push.ensures.items ∙ ap (λ (xs : List ℕ). xs ++ top ∷ []) c.new-numbers.ensures.items in
+    let numbers : c.push.new.self.items ≡ top ∷ [] =
+    c.in_ok-push.ensures.items ∙ ap (λ (xs : List ℕ). xs ++ top ∷ []) c.new-numbers.ensures.items in
     let some : 0 < length c.push.new.self.items = let count = ap length numbers in omega arith in
     let told = rw is at c.from_residual-in_err-clear_levels.ensures.1 in
     let fault : c.in_err-clear_levels.field-0.0 ≡ Damaged = cc told in
@@ -31,9 +33,12 @@ returns-in_err-clear_levels-clause-damaged g c = λ honest agrees is levels hold
     let other : c.in_err-clear_levels.field-0.0 ≡ Spent = cc same in
     let clash : Damaged ≡ Spent = sym fault ∙ other in
     cc) in
-    let few : IsSmall pages = few_pages pages (page_count c.args.pages.now) c.page_count-page_count.result (c.page_count-page_count.ensures.pages image) c.page_count-page_count.ensures.count (c.page_count-page_count.ensures.few c.requires.open unspent) in
+    let few : IsSmall pages =
+    few_pages pages (page_count c.args.pages.now) c.page_count-page_count.result (c.page_count-page_count.ensures.pages
+    image) c.page_count-page_count.ensures.count (c.page_count-page_count.ensures.few c.requires.open unspent) in
     let depth = few_levels layout pages top levels few tree in
-    c.in_err-clear_levels.ensures.damaged honest agrees (cc told) levels few (subst (λ (n : List ℕ). IsDown layout pages n levels) (sym numbers) (tree_down layout pages top levels tree)) (omega arith)
+    c.in_err-clear_levels.ensures.damaged honest agrees (cc told) levels few (subst
+    (λ (n : List ℕ). IsDown layout pages n levels) (sym numbers) (tree_down layout pages top levels tree)) (omega arith)
 
 pub returns-clause-cleared : goal.returns-clause-cleared
 returns-clause-cleared g c = λ honest agrees levels holds.
@@ -41,11 +46,17 @@ returns-clause-cleared g c = λ honest agrees levels holds.
     let pages = pages_of_map c.args.pages.now image in
     let layout = c.layout-layout.result in
     let top = c.root-top.result in
-    let here = subst (λ (f : RowLayout). IsTreeOrEmpty f pages top levels) (sym c.layout-layout.ensures.is) (subst (λ (r : ℕ). IsTreeOrEmpty c.args.self.now.layout pages r levels) (sym c.root-top.ensures) holds) in
+    let here = subst (λ (f : RowLayout). IsTreeOrEmpty f pages top levels) (sym c.layout-layout.ensures.is)
+    (subst (λ (r : ℕ). IsTreeOrEmpty c.args.self.now.layout pages r levels) (sym c.root-top.ensures) holds) in
     let tree = holds_tree layout pages top levels here c.if-top-eq0.false in
-    let numbers : c.push.new.self.items ≡ top ∷ [] = c.in_ok-push.ensures.items ∙ ap (λ (xs : List ℕ). xs ++ top ∷ []) c.new-numbers.ensures.items in
+    let numbers : c.push.new.self.items ≡ top ∷ [] =
+    c.in_ok-push.ensures.items ∙ ap (λ (xs : List ℕ). xs ++ top ∷ []) c.new-numbers.ensures.items in
     let some : 0 < length c.push.new.self.items = let count = ap length numbers in omega arith in
     let unspent : is_spent c.args.pages.now ≡ false =
-    false_unless (is_spent c.args.pages.now) (λ spent. ok_or_err c.in_ok-clear_levels.field-0 Spent (sym c.in_ok-clear_levels.was ∙ c.clear_levels.ensures.told spent some (omega arith))) in
-    let few : IsSmall pages = few_pages pages (page_count c.args.pages.now) c.page_count-page_count.result (c.page_count-page_count.ensures.pages image) c.page_count-page_count.ensures.count (c.page_count-page_count.ensures.few c.requires.open unspent) in
-    c.in_ok-clear_levels.ensures.cleared honest agrees levels few (subst (λ (n : List ℕ). IsDown layout pages n levels) (sym numbers) (tree_down layout pages top levels tree))
+    false_unless (is_spent c.args.pages.now) (λ spent. ok_or_err c.in_ok-clear_levels.field-0 Spent
+    (sym c.in_ok-clear_levels.was ∙ c.clear_levels.ensures.told spent some (omega arith))) in
+    let few : IsSmall pages =
+    few_pages pages (page_count c.args.pages.now) c.page_count-page_count.result (c.page_count-page_count.ensures.pages
+    image) c.page_count-page_count.ensures.count (c.page_count-page_count.ensures.few c.requires.open unspent) in
+    c.in_ok-clear_levels.ensures.cleared honest agrees levels few
+    (subst (λ (n : List ℕ). IsDown layout pages n levels) (sym numbers) (tree_down layout pages top levels tree))

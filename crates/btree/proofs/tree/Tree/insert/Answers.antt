@@ -14,7 +14,8 @@ returns-in_err-added-clause-damaged g c = λ honest agrees is levels holds.
     let before = pages_of_map c.args.pages.now (g.D.Device.state c.args.device.now).disk.present in
     let told = rw is at c.from_residual.ensures.1 in
     c.in_err-added.ensures.damaged honest agrees (cc told) levels
-    (subst (λ (f : RowLayout). IsTreeOrEmpty f before c.root-top.result levels) (sym c.layout-layout.ensures.is) (subst (λ (r : ℕ). IsTreeOrEmpty c.args.self.now.layout before r levels) (sym c.root-top.ensures) holds))
+    (subst (λ (f : RowLayout). IsTreeOrEmpty f before c.root-top.result levels) (sym c.layout-layout.ensures.is)
+    (subst (λ (r : ℕ). IsTreeOrEmpty c.args.self.now.layout before r levels) (sym c.root-top.ensures) holds))
 
 pub returns-in-Some-clause-inserted : goal.returns-in-Some-clause-inserted
 returns-in-Some-clause-inserted g c = λ honest agrees levels holds is.
@@ -24,16 +25,21 @@ returns-in-Some-clause-inserted g c = λ honest agrees levels holds is.
     let key = c.args.key.now in
     let value = c.args.value.now in
     let raw = c.in_ok-added.ensures.inserted honest agrees levels
-    (subst (λ (f : RowLayout). IsTreeOrEmpty f before c.root-top.result levels) (sym c.layout-layout.ensures.is) (subst (λ (r : ℕ). IsTreeOrEmpty c.args.self.now.layout before r levels) (sym c.root-top.ensures) holds)) in
-    let added = subst (λ (new : Option ℕ). Inserts c.layout-layout.result before levels after key value new) c.in-Some.is raw in
-    subst (λ (r : ℕ). Inserts c.args.self.now.layout before levels after key value (Some r)) (sym c.set_root.ensures.root)
-    (subst (λ (f : RowLayout). Inserts f before levels after key value (Some c.in-Some.root)) c.layout-layout.ensures.is added)
+    (subst (λ (f : RowLayout). IsTreeOrEmpty f before c.root-top.result levels) (sym c.layout-layout.ensures.is)
+    (subst (λ (r : ℕ). IsTreeOrEmpty c.args.self.now.layout before r levels) (sym c.root-top.ensures) holds)) in
+    let added =
+    subst (λ (new : Option ℕ). Inserts c.layout-layout.result before levels after key value new) c.in-Some.is raw in
+    subst (λ (r : ℕ). Inserts c.args.self.now.layout before levels after key value (Some r))
+    (sym c.set_root.ensures.root)
+    (subst (λ (f : RowLayout). Inserts f before levels after key value (Some c.in-Some.root)) c.layout-layout.ensures.is
+    added)
 
 pub returns-in-Some-clause-changed_pages : goal.returns-in-Some-clause-changed_pages
 returns-in-Some-clause-changed_pages g c = λ honest agrees levels holds.
     let before = pages_of_map c.args.pages.now (g.D.Device.state c.args.device.now).disk.present in
     c.in_ok-added.ensures.changed_pages honest agrees levels
-    (subst (λ (f : RowLayout). IsTreeOrEmpty f before c.root-top.result levels) (sym c.layout-layout.ensures.is) (subst (λ (r : ℕ). IsTreeOrEmpty c.args.self.now.layout before r levels) (sym c.root-top.ensures) holds))
+    (subst (λ (f : RowLayout). IsTreeOrEmpty f before c.root-top.result levels) (sym c.layout-layout.ensures.is)
+    (subst (λ (r : ℕ). IsTreeOrEmpty c.args.self.now.layout before r levels) (sym c.root-top.ensures) holds))
 
 pub returns-in_err-added-clause-full : goal.returns-in_err-added-clause-full
 returns-in_err-added-clause-full g c = λ is.
@@ -44,7 +50,8 @@ pub returns-in_err-added-clause-changed_pages : goal.returns-in_err-added-clause
 returns-in_err-added-clause-changed_pages g c = λ honest agrees levels holds.
     let before = pages_of_map c.args.pages.now (g.D.Device.state c.args.device.now).disk.present in
     c.in_err-added.ensures.changed_pages honest agrees levels
-    (subst (λ (f : RowLayout). IsTreeOrEmpty f before c.root-top.result levels) (sym c.layout-layout.ensures.is) (subst (λ (r : ℕ). IsTreeOrEmpty c.args.self.now.layout before r levels) (sym c.root-top.ensures) holds))
+    (subst (λ (f : RowLayout). IsTreeOrEmpty f before c.root-top.result levels) (sym c.layout-layout.ensures.is)
+    (subst (λ (r : ℕ). IsTreeOrEmpty c.args.self.now.layout before r levels) (sym c.root-top.ensures) holds))
 
 pub returns-in_err-added-clause-room : goal.returns-in_err-added-clause-room
 returns-in_err-added-clause-room g c = λ honest agrees levels holds is.
@@ -52,19 +59,24 @@ returns-in_err-added-clause-room g c = λ honest agrees levels holds is.
     let before = pages_of_map old (g.D.Device.state c.args.device.now).disk.present in
     let told = rw is at c.from_residual.ensures.1 in
     let changed_pages = c.in_err-added.ensures.changed_pages honest agrees levels
-    (subst (λ (f : RowLayout). IsTreeOrEmpty f before c.root-top.result levels) (sym c.layout-layout.ensures.is) (subst (λ (r : ℕ). IsTreeOrEmpty c.args.self.now.layout before r levels) (sym c.root-top.ensures) holds)) in
+    (subst (λ (f : RowLayout). IsTreeOrEmpty f before c.root-top.result levels) (sym c.layout-layout.ensures.is)
+    (subst (λ (r : ℕ). IsTreeOrEmpty c.args.self.now.layout before r levels) (sym c.root-top.ensures) holds)) in
     let full : c.insert_entry.result ≡ Err Full = cc told in
-    let unspent : is_spent old ≡ false = false_unless (is_spent old) (λ was. let other : c.insert_entry.result ≡ Err Spent = c.insert_entry.ensures.spent.1 was in cc) in
-    few_left old c.insert_entry.new.pages 42 c.few_free.ensures c.insert_entry.ensures.open c.insert_entry.ensures.committed unspent (c.insert_entry.ensures.full full) changed_pages
+    let unspent : is_spent old ≡ false = false_unless (is_spent old)
+    (λ was. let other : c.insert_entry.result ≡ Err Spent = c.insert_entry.ensures.spent.1 was in cc) in
+    few_left old c.insert_entry.new.pages 42 c.few_free.ensures c.insert_entry.ensures.open
+    c.insert_entry.ensures.committed unspent (c.insert_entry.ensures.full full) changed_pages
 
 pub returns-in-Some-clause-filled : goal.returns-in-Some-clause-filled
 returns-in-Some-clause-filled g c = λ honest agrees levels holds.
     let before = pages_of_map c.args.pages.now (g.D.Device.state c.args.device.now).disk.present in
     c.in_ok-added.ensures.filled honest agrees levels
-    (subst (λ (f : RowLayout). IsTreeOrEmpty f before c.root-top.result levels) (sym c.layout-layout.ensures.is) (subst (λ (r : ℕ). IsTreeOrEmpty c.args.self.now.layout before r levels) (sym c.root-top.ensures) holds))
+    (subst (λ (f : RowLayout). IsTreeOrEmpty f before c.root-top.result levels) (sym c.layout-layout.ensures.is)
+    (subst (λ (r : ℕ). IsTreeOrEmpty c.args.self.now.layout before r levels) (sym c.root-top.ensures) holds))
 
 pub returns-in_err-added-clause-filled : goal.returns-in_err-added-clause-filled
 returns-in_err-added-clause-filled g c = λ honest agrees levels holds.
     let before = pages_of_map c.args.pages.now (g.D.Device.state c.args.device.now).disk.present in
     c.in_err-added.ensures.filled honest agrees levels
-    (subst (λ (f : RowLayout). IsTreeOrEmpty f before c.root-top.result levels) (sym c.layout-layout.ensures.is) (subst (λ (r : ℕ). IsTreeOrEmpty c.args.self.now.layout before r levels) (sym c.root-top.ensures) holds))
+    (subst (λ (f : RowLayout). IsTreeOrEmpty f before c.root-top.result levels) (sym c.layout-layout.ensures.is)
+    (subst (λ (r : ℕ). IsTreeOrEmpty c.args.self.now.layout before r levels) (sym c.root-top.ensures) holds))

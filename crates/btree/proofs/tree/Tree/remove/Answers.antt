@@ -11,7 +11,8 @@ returns-in_err-removed-clause-damaged g c = λ honest agrees is levels holds.
     let before = pages_of_map c.args.pages.now (g.D.Device.state c.args.device.now).disk.present in
     let told = rw is at c.from_residual.ensures.1 in
     c.in_err-removed.ensures.damaged honest agrees (cc told) levels
-    (subst (λ (f : RowLayout). IsTreeOrEmpty f before c.root-top.result levels) (sym c.layout-layout.ensures.is) (subst (λ (r : ℕ). IsTreeOrEmpty c.args.self.now.layout before r levels) (sym c.root-top.ensures) holds))
+    (subst (λ (f : RowLayout). IsTreeOrEmpty f before c.root-top.result levels) (sym c.layout-layout.ensures.is)
+    (subst (λ (r : ℕ). IsTreeOrEmpty c.args.self.now.layout before r levels) (sym c.root-top.ensures) holds))
 
 pub returns-in-Some-clause-removed : goal.returns-in-Some-clause-removed
 returns-in-Some-clause-removed g c = λ honest agrees levels holds is.
@@ -20,19 +21,24 @@ returns-in-Some-clause-removed g c = λ honest agrees levels holds is.
     let after = pages_of_map c.remove_entry.new.pages image in
     let key = c.args.key.now in
     let raw = c.in_ok-removed.ensures.removed honest agrees levels
-    (subst (λ (f : RowLayout). IsTreeOrEmpty f before c.root-top.result levels) (sym c.layout-layout.ensures.is) (subst (λ (r : ℕ). IsTreeOrEmpty c.args.self.now.layout before r levels) (sym c.root-top.ensures) holds)) in
-    let removed = subst (λ (new : Option ℕ). Removes c.layout-layout.result before levels after key new) c.in-Some.is raw in
+    (subst (λ (f : RowLayout). IsTreeOrEmpty f before c.root-top.result levels) (sym c.layout-layout.ensures.is)
+    (subst (λ (r : ℕ). IsTreeOrEmpty c.args.self.now.layout before r levels) (sym c.root-top.ensures) holds)) in
+    let removed =
+    subst (λ (new : Option ℕ). Removes c.layout-layout.result before levels after key new) c.in-Some.is raw in
     subst (λ (r : ℕ). Removes c.args.self.now.layout before levels after key (Some r)) (sym c.set_root.ensures.root)
-    (subst (λ (f : RowLayout). Removes f before levels after key (Some c.in-Some.root)) c.layout-layout.ensures.is removed)
+    (subst (λ (f : RowLayout). Removes f before levels after key (Some c.in-Some.root)) c.layout-layout.ensures.is
+    removed)
 
 pub returns-in-Some-clause-changed_pages : goal.returns-in-Some-clause-changed_pages
 returns-in-Some-clause-changed_pages g c = λ honest agrees levels holds.
     let before = pages_of_map c.args.pages.now (g.D.Device.state c.args.device.now).disk.present in
     c.in_ok-removed.ensures.changed_pages honest agrees levels
-    (subst (λ (f : RowLayout). IsTreeOrEmpty f before c.root-top.result levels) (sym c.layout-layout.ensures.is) (subst (λ (r : ℕ). IsTreeOrEmpty c.args.self.now.layout before r levels) (sym c.root-top.ensures) holds))
+    (subst (λ (f : RowLayout). IsTreeOrEmpty f before c.root-top.result levels) (sym c.layout-layout.ensures.is)
+    (subst (λ (r : ℕ). IsTreeOrEmpty c.args.self.now.layout before r levels) (sym c.root-top.ensures) holds))
 
 pub returns-in-Some-clause-filled : goal.returns-in-Some-clause-filled
 returns-in-Some-clause-filled g c = λ honest agrees levels holds.
     let before = pages_of_map c.args.pages.now (g.D.Device.state c.args.device.now).disk.present in
     c.in_ok-removed.ensures.filled honest agrees levels
-    (subst (λ (f : RowLayout). IsTreeOrEmpty f before c.root-top.result levels) (sym c.layout-layout.ensures.is) (subst (λ (r : ℕ). IsTreeOrEmpty c.args.self.now.layout before r levels) (sym c.root-top.ensures) holds))
+    (subst (λ (f : RowLayout). IsTreeOrEmpty f before c.root-top.result levels) (sym c.layout-layout.ensures.is)
+    (subst (λ (r : ℕ). IsTreeOrEmpty c.args.self.now.layout before r levels) (sym c.root-top.ensures) holds))

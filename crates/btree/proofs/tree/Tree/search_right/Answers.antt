@@ -18,16 +18,19 @@ use Rattle.btree.proofs.tree.Tree.search_right.Goals as goal
 
 pub returns-in_err-found-clause-unchanged : goal.returns-in_err-found-clause-unchanged
 returns-in_err-found-clause-unchanged g c =
-    unchanged_on c.args.pages.now c.follow.new.pages c.entry_at.new.pages c.follow.ensures.unchanged c.entry_at.ensures.unchanged
+    unchanged_on c.args.pages.now c.follow.new.pages c.entry_at.new.pages c.follow.ensures.unchanged
+    c.entry_at.ensures.unchanged
 
 pub returns-in-Some-clause-unchanged : goal.returns-in-Some-clause-unchanged
 returns-in-Some-clause-unchanged g c =
-    unchanged_on c.args.pages.now c.follow.new.pages c.entry_at.new.pages c.follow.ensures.unchanged c.entry_at.ensures.unchanged
+    unchanged_on c.args.pages.now c.follow.new.pages c.entry_at.new.pages c.follow.ensures.unchanged
+    c.entry_at.ensures.unchanged
 
 pub returns-in-None-clause-unchanged : goal.returns-in-None-clause-unchanged
 returns-in-None-clause-unchanged g c =
     unchanged_on c.args.pages.now c.entry_at.new.pages c.right_entry.new.pages
-    (unchanged_on c.args.pages.now c.follow.new.pages c.entry_at.new.pages c.follow.ensures.unchanged c.entry_at.ensures.unchanged)
+    (unchanged_on c.args.pages.now c.follow.new.pages c.entry_at.new.pages c.follow.ensures.unchanged
+    c.entry_at.ensures.unchanged)
     c.right_entry.ensures.unchanged
 
 pub returns-in_err-found-clause-damaged : goal.returns-in_err-found-clause-damaged
@@ -37,53 +40,83 @@ returns-in_err-found-clause-damaged g c = λ honest agrees told levels holds.
     let view : RootedTree = c.args.self.now in
     let root_is : c.self.inside.root ≡ view.root = ap (λ (t : RootedTree). t.root) c.self.view_is in
     let layout_is : c.self.inside.layout ≡ view.layout = ap (λ (t : RootedTree). t.layout) c.self.view_is in
-    let pages : List (Option Sector) = (map_now c.args.pages.now (g.D.Device.state c.args.device.now).disk.present).pages in
-    let tree : IsTree view.layout pages view.root levels = holds_tree view.layout pages view.root levels holds (λ none. c.if-self-eq0.false (root_is ∙ none)) in
-    let same = same_pages c.args.pages.now c.follow.new.pages (g.D.Device.state c.args.device.now) (g.D.Device.state c.follow.new.device) c.follow.ensures.unchanged (c.follow.ensures.only.state honest) in
+    let pages : List (Option Sector) =
+    (map_now c.args.pages.now (g.D.Device.state c.args.device.now).disk.present).pages in
+    let tree : IsTree view.layout pages view.root levels =
+    holds_tree view.layout pages view.root levels holds (λ none. c.if-self-eq0.false (root_is ∙ none)) in
+    let same = same_pages c.args.pages.now c.follow.new.pages (g.D.Device.state c.args.device.now)
+    (g.D.Device.state c.follow.new.device) c.follow.ensures.unchanged (c.follow.ensures.only.state honest) in
     let way = c.in_ok-way.way in
-    let W : RootedTree → Type 0 = λ t. IsTree t.layout pages t.root levels → LeadsTo t.layout pages c.args.key.now levels way.path.items way.page way.right in
-    let leads : LeadsTo view.layout pages c.args.key.now levels way.path.items way.page way.right = subst W c.self.view_is (c.in_ok-way.ensures.way honest agrees levels) tree in
-    let here : LeadsTo c.self.inside.layout pages c.args.key.now levels way.path.items way.page way.right = subst (λ (f : RowLayout). LeadsTo f pages c.args.key.now levels way.path.items way.page way.right) (sym layout_is) leads in
-    c.entry_at.ensures.damaged (c.follow.ensures.only.honest.0 honest) (c.follow.ensures.agrees honest agrees) damaged (node_with way.page here.rows) refl
-    (subst (λ (p : List (Option Sector)). IsOnPage c.self.inside.layout p Leaf (node_with way.page here.rows)) (sym same) here.stands)
+    let W : RootedTree → Type 0 = λ t. IsTree t.layout pages t.root levels
+    → LeadsTo t.layout pages c.args.key.now levels way.path.items way.page way.right in
+    let leads : LeadsTo view.layout pages c.args.key.now levels way.path.items way.page way.right =
+    subst W c.self.view_is (c.in_ok-way.ensures.way honest agrees levels) tree in
+    let here : LeadsTo c.self.inside.layout pages c.args.key.now levels way.path.items way.page way.right =
+    subst (λ (f : RowLayout). LeadsTo f pages c.args.key.now levels way.path.items way.page way.right) (sym layout_is)
+    leads in
+    c.entry_at.ensures.damaged (c.follow.ensures.only.honest.0 honest) (c.follow.ensures.agrees honest agrees) damaged
+    (node_with way.page here.rows) refl
+    (subst (λ (p : List (Option Sector)). IsOnPage c.self.inside.layout p Leaf (node_with way.page here.rows))
+    (sym same) here.stands)
 
 pub returns-in-Some-clause-entry : goal.returns-in-Some-clause-entry
 returns-in-Some-clause-entry g c = λ honest agrees levels holds.
     let view : RootedTree = c.args.self.now in
     let root_is : c.self.inside.root ≡ view.root = ap (λ (t : RootedTree). t.root) c.self.view_is in
     let layout_is : c.self.inside.layout ≡ view.layout = ap (λ (t : RootedTree). t.layout) c.self.view_is in
-    let pages : List (Option Sector) = (map_now c.args.pages.now (g.D.Device.state c.args.device.now).disk.present).pages in
-    let tree : IsTree view.layout pages view.root levels = holds_tree view.layout pages view.root levels holds (λ none. c.if-self-eq0.false (root_is ∙ none)) in
-    let same = same_pages c.args.pages.now c.follow.new.pages (g.D.Device.state c.args.device.now) (g.D.Device.state c.follow.new.device) c.follow.ensures.unchanged (c.follow.ensures.only.state honest) in
+    let pages : List (Option Sector) =
+    (map_now c.args.pages.now (g.D.Device.state c.args.device.now).disk.present).pages in
+    let tree : IsTree view.layout pages view.root levels =
+    holds_tree view.layout pages view.root levels holds (λ none. c.if-self-eq0.false (root_is ∙ none)) in
+    let same = same_pages c.args.pages.now c.follow.new.pages (g.D.Device.state c.args.device.now)
+    (g.D.Device.state c.follow.new.device) c.follow.ensures.unchanged (c.follow.ensures.only.state honest) in
     let way = c.in_ok-way.way in
-    let W : RootedTree → Type 0 = λ t. IsTree t.layout pages t.root levels → LeadsTo t.layout pages c.args.key.now levels way.path.items way.page way.right in
-    let leads : LeadsTo view.layout pages c.args.key.now levels way.path.items way.page way.right = subst W c.self.view_is (c.in_ok-way.ensures.way honest agrees levels) tree in
-    let A : RowLayout → List (Option Sector) → Option Entry → Type 0 = λ f p entry. AnswersAt f p way.page c.args.key.now c.args.sought entry in
+    let W : RootedTree → Type 0 = λ t. IsTree t.layout pages t.root levels
+    → LeadsTo t.layout pages c.args.key.now levels way.path.items way.page way.right in
+    let leads : LeadsTo view.layout pages c.args.key.now levels way.path.items way.page way.right =
+    subst W c.self.view_is (c.in_ok-way.ensures.way honest agrees levels) tree in
+    let A : RowLayout → List (Option Sector) → Option Entry → Type 0 =
+    λ f p entry. AnswersAt f p way.page c.args.key.now c.args.sought entry in
     let at_first : A c.self.inside.layout pages c.in_ok-found.field-0 =
-    subst (λ (p : List (Option Sector)). A c.self.inside.layout p c.in_ok-found.field-0) same (c.in_ok-found.ensures.entry (c.follow.ensures.only.honest.0 honest) (c.follow.ensures.agrees honest agrees)) in
-    let at_view : A view.layout pages c.in_ok-found.field-0 = subst (λ (f : RowLayout). A f pages c.in_ok-found.field-0) layout_is at_first in
-    found_entry view.layout pages view.root c.args.key.now levels way.path.items way.page way.right c.args.sought c.in-Some.found tree leads (subst (A view.layout pages) c.in-Some.is at_view)
+    subst (λ (p : List (Option Sector)). A c.self.inside.layout p c.in_ok-found.field-0) same
+    (c.in_ok-found.ensures.entry (c.follow.ensures.only.honest.0 honest) (c.follow.ensures.agrees honest agrees)) in
+    let at_view : A view.layout pages c.in_ok-found.field-0 =
+    subst (λ (f : RowLayout). A f pages c.in_ok-found.field-0) layout_is at_first in
+    found_entry view.layout pages view.root c.args.key.now levels way.path.items way.page way.right c.args.sought
+    c.in-Some.found tree leads (subst (A view.layout pages) c.in-Some.is at_view)
 
 pub returns-in-None-clause-entry : goal.returns-in-None-clause-entry
 returns-in-None-clause-entry g c = λ honest agrees levels holds.
     let view : RootedTree = c.args.self.now in
     let root_is : c.self.inside.root ≡ view.root = ap (λ (t : RootedTree). t.root) c.self.view_is in
     let layout_is : c.self.inside.layout ≡ view.layout = ap (λ (t : RootedTree). t.layout) c.self.view_is in
-    let pages : List (Option Sector) = (map_now c.args.pages.now (g.D.Device.state c.args.device.now).disk.present).pages in
-    let tree : IsTree view.layout pages view.root levels = holds_tree view.layout pages view.root levels holds (λ none. c.if-self-eq0.false (root_is ∙ none)) in
-    let same = same_pages c.args.pages.now c.follow.new.pages (g.D.Device.state c.args.device.now) (g.D.Device.state c.follow.new.device) c.follow.ensures.unchanged (c.follow.ensures.only.state honest) in
+    let pages : List (Option Sector) =
+    (map_now c.args.pages.now (g.D.Device.state c.args.device.now).disk.present).pages in
+    let tree : IsTree view.layout pages view.root levels =
+    holds_tree view.layout pages view.root levels holds (λ none. c.if-self-eq0.false (root_is ∙ none)) in
+    let same = same_pages c.args.pages.now c.follow.new.pages (g.D.Device.state c.args.device.now)
+    (g.D.Device.state c.follow.new.device) c.follow.ensures.unchanged (c.follow.ensures.only.state honest) in
     let way = c.in_ok-way.way in
-    let W : RootedTree → Type 0 = λ t. IsTree t.layout pages t.root levels → LeadsTo t.layout pages c.args.key.now levels way.path.items way.page way.right in
-    let leads : LeadsTo view.layout pages c.args.key.now levels way.path.items way.page way.right = subst W c.self.view_is (c.in_ok-way.ensures.way honest agrees levels) tree in
-    let A : RowLayout → List (Option Sector) → Option Entry → Type 0 = λ f p entry. AnswersAt f p way.page c.args.key.now c.args.sought entry in
+    let W : RootedTree → Type 0 = λ t. IsTree t.layout pages t.root levels
+    → LeadsTo t.layout pages c.args.key.now levels way.path.items way.page way.right in
+    let leads : LeadsTo view.layout pages c.args.key.now levels way.path.items way.page way.right =
+    subst W c.self.view_is (c.in_ok-way.ensures.way honest agrees levels) tree in
+    let A : RowLayout → List (Option Sector) → Option Entry → Type 0 =
+    λ f p entry. AnswersAt f p way.page c.args.key.now c.args.sought entry in
     let at_first : A c.self.inside.layout pages c.in_ok-found.field-0 =
-    subst (λ (p : List (Option Sector)). A c.self.inside.layout p c.in_ok-found.field-0) same (c.in_ok-found.ensures.entry (c.follow.ensures.only.honest.0 honest) (c.follow.ensures.agrees honest agrees)) in
-    let at_view : A view.layout pages c.in_ok-found.field-0 = subst (λ (f : RowLayout). A f pages c.in_ok-found.field-0) layout_is at_first in
-    let again = same_pages c.follow.new.pages c.entry_at.new.pages (g.D.Device.state c.follow.new.device) (g.D.Device.state c.entry_at.new.device) c.entry_at.ensures.unchanged (c.entry_at.ensures.only.state (c.follow.ensures.only.honest.0 honest)) in
+    subst (λ (p : List (Option Sector)). A c.self.inside.layout p c.in_ok-found.field-0) same
+    (c.in_ok-found.ensures.entry (c.follow.ensures.only.honest.0 honest) (c.follow.ensures.agrees honest agrees)) in
+    let at_view : A view.layout pages c.in_ok-found.field-0 =
+    subst (λ (f : RowLayout). A f pages c.in_ok-found.field-0) layout_is at_first in
+    let again = same_pages c.follow.new.pages c.entry_at.new.pages (g.D.Device.state c.follow.new.device)
+    (g.D.Device.state c.entry_at.new.device) c.entry_at.ensures.unchanged
+    (c.entry_at.ensures.only.state (c.follow.ensures.only.honest.0 honest)) in
     let still = subst (λ (p : List (Option Sector)). IsTree view.layout p view.root levels) (sym (again ∙ same)) tree in
     let honest_then = c.entry_at.ensures.only.honest.0 (c.follow.ensures.only.honest.0 honest) in
-    let agrees_then = c.entry_at.ensures.agrees (c.follow.ensures.only.honest.0 honest) (c.follow.ensures.agrees honest agrees) in
-    let is = behind view.layout pages view.root c.args.key.now levels way.path.items way.page way.right c.args.sought c.requires.sought tree leads (subst (A view.layout pages) c.in-None.is at_view) in
+    let agrees_then =
+    c.entry_at.ensures.agrees (c.follow.ensures.only.honest.0 honest) (c.follow.ensures.agrees honest agrees) in
+    let is = behind view.layout pages view.root c.args.key.now levels way.path.items way.page way.right c.args.sought
+    c.requires.sought tree leads (subst (A view.layout pages) c.in-None.is at_view) in
     IfOk-weaker c.right_entry.result
     (λ (entry : Option Entry). entry ≡ first_entry (entries_of_rows view.layout is.after))
     (λ (entry : Option Entry). entry ≡ sought_in c.args.sought (entries_of view.layout levels) c.args.key.now)
@@ -95,19 +128,31 @@ returns-in-None-clause-damaged g c = λ honest agrees told levels holds.
     let view : RootedTree = c.args.self.now in
     let root_is : c.self.inside.root ≡ view.root = ap (λ (t : RootedTree). t.root) c.self.view_is in
     let layout_is : c.self.inside.layout ≡ view.layout = ap (λ (t : RootedTree). t.layout) c.self.view_is in
-    let pages : List (Option Sector) = (map_now c.args.pages.now (g.D.Device.state c.args.device.now).disk.present).pages in
-    let tree : IsTree view.layout pages view.root levels = holds_tree view.layout pages view.root levels holds (λ none. c.if-self-eq0.false (root_is ∙ none)) in
-    let same = same_pages c.args.pages.now c.follow.new.pages (g.D.Device.state c.args.device.now) (g.D.Device.state c.follow.new.device) c.follow.ensures.unchanged (c.follow.ensures.only.state honest) in
+    let pages : List (Option Sector) =
+    (map_now c.args.pages.now (g.D.Device.state c.args.device.now).disk.present).pages in
+    let tree : IsTree view.layout pages view.root levels =
+    holds_tree view.layout pages view.root levels holds (λ none. c.if-self-eq0.false (root_is ∙ none)) in
+    let same = same_pages c.args.pages.now c.follow.new.pages (g.D.Device.state c.args.device.now)
+    (g.D.Device.state c.follow.new.device) c.follow.ensures.unchanged (c.follow.ensures.only.state honest) in
     let way = c.in_ok-way.way in
-    let W : RootedTree → Type 0 = λ t. IsTree t.layout pages t.root levels → LeadsTo t.layout pages c.args.key.now levels way.path.items way.page way.right in
-    let leads : LeadsTo view.layout pages c.args.key.now levels way.path.items way.page way.right = subst W c.self.view_is (c.in_ok-way.ensures.way honest agrees levels) tree in
-    let A : RowLayout → List (Option Sector) → Option Entry → Type 0 = λ f p entry. AnswersAt f p way.page c.args.key.now c.args.sought entry in
+    let W : RootedTree → Type 0 = λ t. IsTree t.layout pages t.root levels
+    → LeadsTo t.layout pages c.args.key.now levels way.path.items way.page way.right in
+    let leads : LeadsTo view.layout pages c.args.key.now levels way.path.items way.page way.right =
+    subst W c.self.view_is (c.in_ok-way.ensures.way honest agrees levels) tree in
+    let A : RowLayout → List (Option Sector) → Option Entry → Type 0 =
+    λ f p entry. AnswersAt f p way.page c.args.key.now c.args.sought entry in
     let at_first : A c.self.inside.layout pages c.in_ok-found.field-0 =
-    subst (λ (p : List (Option Sector)). A c.self.inside.layout p c.in_ok-found.field-0) same (c.in_ok-found.ensures.entry (c.follow.ensures.only.honest.0 honest) (c.follow.ensures.agrees honest agrees)) in
-    let at_view : A view.layout pages c.in_ok-found.field-0 = subst (λ (f : RowLayout). A f pages c.in_ok-found.field-0) layout_is at_first in
-    let again = same_pages c.follow.new.pages c.entry_at.new.pages (g.D.Device.state c.follow.new.device) (g.D.Device.state c.entry_at.new.device) c.entry_at.ensures.unchanged (c.entry_at.ensures.only.state (c.follow.ensures.only.honest.0 honest)) in
+    subst (λ (p : List (Option Sector)). A c.self.inside.layout p c.in_ok-found.field-0) same
+    (c.in_ok-found.ensures.entry (c.follow.ensures.only.honest.0 honest) (c.follow.ensures.agrees honest agrees)) in
+    let at_view : A view.layout pages c.in_ok-found.field-0 =
+    subst (λ (f : RowLayout). A f pages c.in_ok-found.field-0) layout_is at_first in
+    let again = same_pages c.follow.new.pages c.entry_at.new.pages (g.D.Device.state c.follow.new.device)
+    (g.D.Device.state c.entry_at.new.device) c.entry_at.ensures.unchanged
+    (c.entry_at.ensures.only.state (c.follow.ensures.only.honest.0 honest)) in
     let still = subst (λ (p : List (Option Sector)). IsTree view.layout p view.root levels) (sym (again ∙ same)) tree in
     let honest_then = c.entry_at.ensures.only.honest.0 (c.follow.ensures.only.honest.0 honest) in
-    let agrees_then = c.entry_at.ensures.agrees (c.follow.ensures.only.honest.0 honest) (c.follow.ensures.agrees honest agrees) in
-    let is = behind view.layout pages view.root c.args.key.now levels way.path.items way.page way.right c.args.sought c.requires.sought tree leads (subst (A view.layout pages) c.in-None.is at_view) in
+    let agrees_then =
+    c.entry_at.ensures.agrees (c.follow.ensures.only.honest.0 honest) (c.follow.ensures.agrees honest agrees) in
+    let is = behind view.layout pages view.root c.args.key.now levels way.path.items way.page way.right c.args.sought
+    c.requires.sought tree leads (subst (A view.layout pages) c.in-None.is at_view) in
     c.right_entry.ensures.damaged honest_then agrees_then told levels still is.passed is.after is.around is.beside

@@ -10,21 +10,25 @@ loop-low-preserved-in-Less c =
     let node = c.args.self.now in
     let middle : ℕ = c.loop-low.low + (c.loop-low.high - c.loop-low.low) / 2 in
     let order : key_cmp (key_of node.layout (get_or node.rows middle [])) c.args.key.now ≡ Less = cc in
-    left_right node.layout node.rows c.args.key.now c.loop-low.low c.loop-low.high middle c.loop-low.invariant (omega arith) (omega arith) order
+    left_right node.layout node.rows c.args.key.now c.loop-low.low c.loop-low.high middle c.loop-low.invariant
+    (omega arith) (omega arith) order
 
 pub loop-low-preserved : goal.loop-low-preserved
 loop-low-preserved c =
     let node = c.args.self.now in
     let middle : ℕ = c.loop-low.low + (c.loop-low.high - c.loop-low.low) / 2 in
     let order : key_cmp (key_of node.layout (get_or node.rows middle [])) c.args.key.now ≡ Greater = cc in
-    left_left node.layout node.rows c.args.key.now c.loop-low.low c.loop-low.high middle c.loop-low.invariant (omega arith) (omega arith) order
+    left_left node.layout node.rows c.args.key.now c.loop-low.low c.loop-low.high middle c.loop-low.invariant
+    (omega arith) (omega arith) order
 
 pub returns-in-Equal-clause-found : goal.returns-in-Equal-clause-found
 returns-in-Equal-clause-found c =
     let node = c.args.self.now in
     let middle : ℕ = c.loop-low.low + (c.loop-low.high - c.loop-low.low) / 2 in
-    let order : key_cmp (key_of node.layout (get_or node.rows middle [])) c.args.key.now ≡ Equal = cc in
-    (omega (arith, c.loop-low.invariant.within), same_key (key_of node.layout (get_or node.rows middle [])) c.args.key.now order)
+    let order : key_cmp (key_of node.layout (get_or node.rows middle [])) c.args.key.now ≡ Equal = cc in (
+      omega (arith, c.loop-low.invariant.within),
+      same_key (key_of node.layout (get_or node.rows middle [])) c.args.key.now order,
+    )
 
 pub returns-in-Equal-clause-around : goal.returns-in-Equal-clause-around
 returns-in-Equal-clause-around c = λ up.

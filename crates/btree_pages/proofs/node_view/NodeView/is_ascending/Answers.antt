@@ -10,10 +10,15 @@ returns-in_default c =
     let place = c.loop-place.place in (
       (λ no. absurd (search (no, rules))),
       (λ up.
-          let less : key_cmp (key_of node.layout (get_or node.rows (place - 1) [])) (key_of node.layout (get_or node.rows place [])) ≡ Less = ordered node.layout node.rows up (place - 1) place (omega arith) (omega arith) in
+          let less : key_cmp (key_of node.layout (get_or node.rows (place - 1) []))
+          (key_of node.layout (get_or node.rows place [])) ≡ Less =
+          ordered node.layout node.rows up (place - 1) place (omega arith) (omega arith) in
           let found : c.cmp.result ≡ Less = cc in
           absurd (c.in_default.not-Less found)),
     )
 
 pub returns : goal.returns
-returns c = ((λ _. ascending c.args.self.now.layout c.args.self.now.rows (λ k lt. c.loop-place.invariant k (omega arith))), (λ _. refl))
+returns c = (
+  (λ _. ascending c.args.self.now.layout c.args.self.now.rows (λ k lt. c.loop-place.invariant k (omega arith))),
+  (λ _. refl),
+)

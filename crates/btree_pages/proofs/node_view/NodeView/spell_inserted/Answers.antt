@@ -27,9 +27,12 @@ returns-clause-reads c =
     let before = c.split_at_row.result.0.now in
     let behind = c.split_at_row.result.1.now in
     let kept = c.split_at_row.ensures in
-    spelled_around node (length node.rows + 1) place more (4080 - length (before ++ (one ++ behind))) c.head-head.result before one behind c.spell_around.new.spelled (take place node.rows) (drop place node.rows) c.spell_around.ensures
-    c.head-head.ensures.long (c.head-head.ensures.kind ∙ ap Some c.kind.ensures) (omega arith) (omega arith) (omega arith)
-    kept.before_length kept.before (omega (arith, length-append c.args.key.now c.args.rest.now)) kept.behind_length kept.behind
+    spelled_around node (length node.rows + 1) place more (4080 - length (before ++ (one ++ behind))) c.head-head.result
+    before one behind c.spell_around.new.spelled (take place node.rows) (drop place node.rows) c.spell_around.ensures
+    c.head-head.ensures.long (c.head-head.ensures.kind ∙ ap Some c.kind.ensures) (omega arith) (omega arith)
+    (omega arith)
+    kept.before_length kept.before (omega (arith, length-append c.args.key.now c.args.rest.now)) kept.behind_length
+    kept.behind
 
 pub returns-clause-zeros : goal.returns-clause-zeros
 returns-clause-zeros c =
@@ -38,8 +41,17 @@ returns-clause-zeros c =
     let one = c.args.key.now ++ c.args.rest.now in
     let before = c.split_at_row.result.0.now in
     let behind = c.split_at_row.result.1.now in
-    let n : length (node_with_row node c.args.place one).rows ≡ length node.rows + 1 = length-insert node.rows c.args.place one c.requires.place in
-    let parts = together row (length node.rows + 1) c.args.place (suc (length node.rows - c.args.place)) (omega arith) in
-    let long : (length node.rows + 1) * row ≡ length (before ++ (one ++ behind)) = omega (arith, length-append before (one ++ behind), length-append one behind, length-append c.args.key.now c.args.rest.now) in
-    zeros_around (node_with_row node c.args.place one) (4080 - length (before ++ (one ++ behind))) c.head-head.result (before ++ (one ++ behind)) c.spell_around.new.spelled c.spell_around.ensures c.head-head.ensures.long c.head-head.ensures.zeros
+    let n : length (node_with_row node c.args.place one).rows ≡ length node.rows + 1 =
+    length-insert node.rows c.args.place one c.requires.place in
+    let parts =
+    together row (length node.rows + 1) c.args.place (suc (length node.rows - c.args.place)) (omega arith) in
+    let long : (length node.rows + 1) * row ≡ length (before ++ (one ++ behind)) = omega (
+      arith,
+      length-append before (one ++ behind),
+      length-append one behind,
+      length-append c.args.key.now c.args.rest.now,
+    ) in
+    zeros_around (node_with_row node c.args.place one) (4080 - length (before ++ (one ++ behind))) c.head-head.result
+    (before ++ (one ++ behind)) c.spell_around.new.spelled c.spell_around.ensures c.head-head.ensures.long
+    c.head-head.ensures.zeros
     (ap (λ (k : ℕ). k * row) n ∙ long)

@@ -12,7 +12,8 @@ remove_row-requires-clause-place c =
 pub remove_row-requires-clause-fits : goal.remove_row-requires-clause-fits
 remove_row-requires-clause-fits c =
     let page = c.self.inside in
-    fits_in page.layout page.kind c.row_length-row.result page.count c.row_length-row.ensures c.self.invariant.0 c.self.invariant.1
+    fits_in page.layout page.kind c.row_length-row.result page.count c.row_length-row.ensures c.self.invariant.0
+    c.self.invariant.1
 
 pub invariant_of-self : goal.invariant_of-self
 invariant_of-self c = (c.self.invariant.0, omega (arith, c.self.invariant.1))

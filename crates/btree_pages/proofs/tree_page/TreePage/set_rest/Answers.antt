@@ -12,7 +12,8 @@ put_rest-requires-clause-place c =
 pub put_rest-requires-clause-fits : goal.put_rest-requires-clause-fits
 put_rest-requires-clause-fits c =
     let page = c.self.inside in
-    fits_in page.layout page.kind c.row_length-row.result page.count c.row_length-row.ensures c.self.invariant.0 c.self.invariant.1
+    fits_in page.layout page.kind c.row_length-row.result page.count c.row_length-row.ensures c.self.invariant.0
+    c.self.invariant.1
 
 pub invariant_of-self : goal.invariant_of-self
 invariant_of-self c = (c.self.invariant.0, omega (arith, c.self.invariant.1))

@@ -12,7 +12,8 @@ split_rows-requires-clause-place c =
 pub split_rows-requires-clause-fits : goal.split_rows-requires-clause-fits
 split_rows-requires-clause-fits c =
     let page = c.self.inside in
-    fits_in page.layout page.kind c.row_length-row.result page.count c.row_length-row.ensures c.self.invariant.0 c.self.invariant.1
+    fits_in page.layout page.kind c.row_length-row.result page.count c.row_length-row.ensures c.self.invariant.0
+    c.self.invariant.1
 
 pub overflow_sub-right : goal.overflow_sub-right
 overflow_sub-right c =

@@ -9,5 +9,6 @@ pub returns-clause-value : goal.returns-clause-value
 returns-clause-value c =
     let low : FitsSigned w64 c.self.inside.low = search rules in
     let high : FitsSigned w64 c.self.inside.high = search rules in
-    let same : number_of_halves c.self.inside.low c.self.inside.high ≡ c.args.self.coefficient = ap (λ (x : Fraction). x.coefficient) c.self.view_is in
+    let same : number_of_halves c.self.inside.low c.self.inside.high ≡ c.args.self.coefficient =
+    ap (λ (x : Fraction). x.coefficient) c.self.view_is in
     joined_again c.self.inside.low c.self.inside.high _ low high c.self.invariant.0 same

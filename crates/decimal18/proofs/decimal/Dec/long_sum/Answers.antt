@@ -13,7 +13,8 @@ returns c =
     let left : FitsSigned w128 one = search rules in
     let right : FitsSigned w128 two = search rules in
     let total : c.total.result ≡ intermediate (one +ℤ two) c.max-scale.result = simp to_z-of_z at c.total.ensures in
-    sum_of_aligned c.args.self c.args.other one two c.max-scale.result c.total.result (omega arith) c.in-Some.ensures c.in-Some-aligned.ensures total
+    sum_of_aligned c.args.self c.args.other one two c.max-scale.result c.total.result (omega arith) c.in-Some.ensures
+    c.in-Some-aligned.ensures total
 
 pub returns-in_default-aligned : goal.returns-in_default-aligned
 unfolding sum

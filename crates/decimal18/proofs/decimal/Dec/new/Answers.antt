@@ -12,7 +12,8 @@ invariant_of-result c =
     let high = c.high_part-high.result in
     let fits : FitsSigned w64 high = search rules in
     let same : high ≡ high_part z = c.high_part-high.ensures ∙ ap high_part (to_z-of_z w128 z c.ranges.coefficient) in
-    parts_kept z _ _ c.args.scale (low_again z high c.ranges.coefficient fits same) (to_z-of_z w64 high fits ∙ same) c.requires.coefficient c.requires.scale
+    parts_kept z _ _ c.args.scale (low_again z high c.ranges.coefficient fits same) (to_z-of_z w64 high fits ∙ same)
+    c.requires.coefficient c.requires.scale
 
 pub returns : goal.returns
 returns c =

@@ -14,6 +14,8 @@ returns-in-Some-checked_add c =
     let right : FitsSigned w64 two = search rules in
     let fits : FitsSigned w64 total = search rules in
     let value : total ≡ one +ℤ two = omega (arith, ints, c.in-Some-checked_add.ensures.1) in
-    let coefficient : c.short.result.coefficient ≡ total = omega (arith, ints, ap (λ (x : Fraction). x.coefficient) c.short.ensures) in
+    let coefficient : c.short.result.coefficient ≡ total =
+    omega (arith, ints, ap (λ (x : Fraction). x.coefficient) c.short.ensures) in
     let scale : c.short.result.scale ≡ c.max-scale.result = ap (λ (x : Fraction). x.scale) c.short.ensures in
-    sum_short c.args.self c.args.other c.short.result one two total c.max-scale.result (omega arith) (omega arith) c.in-Some.ensures c.in-Some-short_aligned.ensures left right value fits coefficient scale
+    sum_short c.args.self c.args.other c.short.result one two total c.max-scale.result (omega arith) (omega arith)
+    c.in-Some.ensures c.in-Some-short_aligned.ensures left right value fits coefficient scale

@@ -15,6 +15,9 @@ loop-number-preserved c =
     let within = (c.requires number nothing below).performer in
     let fits = c.loop-number.invariant.lasts in
     let here : one.performer < length last = omega arith in
-    subst (IsGroupedTo c.args.count performed (number + 1) (set last one.performer (Some number))) (sym c.in_ok-push.ensures.items)
-    (grouped_more c.args.count performed number last c.loop-number.before.items one c.index.result.now c.loop-number.invariant
-    (slice_get-get_or performed number nothing below) within (get_or_read last one.performer c.index.result.now here c.index.ensures None))
+    subst (IsGroupedTo c.args.count performed (number + 1) (set last one.performer (Some number)))
+    (sym c.in_ok-push.ensures.items)
+    (grouped_more c.args.count performed number last c.loop-number.before.items one c.index.result.now
+    c.loop-number.invariant
+    (slice_get-get_or performed number nothing below) within
+    (get_or_read last one.performer c.index.result.now here c.index.ensures None))

@@ -7,7 +7,8 @@ invariant-steps l = record {
   stands : IsWalkState l.performs.performed.now l.self.states.items l.self.path.items l.self.placed;
   same : length l.self.states.items ≡ length l.fn.self.states.items;
   root_seen : is_seen (state l.self.states.items l.root) ≡ true;
-  seen : (paragraph : ℕ) → is_seen (state l.fn.self.states.items paragraph) ≡ true → is_seen (state l.self.states.items paragraph) ≡ true;
+  seen : (paragraph : ℕ) → is_seen (state l.fn.self.states.items paragraph) ≡ true
+      → is_seen (state l.self.states.items paragraph) ≡ true;
 }
 
 abbrev pub decreases-steps : goal.decreases-steps

@@ -15,16 +15,21 @@ moved-requires-clause-over c =
     (c.requires.stands.on_path (length path) c.args.visit (pushed_here path c.args.visit)).over
 
 pub place-requires-clause-within : goal.place-requires-clause-within
-place-requires-clause-within c = last_within c.args.performs.now.performed.now c.args.self.now.states.items c.args.self.now.path.items c.args.self.now.placed c.args.visit c.requires.stands
+place-requires-clause-within c = last_within c.args.performs.now.performed.now c.args.self.now.states.items
+    c.args.self.now.path.items c.args.self.now.placed c.args.visit c.requires.stands
 
 pub place-requires-clause-room : goal.place-requires-clause-room
-place-requires-clause-room c = last_room c.args.performs.now.performed.now c.args.self.now.states.items c.args.self.now.path.items c.args.self.now.placed c.args.visit c.requires.stands
+place-requires-clause-room c = last_room c.args.performs.now.performed.now c.args.self.now.states.items
+    c.args.self.now.path.items c.args.self.now.placed c.args.visit c.requires.stands
 
 pub returns-in_default : goal.returns-in_default
 returns-in_default c =
-    let all = subst (λ s. AllPlaced c.args.performs.now.performed.now s c.args.visit.paragraph) c.deref.ensures.value c.in_default.ensures in
-    placed_on c.args.performs.now.performed.now c.args.self.now.states.items c.place.new.self.states.items c.args.self.now.path.items c.place.new.self.path.items
-    c.args.self.now.placed c.place.new.self.placed c.args.visit c.requires.stands all c.place.ensures.states c.place.ensures.path c.place.ensures.placed
+    let all = subst (λ s. AllPlaced c.args.performs.now.performed.now s c.args.visit.paragraph) c.deref.ensures.value
+    c.in_default.ensures in
+    placed_on c.args.performs.now.performed.now c.args.self.now.states.items c.place.new.self.states.items
+    c.args.self.now.path.items c.place.new.self.path.items
+    c.args.self.now.placed c.place.new.self.placed c.args.visit c.requires.stands all c.place.ensures.states
+    c.place.ensures.path c.place.ensures.placed
 
 pub returns-in-Open : goal.returns-in-Open
 returns-in-Open c =
@@ -33,7 +38,8 @@ returns-in-Open c =
     let path = c.args.self.now.path.items in
     let next = c.in-Some.visit in
     let has = subst (λ s. HasNext performed s c.args.visit.paragraph next) c.deref.ensures.value c.in-Some.ensures in
-    let moved = moved_stands performed states path c.args.self.now.placed c.args.visit next c.requires.stands has.same has.over in
+    let moved =
+    moved_stands performed states path c.args.self.now.placed c.args.visit next c.requires.stands has.same has.over in
     let back = sym (get_or_read states next.next c.index.result.now has.within c.index.ensures Unseen) ∙ c.in-Open.is in
     subst (λ p. IsCycle performed (length states) (drop c.in-Open.depth p)) (sym c.in_ok-push.ensures.items)
     (is_ring performed states path c.args.self.now.placed next c.in-Open.depth moved has.leads back)
@@ -46,13 +52,20 @@ returns c =
     let next = c.in-Some.visit in
     let visit = c.visit.result in
     let has = subst (λ s. HasNext performed s c.args.visit.paragraph next) c.deref.ensures.value c.in-Some.ensures in
-    let moved = moved_stands performed states path c.args.self.now.placed c.args.visit next c.requires.stands has.same has.over in
-    let middle = subst (λ p. IsWalkState performed states p c.args.self.now.placed) (sym c.in_ok-push.ensures.items) moved in
+    let moved =
+    moved_stands performed states path c.args.self.now.placed c.args.visit next c.requires.stands has.same has.over in
+    let middle =
+    subst (λ p. IsWalkState performed states p c.args.self.now.placed) (sym c.in_ok-push.ensures.items) moved in
     let read = get_or_read states next.next c.index.result.now has.within c.index.ensures Unseen in
-    let unseen = is_unseen (state states next.next) has.unplaced (λ depth e. c.in_default-index.not-Open depth (read ∙ e)) in
+    let unseen =
+    is_unseen (state states next.next) has.unplaced (λ depth e. c.in_default-index.not-Open depth (read ∙ e)) in
     let same = c.visit.ensures.paragraph in
-    entered_on performed states c.enter.new.self.states.items c.push.new.self.items c.enter.new.self.path.items c.args.self.now.placed c.enter.new.self.placed visit
-    c.args.performs.now.last.items c.args.performs.now.before.items c.requires.grouped middle (subst (λ p. p < length states) (sym same) has.within)
-    (ap (state states) same ∙ unseen) (c.visit.ensures.at ∙ ap (λ p. get_or c.args.performs.now.last.items p None) (sym same)) c.visit.ensures.next
-    (only_last_leads performed path c.push.new.self.items next visit c.in_ok-push.ensures.items (record { leads = has.leads; next = sym same }))
+    entered_on performed states c.enter.new.self.states.items c.push.new.self.items c.enter.new.self.path.items
+    c.args.self.now.placed c.enter.new.self.placed visit
+    c.args.performs.now.last.items c.args.performs.now.before.items c.requires.grouped middle
+    (subst (λ p. p < length states) (sym same) has.within)
+    (ap (state states) same ∙ unseen)
+    (c.visit.ensures.at ∙ ap (λ p. get_or c.args.performs.now.last.items p None) (sym same)) c.visit.ensures.next
+    (only_last_leads performed path c.push.new.self.items next visit c.in_ok-push.ensures.items
+    (record { leads = has.leads; next = sym same }))
     c.in_ok-enter.ensures.states c.in_ok-enter.ensures.path c.enter.ensures.placed

@@ -9,4 +9,5 @@ pub returns-clause-bounded : goal.returns-clause-bounded
 returns-clause-bounded c = subst IsBounded c.self.view_is (any_bounded c.self.inside.description c.self.invariant)
 
 pub returns-clause-editing : goal.returns-clause-editing
-returns-clause-editing c = subst IsEditingPicture c.self.view_is (any_editing c.self.inside.description c.self.invariant)
+returns-clause-editing c =
+    subst IsEditingPicture c.self.view_is (any_editing c.self.inside.description c.self.invariant)

@@ -4,4 +4,5 @@ use Rattle.picture.proofs.Pictures.{any_digits}
 use Rattle.picture.proofs.picture.Picture.scale.Goals as goal
 
 pub returns-clause-most : goal.returns-clause-most
-returns-clause-most c = subst (λ (p : Description). p.scale ≤ p.digits) c.self.view_is (any_digits c.self.inside.description c.self.invariant).1
+returns-clause-most c = subst (λ (p : Description). p.scale ≤ p.digits) c.self.view_is
+    (any_digits c.self.inside.description c.self.invariant).1

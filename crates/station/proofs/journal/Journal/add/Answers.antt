@@ -9,16 +9,20 @@ invariant_of-self c =
     let j = c.args.self.now in
     record {
       few_sectors = j.few_sectors;
-      current = present_same (made_of j.start.items j.lines.items) j.calls.items c.push.new.self.items c.args.call (is_ok c.push.result) j.present.items c.requires c.push.ensures.items j.current;
-      before_within = grown_within j.calls.items c.push.new.self.items c.args.call (is_ok c.push.result) j.before c.push.ensures.items j.before_within;
+      current = present_same (made_of j.start.items j.lines.items) j.calls.items c.push.new.self.items c.args.call
+          (is_ok c.push.result) j.present.items c.requires c.push.ensures.items j.current;
+      before_within = grown_within j.calls.items c.push.new.self.items c.args.call (is_ok c.push.result) j.before
+          c.push.ensures.items j.before_within;
     }
 
 pub returns-clause-state : goal.returns-clause-state
 returns-clause-state c =
     let j = c.args.self.now in
-    ap (state_after_calls (made_of j.start.items j.lines.items)) c.in_ok-push.ensures.items ∙ after_push (made_of j.start.items j.lines.items) j.calls.items c.args.call
+    ap (state_after_calls (made_of j.start.items j.lines.items)) c.in_ok-push.ensures.items
+    ∙ after_push (made_of j.start.items j.lines.items) j.calls.items c.args.call
 
 pub returns-clause-history : goal.returns-clause-history
 returns-clause-history c =
     let j = c.args.self.now in
-    since_push (made_of j.start.items j.lines.items) j.calls.items c.push.new.self.items c.args.call j.before j.before_within c.in_ok-push.ensures.items
+    since_push (made_of j.start.items j.lines.items) j.calls.items c.push.new.self.items c.args.call j.before
+    j.before_within c.in_ok-push.ensures.items

@@ -8,6 +8,9 @@ use Rattle.station.proofs.memory.MemoryStationStation.show.Goals as goal
 pub returns-clause-cut : goal.returns-clause-cut
 returns-clause-cut c =
     let j = c.args.self.now.journal in
-    subst (λ (k : Journal). (n : ℕ) × Shows (journal_history j) (journal_state j) (take n c.args.bytes.now) (journal_history k) (journal_state k)) (sym c.grown.ensures.journal)
-    (shows_or_not c.show-grown.result (journal_history j) (journal_state j) c.args.bytes.now (journal_history c.show-grown.new.self) (journal_state c.show-grown.new.self)
-    c.show-grown.ensures.state c.show-grown.ensures.history c.show-grown.ensures.same_state c.show-grown.ensures.same_history)
+    subst (λ (k : Journal). (n : ℕ) × Shows (journal_history j) (journal_state j) (take n c.args.bytes.now)
+    (journal_history k) (journal_state k)) (sym c.grown.ensures.journal)
+    (shows_or_not c.show-grown.result (journal_history j) (journal_state j) c.args.bytes.now
+    (journal_history c.show-grown.new.self) (journal_state c.show-grown.new.self)
+    c.show-grown.ensures.state c.show-grown.ensures.history c.show-grown.ensures.same_state
+    c.show-grown.ensures.same_history)
