@@ -1,5 +1,5 @@
 -- The code of conditions doesn't depend on the instructions before it, but on how many there are.
-use Rattle.std.proofs.Common.{Bool, List, [], ◌∷◌, map, Option, Some, None, length, refl, sym, subst}
+use Rattle.std.proofs.Common.{Bool, true, false, not, ◌&&◌, List, [], ◌∷◌, map, Option, Some, None, length, refl, sym, subst}
 use Rattle.std.specs.Prelude.{slice_get}
 use Rattle.source_tree.specs.declared.literal.Literal.{Literal}
 use Rattle.source_tree.specs.declared.entry.ValueRange.{ValueRange}
@@ -8,6 +8,7 @@ use Rattle.source_tree.specs.declared.expression.Operand.{Operand}
 use Rattle.source_tree.specs.declared.expression.Operand.TheVariants as operand
 use Rattle.source_tree.specs.declared.expression.Expression.{Expression}
 use Rattle.source_tree.specs.declared.condition.Relation.{Relation}
+use Rattle.source_tree.specs.declared.condition.Relation.TheVariants.{Equal}
 use Rattle.source_tree.specs.declared.condition.Class.{Class}
 use Rattle.source_tree.specs.declared.condition.Side.{Side}
 use Rattle.source_tree.specs.declared.condition.Side.TheVariants as side
@@ -26,7 +27,7 @@ use Rattle.codegen.specs.Pieces.{Fragment, no_tables, sequence, in_order}
 use Rattle.codegen.specs.Meeting.{nothing_fragment}
 use Rattle.codegen.specs.DataCode.{dimensions_of, work_fragment, works_fragment, number_fragment, literal_entry, subscripts_fragment, take_fragment, sender_fragment}
 use Rattle.codegen.specs.ArithmeticCode.{zero_number, expression_fragment}
-use Rattle.codegen.specs.ConditionCode.{condition_item, values_named, range_fragment, value_range_fragment, values_fragment, and_fragment, or_fragment, all_fragment, any_fragment, condition_name_fragment, compared_fragment, side_fragment, relation_from, condition_layer_fragment, condition_fragment}
+use Rattle.codegen.specs.ConditionCode.{condition_item, values_named, range_fragment, value_range_fragment, values_fragment, and_fragment, or_fragment, all_fragment, any_fragment, condition_name_fragment, compared_fragment, zero_literal, side_fragment, pair_fragment, is_numeric_operand, is_operand_at_hand, taken_first, relation_from, condition_layer_fragment, condition_fragment}
 use Rattle.codegen.proofs.Blind.{Blind, tables_blind, both_blind, in_order_blind, work_blind, works_blind, number_blind, subscripts_blind, taking_blind, sender_blind}
 use Rattle.codegen.proofs.BlindArithmetic.{value_blind, expression_blind}
 use Rattle.codegen.proofs.ConditionForms.{mapped_piece}
@@ -66,16 +67,22 @@ module _ (items : List LocatedItem) where
   side_blind (side.Expression one) = expression_blind items one
   side_blind (side.Literal one) = value_blind items (operand.Literal one)
 
-  senders_blind : (a b : Operand) (one : Relation) → Blind (sequence (sender_fragment items a) (compared_fragment items one b))
-  senders_blind a b one = both_blind (sender_fragment items a) (compared_fragment items one b) (sender_blind items a) (compared_blind one b)
+  pair_blind : (a : Operand) (one : Relation) (b : Operand) → Blind (pair_fragment items a one b)
+  pair_blind a one b = both_blind (sender_fragment items a) (compared_fragment items one b) (sender_blind items a) (compared_blind one b)
 
   sides_blind : (left : Side) (one : Relation) (right : Side) → Blind (sequence (side_fragment items left) (sequence (side_fragment items right) (work_fragment (i.Test (t.CompareNumbers one)))))
   sides_blind left one right =
       both_blind (side_fragment items left) (sequence (side_fragment items right) (work_fragment (i.Test (t.CompareNumbers one)))) (side_blind left)
       (both_blind (side_fragment items right) (work_fragment (i.Test (t.CompareNumbers one))) (side_blind right) (work_blind (i.Test (t.CompareNumbers one))))
 
+  taken_blind : (first numeric : Bool) (a b : Operand) (left : Side) (one : Relation) (right : Side) → Blind (taken_first items first numeric a b left one right)
+  taken_blind false numeric a b left one right = pair_blind a one b
+  taken_blind true true a b left one right = sides_blind left one right
+  taken_blind true false a b left one right =
+      both_blind (pair_fragment items a Equal (operand.Literal zero_literal)) (pair_fragment items a one b) (pair_blind a Equal (operand.Literal zero_literal)) (pair_blind a one b)
+
   relation_blind : (a b : Option Operand) (left : Side) (one : Relation) (right : Side) → Blind (relation_from items a b left one right)
-  relation_blind (Some a) (Some b) left one right = senders_blind a b one
+  relation_blind (Some a) (Some b) left one right = taken_blind (is_numeric_operand items a && not (is_operand_at_hand items b)) (is_numeric_operand items b) a b left one right
   relation_blind (Some a) None left one right = sides_blind left one right
   relation_blind None (Some b) left one right = sides_blind left one right
   relation_blind None None left one right = sides_blind left one right

@@ -19,6 +19,7 @@ use Rattle.source_tree.specs.declared.expression.Expression.{Expression, out-Exp
 use Rattle.source_tree.specs.declared.expression.Expression.TheOpen.{Expression-F}
 use Rattle.source_tree.specs.declared.expression.Expression.TheFolds.{map-Expression, fold_out-Expression}
 use Rattle.source_tree.specs.declared.condition.Relation.{Relation}
+use Rattle.source_tree.specs.declared.condition.Relation.TheVariants.{Equal}
 use Rattle.source_tree.specs.declared.condition.SignTest.{SignTest}
 use Rattle.source_tree.specs.declared.condition.Class.{Class}
 use Rattle.source_tree.specs.declared.condition.Side.{Side}
@@ -27,11 +28,13 @@ use Rattle.source_tree.specs.ArithmeticRules.{is_numeric_kind, numeric_item, is_
 use Rattle.source_tree.specs.Broken.{RuleBreach, where_so, each}
 use Rattle.source_tree.specs.Computed.{expression_value}
 use Rattle.source_tree.specs.ConditionRules.{SideKind, Number, Characters, compared_kind, compared_literal, compared_only, compared_alone, may_compare, is_literal_alone, side_place, condition_subscripts, condition_name_rules, side_from, side_rules, relation_rules}
-use Rattle.source_tree.specs.Conditions.{ConditionValue, sign_relation, alone, alone_side, relation_holds, name_holds}
+use Rattle.source_tree.specs.Conditions.{ConditionValue, sign_relation, alone, alone_side, relation_of, relation_holds, name_holds}
+use Rattle.source_tree.specs.Evaluated.{◌>>=◌}
 use Rattle.source_tree.specs.Literals.{literal_sender}
 use Rattle.source_tree.specs.LookUp.{NamedCondition, items_named, conditions_named, first}
 use Rattle.source_tree.specs.NameRules.{unique_name_rules, subscript_rules, literal_rules, reference_rules, any_item, operand_rules}
 use Rattle.source_tree.specs.Places.{LocatedItem}
+use Rattle.source_tree.specs.Storage.{Storage}
 use Rattle.data_instructions.specs.declared.tables.DataTables.{DataTables}
 use Rattle.data_instructions.specs.declared.tables.LiteralSender.{LiteralSender}
 use Rattle.data_instructions.specs.declared.test.Test.TheVariants as t
@@ -41,21 +44,22 @@ use Rattle.data_instructions.specs.Tables.{IsTables}
 use Rattle.data_instructions.specs.Codes.{data_item, IsTakingCode, IsSenderCode, AreSubscriptsCode}
 use Rattle.data_instructions.specs.Chains.{LiesWhole}
 use Rattle.data_instructions.specs.ArithmeticCodes.{Computes, PushesNumber, IsNumberCode, IsValueCode, LiesOperand}
-use Rattle.data_instructions.specs.ConditionCodes.{Decides, KnowsTest, negation, IsComparedCode, IsSideCode, IsRelationCode, IsSignCode, IsClassCode, IsRangeTest, AreValuesCode, IsNameCode, LiesAlone, LiesCondition, sign_truth, class_truth}
-use Rattle.data_instructions.proofs.ConditionChains.{relation_known, sign_known, class_known, name_known}
-use Rattle.data_instructions.proofs.Conditions.{relation_works, sign_works, class_works, name_works}
+use Rattle.data_instructions.specs.ConditionCodes.{Decides, KnowsTest, negation, IsComparedCode, IsSideCode, IsPairCode, AreNumbersCode, IsSignCode, IsClassCode, IsRangeTest, AreValuesCode, IsNameCode, LiesCondition, pair_truth, numbers_truth, sign_truth, class_truth}
+use Rattle.data_instructions.proofs.ConditionChains.{both_known, pair_known, sides_known, sign_known, class_known, name_known}
+use Rattle.data_instructions.proofs.Conditions.{both_decide, decides_alike, pair_works, sides_work, sign_works, class_works, name_works}
 use Rattle.data_instructions.proofs.Expressions.{value_works, value_known}
 use Rattle.code_image.specs.declared.code.Code.{Code}
-use Rattle.codegen.specs.Pieces.{sequence}
+use Rattle.codegen.specs.Pieces.{Fragment, sequence}
 use Rattle.codegen.specs.DataCode.{dimensions_of, work_fragment, works_fragment, number_fragment, literal_entry, subscripts_fragment, take_fragment, sender_fragment}
 use Rattle.codegen.specs.ArithmeticCode.{zero_number, value_fragment, expression_fragment}
-use Rattle.codegen.specs.ConditionCode.{condition_number, condition_item, values_of, values_named, range_fragment, value_range_fragment, values_fragment, condition_name_fragment, compared_fragment, side_fragment, relation_from, relation_fragment}
+use Rattle.codegen.specs.ConditionCode.{condition_number, condition_item, values_of, values_named, range_fragment, value_range_fragment, values_fragment, condition_name_fragment, zero_literal, compared_fragment, side_fragment, numbers_fragment, pair_fragment, is_numeric_operand, is_operand_at_hand, taken_first, relation_from, relation_fragment}
 use Rattle.codegen.proofs.Codes.{left_none, right_none, Coded, sender_coded, subscripts_coded}
 use Rattle.codegen.proofs.CodedPieces.{CodedBy, weaker_by, both_by, before_by, behind_by}
 use Rattle.codegen.proofs.ConditionItems.{condition_there, condition_item_there}
 use Rattle.codegen.proofs.ExpressionCodes.{number_codes, taking_codes, value_codes, expression_codes}
 use Rattle.codegen.proofs.Integers.{kept, not_false}
 use Rattle.codegen.proofs.Lying.{lies_all, lies_operand}
+use Rattle.codegen.proofs.OperandOrder.{taken_alike, looked_first, numbers_alike, compared_as_number}
 use Rattle.codegen.proofs.Standing.{Stands, at_seam, sender_stands}
 
 -- It decides this truth, and leaves all as it was but for the sender.
@@ -96,6 +100,10 @@ beside_left x may is = let not : may_compare x (Number false) ≡ false = ap (λ
 
 beside_right : (x : SideKind) → may_compare (Number false) x ≡ true → x ≡ Characters → ⊥
 beside_right x may is = let not : may_compare (Number false) x ≡ false = ap (may_compare (Number false)) is in absurd cc
+
+first_so : (a b : Bool) → (a && b) ≡ true → a ≡ true
+first_so true b e = refl
+first_so false b e = absurd cc
 
 second_false : (a b : Bool) → (a || b) ≡ false → b ≡ false
 second_false false b e = e
@@ -190,10 +198,10 @@ module _ (items : List LocatedItem) (whole : Code) (entries : (n : ℕ) (one : L
     };
   }
 
-  alone_codes : (a b : Operand) (left : Side) (one : Relation) (right : Side) → operand_rules items a ≡ [] → operand_rules items b ≡ []
-      → CodedBy whole (IsRelationCode items whole.tables (Some a) (Some b) left one right) (relation_from items (Some a) (Some b) left one right)
-  alone_codes a b left one right e f =
-      both_by whole (IsSenderCode items whole.tables a) (IsComparedCode items whole.tables one b) (IsRelationCode items whole.tables (Some a) (Some b) left one right) (sender_fragment items a)
+  pair_codes : (a : Operand) (one : Relation) (b : Operand) → operand_rules items a ≡ [] → operand_rules items b ≡ []
+      → CodedBy whole (IsPairCode items whole.tables a one b) (pair_fragment items a one b)
+  pair_codes a one b e f =
+      both_by whole (IsSenderCode items whole.tables a) (IsComparedCode items whole.tables one b) (IsPairCode items whole.tables a one b) (sender_fragment items a)
       (compared_fragment items one b)
       (sender_codes a e) (compared_codes one b f) (λ front back is other. (front, is, back, other, refl))
 
@@ -315,29 +323,14 @@ module _ (items : List LocatedItem) (whole : Code) (entries : (n : ℕ) (one : L
 
     -- two sides as numbers
     sides_codes : (left : Side) (one : Relation) (right : Side) → number_rules_of items left ≡ [] → number_rules_of items right ≡ []
-        → CodedBy whole (IsRelationCode items whole.tables None None left one right) (relation_from items None None left one right)
+        → CodedBy whole (AreNumbersCode items whole.tables left one right) (numbers_fragment items left one right)
     sides_codes left one right e f =
         let test = i.Test (t.CompareNumbers one) in
         let Back = λ (code : List DataInstruction). (back : List DataInstruction) × IsSideCode items whole.tables right back × (code ≡ back ++ (test ∷ [])) in
-        both_by whole (IsSideCode items whole.tables left) Back (IsRelationCode items whole.tables None None left one right) (side_fragment items left)
+        both_by whole (IsSideCode items whole.tables left) Back (AreNumbersCode items whole.tables left one right) (side_fragment items left)
         (sequence (side_fragment items right) (work_fragment test)) (side_codes left e)
         (behind_by whole (IsSideCode items whole.tables right) Back (side_fragment items right) (test ∷ []) (side_codes right f) (λ code is. (code, is, refl)))
         (λ front back is other. (front, is, other.0, other.1, ap (λ l. front ++ l) other.2))
-
-    relation_from_codes : (a b : Option Operand) (left : Side) (one : Relation) (right : Side) → alone_side left ≡ a → alone_side right ≡ b → KeepsRelation items left right
-        → CodedBy whole (IsRelationCode items whole.tables a b left one right) (relation_from items a b left one right)
-    relation_from_codes (Some a) (Some b) left one right is other k = alone_codes a b left one right (alone_keeps items left a is k.left_keeps) (alone_keeps items right b other k.right_keeps)
-    relation_from_codes (Some a) None left one right is other k =
-        let may = sym (ap (λ (o : Option Operand). may_compare (compared_alone items (alone_side left)) (compared_alone items o)) other) ∙ k.may in
-        sides_codes left one right (number_side items left k.left_keeps (beside_left (compared_alone items (alone_side left)) may))
-        (number_side items right k.right_keeps (λ e. let number : compared_alone items (alone_side right) ≡ Number false = ap (compared_alone items) other in absurd cc))
-    relation_from_codes None (Some b) left one right is other k =
-        let may = sym (ap (λ (o : Option Operand). may_compare (compared_alone items o) (compared_alone items (alone_side right))) is) ∙ k.may in
-        sides_codes left one right (number_side items left k.left_keeps (λ e. let number : compared_alone items (alone_side left) ≡ Number false = ap (compared_alone items) is in absurd cc))
-        (number_side items right k.right_keeps (beside_right (compared_alone items (alone_side right)) may))
-    relation_from_codes None None left one right is other k =
-        sides_codes left one right (number_side items left k.left_keeps (λ e. let number : compared_alone items (alone_side left) ≡ Number false = ap (compared_alone items) is in absurd cc))
-        (number_side items right k.right_keeps (λ e. let number : compared_alone items (alone_side right) ≡ Number false = ap (compared_alone items) other in absurd cc))
 
     sign_codes : (value : Expression) (negated : Bool) (one : SignTest) → expression_rules items value ≡ []
         → CodedBy whole (IsSignCode items whole.tables value negated one)
@@ -358,21 +351,80 @@ module _ (items : List LocatedItem) (whole : Code) (entries : (n : ℕ) (one : L
     lies_alone (operand.Item one) e = lies_all items whole entries lie any_item one e
     lies_alone (operand.Literal one) e = tt
 
-    lie_alone : (a b : Option Operand) (left right : Side) → alone_side left ≡ a → alone_side right ≡ b → KeepsRelation items left right → LiesAlone items whole.tables a b
-    lie_alone (Some a) (Some b) left right is other k = (lies_alone a (alone_keeps items left a is k.left_keeps), lies_alone b (alone_keeps items right b other k.right_keeps))
-    lie_alone (Some a) None left right is other k = tt
-    lie_alone None (Some b) left right is other k = tt
-    lie_alone None None left right is other k = tt
+    pair_tested : (a : Operand) (one : Relation) (b : Operand) → operand_rules items a ≡ [] → operand_rules items b ≡ []
+        → CodedBy whole (Tested whole.tables (pair_truth items a one b)) (pair_fragment items a one b)
+    pair_tested a one b e f =
+        weaker_by whole (IsPairCode items whole.tables a one b) (Tested whole.tables (pair_truth items a one b)) (pair_fragment items a one b)
+        (λ code is. (pair_works items whole.tables order a one b code is, pair_known items whole.tables a one b code is (lies_alone a e) (lies_alone b f))) (pair_codes a one b e f)
+
+    numbers_tested : (left : Side) (one : Relation) (right : Side) → number_rules_of items left ≡ [] → number_rules_of items right ≡ []
+        → CodedBy whole (Tested whole.tables (numbers_truth items left one right)) (numbers_fragment items left one right)
+    numbers_tested left one right e f =
+        weaker_by whole (AreNumbersCode items whole.tables left one right) (Tested whole.tables (numbers_truth items left one right)) (numbers_fragment items left one right)
+        (λ code is. (sides_work items whole.tables left one right code is, sides_known items whole.tables left one right code is)) (sides_codes left one right e f)
+
+    -- what a relation says, said in another way
+    as_relation : (value : ConditionValue) (a b : Operand) (left : Side) (one : Relation) (right : Side) (piece : Fragment)
+        → ((storage : Storage) → value storage ≡ relation_of items (Some a) (Some b) left one right storage) → CodedBy whole (Tested whole.tables value) piece
+        → CodedBy whole (Tested whole.tables (relation_of items (Some a) (Some b) left one right)) piece
+    as_relation value a b left one right piece same =
+        weaker_by whole (Tested whole.tables value) (Tested whole.tables (relation_of items (Some a) (Some b) left one right)) piece
+        (λ code is. (decides_alike whole.tables value (relation_of items (Some a) (Some b) left one right) code same is.0, is.1))
+
+    -- a test, and another
+    both_tested : (one other : ConditionValue) (front back : Fragment) → CodedBy whole (Tested whole.tables one) front → CodedBy whole (Tested whole.tables other) back
+        → CodedBy whole (Tested whole.tables (λ storage. one storage >>= (λ _. other storage))) (sequence front back)
+    both_tested one other front back =
+        both_by whole (Tested whole.tables one) (Tested whole.tables other) (Tested whole.tables (λ storage. one storage >>= (λ _. other storage))) front back
+        (λ a b is also. (both_decide whole.tables one other a b is.0 also.0, both_known whole.tables a b is.1 also.1))
+
+    -- two operands alone: whether the left one is taken first, and whether the right one is a number
+    alone_tested : (first numeric : Bool) (a b : Operand) (left : Side) (one : Relation) (right : Side) → alone_side left ≡ Some a → alone_side right ≡ Some b → KeepsRelation items left right
+        → (is_numeric_operand items a && not (is_operand_at_hand items b)) ≡ first → is_numeric_operand items b ≡ numeric
+        → CodedBy whole (Tested whole.tables (relation_of items (Some a) (Some b) left one right)) (taken_first items first numeric a b left one right)
+    alone_tested false numeric a b left one right is other k before number =
+        let e = alone_keeps items left a is k.left_keeps in
+        let f = alone_keeps items right b other k.right_keeps in
+        as_relation (pair_truth items a one b) a b left one right (pair_fragment items a one b) (λ storage. taken_alike items a b left one right storage before e f) (pair_tested a one b e f)
+    alone_tested true true a b left one right is other k before number =
+        let e = alone_keeps items left a is k.left_keeps in
+        let f = alone_keeps items right b other k.right_keeps in
+        let left_number = first_so (is_numeric_operand items a) (not (is_operand_at_hand items b)) before in
+        as_relation (numbers_truth items left one right) a b left one right (numbers_fragment items left one right)
+        (λ storage. numbers_alike items a b left one right storage is other left_number number e f)
+        (numbers_tested left one right
+        (number_side items left k.left_keeps (λ c. compared_as_number items a e left_number (sym (ap (compared_alone items) is) ∙ c)))
+        (number_side items right k.right_keeps (λ c. compared_as_number items b f number (sym (ap (compared_alone items) other) ∙ c))))
+    alone_tested true false a b left one right is other k before number =
+        let e = alone_keeps items left a is k.left_keeps in
+        let f = alone_keeps items right b other k.right_keeps in
+        let left_number = first_so (is_numeric_operand items a) (not (is_operand_at_hand items b)) before in
+        let zero = operand.Literal zero_literal in
+        as_relation (λ storage. pair_truth items a Equal zero storage >>= (λ _. pair_truth items a one b storage)) a b left one right
+        (sequence (pair_fragment items a Equal zero) (pair_fragment items a one b))
+        (λ storage. looked_first items a b left one right storage left_number)
+        (both_tested (pair_truth items a Equal zero) (pair_truth items a one b) (pair_fragment items a Equal zero) (pair_fragment items a one b)
+        (pair_tested a Equal zero e refl) (pair_tested a one b e f))
+
+    relation_from_tested : (a b : Option Operand) (left : Side) (one : Relation) (right : Side) → alone_side left ≡ a → alone_side right ≡ b → KeepsRelation items left right
+        → CodedBy whole (Tested whole.tables (relation_of items a b left one right)) (relation_from items a b left one right)
+    relation_from_tested (Some a) (Some b) left one right is other k =
+        alone_tested (is_numeric_operand items a && not (is_operand_at_hand items b)) (is_numeric_operand items b) a b left one right is other k refl refl
+    relation_from_tested (Some a) None left one right is other k =
+        let may = sym (ap (λ (o : Option Operand). may_compare (compared_alone items (alone_side left)) (compared_alone items o)) other) ∙ k.may in
+        numbers_tested left one right (number_side items left k.left_keeps (beside_left (compared_alone items (alone_side left)) may))
+        (number_side items right k.right_keeps (λ e. let number : compared_alone items (alone_side right) ≡ Number false = ap (compared_alone items) other in absurd cc))
+    relation_from_tested None (Some b) left one right is other k =
+        let may = sym (ap (λ (o : Option Operand). may_compare (compared_alone items o) (compared_alone items (alone_side right))) is) ∙ k.may in
+        numbers_tested left one right (number_side items left k.left_keeps (λ e. let number : compared_alone items (alone_side left) ≡ Number false = ap (compared_alone items) is in absurd cc))
+        (number_side items right k.right_keeps (beside_right (compared_alone items (alone_side right)) may))
+    relation_from_tested None None left one right is other k =
+        numbers_tested left one right (number_side items left k.left_keeps (λ e. let number : compared_alone items (alone_side left) ≡ Number false = ap (compared_alone items) is in absurd cc))
+        (number_side items right k.right_keeps (λ e. let number : compared_alone items (alone_side right) ≡ Number false = ap (compared_alone items) other in absurd cc))
 
     pub relation_tested : (left : Side) (one : Relation) (right : Side) → relation_rules items left right ≡ []
         → CodedBy whole (Tested whole.tables (relation_holds items left one right)) (relation_fragment items left one right)
-    relation_tested left one right e =
-        let a = alone_side left in
-        let b = alone_side right in
-        let k = keeps_relation items left right e in
-        weaker_by whole (IsRelationCode items whole.tables a b left one right) (Tested whole.tables (relation_holds items left one right)) (relation_fragment items left one right)
-        (λ code is. (relation_works items whole.tables order a b left one right code is, relation_known items whole.tables a b left one right code is (lie_alone a b left right refl refl k)))
-        (relation_from_codes a b left one right refl refl k)
+    relation_tested left one right e = relation_from_tested (alone_side left) (alone_side right) left one right refl refl (keeps_relation items left right e)
 
     pub sign_tested : (value : Expression) (negated : Bool) (one : SignTest) → expression_rules items value ≡ []
         → CodedBy whole (Tested whole.tables (sign_truth items value negated one))

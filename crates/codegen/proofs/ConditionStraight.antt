@@ -1,5 +1,5 @@
 -- The code of conditions without AND and OR is straight: it counts nothing and leads nowhere.
-use Rattle.std.proofs.Common.{◌≡◌, ℕ, zero, suc, Bool, List, [], ◌∷◌, Option, Some, None, refl}
+use Rattle.std.proofs.Common.{◌≡◌, ℕ, zero, suc, Bool, true, false, ◌&&◌, List, [], ◌∷◌, Option, Some, None, refl}
 use Rattle.std.specs.Prelude.{slice_get, not}
 use Rattle.std.specs.List.{AllByRecursion}
 use Rattle.source_tree.specs.declared.literal.Literal.{Literal}
@@ -9,6 +9,7 @@ use Rattle.source_tree.specs.declared.expression.Operand.{Operand}
 use Rattle.source_tree.specs.declared.expression.Operand.TheVariants as operand
 use Rattle.source_tree.specs.declared.expression.Expression.{Expression}
 use Rattle.source_tree.specs.declared.condition.Relation.{Relation}
+use Rattle.source_tree.specs.declared.condition.Relation.TheVariants.{Equal}
 use Rattle.source_tree.specs.declared.condition.Class.{Class}
 use Rattle.source_tree.specs.declared.condition.Side.{Side}
 use Rattle.source_tree.specs.declared.condition.Side.TheVariants as side
@@ -26,7 +27,7 @@ use Rattle.codegen.specs.Pieces.{sequence}
 use Rattle.codegen.specs.DataCode.{dimensions_of, work_fragment, works_fragment, number_fragment, subscripts_fragment, take_fragment, sender_fragment}
 use Rattle.codegen.specs.ArithmeticCode.{zero_number, expression_fragment}
 use Rattle.codegen.specs.Values.{HasForms, AreFormedValues}
-use Rattle.codegen.specs.ConditionCode.{condition_number, condition_item, values_of, values_named, range_fragment, value_range_fragment, values_fragment, condition_name_fragment, compared_fragment, side_fragment, relation_from, relation_fragment}
+use Rattle.codegen.specs.ConditionCode.{condition_number, condition_item, values_of, values_named, range_fragment, value_range_fragment, values_fragment, condition_name_fragment, compared_fragment, zero_literal, side_fragment, pair_fragment, is_numeric_operand, is_operand_at_hand, taken_first, relation_from, relation_fragment}
 use Rattle.codegen.proofs.ArithmeticStraight.{value_straight, expression_straight}
 use Rattle.codegen.proofs.ConditionCodes.{KeepsRelation, keeps_relation, alone_keeps}
 use Rattle.codegen.proofs.ConditionValues.{AreFormed}
@@ -69,11 +70,21 @@ module _ (items : List LocatedItem) where
       both_straight (side_fragment items left) (sequence (side_fragment items right) (work_fragment (i.Test (t.CompareNumbers one)))) (side_straight left)
       (both_straight (side_fragment items right) (work_fragment (i.Test (t.CompareNumbers one))) (side_straight right) (work_straight (i.Test (t.CompareNumbers one))))
 
+  pair_straight : (a : Operand) (one : Relation) (b : Operand) → operand_rules items a ≡ [] → operand_rules items b ≡ [] → AlwaysStraight (pair_fragment items a one b)
+  pair_straight a one b e f = both_straight (sender_fragment items a) (compared_fragment items one b) (sender_straight items a e) (compared_straight one b f)
+
+  taken_straight : (first numeric : Bool) (a b : Operand) (left : Side) (one : Relation) (right : Side) → operand_rules items a ≡ [] → operand_rules items b ≡ []
+      → AlwaysStraight (taken_first items first numeric a b left one right)
+  taken_straight false numeric a b left one right e f = pair_straight a one b e f
+  taken_straight true true a b left one right e f = sides_straight left one right
+  taken_straight true false a b left one right e f =
+      both_straight (pair_fragment items a Equal (operand.Literal zero_literal)) (pair_fragment items a one b) (pair_straight a Equal (operand.Literal zero_literal) e refl) (pair_straight a one b e f)
+
   relation_from_straight : (a b : Option Operand) (left : Side) (one : Relation) (right : Side) → alone_side left ≡ a → alone_side right ≡ b → KeepsRelation items left right
       → AlwaysStraight (relation_from items a b left one right)
   relation_from_straight (Some a) (Some b) left one right is other k =
-      both_straight (sender_fragment items a) (compared_fragment items one b) (sender_straight items a (alone_keeps items left a is k.left_keeps))
-      (compared_straight one b (alone_keeps items right b other k.right_keeps))
+      taken_straight (is_numeric_operand items a && not (is_operand_at_hand items b)) (is_numeric_operand items b) a b left one right (alone_keeps items left a is k.left_keeps)
+      (alone_keeps items right b other k.right_keeps)
   relation_from_straight (Some a) None left one right is other k = sides_straight left one right
   relation_from_straight None (Some b) left one right is other k = sides_straight left one right
   relation_from_straight None None left one right is other k = sides_straight left one right

@@ -34,6 +34,7 @@ pub mod ConditionNames
 pub mod ConditionLayers
 pub mod EvaluateKept
 pub mod SubjectFaults
+pub mod OperandOrder
 pub mod Questions
 pub mod SubjectLooks
 pub mod Sides

@@ -28,8 +28,9 @@ use Rattle.source_tree.specs.Evaluated.{Fault, Data, Evaluation, ◌>>=◌, eval
 use Rattle.source_tree.specs.References.{ItemPlace, part_of, place_of}
 use Rattle.source_tree.specs.Moving.{taken_of}
 use Rattle.source_tree.specs.Computed.{ArithmeticValue, ExpressionValue, number_at, number_of_literal, number_of_operand, operand_value, expression_layer, expression_value}
-use Rattle.source_tree.specs.Conditions.{satisfies, senders_stand, numbers_stand, alone, alone_side, relation_of, side_number, holds, all_hold, any_holds}
-use Rattle.source_tree.specs.Evaluate.{ObjectValues, told_as, value_within, value_asked, without_value, take_bytes, take_item, take_value}
+use Rattle.source_tree.specs.Conditions.{satisfies, senders_stand, without_value, take_bytes, take_item, take_operand, numbers_stand, alone, alone_side, relation_of, side_number, holds, all_hold, any_holds}
+use Rattle.source_tree.specs.Evaluate.{ObjectValues, told_as, value_within, value_asked, take_value}
+use Rattle.data_instructions.specs.ConditionCodes.{pair_truth}
 use Rattle.source_tree.proofs.Folded.{relation_tells, not_tells, all_tell, any_tells}
 
 -- no fault but this one
@@ -131,7 +132,7 @@ module _ (items : List LocatedItem) where
   layer_value (Expression-F.Chain first more) one storage e = absurd cc
 
   -- an operand alone, as a number
-  alone_number : (value : Side) (one : Operand) (storage : Storage) → alone_side value ≡ Some one → side_number items value storage ≡ operand_value items one storage
+  pub alone_number : (value : Side) (one : Operand) (storage : Storage) → alone_side value ≡ Some one → side_number items value storage ≡ operand_value items one storage
   alone_number (side.Expression expression) one storage e =
       ap (λ (x : Expression). expression_value items x storage) (sym (roll-out-Expression expression)) ∙ layer_value (out-Expression expression) one storage e
   alone_number (side.Literal literal) one storage e = ap (λ (o : Operand). operand_value items o storage) (same_Some (operand.Literal literal) one e)
@@ -139,13 +140,16 @@ module _ (items : List LocatedItem) where
   only_side : (value : Side) (one : Operand) (storage : Storage) → alone_side value ≡ Some one → IsAtHand one storage → OnlyData (side_number items value storage)
   only_side value one storage is h = let e = alone_number value one storage is in subst OnlyData (sym e) (only_value one storage h)
 
+  -- Two operands alone have the fault with which the left one is taken, if the right one is at hand.
+  pub pair_fault : (a b : Operand) (by : Relation) (storage : Storage) (fault : Fault) → IsAtHand b storage → take_operand items a storage ≡ Err fault → pair_truth items a by b storage ≡ Err fault
+  pair_fault (operand.Item one) b by storage fault h e = item_fault storage (place_of items one storage) fault by (taken_of items b storage) (only_taken b storage h) e
+  pair_fault (operand.Literal one) b by storage fault h e = absurd cc
+
   sides_fault : (left right : Option Operand) (one : Operand) (value other : Side) (by : Relation) (storage : Storage) (fault : Fault) → right ≡ Some one
       → alone_side other ≡ right → IsAtHand one storage
       → take_value items left value storage ≡ Err fault → relation_of items left right value by other storage ≡ Err fault
-  sides_fault (Some (operand.Item x)) (Some b) one value other by storage fault is of h e =
-      let same = same_Some b one is in
-      item_fault storage (place_of items x storage) fault by (taken_of items b storage) (subst (λ (o : Operand). OnlyData (taken_of items o storage)) (sym same) (only_taken one storage h)) e
-  sides_fault (Some (operand.Literal x)) (Some b) one value other by storage fault is of h e = absurd cc
+  sides_fault (Some a) (Some b) value other by storage fault is of h e =
+      ap (λ (taken : Evaluation (Unit {0})). taken >>= (λ _. taken_of items a storage >>= (λ x. taken_of items b storage >>= senders_stand by x))) e
   sides_fault None (Some b) one value other by storage fault is of h e =
       number_fault (side_number items value storage) fault by (side_number items other storage) (only_side other one storage (of ∙ is) h) e
   sides_fault left None one value other by storage fault is of h e = absurd cc

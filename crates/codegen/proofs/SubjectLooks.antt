@@ -22,8 +22,8 @@ use Rattle.source_tree.specs.declared.evaluate_statement.Selected.{Selected}
 use Rattle.source_tree.specs.ArithmeticRules.{is_numeric_kind}
 use Rattle.source_tree.specs.Broken.{RuleBreach, where_so, each}
 use Rattle.source_tree.specs.ConditionRules.{SideKind, Number, Characters, Either, compared_alone, may_compare, is_literal_alone, side_place, side_from, side_rules, relation_rules, condition_rules}
-use Rattle.source_tree.specs.Conditions.{alone_side, holds}
-use Rattle.source_tree.specs.Evaluate.{ObjectValues, ResolvedOperand, Value, Truth, Asking, told_as, value_within, value_asked, without_value, take_bytes, take_item, take_value, take_looked, take_subjects, looked_subject, selection_condition, asked_each, when_asked, whens_asked, selected_asked, one_of, selection_outcome}
+use Rattle.source_tree.specs.Conditions.{without_value, take_item, alone_side, holds}
+use Rattle.source_tree.specs.Evaluate.{ObjectValues, ResolvedOperand, Value, Truth, Asking, told_as, value_within, value_asked, take_value, take_looked, take_subjects, looked_subject, selection_condition, asked_each, when_asked, whens_asked, selected_asked, one_of, selection_outcome}
 use Rattle.source_tree.specs.EvaluateRules.{looked_rules, object_rules, objects_rules, when_rules, selected_rules}
 use Rattle.source_tree.specs.Evaluated.{Fault, Evaluation, ◌>>=◌, evaluation_of}
 use Rattle.source_tree.specs.LookUp.{items_named, first}
@@ -37,9 +37,9 @@ use Rattle.declarations.specs.Looking.{choice_looked, asked_of_looked}
 use Rattle.declarations.proofs.Looking.{asked_is}
 use Rattle.code_image.specs.declared.code.Code.{Code}
 use Rattle.codegen.specs.Pieces.{Fragment, append}
-use Rattle.codegen.specs.ConditionCode.{relation_fragment}
+use Rattle.codegen.specs.ConditionCode.{is_single, is_numeric_item, relation_fragment}
 use Rattle.codegen.specs.DataCode.{item_number}
-use Rattle.codegen.specs.SubjectCode.{zero_side, is_single, is_numeric_subject, object_of_when, first_object, is_at_hand, is_faultless, value_look, look, look_fragment, each_subject_fragment, asks_at_once, is_asked_first, taken_from, subjects_fragment}
+use Rattle.codegen.specs.SubjectCode.{zero_side, object_of_when, first_object, is_at_hand, is_faultless, value_look, look, look_fragment, each_subject_fragment, asks_at_once, is_asked_first, taken_from, subjects_fragment}
 use Rattle.codegen.proofs.Codes.{left_none, right_none, only_named, item_there}
 use Rattle.codegen.proofs.ConditionLayers.{relation_is, relation_kept}
 use Rattle.codegen.proofs.EvaluateKept as rules
@@ -47,25 +47,10 @@ use Rattle.codegen.proofs.Kept.{both_kept}
 use Rattle.codegen.proofs.Pieces.{joined_nothing}
 use Rattle.codegen.proofs.Questions.{told_rules, from_rules}
 use Rattle.codegen.proofs.Sides.{right_kept}
-use Rattle.codegen.proofs.SubjectFaults.{IsAtHand, OnlyData, told_fault, all_fault, any_fault, asked_fault}
+use Rattle.codegen.proofs.OperandOrder.{text_taken, single_place, at_hand}
+use Rattle.codegen.proofs.SubjectFaults.{told_fault, all_fault, any_fault, asked_fault}
 
--- ---- items without subscripts
-
-same : (n m : ℕ) → (n == m) ≡ true → n ≡ m
-same n m e = grind (arith, nat_tests)
-
-no_dimensions : (items : List LocatedItem) (dimensions : List Dimension) (subscripts : List written.Subscript) (storage : Storage) → (length dimensions == 0) ≡ true
-    → bytes_before items dimensions subscripts storage ≡ Ok 0
-no_dimensions items [] subscripts storage e = refl
-no_dimensions items (one ∷ more) subscripts storage e = let none = same (length (one ∷ more)) 0 e in absurd (omega (arith, none))
-
-text_taken : (one : Kind) (bytes : List ℕ) → is_numeric_kind one ≡ false → take_bytes one bytes ≡ Ok tt
-text_taken kind.Group bytes e = refl
-text_taken (kind.Alphabetic justified) bytes e = refl
-text_taken (kind.Alphanumeric justified) bytes e = refl
-text_taken kind.AlphanumericEdited bytes e = refl
-text_taken (kind.NumericEdited blank) bytes e = refl
-text_taken (kind.Numeric form) bytes e = absurd cc
+-- ---- truths
 
 -- both of two truths
 first_true : (a b : Bool) → (a && b) ≡ true → a ≡ true
@@ -97,28 +82,6 @@ looks_value items true subjects storage = Ok tt
 looks_value items false subjects storage = take_subjects items subjects storage
 
 module _ (items : List LocatedItem) where
-  -- the only item that a name names, where the rules are kept
-  only_item : (one : Reference) → reference_rules items any_item one ≡ [] → (found : LocatedItem) × (items_named items one.item ≡ found ∷ [])
-  only_item one e =
-      let place = one.item.name.place in
-      let rules = λ (found : LocatedItem). where_so (not (length one.subscripts == length found.dimensions)) 50 place ++ any_item place found in
-      let all = items_named items one.item in
-      let only = only_named place rules all (left_none (unique_name_rules place rules all) (each (subscript_rules items) one.subscripts) e) in
-      (only.0, only.1)
-
-  -- its place, if it has no dimensions
-  single_place : (one : Reference) (storage : Storage) → reference_rules items any_item one ≡ [] → is_single (slice_get items (item_number items one.item)) ≡ true
-      → (found : LocatedItem) × (slice_get items (item_number items one.item) ≡ Some found) × (place_of items one storage ≡ Ok (place_behind found 0))
-  single_place one storage e single =
-      let only = only_item one e in
-      let there = item_there items one.item only.0 only.1 in
-      let none : (length only.0.dimensions == 0) ≡ true = sym (ap is_single there) ∙ single in (
-        only.0,
-        there,
-        ap (λ (l : List LocatedItem). evaluation_of (first l) >>= (λ found. occurrence items one.subscripts found storage)) only.1
-            ∙ ap (λ (e : Evaluation ℕ). e >>= (λ behind. Ok (place_behind only.0 behind))) (no_dimensions items only.0.dimensions one.subscripts storage none),
-      )
-
   -- ---- a look keeps the rules
 
   zero_compared : (literal : Bool) (one : SideKind) (place : Place) → literal ≡ false → where_so ((literal && true) || not (may_compare one Either)) 52 place ≡ []
@@ -178,13 +141,13 @@ module _ (items : List LocatedItem) where
   -- ---- a look finds what the subject is taken with
 
   faultless_item : (one : Reference) (storage : Storage) → reference_rules items any_item one ≡ []
-      → (is_single (slice_get items (item_number items one.item)) && not (is_numeric_subject (slice_get items (item_number items one.item)))) ≡ true
+      → (is_single (slice_get items (item_number items one.item)) && not (is_numeric_item (slice_get items (item_number items one.item)))) ≡ true
       → (place_of items one storage >>= take_item storage) ≡ Ok tt
   faultless_item one storage e is =
       let single = is_single (slice_get items (item_number items one.item)) in
-      let numeric = is_numeric_subject (slice_get items (item_number items one.item)) in
-      let place = single_place one storage e (first_true single (not numeric) is) in
-      let text = sym (ap is_numeric_subject place.1) ∙ not_so numeric (second_true single (not numeric) is) in
+      let numeric = is_numeric_item (slice_get items (item_number items one.item)) in
+      let place = single_place items one storage e (first_true single (not numeric) is) in
+      let text = sym (ap is_numeric_item place.1) ∙ not_so numeric (second_true single (not numeric) is) in
       ap (λ (found : Evaluation ItemPlace). found >>= take_item storage) place.2
       ∙ text_taken place.0.item.kind (part_of storage (place_behind place.0 0)) text
 
@@ -207,10 +170,6 @@ module _ (items : List LocatedItem) where
 
   -- ---- an object that asks at once
 
-  at_hand : (one : Operand) (storage : Storage) → is_at_hand items (Some one) ≡ true → operand_rules items one ≡ [] → IsAtHand items one storage
-  at_hand (operand.Item one) storage is e = subst OnlyData (sym (single_place one storage e is).2) tt
-  at_hand (operand.Literal one) storage is e = tt
-
   first_kept : (value first_one : Side) (last : Option Side) → condition_rules items (value_within value first_one last) ≡ [] → relation_rules items value first_one ≡ []
   first_kept value first_one None e = sym (relation_kept items value relation.Equal first_one) ∙ e
   first_kept value first_one (Some last) e = from_rules items value first_one last e
@@ -218,7 +177,7 @@ module _ (items : List LocatedItem) where
   value_fault : (value : Side) (wanted : ObjectValues) (alone : Option Operand) (storage : Storage) (fault : Fault) → alone_side wanted.first ≡ alone
       → is_at_hand items alone ≡ true → side_from items alone wanted.first ≡ []
       → take_value items (alone_side value) value storage ≡ Err fault → holds items (value_asked value wanted) storage ≡ Err fault
-  value_fault value wanted (Some one) storage fault is hand kept e = asked_fault items value wanted one storage fault is (at_hand one storage hand kept) e
+  value_fault value wanted (Some one) storage fault is hand kept e = asked_fault items value wanted one storage fault is (at_hand items one storage hand kept) e
   value_fault value wanted None storage fault is hand kept e = absurd cc
 
   condition_fault : (found : Evaluation Bool) (fault : Fault) → without_value found ≡ Err fault → found ≡ Err fault

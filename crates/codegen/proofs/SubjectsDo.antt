@@ -6,8 +6,8 @@ use Rattle.source_tree.specs.declared.evaluate_statement.Subject.{Subject}
 use Rattle.source_tree.specs.declared.evaluate_statement.Object.{Object}
 use Rattle.source_tree.specs.Broken.{each}
 use Rattle.source_tree.specs.ConditionRules.{condition_rules}
-use Rattle.source_tree.specs.Conditions.{holds}
-use Rattle.source_tree.specs.Evaluate.{without_value, take_looked, take_subjects, looked_subject}
+use Rattle.source_tree.specs.Conditions.{without_value, holds}
+use Rattle.source_tree.specs.Evaluate.{take_looked, take_subjects, looked_subject}
 use Rattle.source_tree.specs.EvaluateRules.{subject_rules}
 use Rattle.source_tree.specs.Evaluated.{Evaluation, ◌>>=◌}
 use Rattle.source_tree.specs.Places.{LocatedItem}

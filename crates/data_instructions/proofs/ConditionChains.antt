@@ -39,6 +39,13 @@ module _ (tables : DataTables) where
       ap (λ b. and_then (shape_with (if b then Some (record s.stacks { numbers = n + 1 + 1 - 2 }) else None) (Some s.line) (Some s.sender)) (effects tables [])) (within 2 (n + 1 + 1) (omega arith))
       ∙ ap (λ m. Some (counting m s)) (omega arith)
 
+  -- one test, and another
+  pub both_known : (front back : List DataInstruction) → KnowsTest tables front → KnowsTest tables back → KnowsTest tables (front ++ back)
+  both_known front back knows knows_other s =
+      let first = knows s in
+      let second = knows_other (record s { sender = first.sender }) in
+      record { sender = second.sender; by = effects_append tables front back s ∙ ap (λ o. and_then o (effects tables back)) first.by ∙ second.by }
+
   numbers_known : (one : Relation) (front back code : List DataInstruction) → PushesNumber tables front → PushesNumber tables back → code ≡ front ++ (back ++ (i.Test (t.CompareNumbers one) ∷ [])) → KnowsTest tables code
   numbers_known one front back code adds adds_other is s = record {
     sender = s.sender;

@@ -15,12 +15,13 @@ use Rattle.source_tree.specs.declared.condition.Class.{Class}
 use Rattle.source_tree.specs.declared.condition.Side.{Side}
 use Rattle.source_tree.specs.Places.{LocatedItem}
 use Rattle.source_tree.specs.Literals.{Sender, item_sender, literal_sender}
+use Rattle.source_tree.specs.Storage.{Storage}
 use Rattle.source_tree.specs.Evaluated.{Evaluation, ◌>>=◌, evaluation_of}
 use Rattle.source_tree.specs.References.{part_of, place_behind, place_of, occurrence}
 use Rattle.source_tree.specs.References as tree
 use Rattle.source_tree.specs.Moving.{taken_of}
 use Rattle.source_tree.specs.Computed.{ArithmeticValue, ExpressionValue, expression_value}
-use Rattle.source_tree.specs.Conditions.{senders_stand, numbers_stand, lies_within, in_range, in_ranges, negated_if, class_of, zero_value, sign_relation, side_number, class_holds, value_holds, condition_holds, name_holds}
+use Rattle.source_tree.specs.Conditions.{senders_stand, numbers_stand, lies_within, in_range, in_ranges, negated_if, class_of, zero_value, sign_relation, side_number, ConditionValue, class_holds, value_holds, condition_holds, name_holds}
 use Rattle.data_instructions.specs.declared.tables.DataTables.{DataTables}
 use Rattle.data_instructions.specs.declared.test.Test.TheVariants as t
 use Rattle.data_instructions.specs.declared.instruction.DataInstruction.{DataInstruction}
@@ -46,7 +47,39 @@ kept_same : {A : Type 0} (r : Evaluation A) (take : A → Sender) (truth_of : A 
 kept_same (Ok x) take truth_of s = refl
 kept_same (Err fault) take truth_of s = refl
 
+-- the sender that is left behind a truth, if there is one
+abbrev sender_behind : Evaluation Bool → (Bool → Option Sender) → Option Sender
+sender_behind (Ok truth) sender = sender truth
+sender_behind (Err fault) sender = None
+
+decided_both : (found value : Evaluation Bool) (s : Scratch) (next : Bool → Step) (sender : Bool → Option Sender)
+    → ((truth : Bool) → next truth ≡ step_with value (λ other. Continues (record s { truth = other; sender = sender truth })))
+    → step_with found next ≡ step_with (found >>= (λ _. value)) (λ other. Continues (record s { truth = other; sender = sender_behind found sender }))
+decided_both (Ok truth) value s next sender same = same truth
+decided_both (Err fault) value s next sender same = refl
+
 module _ (tables : DataTables) where
+  -- One test, and another, whose truth is left.
+  pub both_decide : (one other : ConditionValue) (front back : List DataInstruction) → Decides tables one front → Decides tables other back
+      → Decides tables (λ storage. one storage >>= (λ _. other storage)) (front ++ back)
+  both_decide one other front back decides decides_other s =
+      let first = decides s in
+      let between : Bool → Scratch = λ truth. record s { truth = truth; sender = first.sender } in
+      record {
+        sender = sender_behind (one s.storage) (λ truth. (decides_other (between truth)).sender);
+        by =
+            works_append tables front back s
+            ∙ ap (λ step. go_on step (works tables back)) first.by
+            ∙ go_with (one s.storage) (λ truth. Continues (between truth)) (works tables back)
+            ∙ decided_both (one s.storage) (other s.storage) s (λ truth. works tables back (between truth)) (λ truth. (decides_other (between truth)).sender) (λ truth. (decides_other (between truth)).by);
+      }
+
+  -- what a condition says of storage, said in another way
+  pub decides_alike : (one other : ConditionValue) (code : List DataInstruction) → ((storage : Storage) → one storage ≡ other storage) → Decides tables one code → Decides tables other code
+  decides_alike one other code same decides s =
+      let first = decides s in
+      record { sender = first.sender; by = first.by ∙ ap (λ found. step_with found (λ truth. Continues (record s { truth = truth; sender = first.sender }))) (same s.storage) }
+
   -- two values are compared
   numbers_work : (left right : ExpressionValue) (one : Relation) (front back : List DataInstruction) → Computes tables left front → Computes tables right back → (s : Scratch)
       → works tables (front ++ (back ++ (i.Test (t.CompareNumbers one) ∷ []))) s ≡ step_with (left s.storage >>= (λ x. right s.storage >>= numbers_stand one x)) (λ truth. Continues (record s { truth = truth }))
