@@ -19,7 +19,7 @@ pub returns-clause-yes : goal.returns-clause-yes
 unfolding key_of
 returns-clause-yes c = λ is. (
   sym (c.in_ok-own.ensures.key ∙ ap (key_of c.args.file.now.organization c.args.row.now.number) c.deref.ensures.value)
-  ∙ sym c.deref-2.ensures.value ∙ bytes_same c.deref-2.result.now c.args.key.now (sym c.is_same.ensures ∙ c.if-not-is_same.false),
+      ∙ sym c.deref-2.ensures.value ∙ bytes_same c.deref-2.result.now c.args.key.now (sym c.is_same.ensures ∙ c.if-not-is_same.false),
   sym c.in_ok-again.ensures.value ∙ sym c.deref-3.ensures.value ∙ bytes_same c.deref-3.result.now c.args.value.now (sym c.is_same-2.ensures ∙ is),
 )
 
