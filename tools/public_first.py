@@ -5,7 +5,6 @@ from repository import ROOT  # noqa: F401
 
 HEAD = re.compile(r"(?:pub(?:\([^)]*\))? )?(?:mod|use|extern crate) |ghost use |macro_rules!|#!\[|//!")
 ITEM = re.compile(r"(?:pub(?:\([^)]*\))? )?(?:const |unsafe )?(fn|struct|enum|trait|impl|const|static|type)\b")
-
 TYPES = ("struct", "enum", "trait", "type")
 
 
@@ -34,7 +33,8 @@ def items_of(text):
     lines = text.rstrip("\n").split("\n")
     groups, current, depth_line = [], [], False
     for line in lines:
-        begins = bool(line) and not line[0].isspace() and line[0] not in "{)}]" and not (current and open_item(current))
+        goes_on = line[:1] in " \t{)}]>" or line.startswith("where") or current and open_item(current)
+        begins = bool(line) and not goes_on
         if begins and not depth_line:
             if current and not only_above(current):
                 groups.append(current)

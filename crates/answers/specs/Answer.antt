@@ -1,5 +1,5 @@
--- What a call returned beside what a definition says. A definition answers `Ok value` or `Err fault`; a call also
--- answers want of memory, of which a definition knows nothing.
+-- What a call returned beside what a definition says. A definition answers `Ok value` or `Err fault`; a call also answers
+-- want of memory, of which a definition knows nothing.
 use Rattle.std.specs.Prelude.{◌≡◌, Option, None, Some, Result, Ok, Err}
 
 -- An error stands for a fault, or for none, which is want of memory. Then nothing is said.

@@ -21,8 +21,7 @@ levels_below [] = []
 levels_below (top ∷ more) = more
 
 -- the levels from the one of these pages down, none where there are no pages
-pub record IsDown (layout : RowLayout) (pages : List (Option Sector)) (numbers : List ℕ) (levels : List (List TreeNode))
-    : Type 0 where
+pub record IsDown (layout : RowLayout) (pages : List (Option Sector)) (numbers : List ℕ) (levels : List (List TreeNode)) : Type 0 where
   pub top : HasPages numbers levels
   pub joined : JoinedOrNone layout pages levels
   pub once : Once (pages_of levels)

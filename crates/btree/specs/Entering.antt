@@ -1,6 +1,5 @@
 -- An entry that comes to a leaf behind its first row, and one that gets another value in its leaf.
-use Rattle.std.specs.Prelude.{◌≡◌, ◌<◌, ◌≤◌, ◌+◌, ◌++◌, ℕ, List, [], length, take, drop, slice_index_or, slice_set}
-use Rattle.std.specs.Prelude.{Option, Some, None}
+use Rattle.std.specs.Prelude.{◌≡◌, ◌<◌, ◌≤◌, ◌+◌, ◌++◌, ℕ, List, [], length, take, drop, slice_index_or, slice_set, Option, Some, None}
 use Rattle.station.specs.Disk.{Sector}
 use Rattle.btree_pages.specs.declared.row_layout.RowLayout.{RowLayout}
 use Rattle.btree_pages.specs.declared.row_layout.Kind.TheVariants.{Leaf}
@@ -8,8 +7,7 @@ use Rattle.btree_pages.specs.Keys.{key_of, keys_of, Ascend, AllBelow, AllAbove}
 use Rattle.btree_pages.specs.Node.{Node, node_in}
 use Rattle.btree_pages.specs.Edits.{node_with_row, with_rest}
 
--- The second bytes spell the leaf of the first ones with the entry at a place behind its first row, between lesser keys
--- and greater ones.
+-- The second bytes spell the leaf of the first ones with the entry at a place behind its first row, between lesser keys and greater ones.
 pub record EntersIn (layout : RowLayout) (bytes : Sector) (key value : List ℕ) (new : Sector) : Type 0 where
   pub node : Node
   pub place : ℕ
@@ -18,13 +16,11 @@ pub record EntersIn (layout : RowLayout) (bytes : Sector) (key value : List ℕ)
   pub kind_is : node.kind ≡ Leaf
   pub some : 0 < place
   pub low : place ≤ length node.rows
-  pub around : Ascend (keys_of node.layout node.rows) → AllBelow node.layout key (take place node.rows)
-      × AllAbove node.layout key (drop place node.rows)
+  pub around : Ascend (keys_of node.layout node.rows) → AllBelow node.layout key (take place node.rows) × AllAbove node.layout key (drop place node.rows)
   pub spelled : node_in layout new ≡ Some (node_with_row node place (key ++ value))
 
 -- the page of that number became so
-pub record EntersOn (layout : RowLayout) (page : ℕ) (key value : List ℕ) (before after : List (Option Sector)) :
-    Type 0 where
+pub record EntersOn (layout : RowLayout) (page : ℕ) (key value : List ℕ) (before after : List (Option Sector)) : Type 0 where
   pub bytes : Sector
   pub new : Sector
   pub at : slice_index_or before page None ≡ Some bytes
@@ -40,13 +36,11 @@ pub record SetsIn (layout : RowLayout) (bytes : Sector) (key value : List ℕ) (
   pub kind_is : node.kind ≡ Leaf
   pub low : place < length node.rows
   pub here : key_of node.layout (slice_index_or node.rows place []) ≡ key
-  pub around : Ascend (keys_of node.layout node.rows) → AllBelow node.layout key (take place node.rows)
-      × AllAbove node.layout key (drop (place + 1) node.rows)
+  pub around : Ascend (keys_of node.layout node.rows) → AllBelow node.layout key (take place node.rows) × AllAbove node.layout key (drop (place + 1) node.rows)
   pub spelled : node_in layout new ≡ Some (with_rest node place value)
 
 -- the page of that number became so
-pub record SetsOn (layout : RowLayout) (page : ℕ) (key value : List ℕ) (before after : List (Option Sector)) :
-    Type 0 where
+pub record SetsOn (layout : RowLayout) (page : ℕ) (key value : List ℕ) (before after : List (Option Sector)) : Type 0 where
   pub bytes : Sector
   pub new : Sector
   pub at : slice_index_or before page None ≡ Some bytes

@@ -47,8 +47,7 @@ first_entry (entry ∷ more) = Some entry
 -- the entries after a new one came to its place, after a value was replaced, and after one was removed
 abbrev pub with_new_entry : List Entry → Entry → List Entry
 with_new_entry [] new = new ∷ []
-with_new_entry (entry ∷ more) new =
-    if is_lt (key_cmp entry.key new.key) then entry ∷ with_new_entry more new else new ∷ entry ∷ more
+with_new_entry (entry ∷ more) new = if is_lt (key_cmp entry.key new.key) then entry ∷ with_new_entry more new else new ∷ entry ∷ more
 
 abbrev pub with_value : List Entry → Entry → List Entry
 with_value [] new = []

@@ -1,6 +1,5 @@
 -- What became of a page when rows left it.
-use Rattle.std.specs.Prelude.{◌≡◌, ◌≢◌, ◌<◌, ◌+◌, ◌++◌, ◌⊎◌, ℕ, zero, suc, List, [], ◌∷◌, length, map, take, drop}
-use Rattle.std.specs.Prelude.{slice_index_or, Option, IfSome, ⊤}
+use Rattle.std.specs.Prelude.{◌≡◌, ◌≢◌, ◌<◌, ◌+◌, ◌++◌, ◌⊎◌, ℕ, zero, suc, List, [], ◌∷◌, length, map, take, drop, slice_index_or, Option, IfSome, ⊤}
 use Rattle.std.specs.List.{All}
 use Rattle.station.specs.Disk.{Sector}
 use Rattle.btree_pages.specs.declared.row_layout.RowLayout.{RowLayout}
@@ -17,27 +16,20 @@ use Rattle.btree.specs.Propagates.{node_with}
 use Rattle.btree.specs.Changes.{IsIn, HasKeys}
 
 -- What a page became that had the old rows and is to have these.
-abbrev pub IsRemovalResult : RowLayout → Kind → List (Option Sector) → List (Option Sector) → ℕ → List (List ℕ)
-    → List (List ℕ) → RemovalOutcome → Type 0
+abbrev pub IsRemovalResult : RowLayout → Kind → List (Option Sector) → List (Option Sector) → ℕ → List (List ℕ) → List (List ℕ) → RemovalOutcome → Type 0
 IsRemovalResult layout kind before after page old rows Kept =
-    ReplacesNodes layout kind before (node_with page old ∷ []) after (node_with page rows ∷ [])
-    × (least_key layout (node_with page rows) ≡ least_key layout (node_with page old))
-    × (HasTooFewRows layout kind (length rows) → ⊥)
+    ReplacesNodes layout kind before (node_with page old ∷ []) after (node_with page rows ∷ []) × (least_key layout (node_with page rows) ≡ least_key layout (node_with page old)) × (HasTooFewRows layout kind (length rows) → ⊥)
 IsRemovalResult layout kind before after page old rows (Renamed child) =
-    ReplacesNodes layout kind before (node_with page old ∷ []) after (node_with page rows ∷ []) × (child.page ≡ page)
-    × (child.node ≡ node_of layout kind rows) × (HasTooFewRows layout kind (length rows) → ⊥)
-IsRemovalResult layout kind before after page old rows Gone =
-    ReplacesNodes layout kind before (node_with page old ∷ []) after [] × (rows ≡ [])
-IsRemovalResult layout kind before after page old rows (Underfull child) = (after ≡ before) × (child.page ≡ page)
-    × (child.node ≡ node_of layout kind rows) × (0 < length rows) × HasTooFewRows layout kind (length rows)
+    ReplacesNodes layout kind before (node_with page old ∷ []) after (node_with page rows ∷ []) × (child.page ≡ page) × (child.node ≡ node_of layout kind rows) × (HasTooFewRows layout kind (length rows) → ⊥)
+IsRemovalResult layout kind before after page old rows Gone = ReplacesNodes layout kind before (node_with page old ∷ []) after [] × (rows ≡ [])
+IsRemovalResult layout kind before after page old rows (Underfull child) = (after ≡ before) × (child.page ≡ page) × (child.node ≡ node_of layout kind rows) × (0 < length rows) × HasTooFewRows layout kind (length rows)
 
 -- what the page above needs of it
 abbrev pub FitsAbove : RowLayout → RemovalOutcome → Type 0
 FitsAbove layout Kept = ⊤
 FitsAbove layout (Renamed child) = (child.node.layout ≡ layout) × (0 < length child.node.rows)
 FitsAbove layout Gone = ⊤
-FitsAbove layout (Underfull child) = (child.node.layout ≡ layout) × (0 < length child.node.rows)
-    × HasTooFewRows layout child.node.kind (length child.node.rows)
+FitsAbove layout (Underfull child) = (child.node.layout ≡ layout) × (0 < length child.node.rows) × HasTooFewRows layout child.node.kind (length child.node.rows)
 
 -- a page that wasn't written may be changed yet
 abbrev pub spare : RemovalOutcome → ℕ
@@ -56,10 +48,8 @@ abbrev pub rows_together : ℕ → List (List ℕ) → TreeNode → TreeNode →
 rows_together zero lone left right = lone ++ right.rows
 rows_together (suc place) lone left right = left.rows ++ lone
 
--- The child at a place of these rows, and its neighbour, of one kind. The child's page has its old rows, the neighbour
--- stands.
-pub record IsPair (layout : RowLayout) (kind : Kind) (before : List (Option Sector)) (page : ℕ) (old : List (List ℕ))
-    (place : ℕ) (child : ℕ) (left right : TreeNode) : Type 0 where
+-- The child at a place of these rows, and its neighbour, of one kind. The child's page has its old rows, the neighbour stands.
+pub record IsPair (layout : RowLayout) (kind : Kind) (before : List (Option Sector)) (page : ℕ) (old : List (List ℕ)) (place : ℕ) (child : ℕ) (left right : TreeNode) : Type 0 where
   pub within : pair_of place + 1 < length old
   pub left_row : slice_index_or old (pair_of place) [] ≡ row_of layout left
   pub right_row : slice_index_or old (pair_of place + 1) [] ≡ row_of layout right
@@ -69,20 +59,16 @@ pub record IsPair (layout : RowLayout) (kind : Kind) (before : List (Option Sect
   pub apart : left.page ≢ right.page
   pub left_apart : left.page ≢ page
   pub right_apart : right.page ≢ page
-  pub either : (place ≡ 0) × (left.page ≡ child) × IsOnPage layout before kind right ⊎ (place ≢ 0)
-      × (right.page ≡ child) × IsOnPage layout before kind left
+  pub either : (place ≡ 0) × (left.page ≡ child) × IsOnPage layout before kind right ⊎ (place ≢ 0) × (right.page ≡ child) × IsOnPage layout before kind left
 
 -- What the two neighbours became, and the page above them.
-pub record RebalancesNeighbours (layout : RowLayout) (kind : Kind) (before after : List (Option Sector)) (page : ℕ)
-    (old : List (List ℕ)) (place : ℕ) (lone : List (List ℕ)) (left right : TreeNode) (outcome : RemovalOutcome) :
-    Type 0 where
+pub record RebalancesNeighbours (layout : RowLayout) (kind : Kind) (before after : List (Option Sector)) (page : ℕ) (old : List (List ℕ)) (place : ℕ) (lone : List (List ℕ)) (left right : TreeNode) (outcome : RemovalOutcome) : Type 0 where
   pub mid : List (Option Sector)
   pub run : List TreeNode
   pub pair : ReplacesNodes layout kind before (left ∷ right ∷ []) mid run
   pub even : IsEven layout kind run
   pub rows : rows_of run ≡ rows_together place lone left right
-  pub fares : IsRemovalResult layout Inner mid after page old
-      (take (pair_of place) old ++ (map (row_of layout) run ++ drop (pair_of place + 2) old)) outcome
+  pub fares : IsRemovalResult layout Inner mid after page old (take (pair_of place) old ++ (map (row_of layout) run ++ drop (pair_of place + 2) old)) outcome
 
 -- two pages of the map
 pub record AreTwo (pages : List (Option Sector)) (left right : ℕ) : Type 0 where
@@ -96,10 +82,8 @@ pub record IsJoined (layout : RowLayout) (left right : ℕ) (joined : SplitResul
   pub beside_is : IfSome joined.right (λ beside. beside.page ≡ right)
   pub keys : HasKeys layout joined
 
--- Of these rows, which have their lengths, those from a place on name two neighbours. Their pages and the page above
--- them are three.
-pub record ArePair (layout : RowLayout) (before : List (Option Sector)) (page : ℕ) (old : List (List ℕ)) (place : ℕ)
-    (left right : TreeNode) : Type 0 where
+-- Of these rows, which have their lengths, those from a place on name two neighbours. Their pages and the page above them are three.
+pub record ArePair (layout : RowLayout) (before : List (Option Sector)) (page : ℕ) (old : List (List ℕ)) (place : ℕ) (left right : TreeNode) : Type 0 where
   pub within : place + 1 < length old
   pub lengths : All (λ row. length row ≡ row_length layout Inner) old
   pub left_row : slice_index_or old place [] ≡ row_of layout left
@@ -110,12 +94,10 @@ pub record ArePair (layout : RowLayout) (before : List (Option Sector)) (page : 
   pub right_apart : right.page ≢ page
 
 -- What two neighbours became that are to have these rows together, and the page above them.
-pub record Joins (layout : RowLayout) (kind : Kind) (before after : List (Option Sector)) (page : ℕ) (old :
-    List (List ℕ)) (place : ℕ) (rows : List (List ℕ)) (left right : TreeNode) (outcome : RemovalOutcome) : Type 0 where
+pub record Joins (layout : RowLayout) (kind : Kind) (before after : List (Option Sector)) (page : ℕ) (old : List (List ℕ)) (place : ℕ) (rows : List (List ℕ)) (left right : TreeNode) (outcome : RemovalOutcome) : Type 0 where
   pub mid : List (Option Sector)
   pub run : List TreeNode
   pub pair : ReplacesNodes layout kind before (left ∷ right ∷ []) mid run
   pub even : IsEven layout kind run
   pub rows_are : rows_of run ≡ rows
-  pub fares : IsRemovalResult layout Inner mid after page old
-      (take place old ++ (map (row_of layout) run ++ drop (place + 2) old)) outcome
+  pub fares : IsRemovalResult layout Inner mid after page old (take place old ++ (map (row_of layout) run ++ drop (place + 2) old)) outcome

@@ -32,8 +32,7 @@ SplitUpdate layout old run None = IsSame layout old run
 SplitUpdate layout old run (Some split) = (run ≡ run_of split) × (split.page ≡ old.page)
 
 -- The levels from a spot's down, after its node became some nodes. These are the rows of the leaves then.
-pub record Propagates (layout : RowLayout) (pages : List (Option Sector)) (levels : List (List TreeNode)) (spot :
-    LevelZipper) (after : List (Option Sector)) (ordered : List (List ℕ)) (told : Option SplitResult) : Type 0 where
+pub record Propagates (layout : RowLayout) (pages : List (Option Sector)) (levels : List (List TreeNode)) (spot : LevelZipper) (after : List (Option Sector)) (ordered : List (List ℕ)) (told : Option SplitResult) : Type 0 where
   pub run : List TreeNode
   pub more : List (List TreeNode)
   pub became : Became layout pages levels after ((spot.before ++ (run ++ spot.after)) ∷ more)

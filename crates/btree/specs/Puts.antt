@@ -1,6 +1,5 @@
 -- What a call on some pages of a tree does to them, over whatever image the last commit left.
-use Rattle.std.specs.Prelude.{◌≡◌, ◌≤◌, ◌<◌, ◌+◌, ◌++◌, ℕ, Bool, true, List, [], ◌∷◌, length, take, drop}
-use Rattle.std.specs.Prelude.{slice_index_or, slice_set, Option}
+use Rattle.std.specs.Prelude.{◌≡◌, ◌≤◌, ◌<◌, ◌+◌, ◌++◌, ℕ, Bool, true, List, [], ◌∷◌, length, take, drop, slice_index_or, slice_set, Option}
 use Rattle.std.specs.List.{All, insert}
 use Rattle.byteorder.specs.Endian.{big_bytes}
 use Rattle.station.specs.Disk.{Sector}
@@ -26,33 +25,27 @@ use Rattle.btree.specs.Outcomes.{IsRemovalResult, AreTwo, ArePair, Joins}
 abbrev pub PutsWhere : (List (Option Sector) → ℕ → Node → Type 0) → PageMap → PageMap → ℕ → Node → SplitResult → Type 0
 PutsWhere can old new page node split =
     (image : List Sector) → can (pages_of_map old image) page node →
-    ReplacesNodes node.layout node.kind (pages_of_map old image) (node_with page node.rows ∷ [])
-    (pages_of_map new image) (run_of split)
+    ReplacesNodes node.layout node.kind (pages_of_map old image) (node_with page node.rows ∷ []) (pages_of_map new image) (run_of split)
 
 -- a node with rows enough, of their lengths, comes to a new page
 abbrev pub PutsNew : PageMap → PageMap → Node → ℕ → Type 0
 PutsNew old new node page =
-    (image : List Sector) → All (λ row. length row ≡ row_length node.layout node.kind) node.rows
-    → fewest node.kind ≤ length node.rows →
-    ReplacesNodes node.layout node.kind (pages_of_map old image) [] (pages_of_map new image)
-    (node_with page node.rows ∷ [])
+    (image : List Sector) → All (λ row. length row ≡ row_length node.layout node.kind) node.rows → fewest node.kind ≤ length node.rows →
+    ReplacesNodes node.layout node.kind (pages_of_map old image) [] (pages_of_map new image) (node_with page node.rows ∷ [])
 
 -- so do these rows
 abbrev pub PutsRows : RowLayout → Kind → PageMap → PageMap → List (List ℕ) → ℕ → Type 0
-PutsRows layout kind old new rows page = (image : List Sector)
-    → ReplacesNodes layout kind (pages_of_map old image) [] (pages_of_map new image) (node_with page rows ∷ [])
+PutsRows layout kind old new rows page = (image : List Sector) → ReplacesNodes layout kind (pages_of_map old image) [] (pages_of_map new image) (node_with page rows ∷ [])
 
 -- the rows of a page and of its new neighbour in the page above them
 abbrev pub two_rows : RowLayout → SplitResult → Right → List (List ℕ)
-two_rows layout split right =
-    row_of layout (node_with split.page split.left.rows) ∷ row_of layout (node_with right.page right.node.rows) ∷ []
+two_rows layout split right = row_of layout (node_with split.page split.left.rows) ∷ row_of layout (node_with right.page right.node.rows) ∷ []
 
 -- the row at a place of the node that stands on a page has this rest
 abbrev pub PutsRest : PageMap → PageMap → ℕ → Node → ℕ → List ℕ → Type 0
 PutsRest old new page node place rest =
     (image : List Sector) → CanStand (pages_of_map old image) page node →
-    ReplacesNodes node.layout node.kind (pages_of_map old image) (node_with page node.rows ∷ [])
-    (pages_of_map new image)
+    ReplacesNodes node.layout node.kind (pages_of_map old image) (node_with page node.rows ∷ []) (pages_of_map new image)
     (node_with page (slice_set node.rows place (key_of node.layout (slice_index_or node.rows place []) ++ rest)) ∷ [])
 
 -- the page above, whose row at a place names the page that was split
@@ -66,17 +59,14 @@ PutsParent old new page node place split up =
 abbrev pub PutsBack : PageMap → PageMap → ℕ → Node → Bool → RemovalOutcome → Type 0
 PutsBack old new page node keeps_least outcome =
     (image : List Sector) (before : List (List ℕ)) → IsIn (pages_of_map old image) page →
-    (keeps_least ≡ true
-    → least_key node.layout (node_with page node.rows) ≡ least_key node.layout (node_with page before)) →
-    IsRemovalResult node.layout node.kind (pages_of_map old image) (pages_of_map new image) page before node.rows
-    outcome
+    (keeps_least ≡ true → least_key node.layout (node_with page node.rows) ≡ least_key node.layout (node_with page before)) →
+    IsRemovalResult node.layout node.kind (pages_of_map old image) (pages_of_map new image) page before node.rows outcome
 
 -- the row at a place leaves the node
 abbrev pub LosesRow : Kind → PageMap → PageMap → ℕ → Node → ℕ → RemovalOutcome → Type 0
 LosesRow kind old new page node place outcome =
     (image : List Sector) → CanStand (pages_of_map old image) page node →
-    IsRemovalResult node.layout kind (pages_of_map old image) (pages_of_map new image) page node.rows
-    (take place node.rows ++ drop (place + 1) node.rows) outcome
+    IsRemovalResult node.layout kind (pages_of_map old image) (pages_of_map new image) page node.rows (take place node.rows ++ drop (place + 1) node.rows) outcome
 
 -- the row of a child gets the child's least key
 abbrev pub RenamesRow : PageMap → PageMap → PathStep → Node → Child → RemovalOutcome → Type 0
@@ -84,38 +74,31 @@ RenamesRow old new step node child outcome =
     (image : List Sector) → CanStand (pages_of_map old image) step.page node →
     rest_of node.layout (slice_index_or node.rows step.place []) ≡ big_bytes 4 child.page →
     IsRemovalResult node.layout Inner (pages_of_map old image) (pages_of_map new image) step.page node.rows
-    (take step.place node.rows
-    ++ (row_of node.layout (node_with child.page child.node.rows) ∷ drop (step.place + 1) node.rows)) outcome
+    (take step.place node.rows ++ (row_of node.layout (node_with child.page child.node.rows) ∷ drop (step.place + 1) node.rows)) outcome
 
 -- two pages become the one or the two of the answer
 abbrev pub PutsTogether : PageMap → PageMap → Child → Child → SplitResult → Type 0
 PutsTogether old new left right joined =
     (image : List Sector) (one two : List (List ℕ)) → AreTwo (pages_of_map old image) left.page right.page →
-    ReplacesNodes left.node.layout left.node.kind (pages_of_map old image)
-    (node_with left.page one ∷ node_with right.page two ∷ []) (pages_of_map new image) (run_of joined)
+    ReplacesNodes left.node.layout left.node.kind (pages_of_map old image) (node_with left.page one ∷ node_with right.page two ∷ []) (pages_of_map new image) (run_of joined)
 
 -- so do two neighbours, and the page above them learns it
 abbrev pub JoinsPair : PageMap → PageMap → ℕ → Node → ℕ → Child → Child → RemovalOutcome → Type 0
 JoinsPair old new page node place left right outcome =
-    (image : List Sector) (one two : TreeNode)
-    → ArePair node.layout (pages_of_map old image) page node.rows place one two →
+    (image : List Sector) (one two : TreeNode) → ArePair node.layout (pages_of_map old image) page node.rows place one two →
     one.page ≡ left.page → two.page ≡ right.page →
-    Joins node.layout left.node.kind (pages_of_map old image) (pages_of_map new image) page node.rows place
-    (left.node.rows ++ right.node.rows) one two outcome
+    Joins node.layout left.node.kind (pages_of_map old image) (pages_of_map new image) page node.rows place (left.node.rows ++ right.node.rows) one two outcome
 
--- where this is told, the page is none of the map; the two pages aren't two of it; and the step leads on from no such
--- page
+-- where this is told, the page is none of the map; the two pages aren't two of it; and the step leads on from no such page
 abbrev pub NeverIn : PageMap → ℕ → Type 0 → Type 0
 NeverIn old page told = told → (image : List Sector) → 0 < page → IsIn (pages_of_map old image) page → ⊥
 
 abbrev pub NeverTwo : PageMap → ℕ → ℕ → Type 0 → Type 0
-NeverTwo old left right told =
-    told → (image : List Sector) → 0 < left → 0 < right → AreTwo (pages_of_map old image) left right → ⊥
+NeverTwo old left right told = told → (image : List Sector) → 0 < left → 0 < right → AreTwo (pages_of_map old image) left right → ⊥
 
 abbrev pub NeverLeads : PageMap → PathStep → Node → Type 0 → Type 0
 NeverLeads old step node told =
-    told → (image : List Sector) → node.kind ≡ Inner → step.place < length node.rows → 0 < step.page
-    → IsIn (pages_of_map old image) step.page → ⊥
+    told → (image : List Sector) → node.kind ≡ Inner → step.place < length node.rows → 0 < step.page → IsIn (pages_of_map old image) step.page → ⊥
 
 -- the rows of the answer are these, with one more at a place
 abbrev pub HasInserted : List (List ℕ) → ℕ → List ℕ → SplitResult → Type 0

@@ -28,25 +28,21 @@ IsSearchRefusal layout ForeignMark = ⊥
 
 -- bytes spell no page of a tree that has enough rows
 abbrev pub SpellsNoNode : RowLayout → Sector → Type 0
-SpellsNoNode layout bytes = (kind : Kind) (rows : List (List ℕ))
-    → node_in layout bytes ≡ Some (node_of layout kind rows) → fewest kind ≤ length rows → ⊥
+SpellsNoNode layout bytes = (kind : Kind) (rows : List (List ℕ)) → node_in layout bytes ≡ Some (node_of layout kind rows) → fewest kind ≤ length rows → ⊥
 
 -- a node of this layout, with rows enough, and of this kind besides
 abbrev pub HasShape : RowLayout → Node → Type 0
 HasShape layout node = (node.layout ≡ layout) × (fewest node.kind ≤ length node.rows) × (length node.rows ≤ 4080)
 
 abbrev pub HasKindShape : RowLayout → Kind → Node → Type 0
-HasKindShape layout kind node =
-    (node.layout ≡ layout) × (node.kind ≡ kind) × (fewest kind ≤ length node.rows) × (length node.rows ≤ 4080)
+HasKindShape layout kind node = (node.layout ≡ layout) × (node.kind ≡ kind) × (fewest kind ≤ length node.rows) × (length node.rows ≤ 4080)
 
 -- where this is told, no node of a tree stands on the page, none of this kind, and the pages under the root are no tree
 abbrev pub NoneStands : RowLayout → ℕ → Type 0 → List (Option Sector) → Type 0
-NoneStands layout page told pages =
-    told → (kind : Kind) (node : TreeNode) → node.page ≡ page → IsOnPage layout pages kind node → ⊥
+NoneStands layout page told pages = told → (kind : Kind) (node : TreeNode) → node.page ≡ page → IsOnPage layout pages kind node → ⊥
 
 abbrev pub NoneOfKind : RowLayout → Kind → ℕ → Type 0 → List (Option Sector) → Type 0
-NoneOfKind layout kind page told pages =
-    told → (node : TreeNode) → node.page ≡ page → IsOnPage layout pages kind node → ⊥
+NoneOfKind layout kind page told pages = told → (node : TreeNode) → node.page ≡ page → IsOnPage layout pages kind node → ⊥
 
 abbrev pub NoTree : RowLayout → ℕ → Type 0 → List (Option Sector) → Type 0
 NoTree layout root told pages = told → (levels : List (List TreeNode)) → IsTree layout pages root levels → ⊥

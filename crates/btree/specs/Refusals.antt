@@ -39,8 +39,7 @@ IsParentRefusal Memory = ⊤
 IsParentRefusal Spent = ⊤
 IsParentRefusal ForeignMark = ⊥
 
--- A change of a tree that needs no new page: the device refuses a page, the pages are none of a tree, memory runs out,
--- or the map is spent.
+-- A change of a tree that needs no new page: the device refuses a page, the pages are none of a tree, memory runs out, or the map is spent.
 abbrev pub IsChangeRefusal : PagesError → Type 0
 IsChangeRefusal Device = ⊤
 IsChangeRefusal Full = ⊥

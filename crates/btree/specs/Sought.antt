@@ -19,26 +19,21 @@ sought_in From entries key = first_from entries key
 sought_in After entries key = first_entry_after entries key
 
 -- the leaf that these bytes spell answers that entry, and the leaf of that number
-pub record AnswersIn (layout : RowLayout) (bytes : Sector) (key : List ℕ) (sought : Sought) (entry : Option Entry) :
-    Type 0 where
+pub record AnswersIn (layout : RowLayout) (bytes : Sector) (key : List ℕ) (sought : Sought) (entry : Option Entry) : Type 0 where
   pub node : Node
   pub read : node_in layout bytes ≡ Some node
   pub layout_is : node.layout ≡ layout
   pub leaf : node.kind ≡ Leaf
-  pub entry_is : Ascend (keys_of node.layout node.rows)
-      → entry ≡ sought_in sought (entries_of_rows node.layout node.rows) key
+  pub entry_is : Ascend (keys_of node.layout node.rows) → entry ≡ sought_in sought (entries_of_rows node.layout node.rows) key
 
-pub record AnswersAt (layout : RowLayout) (pages : List (Option Sector)) (page : ℕ) (key : List ℕ) (sought : Sought)
-    (entry : Option Entry) : Type 0 where
+pub record AnswersAt (layout : RowLayout) (pages : List (Option Sector)) (page : ℕ) (key : List ℕ) (sought : Sought) (entry : Option Entry) : Type 0 where
   pub node : Node
   pub read : node_at layout pages page ≡ Some node
   pub layout_is : node.layout ≡ layout
   pub leaf : node.kind ≡ Leaf
-  pub entry_is : Ascend (keys_of node.layout node.rows)
-      → entry ≡ sought_in sought (entries_of_rows node.layout node.rows) key
+  pub entry_is : Ascend (keys_of node.layout node.rows) → entry ≡ sought_in sought (entries_of_rows node.layout node.rows) key
 
--- the inner page that these bytes spell has a row for the key, which names the child of that page number, and the one
--- of that number
+-- the inner page that these bytes spell has a row for the key, which names the child of that page number, and the one of that number
 pub record DescendsIn (layout : RowLayout) (bytes : Sector) (key : List ℕ) (child : ℕ) : Type 0 where
   pub node : Node
   pub read : node_in layout bytes ≡ Some node
@@ -48,8 +43,7 @@ pub record DescendsIn (layout : RowLayout) (bytes : Sector) (key : List ℕ) (ch
   pub chosen : Ascend (keys_of node.layout node.rows) → IsChosen node.layout key node.rows place
   pub child_is : child ≡ child_of node.layout (slice_index_or node.rows place [])
 
-pub record DescendsAt (layout : RowLayout) (pages : List (Option Sector)) (page : ℕ) (key : List ℕ) (child : ℕ) :
-    Type 0 where
+pub record DescendsAt (layout : RowLayout) (pages : List (Option Sector)) (page : ℕ) (key : List ℕ) (child : ℕ) : Type 0 where
   pub node : Node
   pub read : node_at layout pages page ≡ Some node
   pub layout_is : node.layout ≡ layout
@@ -69,8 +63,8 @@ LooksAt layout pages page key sought entry Here = AnswersAt layout pages page ke
 LooksAt layout pages page key sought entry Missing = AnswersAt layout pages page key sought None
 LooksAt layout pages page key sought entry (Below child) = DescendsAt layout pages page key child
 
--- An entry that is found in the leaf where a key belongs is the one that is sought. Where the leaf has none, the key
--- has no entry; the first one from a key on, or after it, may stand in a leaf to the right.
+-- An entry that is found in the leaf where a key belongs is the one that is sought. Where the leaf has none, the key has no entry; the
+-- first one from a key on, or after it, may stand in a leaf to the right.
 abbrev pub FindsEntry : List Entry → List ℕ → Sought → Entry → Bool → Type 0
 FindsEntry entries key sought entry true = Some entry ≡ sought_in sought entries key
 FindsEntry entries key sought entry false = sought ≡ With → None ≡ entry_with entries key

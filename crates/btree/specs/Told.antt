@@ -33,8 +33,7 @@ FewFilled most old new = filled_of new ≤ filled_of old + most
 
 -- and with the page that wasn't written yet
 abbrev pub LeavesFewChanged : ℕ → PageMap → PageMap → RemovalOutcome → Type 0
-LeavesFewChanged most old new outcome =
-    length (changed_pages_of new) + spare outcome ≤ length (changed_pages_of old) + most
+LeavesFewChanged most old new outcome = length (changed_pages_of new) + spare outcome ≤ length (changed_pages_of old) + most
 
 abbrev pub LeavesFewFilled : ℕ → PageMap → PageMap → RemovalOutcome → Type 0
 LeavesFewFilled most old new outcome = filled_of new + spare outcome ≤ filled_of old + most

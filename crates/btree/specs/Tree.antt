@@ -1,6 +1,5 @@
 -- A tree over pages, level by level from its root down to its leaves (own choice).
-use Rattle.std.specs.Prelude.{◌≡◌, ◌≢◌, ◌≤◌, ◌<◌, ◌++◌, ◌⊎◌, ℕ, List, [], ◌∷◌, map, length, slice_index_or, Option}
-use Rattle.std.specs.Prelude.{Some, None}
+use Rattle.std.specs.Prelude.{◌≡◌, ◌≢◌, ◌≤◌, ◌<◌, ◌++◌, ◌⊎◌, ℕ, List, [], ◌∷◌, map, length, slice_index_or, Option, Some, None}
 use Rattle.std.specs.List.{All, flat_map, AllPairs}
 use Rattle.byteorder.specs.Endian.{big_bytes}
 use Rattle.station.specs.Disk.{Sector}
@@ -44,8 +43,7 @@ fewest Leaf = 1
 fewest Inner = 2
 
 -- the node stands on its page
-pub record IsOnPage (layout : RowLayout) (pages : List (Option Sector)) (kind : Kind) (tree_node : TreeNode) :
-    Type 0 where
+pub record IsOnPage (layout : RowLayout) (pages : List (Option Sector)) (kind : Kind) (tree_node : TreeNode) : Type 0 where
   pub node : node_at layout pages tree_node.page ≡ Some (node_of layout kind tree_node.rows)
   pub lengths : All (λ row. length row ≡ row_length layout kind) tree_node.rows
   pub enough : fewest kind ≤ length tree_node.rows
@@ -54,8 +52,7 @@ pub record IsOnPage (layout : RowLayout) (pages : List (Option Sector)) (kind : 
 abbrev pub AreJoinedLevels : RowLayout → List (Option Sector) → List (List TreeNode) → Type 0
 AreJoinedLevels layout pages [] = ⊥
 AreJoinedLevels layout pages (leaves ∷ []) = All (IsOnPage layout pages Leaf) leaves
-AreJoinedLevels layout pages (upper ∷ lower ∷ more) = All (IsOnPage layout pages Inner) upper
-    × (rows_of upper ≡ map (row_of layout) lower) × AreJoinedLevels layout pages (lower ∷ more)
+AreJoinedLevels layout pages (upper ∷ lower ∷ more) = All (IsOnPage layout pages Inner) upper × (rows_of upper ≡ map (row_of layout) lower) × AreJoinedLevels layout pages (lower ∷ more)
 
 abbrev pub leaves_of : List (List TreeNode) → List TreeNode
 leaves_of [] = []
@@ -75,8 +72,7 @@ HasTop root [] = ⊥
 HasTop root (top ∷ more) = (node : TreeNode) × (top ≡ node ∷ []) × (node.page ≡ root)
 
 -- the pages under the root are this tree: its keys ascend, and no page stands in it twice
-pub record IsTree (layout : RowLayout) (pages : List (Option Sector)) (root : ℕ) (levels : List (List TreeNode)) :
-    Type 0 where
+pub record IsTree (layout : RowLayout) (pages : List (Option Sector)) (root : ℕ) (levels : List (List TreeNode)) : Type 0 where
   pub top : HasTop root levels
   pub joined : AreJoinedLevels layout pages levels
   pub ascend : Ascend (keys_of layout (rows_in_order levels))

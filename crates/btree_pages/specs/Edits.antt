@@ -21,9 +21,7 @@ node_without_row node place = with_rows node (remove node.rows place)
 
 -- a row gets another rest, or another key
 abbrev pub with_rest : Node → ℕ → List ℕ → Node
-with_rest node place rest =
-    with_rows node (slice_set node.rows place (key_of node.layout (slice_index_or node.rows place []) ++ rest))
+with_rest node place rest = with_rows node (slice_set node.rows place (key_of node.layout (slice_index_or node.rows place []) ++ rest))
 
 abbrev pub with_key : Node → ℕ → List ℕ → Node
-with_key node place key =
-    with_rows node (slice_set node.rows place (key ++ rest_of node.layout (slice_index_or node.rows place [])))
+with_key node place key = with_rows node (slice_set node.rows place (key ++ rest_of node.layout (slice_index_or node.rows place [])))

@@ -1,7 +1,6 @@
 -- Sums, differences and products (COBOL-85, Nucleus, arithmetic statements). The limits of an intermediate result are
 -- this project's own choice: a coefficient below 10 ^ 38 in absolute value, and a scale of at most 18.
-use Rattle.std.specs.Prelude.{ℕ, Bool, ◌&&◌, ℤ, pos, neg_ℤ, ◌+ℤ◌, ◌-ℤ◌, ◌*ℤ◌, ◌+◌, ◌-◌, ◌^◌, max, min, nat_lt}
-use Rattle.std.specs.Prelude.{unsigned_abs, int_div, if◌then◌else◌, Result, Ok, Err}
+use Rattle.std.specs.Prelude.{ℕ, Bool, ◌&&◌, ℤ, pos, neg_ℤ, ◌+ℤ◌, ◌-ℤ◌, ◌*ℤ◌, ◌+◌, ◌-◌, ◌^◌, max, min, nat_lt, unsigned_abs, int_div, if◌then◌else◌, Result, Ok, Err}
 use Rattle.decimal18.specs.Fraction.{Fraction, aligned_coefficient}
 use Rattle.decimal18.specs.declared.size_error.Size.{Size}
 
@@ -12,8 +11,7 @@ size_error = Err (record {})
 abbrev pub is_within : ℤ → Bool
 is_within z = nat_lt (unsigned_abs z) (10 ^ 38)
 
--- z / 10 ^ scale as an intermediate result: a size error, or the number, its digits after the eighteenth decimal place
--- cut.
+-- z / 10 ^ scale as an intermediate result: a size error, or the number, its digits after the eighteenth decimal place cut.
 abbrev pub intermediate : ℤ → ℕ → Result Fraction Size
 intermediate z scale =
     if is_within z

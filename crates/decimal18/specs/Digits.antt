@@ -1,7 +1,5 @@
--- Numbers from and by their decimal digits (COBOL-85, Nucleus, numeric literals and the digit positions of a numeric
--- item).
-use Rattle.std.specs.Prelude.{ℕ, zero, suc, Bool, ℤ, pos, List, [], ◌∷◌, ◌+◌, ◌-◌, ◌*◌, ◌/◌, ◌%◌, ◌^◌, ◌==◌}
-use Rattle.std.specs.Prelude.{unsigned_abs, int_div, if◌then◌else◌, Option, Some, None, Result}
+-- Numbers from and by their decimal digits (COBOL-85, Nucleus, numeric literals and the digit positions of a numeric item).
+use Rattle.std.specs.Prelude.{ℕ, zero, suc, Bool, ℤ, pos, List, [], ◌∷◌, ◌+◌, ◌-◌, ◌*◌, ◌/◌, ◌%◌, ◌^◌, ◌==◌, unsigned_abs, int_div, if◌then◌else◌, Option, Some, None, Result}
 use Rattle.std.specs.Char.{is_ascii_digit}
 use Rattle.std.specs.List.{list_all}
 use Rattle.decimal18.specs.Fraction.{Fraction, signed_integer}

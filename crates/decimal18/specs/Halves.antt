@@ -1,7 +1,6 @@
--- How a coefficient is kept: as a low part, which fits 64 bits with its sign, and a high part, which counts multiples
--- of 2^64. A coefficient that fits 64 bits is its own low part, and its high part is zero.
-use Rattle.std.proofs.Common.{◌≡◌, ℕ, zero, suc, ◌+◌, ◌-◌, ◌*◌, ◌/◌, ◌^◌, ◌<◌, ◌≤◌, refl, ap, sym, ◌∙◌, arith, ℤ, pos}
-use Rattle.std.proofs.Common.{negsuc, neg_ℤ, ◌+ℤ◌, ◌-ℤ◌, ◌*ℤ◌, FitsSigned, cond}
+-- How a coefficient is kept: as a low part, which fits 64 bits with its sign, and a high part, which counts multiples of
+-- 2^64. A coefficient that fits 64 bits is its own low part, and its high part is zero.
+use Rattle.std.proofs.Common.{◌≡◌, ℕ, zero, suc, ◌+◌, ◌-◌, ◌*◌, ◌/◌, ◌^◌, ◌<◌, ◌≤◌, refl, ap, sym, ◌∙◌, arith, ℤ, pos, negsuc, neg_ℤ, ◌+ℤ◌, ◌-ℤ◌, ◌*ℤ◌, FitsSigned, cond}
 use Rattle.std.specs.Int.{w64}
 use Rattle.std.proofs.Math.IntN.{sub_ℕ, +ℤ-neg_ℤ_cancel, -ℤ-+ℤ_cancel, +ℤ_idr}
 use Rattle.std.proofs.lemmas.Bool.{lt-ltb, le-ltb}
@@ -60,23 +59,18 @@ high_of (pos l) (negsuc h) fits =
     let small : l < 2 ^ 63 = fits.sfits in
     let less : l < suc h * 2 ^ 64 = omega arith in
     ap high_part (less_by l (suc h * 2 ^ 64) ∙ sub_less l (suc h * 2 ^ 64) less)
-    ∙ ap (λ n. neg_ℤ (pos n))
-    (quotient_is (suc h * 2 ^ 64 - suc l + 2 ^ 63) (suc h) (2 ^ 63 - suc l) (omega arith) (omega arith))
+    ∙ ap (λ n. neg_ℤ (pos n)) (quotient_is (suc h * 2 ^ 64 - suc l + 2 ^ 63) (suc h) (2 ^ 63 - suc l) (omega arith) (omega arith))
 high_of (negsuc l) (negsuc h) fits =
     let small : l < 2 ^ 63 = fits.sfits in
     let some : 0 < suc h * 2 ^ 64 = omega arith in
     ap (λ t. high_part (negsuc l +ℤ t)) (negated_some (suc h * 2 ^ 64) some)
-    ∙ ap (λ n. neg_ℤ (pos n))
-    (quotient_is (suc (l + (suc h * 2 ^ 64 - 1)) + 2 ^ 63) (suc h) (l + 2 ^ 63) (omega arith) (omega arith))
+    ∙ ap (λ n. neg_ℤ (pos n)) (quotient_is (suc (l + (suc h * 2 ^ 64 - 1)) + 2 ^ 63) (suc h) (l + 2 ^ 63) (omega arith) (omega arith))
 
 low_of : (low high : ℤ) → FitsSigned w64 low → low_part (number_of_halves low high) ≡ low
 low_of low high fits =
-    ap (λ t. number_of_halves low high -ℤ t *ℤ pos (2 ^ 64)) (high_of low high fits)
-    ∙ +ℤ-neg_ℤ_cancel low (high *ℤ pos (2 ^ 64))
+    ap (λ t. number_of_halves low high -ℤ t *ℤ pos (2 ^ 64)) (high_of low high fits) ∙ +ℤ-neg_ℤ_cancel low (high *ℤ pos (2 ^ 64))
 
 -- Both parts of what they join are found again.
-pub parts_of : {X : Type 0} (kept : ℤ → ℤ → X) (low high : ℤ) → FitsSigned w64 low
-    → kept (low_part (number_of_halves low high)) (high_part (number_of_halves low high)) ≡ kept low high
+pub parts_of : {X : Type 0} (kept : ℤ → ℤ → X) (low high : ℤ) → FitsSigned w64 low → kept (low_part (number_of_halves low high)) (high_part (number_of_halves low high)) ≡ kept low high
 parts_of kept low high fits =
-    ap (λ l. kept l (high_part (number_of_halves low high))) (low_of low high fits)
-    ∙ ap (kept low) (high_of low high fits)
+    ap (λ l. kept l (high_part (number_of_halves low high))) (low_of low high fits) ∙ ap (kept low) (high_of low high fits)

@@ -1,5 +1,5 @@
--- The order of numbers, whatever their scales (COBOL-85, Nucleus, comparison of numeric operands): a/10^s is below
--- b/10^t exactly where a * 10^t is below b * 10^s.
+-- The order of numbers, whatever their scales (COBOL-85, Nucleus, comparison of numeric operands): a/10^s is below b/10^t
+-- exactly where a * 10^t is below b * 10^s.
 use Rattle.std.specs.Prelude.{Bool, pos, ◌*ℤ◌, ◌^◌}
 use Rattle.std.specs.Ordering.{int_cmp, is_eq}
 use Rattle.std.specs.declared.cmp.Ordering.{Ordering}

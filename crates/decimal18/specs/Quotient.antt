@@ -1,13 +1,11 @@
 -- Quotients (COBOL-85, Nucleus, the DIVIDE statement). Which scale a quotient has is this project's own choice.
-use Rattle.std.specs.Prelude.{ℕ, zero, suc, Bool, ◌&&◌, ℤ, pos, ◌*ℤ◌, ◌+◌, ◌-◌, ◌^◌, nat_le, int_div, if◌then◌else◌}
-use Rattle.std.specs.Prelude.{Result, Ok, Option, Some, None}
+use Rattle.std.specs.Prelude.{ℕ, zero, suc, Bool, ◌&&◌, ℤ, pos, ◌*ℤ◌, ◌+◌, ◌-◌, ◌^◌, nat_le, int_div, if◌then◌else◌, Result, Ok, Option, Some, None}
 use Rattle.std.specs.Ordering.{int_eq}
 use Rattle.decimal18.specs.Fraction.{Fraction}
 use Rattle.decimal18.specs.Arithmetic.{size_error, is_within}
 use Rattle.decimal18.specs.declared.size_error.Size.{Size}
 
--- The dividend's coefficient with as many zeros behind it as its quotient by the divisor's coefficient wants to have
--- scale q.
+-- The dividend's coefficient with as many zeros behind it as its quotient by the divisor's coefficient wants to have scale q.
 abbrev pub extended_dividend : Fraction → Fraction → ℕ → ℤ
 extended_dividend x y q = x.coefficient *ℤ pos (10 ^ (q + y.scale - x.scale))
 

@@ -1,7 +1,5 @@
--- What a numeric receiver keeps of a result (COBOL-85, Nucleus, the ROUNDED phrase, the ON SIZE ERROR phrase, and
--- MOVE).
-use Rattle.std.specs.Prelude.{ℕ, zero, suc, ℤ, pos, ◌+◌, ◌-◌, ◌*◌, ◌/◌, ◌%◌, ◌^◌, nat_lt, nat_le, unsigned_abs, int_div}
-use Rattle.std.specs.Prelude.{int_rem, if◌then◌else◌, Result, Ok}
+-- What a numeric receiver keeps of a result (COBOL-85, Nucleus, the ROUNDED phrase, the ON SIZE ERROR phrase, and MOVE).
+use Rattle.std.specs.Prelude.{ℕ, zero, suc, ℤ, pos, ◌+◌, ◌-◌, ◌*◌, ◌/◌, ◌%◌, ◌^◌, nat_lt, nat_le, unsigned_abs, int_div, int_rem, if◌then◌else◌, Result, Ok}
 use Rattle.decimal18.specs.Fraction.{Fraction, is_negative, signed_integer}
 use Rattle.decimal18.specs.Arithmetic.{size_error}
 use Rattle.decimal18.specs.declared.size_error.Size.{Size}
@@ -38,8 +36,8 @@ unfoldable pub low_digits : Fraction → ℕ → ℕ → Rounding → Fraction
 low_digits x digits scale rounding =
     record { coefficient = int_rem (at_scale x scale rounding) (pos (10 ^ digits)); scale = scale }
 
--- x cut towards zero at a scale, with its sign and all its whole digits: x itself where it has no more decimals than
--- that. The quotient whose product REMAINDER takes from the dividend (own choice: not rounded).
+-- x cut towards zero at a scale, with its sign and all its whole digits: x itself where it has no more decimals than that.
+-- The quotient whose product REMAINDER takes from the dividend (own choice: not rounded).
 unfoldable pub truncated_decimal : Fraction → ℕ → Fraction
 truncated_decimal x scale =
     if nat_le x.scale scale

@@ -1,6 +1,5 @@
 -- The order of fractions is total: three of them are compared as integers over one denominator.
-use Rattle.std.proofs.Common.{◌≡◌, ℕ, zero, suc, ◌+◌, ◌-◌, ◌*◌, ◌^◌, ◌<◌, ◌≤◌, Bool, true, false, refl, ap, sym, ◌∙◌}
-use Rattle.std.proofs.Common.{arith, ℤ, pos, negsuc, neg_ℤ, ◌*ℤ◌, unsigned_abs, nat_lt, cond, inl, inr}
+use Rattle.std.proofs.Common.{◌≡◌, ℕ, zero, suc, ◌+◌, ◌-◌, ◌*◌, ◌^◌, ◌<◌, ◌≤◌, Bool, true, false, refl, ap, sym, ◌∙◌, arith, ℤ, pos, negsuc, neg_ℤ, ◌*ℤ◌, unsigned_abs, nat_lt, cond, inl, inr}
 use mathlib.Core.Bool.{true≢false}
 use Rattle.std.proofs.lemmas.Nat.{pow-add}
 use Rattle.std.specs.Prelude.{int_lt}
@@ -60,8 +59,7 @@ int_lt-scaled (negsuc a) (negsuc b) k h =
     ap (λ t. int_lt t (negsuc b *ℤ pos k)) (negsuc-mul a k h)
     ∙ ap (λ t. int_lt (negsuc (suc a * k - 1)) t) (negsuc-mul b k h)
     ∙ pred_lt (suc b * k) (suc a * k) right left ∙ lt-scaled (suc b) (suc a) k h
-    ∙ sym (pred_lt (suc b) (suc a) (omega arith) (omega arith)) ∙ ap (λ t. nat_lt t (suc a - 1)) (omega arith)
-    ∙ ap (λ t. nat_lt b t) (omega arith)
+    ∙ sym (pred_lt (suc b) (suc a) (omega arith) (omega arith)) ∙ ap (λ t. nat_lt t (suc a - 1)) (omega arith) ∙ ap (λ t. nat_lt b t) (omega arith)
 
 pub int_cmp-scaled : (x y : ℤ) (k : ℕ) → 0 < k → int_cmp (x *ℤ pos k) (y *ℤ pos k) ≡ int_cmp x y
 int_cmp-scaled x y k h =
@@ -89,8 +87,7 @@ second x y z =
     ∙ ap (λ n. int_cmp (wide y x z) (z.coefficient *ℤ pos n)) (mul_comm (10 ^ y.scale) (10 ^ x.scale))
 
 outer_order : (x y z : Fraction) → order x z ≡ int_cmp (wide x y z) (wide z x y)
-outer_order x y z = order_at_scale x z y
-    ∙ ap (λ n. int_cmp (x.coefficient *ℤ pos n) (wide z x y)) (mul_comm (10 ^ z.scale) (10 ^ y.scale))
+outer_order x y z = order_at_scale x z y ∙ ap (λ n. int_cmp (x.coefficient *ℤ pos n) (wide z x y)) (mul_comm (10 ^ z.scale) (10 ^ y.scale))
 
 pub order_reversed : (x y : Fraction) → order x y ≡ ordering_reverse (order y x)
 unfolding order
@@ -99,10 +96,8 @@ order_reversed x y = int_cmp_total.antisymm (x.coefficient *ℤ pos (10 ^ y.scal
 pub order_total : IsTotalOrder order
 order_total = record {
   antisymm = order_reversed;
-  trans = λ x y z p q. outer_order x y z ∙ int_cmp_total.trans (wide x y z) (wide y x z) (wide z x y)
-      (sym (order_at_scale x y z) ∙ p) (sym (second x y z) ∙ q);
-  congr = λ x y z p. outer_order x y z ∙ int_cmp_total.congr (wide x y z) (wide y x z) (wide z x y)
-      (sym (order_at_scale x y z) ∙ p) ∙ sym (second x y z);
+  trans = λ x y z p q. outer_order x y z ∙ int_cmp_total.trans (wide x y z) (wide y x z) (wide z x y) (sym (order_at_scale x y z) ∙ p) (sym (second x y z) ∙ q);
+  congr = λ x y z p. outer_order x y z ∙ int_cmp_total.congr (wide x y z) (wide y x z) (wide z x y) (sym (order_at_scale x y z) ∙ p) ∙ sym (second x y z);
 }
 
 is_eq-reverse : (r : Ordering) → is_eq (ordering_reverse r) ≡ is_eq r
@@ -123,13 +118,11 @@ equals_equiv = record {
 }
 
 -- A comparison with zeros behind the coefficient of the smaller scale.
-pub order_raised : (x y : Fraction) → x.scale ≤ y.scale
-    → int_cmp (x.coefficient *ℤ pos (10 ^ (y.scale - x.scale))) y.coefficient ≡ order x y
+pub order_raised : (x y : Fraction) → x.scale ≤ y.scale → int_cmp (x.coefficient *ℤ pos (10 ^ (y.scale - x.scale))) y.coefficient ≡ order x y
 unfolding order
 order_raised x y h =
     let k = y.scale - x.scale in
     let whole : y.scale ≡ k + x.scale = omega arith in
     let power : 10 ^ y.scale ≡ 10 ^ k * 10 ^ x.scale = ap (λ n. 10 ^ n) whole ∙ pow-add 10 k x.scale in
     sym (int_cmp-scaled (x.coefficient *ℤ pos (10 ^ k)) y.coefficient (10 ^ x.scale) (ten_pos x.scale))
-    ∙ ap (λ t. int_cmp t (y.coefficient *ℤ pos (10 ^ x.scale))) (mul-mul x.coefficient (10 ^ k) (10 ^ x.scale)
-    ∙ ap (λ n. x.coefficient *ℤ pos n) (sym power))
+    ∙ ap (λ t. int_cmp t (y.coefficient *ℤ pos (10 ^ x.scale))) (mul-mul x.coefficient (10 ^ k) (10 ^ x.scale) ∙ ap (λ n. x.coefficient *ℤ pos n) (sym power))

@@ -1,6 +1,5 @@
 -- The walk along the PERFORMs: which paragraphs were seen, the path to where it stands, and which are placed.
-use Rattle.std.specs.Prelude.{◌≡◌, ℕ, ◌+◌, ◌≤◌, ◌<◌, Bool, true, false, List, length, get_or, slice_get, sum_by}
-use Rattle.std.specs.Prelude.{count_by, Some, []}
+use Rattle.std.specs.Prelude.{◌≡◌, ℕ, ◌+◌, ◌≤◌, ◌<◌, Bool, true, false, List, length, get_or, slice_get, sum_by, count_by, Some, []}
 use Rattle.perform_graph.specs.declared.performed.PerformedRange.{PerformedRange}
 use Rattle.perform_graph.specs.declared.progress.Progress.{Progress}
 use Rattle.perform_graph.specs.declared.progress.Progress.TheVariants.{Unseen, Open, Placed}
@@ -45,8 +44,7 @@ RangePlaced states one = (paragraph : ℕ) → IsIn one paragraph → is_placed 
 -- The paragraphs that this one performs are placed.
 abbrev pub AllPlaced : List PerformedRange → List Progress → ℕ → Type 0
 AllPlaced performed states paragraph =
-    (number : ℕ) (one : PerformedRange) → slice_get performed number ≡ Some one → one.performer ≡ paragraph
-    → RangePlaced states one
+    (number : ℕ) (one : PerformedRange) → slice_get performed number ≡ Some one → one.performer ≡ paragraph → RangePlaced states one
 
 -- the first one from here to there that isn't placed
 pub record IsFirstUnplaced (states : List Progress) (first last paragraph : ℕ) : Type 0 where
@@ -55,8 +53,7 @@ pub record IsFirstUnplaced (states : List Progress) (first last paragraph : ℕ)
   pub unplaced : is_placed (state states paragraph) ≡ false
   pub before : (other : ℕ) → first ≤ other → other < paragraph → is_placed (state states other) ≡ true
 
--- What a visit has gone over is placed: the PERFORMs behind the one that it is at, and there the paragraphs in front of
--- the next one.
+-- What a visit has gone over is placed: the PERFORMs behind the one that it is at, and there the paragraphs in front of the next one.
 pub record HasGoneOver (performed : List PerformedRange) (states : List Progress) (visit : Visit) : Type 0 where
   pub of : (at : ℕ) → visit.at ≡ Some at → IsPerformOf performed visit.paragraph at
   pub behind : (number : ℕ) (one : PerformedRange) → up_to visit.at ≤ number → slice_get performed number ≡ Some one
@@ -74,8 +71,7 @@ pub record PerformsNext (performed : List PerformedRange) (visit : Visit) : Type
   pub within : IsIn one visit.next
 
 -- a visit of the paragraph that has come to a next one that isn't placed
-pub record HasNext (performed : List PerformedRange) (states : List Progress) (paragraph : ℕ) (visit : Visit) :
-    Type 0 where
+pub record HasNext (performed : List PerformedRange) (states : List Progress) (paragraph : ℕ) (visit : Visit) : Type 0 where
   pub same : visit.paragraph ≡ paragraph
   pub over : HasGoneOver performed states visit
   pub leads : PerformsNext performed visit
@@ -104,19 +100,16 @@ pub record PerformsVisit (performed : List PerformedRange) (visit later : Visit)
   pub leads : PerformsNext performed visit
   pub next : visit.next ≡ later.paragraph
 
--- How the walk stands: each placed paragraph performs only placed ones that are lower, the open ones are those of the
--- path, and each on the path performs the one behind it.
-pub record IsWalkState (performed : List PerformedRange) (states : List Progress) (path : List Visit) (placed : ℕ) :
-    Type 0 where
+-- How the walk stands: each placed paragraph performs only placed ones that are lower, the open ones are those of the path, and each on the
+-- path performs the one behind it.
+pub record IsWalkState (performed : List PerformedRange) (states : List Progress) (path : List Visit) (placed : ℕ) : Type 0 where
   pub count : placed ≡ count_by is_placed states
   pub low : (paragraph height : ℕ) → state states paragraph ≡ Placed height → height < placed
-  pub falls : (paragraph height : ℕ) → state states paragraph ≡ Placed height → (number : ℕ) (one : PerformedRange)
-      → slice_get performed number ≡ Some one
+  pub falls : (paragraph height : ℕ) → state states paragraph ≡ Placed height → (number : ℕ) (one : PerformedRange) → slice_get performed number ≡ Some one
       → one.performer ≡ paragraph → (other : ℕ) → IsIn one other → IsBelow states height other
   pub visited : (paragraph depth : ℕ) → state states paragraph ≡ Open depth → IsVisited path depth paragraph
   pub on_path : (depth : ℕ) (visit : Visit) → slice_get path depth ≡ Some visit → IsOpen performed states depth visit
-  pub links : (depth : ℕ) (visit later : Visit) → slice_get path depth ≡ Some visit
-      → slice_get path (depth + 1) ≡ Some later → PerformsVisit performed visit later
+  pub links : (depth : ℕ) (visit later : Visit) → slice_get path depth ≡ Some visit → slice_get path (depth + 1) ≡ Some later → PerformsVisit performed visit later
 
 -- The walk went on: what was seen stays seen, and less is ahead.
 pub record Advances (old new : List Progress) : Type 0 where
@@ -125,8 +118,7 @@ pub record Advances (old new : List Progress) : Type 0 where
   pub less : ahead new < ahead old
 
 -- the walk after it went on
-pub record IsLaterWalkState (performed : List PerformedRange) (old new : List Progress) (path : List Visit) (placed : ℕ)
-    : Type 0 where
+pub record IsLaterWalkState (performed : List PerformedRange) (old new : List Progress) (path : List Visit) (placed : ℕ) : Type 0 where
   pub stands : IsWalkState performed new path placed
   pub on : Advances old new
 
@@ -145,8 +137,7 @@ pub record IsCycle (performed : List PerformedRange) (count : ℕ) (ring : List 
 
 -- The paragraphs of the first visits are marked, and none that isn't of a visit.
 pub record AreMarksTo (ring : List Visit) (end : ℕ) (all : List Bool) : Type 0 where
-  pub marked : (depth : ℕ) (visit : Visit) → depth < end → slice_get ring depth ≡ Some visit
-      → marks all visit.paragraph ≡ true
+  pub marked : (depth : ℕ) (visit : Visit) → depth < end → slice_get ring depth ≡ Some visit → marks all visit.paragraph ≡ true
   pub of : (paragraph : ℕ) → marks all paragraph ≡ true → (depth : ℕ) × IsVisited ring depth paragraph
 
 -- The paragraphs of the visits are marked, and no others.
@@ -154,8 +145,7 @@ abbrev pub AreMarks : List Visit → List Bool → Type 0
 AreMarks ring all = AreMarksTo ring (length ring) all
 
 -- a walk that began at a paragraph and is at its end
-pub record IsWalked (performed : List PerformedRange) (root : ℕ) (old new : List Progress) (path : List Visit)
-    (placed : ℕ) : Type 0 where
+pub record IsWalked (performed : List PerformedRange) (root : ℕ) (old new : List Progress) (path : List Visit) (placed : ℕ) : Type 0 where
   pub stands : IsWalkState performed new path placed
   pub done : path ≡ []
   pub same : length new ≡ length old

@@ -7,8 +7,7 @@ use Rattle.picture.specs.declared.class.Class.{Class}
 use Rattle.picture.specs.declared.class.Class.TheVariants as c
 use Rattle.picture.specs.declared.symbol.Suppression.TheVariants as z
 use Rattle.picture.specs.Runs.{runs_past, occurrences}
-use Rattle.picture.specs.Forms.{whole_picture, stretch, numeric_arrangement, HasDigitPlaceCount, IsEdited}
-use Rattle.picture.specs.Forms.{suppression_of}
+use Rattle.picture.specs.Forms.{whole_picture, stretch, numeric_arrangement, HasDigitPlaceCount, IsEdited, suppression_of}
 
 abbrev pub contains_class : Class → List Run → Bool
 contains_class class runs = nat_lt 0 (occurrences class runs)
@@ -17,14 +16,12 @@ abbrev pub is_empty : List Run → Bool
 is_empty [] = true
 is_empty (run ∷ more) = false
 
--- The category, by which symbols stand in a picture. With an A or X: alphanumeric edited with a B, 0 or /, else
--- alphanumeric with an X or 9, else alphabetic. Without one: numeric where only S, 9 and V stand there, else numeric
--- edited.
+-- The category, by which symbols stand in a picture. With an A or X: alphanumeric edited with a B, 0 or /, else alphanumeric with an X or
+-- 9, else alphabetic. Without one: numeric where only S, 9 and V stand there, else numeric edited.
 unfoldable pub kind_of : List Run → Category
 kind_of runs =
     if contains_class c.LettersAndCharacters runs then
-    (if contains_class c.SimpleInsertions runs then k.AlphanumericEdited
-    else if contains_class c.CharactersAndNines runs then k.Alphanumeric else k.Alphabetic)
+    (if contains_class c.SimpleInsertions runs then k.AlphanumericEdited else if contains_class c.CharactersAndNines runs then k.Alphanumeric else k.Alphabetic)
     else if is_empty (runs_past c.Numeric runs) then k.Numeric else k.NumericEdited
 
 pub record IsNumeric (runs : List Run) : Type 0 where

@@ -20,15 +20,13 @@ is_only class runs = is_empty (runs_past class runs)
 
 unfoldable pub is_numeric_picture : List Run → Bool
 is_numeric_picture runs =
-    is_only (c.Digits z.Nothing)
-    (past_one c.AssumedPoint (runs_past (c.Digits z.Nothing) (past_one c.OperationalSign runs)))
+    is_only (c.Digits z.Nothing) (past_one c.AssumedPoint (runs_past (c.Digits z.Nothing) (past_one c.OperationalSign runs)))
     && has_digits z.Nothing runs
 
 -- what is left after the decimals of an edited picture: the sign at its end, if any
 unfoldable pub past_core : Suppression → List Run → List Run
 past_core by runs =
-    runs_past (decimals by runs)
-    (past_one c.Points (runs_past c.NinesAndInsertions (runs_past (c.SuppressedAndInsertions by)
+    runs_past (decimals by runs) (past_one c.Points (runs_past c.NinesAndInsertions (runs_past (c.SuppressedAndInsertions by)
     (past_one (c.FixedCurrency by) (past_one (c.LeadingSign by) runs)))))
 
 unfoldable pub is_arranged : Suppression → List Run → Bool
@@ -38,8 +36,7 @@ unfoldable pub has_one_sign : Suppression → List Run → Bool
 has_one_sign by runs = is_floating_sign by || nat_le (occurrences c.Signs runs) 1
 
 unfoldable pub begins_before_point : Suppression → List Run → Bool
-begins_before_point by runs = nat_le (least_count by + occurrences (c.Suppressed by) (from_first c.Points runs))
-    (occurrences (c.Suppressed by) runs)
+begins_before_point by runs = nat_le (least_count by + occurrences (c.Suppressed by) (from_first c.Points runs)) (occurrences (c.Suppressed by) runs)
 
 unfoldable pub is_edited : Suppression → List Run → Bool
 is_edited by runs =

@@ -1,10 +1,9 @@
--- The forms of pictures, a category each (COBOL-85, Nucleus, the PICTURE clause: categories of data, and editing by
--- simple, special, fixed and floating insertion and by zero suppression).
+-- The forms of pictures, a category each (COBOL-85, Nucleus, the PICTURE clause: categories of data, and editing by simple,
+-- special, fixed and floating insertion and by zero suppression).
 --
 -- One principle divides a picture into its parts: each part takes all that it can. An optional symbol is left out only
 -- where none stands, and a stretch of symbols ends only where no more of them comes.
-use Rattle.std.specs.Prelude.{◌≡◌, ℕ, ◌+◌, ◌-◌, ◌≤◌, Bool, true, false, ◌⊎◌, List, [], ◌∷◌, ◌++◌, nat_lt, nat_le}
-use Rattle.std.specs.Prelude.{if◌then◌else◌}
+use Rattle.std.specs.Prelude.{◌≡◌, ℕ, ◌+◌, ◌-◌, ◌≤◌, Bool, true, false, ◌⊎◌, List, [], ◌∷◌, ◌++◌, nat_lt, nat_le, if◌then◌else◌}
 use Rattle.picture.specs.declared.run.Run.{Run}
 use Rattle.picture.specs.declared.class.Class.{Class}
 use Rattle.picture.specs.declared.class.Class.TheVariants as c
@@ -38,8 +37,7 @@ Each class (run ∷ more) = (is_in_class class run ≡ true) × Each class more
 
 -- Symbols of the class, as far as they go.
 abbrev pub stretch : Class → Part
-stretch class = λ from rest. (front : List Run) × (from ≡ front ++ rest) × Each class front
-    × (begins_with_run (is_in_class class) rest ≡ false)
+stretch class = λ from rest. (front : List Run) × (from ≡ front ++ rest) × Each class front × (begins_with_run (is_in_class class) rest ≡ false)
 
 abbrev pub one : Class → Part
 one class = λ from rest. (run : Run) × (from ≡ run ∷ rest) × (is_one class run ≡ true)
@@ -60,14 +58,12 @@ perhaps class = λ from rest. one class from rest ⊎ (from ≡ rest)
 -- S where there is a sign, nines, and V with nines.
 abbrev pub numeric_arrangement : Part
 numeric_arrangement =
-    optional c.OperationalSign then stretch (c.Digits z.Nothing) then optional c.AssumedPoint
-    then stretch (c.Digits z.Nothing)
+    optional c.OperationalSign then stretch (c.Digits z.Nothing) then optional c.AssumedPoint then stretch (c.Digits z.Nothing)
 
 -- The same without the principle.
 abbrev pub any_numeric_arrangement : Part
 any_numeric_arrangement =
-    perhaps c.OperationalSign then some_of (c.Digits z.Nothing) then perhaps c.AssumedPoint
-    then some_of (c.Digits z.Nothing)
+    perhaps c.OperationalSign then some_of (c.Digits z.Nothing) then perhaps c.AssumedPoint then some_of (c.Digits z.Nothing)
 
 -- ---- digit places
 
@@ -98,12 +94,10 @@ suppression_of runs =
 
 -- The symbols after the point: 9 and insertions; in a picture without a 9 the suppressing symbol and insertions.
 abbrev pub decimals : Suppression → List Run → Class
-decimals by runs =
-    if nat_lt 0 (occurrences (c.Digits z.Nothing) runs) then c.NinesAndInsertions else c.SuppressedAndInsertions by
+decimals by runs = if nat_lt 0 (occurrences (c.Digits z.Nothing) runs) then c.NinesAndInsertions else c.SuppressedAndInsertions by
 
--- A sign and a currency sign in front, then the core: suppressed or floating places and insertions, nines and
--- insertions, a point and decimals; then a sign at the end. Without suppression the first stretch is of insertions
--- alone.
+-- A sign and a currency sign in front, then the core: suppressed or floating places and insertions, nines and insertions, a
+-- point and decimals; then a sign at the end. Without suppression the first stretch is of insertions alone.
 abbrev pub arrangement : Suppression → List Run → Part
 arrangement by runs =
     optional (c.LeadingSign by) then optional (c.FixedCurrency by)
@@ -124,8 +118,7 @@ pub record IsEdited (by : Suppression) (runs : List Run) : Type 0 where
   -- at most one sign over front, float and end: beside a floating one the arrangement has no other
   pub one_sign : is_floating_sign by ≡ false → occurrences c.Signs runs ≤ 1
   -- zero suppression begins before the point, and so do two places of a floating symbol
-  pub before_point : least_count by + occurrences (c.Suppressed by) (from_first c.Points runs)
-      ≤ occurrences (c.Suppressed by) runs
+  pub before_point : least_count by + occurrences (c.Suppressed by) (from_first c.Points runs) ≤ occurrences (c.Suppressed by) runs
   pub digits : HasDigitPlaceCount by runs
   pub fits : size_of runs ≤ most_places
   pub last : ends_in c.NeverLast runs ≡ false

@@ -71,16 +71,13 @@ pub record IsOfRuns (given : List Run) (picture : Description) : Type 0 where
 
 -- Digit places from 1 to 18, of which the scale stands after the point, and a place for each character.
 abbrev pub HasDigitPlaces : Description → Type 0
-HasDigitPlaces picture = (1 ≤ picture.digits) × (picture.digits ≤ most_digits) × (picture.scale ≤ picture.digits)
-    × (length picture.places ≡ picture.size)
+HasDigitPlaces picture = (1 ≤ picture.digits) × (picture.digits ≤ most_digits) × (picture.scale ≤ picture.digits) × (length picture.places ≡ picture.size)
 
--- What each category bounds: a numeric edited picture has at most 160 places. A picture of characters has a place for
--- each symbol.
+-- What each category bounds: a numeric edited picture has at most 160 places. A picture of characters has a place for each symbol.
 abbrev pub IsWithinBounds : Category → Description → Type 0
 IsWithinBounds k.Numeric picture = HasDigitPlaces picture
 IsWithinBounds k.NumericEdited picture = HasDigitPlaces picture × (picture.size ≤ most_places)
-IsWithinBounds category picture =
-    (picture.digits ≡ 0) × (picture.scale ≡ 0) × (picture.size ≡ symbol_count picture.runs)
+IsWithinBounds category picture = (picture.digits ≡ 0) × (picture.scale ≡ 0) × (picture.size ≡ symbol_count picture.runs)
 
 abbrev pub IsBounded : Description → Type 0
 IsBounded picture = IsWithinBounds picture.category picture

@@ -1,7 +1,6 @@
 -- The places of an item, one for each character that is shown, and the region in which leading zeros are suppressed
 -- (COBOL-85, Nucleus, the PICTURE clause, editing rules).
-use Rattle.std.specs.Prelude.{ℕ, zero, suc, ◌-◌, ◌&&◌, List, [], ◌∷◌, ◌++◌, Option, Some, None, slice_set}
-use Rattle.std.specs.Prelude.{if◌then◌else◌}
+use Rattle.std.specs.Prelude.{ℕ, zero, suc, ◌-◌, ◌&&◌, List, [], ◌∷◌, ◌++◌, Option, Some, None, slice_set, if◌then◌else◌}
 use Rattle.picture.specs.declared.run.Run.{Run}
 use Rattle.picture.specs.declared.place.Place.{Place}
 use Rattle.picture.specs.declared.place.Place.TheVariants as p
@@ -62,8 +61,7 @@ region_of by runs = Some (region_from by runs)
 -- A floating region begins at the first floating place, which is no digit place.
 abbrev pub places_with_floating : Option Region → List Place → List Place
 places_with_floating None places = places
-places_with_floating (Some region) places =
-    if is_floating region.by then slice_set places region.begin p.FirstFloating else places
+places_with_floating (Some region) places = if is_floating region.by then slice_set places region.begin p.FirstFloating else places
 
 abbrev pub places_of : Suppression → List Run → List Place
 places_of by runs = places_with_floating (region_of by runs) (each_place by runs)

@@ -1,7 +1,6 @@
--- What editing rests on: digit places are numbered from the right, and a region holds no point and one symbol that
--- floats (COBOL-85, Nucleus, the PICTURE clause, editing rules).
-use Rattle.std.specs.Prelude.{◌≡◌, ℕ, ◌+◌, ◌≤◌, ◌<◌, ◌==◌, Bool, true, false, ◌&&◌, List, [], ◌∷◌, length}
-use Rattle.std.specs.Prelude.{slice_index_or, Option, Some, None, if◌then◌else◌}
+-- What editing rests on: digit places are numbered from the right, and a region holds no point and one symbol that floats
+-- (COBOL-85, Nucleus, the PICTURE clause, editing rules).
+use Rattle.std.specs.Prelude.{◌≡◌, ℕ, ◌+◌, ◌≤◌, ◌<◌, ◌==◌, Bool, true, false, ◌&&◌, List, [], ◌∷◌, length, slice_index_or, Option, Some, None, if◌then◌else◌}
 use Rattle.picture.specs.declared.place.Place.{Place}
 use Rattle.picture.specs.declared.place.Place.TheVariants as p
 use Rattle.picture.specs.declared.place.Region.{Region}
@@ -43,5 +42,4 @@ pub record IsEditingPicture (picture : Description) : Type 0 where
   pub numbered : digits_in picture.places ≡ picture.digits
   pub region : IsStretch picture.region picture.places
   -- the symbol that floats stands first at the begin of its region, and nowhere else
-  pub first : (at : ℕ) → at < length picture.places
-      → is_first_floating (slice_index_or picture.places at p.Digit) ≡ begins_at picture.region at
+  pub first : (at : ℕ) → at < length picture.places → is_first_floating (slice_index_or picture.places at p.Digit) ≡ begins_at picture.region at

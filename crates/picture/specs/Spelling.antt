@@ -1,7 +1,6 @@
--- Which runs a text of at most 30 characters can spell, told by the shortest text of each (COBOL-85, Nucleus, the
--- PICTURE clause, general rules).
-use Rattle.std.specs.Prelude.{ℕ, zero, suc, ◌+◌, ◌-◌, ◌/◌, ◌%◌, ◌^◌, ◌==◌, Bool, true, false, ◌&&◌, List, [], ◌∷◌, ◌++◌}
-use Rattle.std.specs.Prelude.{length, nat_le, nat_lt, if◌then◌else◌}
+-- Which runs a text of at most 30 characters can spell, told by the shortest text of each (COBOL-85, Nucleus, the PICTURE
+-- clause, general rules).
+use Rattle.std.specs.Prelude.{ℕ, zero, suc, ◌+◌, ◌-◌, ◌/◌, ◌%◌, ◌^◌, ◌==◌, Bool, true, false, ◌&&◌, List, [], ◌∷◌, ◌++◌, length, nat_le, nat_lt, if◌then◌else◌}
 use Rattle.picture.specs.declared.run.Run.{Run}
 use Rattle.picture.specs.declared.symbol.Symbol.{Symbol}
 use Rattle.picture.specs.declared.symbol.Symbol.TheVariants as s
@@ -17,13 +16,11 @@ count_most = 10 ^ most_count_digits
 -- A number of at most so many digits, without leading zeros.
 unfoldable pub decimal : ℕ → ℕ → List ℕ
 decimal zero number = []
-decimal (suc most) number =
-    if nat_lt number 10 then (48 + number) ∷ [] else decimal most (number / 10) ++ (48 + number % 10) ∷ []
+decimal (suc most) number = if nat_lt number 10 then (48 + number) ∷ [] else decimal most (number / 10) ++ (48 + number % 10) ∷ []
 
 -- What stands behind a symbol that comes so often.
 abbrev pub repeat_count_text : ℕ → List ℕ
-repeat_count_text count =
-    if count == 1 then [] else left_parenthesis ∷ (decimal most_count_digits count ++ right_parenthesis ∷ [])
+repeat_count_text count = if count == 1 then [] else left_parenthesis ∷ (decimal most_count_digits count ++ right_parenthesis ∷ [])
 
 abbrev pub is_pair : Symbol → Bool
 is_pair s.Cr = true

@@ -18,22 +18,18 @@ pub record Follows (own : ℕ) (old new : Root) : Type 0 where
 -- once it stands in the sector of its parity, it is the newest
 abbrev pub NextIsNewest : Type 0
 NextIsNewest = (known : List (List ℕ)) (own : ℕ) (image : List Sector) (now : Roots) (next : Root) (bytes : Sector)
-    → roots_in known own image ≡ Ok now → Follows own now.newest next
-    → root_in known (length image) (next.generation % 2) bytes ≡ Valid next
-    → roots_in known own (slice_set image (next.generation % 2) bytes)
-    ≡ Ok (record { newest = next; older = Some now.newest })
+    → roots_in known own image ≡ Ok now → Follows own now.newest next → root_in known (length image) (next.generation % 2) bytes ≡ Valid next
+    → roots_in known own (slice_set image (next.generation % 2) bytes) ≡ Ok (record { newest = next; older = Some now.newest })
 
 -- a root's bytes are read as that root
 abbrev pub ReadsBack : Type 0
 ReadsBack = (known : List (List ℕ)) (count number : ℕ) (mark : List ℕ) (root : Root)
-    → length mark ≡ 8 → is_blank (root_bytes mark root) ≡ false
-    → mark_index known (root_bytes mark root) ≡ Some root.mark → is_valid count number root ≡ true
+    → length mark ≡ 8 → is_blank (root_bytes mark root) ≡ false → mark_index known (root_bytes mark root) ≡ Some root.mark → is_valid count number root ≡ true
     → root_in known count number (root_bytes mark root) ≡ Valid root
 
 -- a root is that of the sector of its parity
 abbrev pub IsRootIn : List (List ℕ) → List Sector → Root → Type 0
-IsRootIn known image root =
-    root_in known (length image) (root.generation % 2) (sector_at image (root.generation % 2)) ≡ Valid root
+IsRootIn known image root = root_in known (length image) (root.generation % 2) (sector_at image (root.generation % 2)) ≡ Valid root
 
 -- the roots of an image stand in it and are within the bounds, and the newest has a mark of the reader's own
 pub record AreRootsOf (known : List (List ℕ)) (own : ℕ) (image : List Sector) (roots : Roots) : Type 0 where
@@ -42,5 +38,4 @@ pub record AreRootsOf (known : List (List ℕ)) (own : ℕ) (image : List Sector
   pub own_mark : roots.newest.mark < own
 
 abbrev pub RootsStand : Type 0
-RootsStand = (known : List (List ℕ)) (own : ℕ) (image : List Sector) (roots : Roots)
-    → roots_in known own image ≡ Ok roots → AreRootsOf known own image roots
+RootsStand = (known : List (List ℕ)) (own : ℕ) (image : List Sector) (roots : Roots) → roots_in known own image ≡ Ok roots → AreRootsOf known own image roots

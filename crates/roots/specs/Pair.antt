@@ -1,6 +1,5 @@
 -- The two roots of a volume (own choice).
-use Rattle.std.specs.Prelude.{Bool, ◌&&◌, ◌||◌, ℕ, ◌+◌, ◌==◌, nat_lt, Option, Some, None, IfSome, Result, Ok, Err}
-use Rattle.std.specs.Prelude.{if◌then◌else◌}
+use Rattle.std.specs.Prelude.{Bool, ◌&&◌, ◌||◌, ℕ, ◌+◌, ◌==◌, nat_lt, Option, Some, None, IfSome, Result, Ok, Err, if◌then◌else◌}
 use Rattle.roots.specs.declared.root.Root.{Root}
 use Rattle.roots.specs.declared.root.RootSector.{RootSector}
 use Rattle.roots.specs.declared.root.RootSector.TheVariants.{Blank, Broken, Valid}
@@ -15,14 +14,12 @@ may_follow own older newer = (older == newer) || (nat_lt older newer && nat_lt n
 -- adjacent generations of one volume
 abbrev pub pair_of : ℕ → Root → Root → Option Roots
 pair_of own older newer =
-    if (older.generation + 1 == newer.generation) && (older.sectors == newer.sectors)
-    && may_follow own older.mark newer.mark
+    if (older.generation + 1 == newer.generation) && (older.sectors == newer.sectors) && may_follow own older.mark newer.mark
     then Some (record { newest = newer; older = Some older })
     else None
 
 abbrev pub both_of : ℕ → Root → Root → Option Roots
-both_of own first second =
-    if nat_lt first.generation second.generation then pair_of own first second else pair_of own second first
+both_of own first second = if nat_lt first.generation second.generation then pair_of own first second else pair_of own second first
 
 -- a volume has one root beside a blank sector, or two that belong together
 abbrev pub roots_of : ℕ → RootSector → RootSector → Option Roots

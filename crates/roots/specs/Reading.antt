@@ -10,8 +10,7 @@ use Rattle.roots.specs.declared.error.RootsError.TheVariants as error
 
 -- the roots in sectors 0 and 1, to a reader that knows these marks, of which the first are its own
 abbrev pub roots_in : List (List ℕ) → ℕ → List Sector → Result Roots RootsFault
-roots_in known own image = newest_root own (root_in known (length image) 0 (sector_at image 0))
-    (root_in known (length image) 1 (sector_at image 1))
+roots_in known own image = newest_root own (root_in known (length image) 0 (sector_at image 0)) (root_in known (length image) 1 (sector_at image 1))
 
 abbrev pub fault_of : RootsError → Option RootsFault
 fault_of error.Device = None

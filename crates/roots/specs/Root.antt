@@ -1,7 +1,5 @@
--- A root sector (own choice): a mark of 8 bytes, the generation in 8, the number of sectors in 4, and the payload.
--- Numbers are big-endian.
-use Rattle.std.specs.Prelude.{Bool, ◌&&◌, ℕ, ◌<◌, ◌≤◌, ◌+◌, ◌%◌, ◌^◌, ◌==◌, nat_eq, nat_lt, nat_le, List, ◌++◌, length}
-use Rattle.std.specs.Prelude.{take, drop, position, Option, Some, None, if◌then◌else◌}
+-- A root sector (own choice): a mark of 8 bytes, the generation in 8, the number of sectors in 4, and the payload. Numbers are big-endian.
+use Rattle.std.specs.Prelude.{Bool, ◌&&◌, ℕ, ◌<◌, ◌≤◌, ◌+◌, ◌%◌, ◌^◌, ◌==◌, nat_eq, nat_lt, nat_le, List, ◌++◌, length, take, drop, position, Option, Some, None, if◌then◌else◌}
 use Rattle.std.specs.List.{starts_with, list_all}
 use Rattle.byteorder.specs.Endian.{big_number, big_bytes}
 use Rattle.station.specs.Disk.{Sector}
@@ -14,18 +12,12 @@ abbrev pub mark_index : List (List ℕ) → Sector → Option ℕ
 mark_index known bytes = position (λ mark. starts_with nat_eq bytes mark) known
 
 abbrev pub root_with : Sector → ℕ → Root
-root_with bytes mark = record {
-  mark = mark;
-  generation = big_number 8 (drop 8 bytes);
-  sectors = big_number 4 (drop 16 bytes);
-  payload = drop 20 bytes;
-}
+root_with bytes mark = record { mark = mark; generation = big_number 8 (drop 8 bytes); sectors = big_number 4 (drop 16 bytes); payload = drop 20 bytes }
 
 -- a generation below 2^63 and of the parity of the sector's number; from 1,024 to 921,600 sectors, which the device has
 abbrev pub is_valid : ℕ → ℕ → Root → Bool
 is_valid count number root =
-    nat_lt root.generation (2 ^ 63) && (root.generation % 2 == number) && nat_le 1024 root.sectors
-    && nat_le root.sectors 921600 && nat_le root.sectors count
+    nat_lt root.generation (2 ^ 63) && (root.generation % 2 == number) && nat_le 1024 root.sectors && nat_le root.sectors 921600 && nat_le root.sectors count
 
 -- within the bounds of a volume, on a device of so many sectors
 pub record IsWithinVolume (count : ℕ) (root : Root) : Type 0 where
@@ -52,8 +44,7 @@ is_blank bytes = list_all (λ byte. byte == 0) bytes
 
 -- what the root sector of this number is
 abbrev pub root_in : List (List ℕ) → ℕ → ℕ → Sector → RootSector
-root_in known count number bytes =
-    if is_blank bytes then Blank else root_with_mark count number bytes (mark_index known bytes)
+root_in known count number bytes = if is_blank bytes then Blank else root_with_mark count number bytes (mark_index known bytes)
 
 -- a sector after these bytes were put there
 abbrev pub put_at : ℕ → List ℕ → Sector → Sector

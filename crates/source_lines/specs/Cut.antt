@@ -1,5 +1,5 @@
--- The lines of a text: each ends by a line feed, and a carriage return directly before it is dropped; the last line may
--- lack the line feed (own choice).
+-- The lines of a text: each ends by a line feed, and a carriage return directly before it is dropped; the last line may lack the
+-- line feed (own choice).
 use Rattle.std.specs.Prelude.{ℕ, ◌==◌, if◌then◌else◌, List, [], ◌∷◌}
 use Rattle.std.specs.List.{onto_first}
 use Rattle.std.specs.Str.Lines.{lines_of_parts}

@@ -2,8 +2,7 @@
 use Rattle.std.specs.Prelude.{ℕ, Option, None, Some}
 use Rattle.source_lines.specs.declared.fault.SourceFault.{SourceFault}
 use Rattle.source_lines.specs.declared.fault.FaultKind.{FaultKind}
-use Rattle.source_lines.specs.declared.fault.FaultKind.TheVariants.{ByteOutsideCharacterSet, UnknownIndicator}
-use Rattle.source_lines.specs.declared.fault.FaultKind.TheVariants.{WrongContinuation, SourceTooLarge, UnclosedLiteral}
+use Rattle.source_lines.specs.declared.fault.FaultKind.TheVariants.{ByteOutsideCharacterSet, UnknownIndicator, WrongContinuation, SourceTooLarge, UnclosedLiteral}
 use Rattle.source_lines.specs.declared.fault.SourceError.{SourceError}
 use Rattle.source_lines.specs.declared.fault.SourceError.TheVariants.{Memory, Refused}
 

@@ -1,5 +1,4 @@
--- The reference format as a relation between a source text and its characters (COBOL-85, Section IV, "Reference
--- format"):
+-- The reference format as a relation between a source text and its characters (COBOL-85, Section IV, "Reference format"):
 --
 --     text              = { comment line | blank line | dropped paragraph | logical line }
 --     dropped paragraph = heading { line of its body }
@@ -12,8 +11,7 @@ use Rattle.source_lines.specs.declared.lines.Character.{Character}
 use Rattle.source_lines.specs.declared.literal.OpenLiteral.{OpenLiteral}
 use Rattle.lexical.specs.declared.place.Place.{Place}
 use Rattle.source_lines.specs.Indicator.{indicator_of}
-use Rattle.source_lines.specs.Line.{byte, place_in_line, characters, first_nonblank, last_nonblank, first_outside}
-use Rattle.source_lines.specs.Line.{is_in_character_set}
+use Rattle.source_lines.specs.Line.{byte, place_in_line, characters, first_nonblank, last_nonblank, first_outside, is_in_character_set}
 use Rattle.source_lines.specs.Literal.{is_mark, open_at_end}
 use Rattle.source_lines.specs.Paragraph.{begins_dropped}
 use Rattle.source_lines.specs.Reading.{lines_of}
@@ -47,8 +45,7 @@ pub data Each (P : Line → Type 0) : List Line → Type 0 where
 -- A dropped paragraph ends before the next plain line with a nonblank in area A, or with the text.
 pub data EndsParagraph : List Line → Type 0 where
   at_end : EndsParagraph []
-  in_area_a : {line : Line} {more : List Line} {first : ℕ} → HasIndicator Plain line → BeginsAt line first → first < 12
-      → EndsParagraph (line ∷ more)
+  in_area_a : {line : Line} {more : List Line} {first : ℕ} → HasIndicator Plain line → BeginsAt line first → first < 12 → EndsParagraph (line ∷ more)
 
 -- ---- logical lines
 
@@ -66,23 +63,18 @@ pub record Gives (line : Line) (from : ℕ) (before after : Option OpenLiteral) 
 -- The line goes on, from this column, with a line at whose end this literal is open.
 pub data Continues : Option OpenLiteral → Line → ℕ → Type 0 where
   -- its first nonblank follows, which is no mark in area A
-  word : {line : Line} {first : ℕ} → HasIndicator Continuation line → BeginsAt line first
-      → (first < 12 → is_mark (byte line first) ≡ false) → Continues None line first
+  word : {line : Line} {first : ℕ} → HasIndicator Continuation line → BeginsAt line first → (first < 12 → is_mark (byte line first) ≡ false) → Continues None line first
   -- its first nonblank is the literal's mark, in area B; what is after it follows
   mark : {line : Line} {first : ℕ} {literal : OpenLiteral} → HasIndicator Continuation line → BeginsAt line first
-      → is_in_character_set (byte line first) ≡ true → 12 ≤ first → byte line first ≡ literal.mark
-      → Continues (Some literal) line (first + 1)
+      → is_in_character_set (byte line first) ≡ true → 12 ≤ first → byte line first ≡ literal.mark → Continues (Some literal) line (first + 1)
 
 -- A line from a column on with the lines that continue it; its characters, and where it ends.
 pub data Logical : Option OpenLiteral → Line → ℕ → List Line → List Character → Place → Type 0 where
   -- no literal is open at the end of the last of these lines
   last : {before : Option OpenLiteral} {line : Line} {from : ℕ} {given : List Character}
-      → Gives line from before None given
-      → Logical before line from [] given (place_in_line line (last_nonblank line + 1))
-  continued : {before after : Option OpenLiteral} {line next : Line} {from begin : ℕ} {skipped rest : List Line}
-      {given others : List Character} {end : Place}
-      → Gives line from before after given → Each IsSkipped skipped → Continues after next begin
-      → Logical after next begin rest others end
+      → Gives line from before None given → Logical before line from [] given (place_in_line line (last_nonblank line + 1))
+  continued : {before after : Option OpenLiteral} {line next : Line} {from begin : ℕ} {skipped rest : List Line} {given others : List Character} {end : Place}
+      → Gives line from before after given → Each IsSkipped skipped → Continues after next begin → Logical after next begin rest others end
       → Logical before line from (skipped ++ next ∷ rest) (given ++ others) end
 
 -- ---- texts
@@ -92,16 +84,13 @@ space_at place = record { byte = 32; place = place }
 
 pub data Text : List Line → List Character → Type 0 where
   end : Text [] []
-  skipped : {line : Line} {more : List Line} {given : List Character} → IsSkipped line → Text more given
-      → Text (line ∷ more) given
+  skipped : {line : Line} {more : List Line} {given : List Character} → IsSkipped line → Text more given → Text (line ∷ more) given
   paragraph : {line : Line} {first : ℕ} {body more : List Line} {given : List Character}
-      → HasIndicator Plain line → BeginsAt line first → begins_dropped line first ≡ true → Each IsInBody body
-      → EndsParagraph more → Text more given
+      → HasIndicator Plain line → BeginsAt line first → begins_dropped line first ≡ true → Each IsInBody body → EndsParagraph more → Text more given
       → Text (line ∷ (body ++ more)) given
   -- the end of a logical line counts as a space
   logical : {line : Line} {first : ℕ} {rest more : List Line} {given others : List Character} {end : Place}
-      → HasIndicator Plain line → BeginsAt line first → begins_dropped line first ≡ false
-      → Logical None line 8 rest given end → Text more others
+      → HasIndicator Plain line → BeginsAt line first → begins_dropped line first ≡ false → Logical None line 8 rest given end → Text more others
       → Text (line ∷ (rest ++ more)) (given ++ space_at end ∷ others)
 
 -- The characters of a source text, of at most 8,000,000 bytes.

@@ -1,7 +1,6 @@
--- A line in the reference format (COBOL-85, Section IV, "Reference format"): columns 1 to 6 are the sequence number
--- area, column 7 the indicator area, columns 8 to 11 area A, columns 12 to 72 area B.
-use Rattle.std.specs.Prelude.{ℕ, ◌+◌, ◌-◌, ◌%◌, ◌==◌, Bool, not, ◌&&◌, nat_le, if◌then◌else◌, List, [], ◌∷◌, ◌++◌, take}
-use Rattle.std.specs.Prelude.{drop, slice_index, replicate, Option}
+-- A line in the reference format (COBOL-85, Section IV, "Reference format"): columns 1 to 6 are the sequence number area, column 7 the
+-- indicator area, columns 8 to 11 area A, columns 12 to 72 area B.
+use Rattle.std.specs.Prelude.{ℕ, ◌+◌, ◌-◌, ◌%◌, ◌==◌, Bool, not, ◌&&◌, nat_le, if◌then◌else◌, List, [], ◌∷◌, ◌++◌, take, drop, slice_index, replicate, Option}
 use Rattle.std.specs.List.{position, suffix_len}
 use Rattle.std.specs.Option.{option_map}
 use Rattle.source_lines.specs.declared.fault.SourceFault.{SourceFault}
@@ -29,8 +28,7 @@ abbrev pub without_tabs : ℕ → List ℕ → List ℕ
 without_tabs before [] = []
 without_tabs before (byte ∷ more) = expanded_columns before byte ++ without_tabs (before + width before byte) more
 
--- The 72 columns of a line: a shorter line is filled with spaces, and what stands after column 72 is ignored (own
--- choice).
+-- The 72 columns of a line: a shorter line is filled with spaces, and what stands after column 72 is ignored (own choice).
 abbrev pub columns_of : List ℕ → List ℕ
 columns_of bytes = take 72 (without_tabs 0 bytes ++ replicate 72 32)
 
@@ -55,8 +53,7 @@ fault line kind column = record { kind = kind; place = place_in_line line column
 abbrev pub placed_characters : ℕ → ℕ → List ℕ → List Character
 placed_characters number column [] = []
 placed_characters number column (byte ∷ more) =
-    record { byte = byte; place = record { line = number; column = column } }
-    ∷ placed_characters number (column + 1) more
+    record { byte = byte; place = record { line = number; column = column } } ∷ placed_characters number (column + 1) more
 
 unfoldable pub characters : Line → ℕ → ℕ → List Character
 characters line from end = placed_characters line.number from (take (end - from) (drop (from - 1) line.columns))

@@ -1,10 +1,8 @@
 -- The characters of a source text as a function: its lines are read from the first on.
-use Rattle.std.specs.Prelude.{ℕ, ◌+◌, ◌||◌, ◌&&◌, not, ◌==◌, nat_lt, nat_le, if◌then◌else◌, List, [], ◌∷◌, ◌++◌, length}
-use Rattle.std.specs.Prelude.{Option, None, Some, Result, Ok, Err}
+use Rattle.std.specs.Prelude.{ℕ, ◌+◌, ◌||◌, ◌&&◌, not, ◌==◌, nat_lt, nat_le, if◌then◌else◌, List, [], ◌∷◌, ◌++◌, length, Option, None, Some, Result, Ok, Err}
 use Rattle.source_lines.specs.declared.fault.SourceFault.{SourceFault}
 use Rattle.source_lines.specs.declared.fault.FaultKind.{FaultKind}
-use Rattle.source_lines.specs.declared.fault.FaultKind.TheVariants.{ByteOutsideCharacterSet, WrongContinuation}
-use Rattle.source_lines.specs.declared.fault.FaultKind.TheVariants.{SourceTooLarge, UnclosedLiteral}
+use Rattle.source_lines.specs.declared.fault.FaultKind.TheVariants.{ByteOutsideCharacterSet, WrongContinuation, SourceTooLarge, UnclosedLiteral}
 use Rattle.source_lines.specs.declared.indicator.Indicator.{Indicator}
 use Rattle.source_lines.specs.declared.indicator.Indicator.TheVariants.{Plain, Comment, Continuation}
 use Rattle.source_lines.specs.declared.line.Line.{Line}
@@ -15,8 +13,7 @@ use Rattle.source_lines.specs.declared.reader.Before.TheVariants.{Nothing, LineE
 use Rattle.source_lines.specs.declared.reader.Reader.{Reader}
 use Rattle.source_lines.specs.Cut.{lines}
 use Rattle.source_lines.specs.Indicator.{indicator_of}
-use Rattle.source_lines.specs.Line.{line, byte, place_in_line, fault, characters, first_nonblank, last_nonblank}
-use Rattle.source_lines.specs.Line.{first_outside, is_in_character_set}
+use Rattle.source_lines.specs.Line.{line, byte, place_in_line, fault, characters, first_nonblank, last_nonblank, first_outside, is_in_character_set}
 use Rattle.source_lines.specs.Literal.{is_mark, open_at_end}
 use Rattle.source_lines.specs.Paragraph.{begins_dropped}
 
@@ -36,8 +33,7 @@ at_start = record { characters = []; before = Nothing }
 -- ---- what a line gives
 
 abbrev pub with_columns : Line → ℕ → ℕ → Reader → Reader
-with_columns line from end reader =
-    record { characters = reader.characters ++ characters line from end; before = reader.before }
+with_columns line from end reader = record { characters = reader.characters ++ characters line from end; before = reader.before }
 
 abbrev pub line_end : Before → List Character
 line_end (LineEnd place) = record { byte = 32; place = place } ∷ []
@@ -53,8 +49,7 @@ characters_through line from None reader = record {
   characters = reader.characters ++ characters line from (last_nonblank line + 1);
   before = LineEnd (place_in_line line (last_nonblank line + 1));
 }
-characters_through line from (Some literal) reader =
-    record { characters = reader.characters ++ characters line from 73; before = Open literal }
+characters_through line from (Some literal) reader = record { characters = reader.characters ++ characters line from 73; before = Open literal }
 
 abbrev pub unless_outside : Line → Option ℕ → Reader → Step
 unless_outside line None reader = Ok reader
@@ -62,8 +57,7 @@ unless_outside line (Some column) reader = refusal_step line ByteOutsideCharacte
 
 -- a line from a column on, where this literal is open before it
 unfoldable pub line_step : Line → ℕ → Option OpenLiteral → Reader → Step
-line_step line from literal reader =
-    unless_outside line (first_outside line) (characters_through line from (open_at_end literal line from) reader)
+line_step line from literal reader = unless_outside line (first_outside line) (characters_through line from (open_at_end literal line from) reader)
 
 -- ---- plain lines
 

@@ -32,16 +32,14 @@ pub record IsWriting (seen : List Event) (base : List Sector) (blocks : List Blo
 -- all other sectors are the same
 pub record SameOutside (base : List Sector) (blocks : List Block) (image : List Sector) : Type 0 where
   pub count : length image ≡ length base
-  pub each : (i : ℕ) → i < length image → (sector_at image i ≡ sector_at base i)
-      ⊎ Contains (map (λ b. b.sector) blocks) i
+  pub each : (i : ℕ) → i < length image → (sector_at image i ≡ sector_at base i) ⊎ Contains (map (λ b. b.sector) blocks) i
 
 -- the sectors, or those with one replaced
 abbrev pub WithOrWithout : List Sector → ℕ → Sector → List Sector → Type 0
 WithOrWithout base i bytes image = (image ≡ base) ⊎ (image ≡ slice_set base i bytes)
 
 -- the root and all sectors but those of the blocks are the old ones, or all are new
-pub data OldOrNew (base : List Sector) (blocks : List Block) (root : ℕ) (bytes : Sector) (image : List Sector) :
-    Type 0 where
+pub data OldOrNew (base : List Sector) (blocks : List Block) (root : ℕ) (bytes : Sector) (image : List Sector) : Type 0 where
   Old : SameOutside base blocks image → OldOrNew base blocks root bytes image
   New : image ≡ slice_set (with_all base blocks) root bytes → OldOrNew base blocks root bytes image
 

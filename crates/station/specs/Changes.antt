@@ -10,5 +10,4 @@ pub record SameBut (i : ℕ) (before image : List Sector) : Type 0 where
 
 -- each image that is possible now was so before, but perhaps for one sector
 abbrev pub ChangesOnly : ℕ → State → State → Type 0
-ChangesOnly i old new = (image : List Sector) → IsCrashImage new.disk image
-    → (before : List Sector) × IsCrashImage old.disk before × SameBut i before image
+ChangesOnly i old new = (image : List Sector) → IsCrashImage new.disk image → (before : List Sector) × IsCrashImage old.disk before × SameBut i before image

@@ -27,8 +27,7 @@ sector_at sectors i = slice_index_or sectors i []
 -- What a crash may leave: in each sector its value at the last sync, or one that was written since.
 pub record IsCrashImage (disk : Disk) (image : List Sector) : Type 0 where
   pub count : length image ≡ length disk.stable
-  pub each : (i : ℕ) → i < length image → (sector_at image i ≡ sector_at disk.stable i)
-      ⊎ Contains disk.written (i, sector_at image i)
+  pub each : (i : ℕ) → i < length image → (sector_at image i ≡ sector_at disk.stable i) ⊎ Contains disk.written (i, sector_at image i)
 
 -- All writes that wait for a sync are as Q says, on a disk that held `base` at the last one.
 pub record OnlyWrote (base : List Sector) (Q : ℕ → Sector → Type 0) (disk : Disk) : Type 0 where

@@ -57,8 +57,7 @@ went m s = record m { state = s; history = m.history ++ s ∷ [] }
 
 -- it showed these bytes
 abbrev pub memory_after_show : Memory → List ℕ → Memory
-memory_after_show m bytes =
-    record m { state = state_after_show m.state bytes; history = m.history ++ states_while_showing m.state bytes }
+memory_after_show m bytes = record m { state = state_after_show m.state bytes; history = m.history ++ states_while_showing m.state bytes }
 
 -- it took a line, if any was left
 abbrev pub memory_after_line : Memory → Memory
@@ -68,17 +67,13 @@ memory_after_line m = record m { state = took_line m.state; history = m.history 
 abbrev pub memory_after_failure : Memory → Memory
 memory_after_failure m = record m { failures = saturated_successor m.failures }
 
--- What a call answers, and how it leaves the station. By its fate it works, or fails and leaves `failed`, or does
--- nothing. Where the record couldn't grow it fails and does nothing too, which is counted.
-pub data Follows {T : Type 0} (fate : Fate) (begun worked failed : Memory) (result : Result T DeviceError)
-    (new : Memory) : Type 0 where
+-- What a call answers, and how it leaves the station. By its fate it works, or fails and leaves `failed`, or does nothing.
+-- Where the record couldn't grow it fails and does nothing too, which is counted.
+pub data Follows {T : Type 0} (fate : Fate) (begun worked failed : Memory) (result : Result T DeviceError) (new : Memory) : Type 0 where
   Works : fate ≡ fates.Works → IsOk result → new ≡ worked → Follows fate begun worked failed result new
-  Fails : fate ≡ fates.Fails → IsErr result → new ≡ memory_after_failure failed
-      → Follows fate begun worked failed result new
-  Stopped : fate ≡ fates.Stopped → IsErr result → new ≡ memory_after_failure begun
-      → Follows fate begun worked failed result new
-  Refused : IsErr result → new ≡ memory_after_failure (record begun { refused = saturated_successor begun.refused })
-      → Follows fate begun worked failed result new
+  Fails : fate ≡ fates.Fails → IsErr result → new ≡ memory_after_failure failed → Follows fate begun worked failed result new
+  Stopped : fate ≡ fates.Stopped → IsErr result → new ≡ memory_after_failure begun → Follows fate begun worked failed result new
+  Refused : IsErr result → new ≡ memory_after_failure (record begun { refused = saturated_successor begun.refused }) → Follows fate begun worked failed result new
 
 -- What a call answers that takes no memory.
 pub data Obeys {T : Type 0} (fate : Fate) (begun : Memory) (result : Result T DeviceError) (new : Memory) : Type 0 where

@@ -2,8 +2,7 @@
 use Rattle.std.specs.Prelude.{ℕ, List, [], ◌∷◌, ◌++◌, map, take, drop, Vec, Bool, true, false}
 use Rattle.std.specs.declared.alloc.Global.{Global}
 use Rattle.station.specs.Disk.{Sector, idle_disk}
-use Rattle.station.specs.State.{State, state_after_show, states_while_showing, wrote, state_after_failed_write}
-use Rattle.station.specs.State.{state_after_note, took_line, state_after_sync}
+use Rattle.station.specs.State.{State, state_after_show, states_while_showing, wrote, state_after_failed_write, state_after_note, took_line, state_after_sync}
 use Rattle.station.specs.declared.note.Note.{Note}
 use Rattle.station.specs.declared.call.Call.{Call}
 use Rattle.station.specs.declared.call.Call.TheVariants.{Show, Hear, Take, Write, Keep, Sync}
@@ -42,8 +41,7 @@ states_during_calls s (call ∷ calls) = passes s call ++ states_during_calls (n
 
 -- the states that they went through, from the i-th call on, and the one before that
 abbrev pub since : State → List Call → ℕ → List State
-since s calls i =
-    state_after_calls s (take i calls) ∷ states_during_calls (state_after_calls s (take i calls)) (drop i calls)
+since s calls i = state_after_calls s (take i calls) ∷ states_during_calls (state_after_calls s (take i calls)) (drop i calls)
 
 abbrev pub is_write : Call → Bool
 is_write (Show bytes) = false

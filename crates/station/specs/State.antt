@@ -1,6 +1,5 @@
 -- What there is of a station at a moment, and what its calls do to that.
-use Rattle.std.specs.Prelude.{◌≡◌, ℕ, List, [], ◌∷◌, ◌++◌, length, map, take, drop, slice_set, slice_get}
-use Rattle.std.specs.Prelude.{slice_index_or, min, Option, option_map}
+use Rattle.std.specs.Prelude.{◌≡◌, ℕ, List, [], ◌∷◌, ◌++◌, length, map, take, drop, slice_set, slice_get, slice_index_or, min, Option, option_map}
 use Rattle.station.specs.Disk.{Disk, Sector, idle_disk}
 use Rattle.station.specs.declared.note.Note.{Note}
 
@@ -18,18 +17,11 @@ pub record State : Type 0 where
 
 -- after a write
 abbrev pub wrote : State → ℕ → Sector → State
-wrote s i b = record s {
-  disk = record {
-    present = slice_set s.disk.present i b;
-    stable = s.disk.stable;
-    written = s.disk.written ++ (i, b) ∷ [];
-  };
-}
+wrote s i b = record s { disk = record { present = slice_set s.disk.present i b; stable = s.disk.stable; written = s.disk.written ++ (i, b) ∷ [] } }
 
 -- after a write that failed, where the sector keeps its value and a crash may yet leave the new one
 abbrev pub state_after_failed_write : State → ℕ → Sector → State
-state_after_failed_write s i b = record s
-    { disk = record { present = s.disk.present; stable = s.disk.stable; written = s.disk.written ++ (i, b) ∷ [] } }
+state_after_failed_write s i b = record s { disk = record { present = s.disk.present; stable = s.disk.stable; written = s.disk.written ++ (i, b) ∷ [] } }
 
 -- after a sync
 abbrev pub state_after_sync : State → State
@@ -57,8 +49,7 @@ state_after_show s bytes = record s { events = s.events ++ map Shown bytes }
 -- each state while they are shown, one after each byte
 abbrev pub states_while_showing : State → List ℕ → List State
 states_while_showing s [] = []
-states_while_showing s (byte ∷ bytes) =
-    state_after_show s (byte ∷ []) ∷ states_while_showing (state_after_show s (byte ∷ [])) bytes
+states_while_showing s (byte ∷ bytes) = state_after_show s (byte ∷ []) ∷ states_while_showing (state_after_show s (byte ∷ [])) bytes
 
 -- Nothing was told, and no line was taken.
 pub record SameConsole (old new : State) : Type 0 where

@@ -1,6 +1,5 @@
 -- The walk of INSPECT through its subject (COBOL-85, Nucleus): which entries fit, and where.
-use Rattle.std.specs.Prelude.{◌≡◌, ◌<◌, ◌≤◌, ℕ, zero, suc, ◌+◌, ◌==◌, Bool, ◌&&◌, List, [], ◌∷◌, map, length, drop}
-use Rattle.std.specs.Prelude.{slice_set, nat_eq, nat_le, Option, Some, None, if◌then◌else◌}
+use Rattle.std.specs.Prelude.{◌≡◌, ◌<◌, ◌≤◌, ℕ, zero, suc, ◌+◌, ◌==◌, Bool, ◌&&◌, List, [], ◌∷◌, map, length, drop, slice_set, nat_eq, nat_le, Option, Some, None, if◌then◌else◌}
 use Rattle.std.specs.List.{All, starts_with}
 use Rattle.std.specs.Option.{option_map}
 use Rattle.text_ops.specs.Entries.{bytes_in, fit_length, IsEntry}
@@ -25,8 +24,7 @@ place_or none (Some at) = at
 -- AFTER: behind the first occurrence of its text; without one nowhere.
 abbrev pub first_place_after : List ℕ → Option Span → List ℕ → ℕ
 first_place_after texts None subject = 0
-first_place_after texts (Some span) subject =
-    end_of_first span.length (length subject) (first_place (bytes_in texts span) subject)
+first_place_after texts (Some span) subject = end_of_first span.length (length subject) (first_place (bytes_in texts span) subject)
 
 -- BEFORE: up to the first occurrence of its text; without one everywhere.
 abbrev pub end_before : List ℕ → Option Span → List ℕ → ℕ
@@ -71,18 +69,16 @@ first_fit texts (p ∷ more) at rest =
 
 abbrev pub walk_after : List Progress → Option Fitted → List Progress
 walk_after active None = active
-walk_after active (Some fitted) =
-    slice_set active fitted.number (progress_after fitted.progress fitted.progress.entry.fit fitted.at)
+walk_after active (Some fitted) = slice_set active fitted.number (progress_after fitted.progress fitted.progress.entry.fit fitted.at)
 
 -- How many places a fit takes.
 abbrev pub size_of : Fitted → ℕ
 size_of fitted = fit_length fitted.progress.entry.fit
 
--- ---- all places, from the left: on after what the first entry fits, else one place on. The depth is at least the
--- count of characters that are left.
+-- ---- all places, from the left: on after what the first entry fits, else one place on. The depth is at least the count of
+-- characters that are left.
 
-abbrev pub walk_on : (List Progress → ℕ → List ℕ → List Fitted) → List Progress → ℕ → List ℕ → Option Fitted
-    → List Fitted
+abbrev pub walk_on : (List Progress → ℕ → List ℕ → List Fitted) → List Progress → ℕ → List ℕ → Option Fitted → List Fitted
 walk_on walk active at rest None = walk active (at + 1) (drop 1 rest)
 walk_on walk active at rest (Some fitted) =
     fitted ∷ walk (walk_after active (Some fitted)) (at + size_of fitted) (drop (size_of fitted) rest)

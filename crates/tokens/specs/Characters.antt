@@ -1,7 +1,5 @@
--- Classes of characters, and runs of them (COBOL-85, Nucleus, "Character set"). Lower case equals upper case: own
--- choice.
-use Rattle.std.specs.Prelude.{ℕ, Bool, false, ◌||◌, not, ◌==◌, ◌-◌, List, [], ◌∷◌, length, map, slice_get, Option, None}
-use Rattle.std.specs.Prelude.{Some}
+-- Classes of characters, and runs of them (COBOL-85, Nucleus, "Character set"). Lower case equals upper case: own choice.
+use Rattle.std.specs.Prelude.{ℕ, Bool, false, ◌||◌, not, ◌==◌, ◌-◌, List, [], ◌∷◌, length, map, slice_get, Option, None, Some}
 use Rattle.std.specs.List.{prefix_len}
 use Rattle.std.specs.Char.{is_ascii_digit, is_ascii_alphabetic, is_ascii_alphanumeric, to_ascii_uppercase}
 use Rattle.source_lines.specs.declared.lines.Character.{Character}

@@ -2,8 +2,7 @@
 use Rattle.std.specs.Prelude.{ℕ, Option, None, Some}
 use Rattle.tokens.specs.declared.fault.TokenFault.{TokenFault}
 use Rattle.tokens.specs.declared.fault.FaultKind.{FaultKind}
-use Rattle.tokens.specs.declared.fault.FaultKind.TheVariants.{StrayCharacter, WrongWord, WrongNumericLiteral}
-use Rattle.tokens.specs.declared.fault.FaultKind.TheVariants.{WrongNonnumericLiteral}
+use Rattle.tokens.specs.declared.fault.FaultKind.TheVariants.{StrayCharacter, WrongWord, WrongNumericLiteral, WrongNonnumericLiteral}
 use Rattle.tokens.specs.declared.fault.TokenError.{TokenError}
 use Rattle.tokens.specs.declared.fault.TokenError.TheVariants.{Memory, Refused}
 

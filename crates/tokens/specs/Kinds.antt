@@ -1,6 +1,5 @@
 -- What is a token of each kind, or a separator: this text, before this rest, after what stands before it.
-use Rattle.std.specs.Prelude.{◌≡◌, ◌≤◌, ◌⊎◌, ℕ, ◌+◌, Bool, true, false, not, ◌&&◌, ◌==◌, List, [], ◌∷◌, ◌++◌, length}
-use Rattle.std.specs.Prelude.{drop, Option, None, Some}
+use Rattle.std.specs.Prelude.{◌≡◌, ◌≤◌, ◌⊎◌, ℕ, ◌+◌, Bool, true, false, not, ◌&&◌, ◌==◌, List, [], ◌∷◌, ◌++◌, length, drop, Option, None, Some}
 use Rattle.source_lines.specs.declared.lines.Character.{Character}
 use Rattle.tokens.specs.declared.character.Class.{Class}
 use Rattle.tokens.specs.declared.character.Class.TheVariants as class
@@ -25,15 +24,13 @@ use Rattle.tokens.specs.Spelling.{reserved_word}
 abbrev pub IsRun : Class → List Character → List Character → Type 0
 IsRun class text rest = All class (bytes text) × (begins_with_class class rest ≡ false)
 
--- A run of letters, digits and hyphens that begins with a letter or digit and has a letter in it, at most 30, a hyphen
--- not last (COBOL-85, Nucleus, "COBOL words").
+-- A run of letters, digits and hyphens that begins with a letter or digit and has a letter in it, at most 30, a hyphen not last
+-- (COBOL-85, Nucleus, "COBOL words").
 abbrev pub IsWord : List Character → List Character → Type 0
 IsWord text rest =
-    IsRun class.InWord text rest × (begins_with_class class.LetterOrDigit text ≡ true)
-    × (has_class class.Letter text ≡ true) × (length text ≤ 30) × (ends_with_class class.Hyphen text ≡ false)
+    IsRun class.InWord text rest × (begins_with_class class.LetterOrDigit text ≡ true) × (has_class class.Letter text ≡ true) × (length text ≤ 30) × (ends_with_class class.Hyphen text ≡ false)
 
--- whether what follows a number with these decimals belongs to it: a digit, or where it has no decimals, a point with a
--- digit
+-- whether what follows a number with these decimals belongs to it: a digit, or where it has no decimals, a point with a digit
 abbrev pub has_more_digits : List ℕ → List Character → Bool
 has_more_digits [] rest = begins_number rest
 has_more_digits (d ∷ more) rest = begins_with_class class.Digit rest
@@ -47,8 +44,7 @@ MayBegin before Minus characters = is_joined before ≡ false
 -- 1 to 18 digits, and no more follow (COBOL-85, Nucleus, "Literals")
 abbrev pub IsNumericLiteral : Context → NumericLiteral → List Character → List Character → Type 0
 IsNumericLiteral before literal text rest =
-    IsNumberText literal text × (1 ≤ length literal.whole + length literal.decimals)
-    × (length literal.whole + length literal.decimals ≤ 18)
+    IsNumberText literal text × (1 ≤ length literal.whole + length literal.decimals) × (length literal.whole + length literal.decimals ≤ 18)
     × (has_more_digits literal.decimals rest ≡ false) × MayBegin before literal.sign (text ++ rest)
 
 abbrev pub begins_with : ℕ → List Character → Bool
@@ -57,16 +53,14 @@ begins_with mark (c ∷ more) = c.byte == mark
 
 -- 1 to 160 characters between two marks, and no third mark follows (COBOL-85, Nucleus, "Literals")
 abbrev pub IsNonnumericLiteral : ℕ → List ℕ → List Character → List Character → Type 0
-IsNonnumericLiteral mark literal text rest =
-    IsQuoted mark literal text × (1 ≤ length literal) × (length literal ≤ 160) × (begins_with mark rest ≡ false)
+IsNonnumericLiteral mark literal text rest = IsQuoted mark literal text × (1 ≤ length literal) × (length literal ≤ 160) × (begins_with mark rest ≡ false)
 
--- Nonblank characters before a space or the end, or before one last period, comma or semicolon that stands so
--- (COBOL-85, Nucleus, "PICTURE clause").
+-- Nonblank characters before a space or the end, or before one last period, comma or semicolon that stands so (COBOL-85, Nucleus,
+-- "PICTURE clause").
 abbrev pub IsPicture : List Character → List Character → Type 0
 IsPicture text rest =
     (1 ≤ length text) × All class.Nonblank (bytes text)
-    × (((ends_with_class class.Ending text ≡ false) × (begins_with_class class.Nonblank rest ≡ false))
-    ⊎ ((begins_with_class class.Ending rest ≡ true) × (begins_with_class class.Nonblank (drop 1 rest) ≡ false)))
+    × (((ends_with_class class.Ending text ≡ false) × (begins_with_class class.Nonblank rest ≡ false)) ⊎ ((begins_with_class class.Ending rest ≡ true) × (begins_with_class class.Nonblank (drop 1 rest) ≡ false)))
 
 -- whether what follows an operator belongs to it: an equal sign, or for a sign a number
 abbrev pub has_more : Context → Operator → List Character → Bool
@@ -78,29 +72,22 @@ has_more before _ rest = false
 
 -- After PIC or PICTURE stand IS, a picture, or a period.
 abbrev pub IsToken : Context → Kind → List Character → List Character → Type 0
-IsToken before (k.Word word) text rest = (awaits_picture before ≡ false) × IsWord text rest
-    × (reserved_word (bytes_in_upper_case text) ≡ None) × (word ≡ bytes_in_upper_case text)
+IsToken before (k.Word word) text rest = (awaits_picture before ≡ false) × IsWord text rest × (reserved_word (bytes_in_upper_case text) ≡ None) × (word ≡ bytes_in_upper_case text)
 IsToken before (k.Reserved word) text rest =
     ((awaits_picture before ≡ false) × IsWord text rest × (reserved_word (bytes_in_upper_case text) ≡ Some word))
     ⊎ (((may_be_is before && is_is (bytes text)) ≡ true) × IsPicture text rest × (word ≡ w.Is))
-IsToken before (k.Numeric literal) text rest =
-    (awaits_picture before ≡ false) × IsNumericLiteral before literal text rest
-IsToken before (k.Nonnumeric literal) text rest =
-    (awaits_picture before ≡ false) × ((mark : ℕ) × IsNonnumericLiteral mark literal text rest)
-IsToken before (k.Picture picture) text rest = (awaits_picture before ≡ true)
-    × ((may_be_is before && is_is (bytes text)) ≡ false) × IsPicture text rest × (picture ≡ bytes text)
+IsToken before (k.Numeric literal) text rest = (awaits_picture before ≡ false) × IsNumericLiteral before literal text rest
+IsToken before (k.Nonnumeric literal) text rest = (awaits_picture before ≡ false) × ((mark : ℕ) × IsNonnumericLiteral mark literal text rest)
+IsToken before (k.Picture picture) text rest = (awaits_picture before ≡ true) × ((may_be_is before && is_is (bytes text)) ≡ false) × IsPicture text rest × (picture ≡ bytes text)
 IsToken before k.Period text rest = (bytes text ≡ 46 ∷ []) × (begins_with_class class.Nonblank rest ≡ false)
 IsToken before k.LeftParenthesis text rest = (awaits_picture before ≡ false) × (bytes text ≡ 40 ∷ [])
 IsToken before k.RightParenthesis text rest = (awaits_picture before ≡ false) × (bytes text ≡ 41 ∷ [])
-IsToken before (k.Operator one) text rest =
-    (awaits_picture before ≡ false) × (bytes text ≡ operator_text one) × (has_more before one rest ≡ false)
+IsToken before (k.Operator one) text rest = (awaits_picture before ≡ false) × (bytes text ≡ operator_text one) × (has_more before one rest ≡ false)
 
 -- A space, comma or semicolon; where a picture is awaited, a comma or semicolon only before a space or the end.
 abbrev pub IsSeparator : Context → List Character → List Character → Type 0
 IsSeparator before text rest =
-    (length text ≡ 1) × (begins_with_class class.Separator text ≡ true)
-    × ((awaits_picture before && (begins_with_class class.Nonblank text && begins_with_class class.Nonblank rest))
-    ≡ false)
+    (length text ≡ 1) × (begins_with_class class.Separator text ≡ true) × ((awaits_picture before && (begins_with_class class.Nonblank text && begins_with_class class.Nonblank rest)) ≡ false)
 
 abbrev pub IsFront : Context → Option Kind → List Character → List Character → Type 0
 IsFront before None text rest = IsSeparator before text rest

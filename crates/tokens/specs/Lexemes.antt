@@ -1,6 +1,5 @@
 -- The token or separator at the front of some characters.
-use Rattle.std.specs.Prelude.{ℕ, Bool, false, not, ◌&&◌, if◌then◌else◌, ◌==◌, List, [], ◌∷◌, take, Option, None, Some}
-use Rattle.std.specs.Prelude.{Ok}
+use Rattle.std.specs.Prelude.{ℕ, Bool, false, not, ◌&&◌, if◌then◌else◌, ◌==◌, List, [], ◌∷◌, take, Option, None, Some, Ok}
 use Rattle.source_lines.specs.declared.lines.Character.{Character}
 use Rattle.lexical.specs.declared.place.Place.{Place}
 use Rattle.tokens.specs.declared.character.Class.TheVariants as class
@@ -17,13 +16,11 @@ use Rattle.tokens.specs.Contexts.{is_joined, awaits_picture}
 use Rattle.tokens.specs.Pictures.{separator, picture}
 use Rattle.tokens.specs.Words.{Outcome, refusal_at, token, word}
 
--- ---- periods, parentheses and operators (COBOL-85, Nucleus, "Separators", "Arithmetic expressions", "Relation
--- conditions")
+-- ---- periods, parentheses and operators (COBOL-85, Nucleus, "Separators", "Arithmetic expressions", "Relation conditions")
 
 -- A period ends a sentence before a space or at the end.
 abbrev pub period : Place → List Character → Outcome
-period place more =
-    if begins_with_class class.Nonblank more then refusal_at fault.StrayCharacter place else Ok (token k.Period 1)
+period place more = if begins_with_class class.Nonblank more then refusal_at fault.StrayCharacter place else Ok (token k.Period 1)
 
 abbrev pub is_equal_sign : List Character → Bool
 is_equal_sign [] = false
@@ -56,15 +53,12 @@ abbrev pub begins_word : List Character → Bool
 begins_word characters = has_class class.Letter (take (run_size class.InWord characters) characters)
 
 abbrev pub word_or_number : Place → List Character → Outcome
-word_or_number place characters =
-    if begins_word characters then word place characters else numeric place sign.Unsigned characters
+word_or_number place characters = if begins_word characters then word place characters else numeric place sign.Unsigned characters
 
--- A plus or minus is a sign directly before a number, unless it stands directly after a word, a literal or `)`: own
--- choice.
+-- A plus or minus is a sign directly before a number, unless it stands directly after a word, a literal or `)`: own choice.
 abbrev pub sign_here : Context → ℕ → List Character → Option Sign
 sign_here before first more =
-    if not (is_joined before) && begins_number more
-    then (if first == 43 then Some sign.Plus else (if first == 45 then Some sign.Minus else None)) else None
+    if not (is_joined before) && begins_number more then (if first == 43 then Some sign.Plus else (if first == 45 then Some sign.Minus else None)) else None
 
 abbrev pub signed_lexeme : Option Sign → Place → ℕ → List Character → Outcome
 signed_lexeme None place first more = punctuation place first more
@@ -80,5 +74,4 @@ plain_lexeme before first more =
 
 unfoldable pub lexeme : Context → Character → List Character → Outcome
 lexeme before first more =
-    if awaits_picture before && is_in class.Nonblank first.byte then Ok (picture before first.byte (first ∷ more))
-    else plain_lexeme before first more
+    if awaits_picture before && is_in class.Nonblank first.byte then Ok (picture before first.byte (first ∷ more)) else plain_lexeme before first more

@@ -1,6 +1,5 @@
 -- Literals (COBOL-85, Nucleus, "Literals").
-use Rattle.std.specs.Prelude.{ℕ, ◌+◌, Bool, true, false, ◌||◌, if◌then◌else◌, ◌==◌, nat_lt, List, [], ◌∷◌, ◌++◌, length}
-use Rattle.std.specs.Prelude.{take, drop, Option, None, Some, Ok}
+use Rattle.std.specs.Prelude.{ℕ, ◌+◌, Bool, true, false, ◌||◌, if◌then◌else◌, ◌==◌, nat_lt, List, [], ◌∷◌, ◌++◌, length, take, drop, Option, None, Some, Ok}
 use Rattle.source_lines.specs.declared.lines.Character.{Character}
 use Rattle.lexical.specs.declared.place.Place.{Place}
 use Rattle.tokens.specs.declared.character.Class.TheVariants as class
@@ -19,8 +18,7 @@ after_point (c ∷ more) = if c.byte == 46 then more else []
 
 -- a digit, or a point with a digit
 abbrev pub begins_number : List Character → Bool
-begins_number characters =
-    begins_with_class class.Digit characters || begins_with_class class.Digit (after_point characters)
+begins_number characters = begins_with_class class.Digit characters || begins_with_class class.Digit (after_point characters)
 
 abbrev pub sign_size : Sign → ℕ
 sign_size Unsigned = 0
@@ -39,8 +37,7 @@ numeric place sign characters =
     let decimals = run_size class.Digit fraction in
     if nat_lt 18 (whole + decimals) then refusal_at fault.WrongNumericLiteral place
     else Ok (token
-    (k.Numeric
-    (record { sign = sign; whole = bytes (take whole characters); decimals = bytes (take decimals fraction) }))
+    (k.Numeric (record { sign = sign; whole = bytes (take whole characters); decimals = bytes (take decimals fraction) }))
     (sign_size sign + whole + point_size decimals + decimals))
 
 -- ---- nonnumeric literals: 1 to 160 characters between two marks, the mark doubled inside for one
@@ -50,11 +47,9 @@ numeric place sign characters =
 abbrev pub quoted_characters : ℕ → Bool → List ℕ → ℕ → List Character → Option (List ℕ × ℕ)
 quoted_characters mark true text size [] = Some (text, size)
 quoted_characters mark false text size [] = None
-quoted_characters mark true text size (c ∷ more) =
-    if c.byte == mark then quoted_characters mark false (text ++ mark ∷ []) (size + 1) more else Some (text, size)
+quoted_characters mark true text size (c ∷ more) = if c.byte == mark then quoted_characters mark false (text ++ mark ∷ []) (size + 1) more else Some (text, size)
 quoted_characters mark false text size (c ∷ more) =
-    if c.byte == mark then quoted_characters mark true text (size + 1) more
-    else quoted_characters mark false (text ++ c.byte ∷ []) (size + 1) more
+    if c.byte == mark then quoted_characters mark true text (size + 1) more else quoted_characters mark false (text ++ c.byte ∷ []) (size + 1) more
 
 abbrev pub closed_literal : Place → Option (List ℕ × ℕ) → Outcome
 closed_literal place None = refusal_at fault.WrongNonnumericLiteral place

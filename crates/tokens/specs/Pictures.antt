@@ -1,5 +1,5 @@
--- Picture character-strings (COBOL-85, Nucleus, "PICTURE clause"): the nonblank characters after PIC or PICTURE and an
--- optional IS, without a last period, comma or semicolon that stands before a space.
+-- Picture character-strings (COBOL-85, Nucleus, "PICTURE clause"): the nonblank characters after PIC or PICTURE and an optional IS,
+-- without a last period, comma or semicolon that stands before a space.
 use Rattle.std.specs.Prelude.{ℕ, ◌-◌, Bool, ◌&&◌, if◌then◌else◌, ◌==◌, List, take, None}
 use Rattle.std.specs.Str.{str_eq_ignore_ascii_case}
 use lib.Chars.{codes}
@@ -17,11 +17,9 @@ abbrev pub separator : Lexeme
 separator = record { kind = None; size = 1 }
 
 abbrev pub picture_size : List Character → ℕ
-picture_size characters = let size =
-    run_size class.Nonblank characters in if ends_with_class class.Ending (take size characters) then size - 1 else size
+picture_size characters = let size = run_size class.Nonblank characters in if ends_with_class class.Ending (take size characters) then size - 1 else size
 
--- A picture that is empty without its last mark is none: the mark stands for itself. The number is the byte at the
--- front.
+-- A picture that is empty without its last mark is none: the mark stands for itself. The number is the byte at the front.
 abbrev pub lone_mark : ℕ → Lexeme
 lone_mark first = if first == 46 then token k.Period 1 else separator
 

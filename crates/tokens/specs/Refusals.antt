@@ -5,8 +5,7 @@ use Rattle.tokens.specs.declared.character.Class.TheVariants as class
 use Rattle.tokens.specs.declared.context.Context.{Context}
 use Rattle.tokens.specs.declared.context.Context.TheVariants as context
 use Rattle.tokens.specs.declared.fault.FaultKind.{FaultKind}
-use Rattle.tokens.specs.declared.fault.FaultKind.TheVariants.{StrayCharacter, WrongWord, WrongNumericLiteral}
-use Rattle.tokens.specs.declared.fault.FaultKind.TheVariants.{WrongNonnumericLiteral}
+use Rattle.tokens.specs.declared.fault.FaultKind.TheVariants.{StrayCharacter, WrongWord, WrongNumericLiteral, WrongNonnumericLiteral}
 use Rattle.tokens.specs.declared.fault.TokenFault.{TokenFault}
 use Rattle.tokens.specs.declared.token.Kind.{Kind}
 use Rattle.tokens.specs.Characters.{begins_with_class}
@@ -17,16 +16,14 @@ use Rattle.tokens.specs.Literals.{begins_number}
 
 -- No token and no separator begins with this character, before what then follows.
 abbrev pub NoFront : Context → Character → List Character → Type 0
-NoFront before c characters = (kind : Option Kind) (text rest : List Character) → characters ≡ text ++ rest
-    → IsFront before kind (c ∷ text) rest → ⊥
+NoFront before c characters = (kind : Option Kind) (text rest : List Character) → characters ≡ text ++ rest → IsFront before kind (c ∷ text) rest → ⊥
 
 -- a plus or minus directly before a number, where a sign may stand
 abbrev pub begins_signed : Context → List Character → Bool
 begins_signed before [] = false
 begins_signed before (c ∷ more) = (not (is_joined before) && begins_number more) && (c.byte == 43 || c.byte == 45)
 
--- The fault by what begins there and is none: a word, a number, a nonnumeric literal; else the character is a stray
--- one.
+-- The fault by what begins there and is none: a word, a number, a nonnumeric literal; else the character is a stray one.
 abbrev pub wrong : Context → List Character → FaultKind
 wrong before characters =
     if begins_with_class class.LetterOrDigit characters && begins_word characters then WrongWord
@@ -34,8 +31,7 @@ wrong before characters =
     else (if begins_with_class class.Mark characters then WrongNonnumericLiteral
     else (if begins_signed before characters then WrongNumericLiteral else StrayCharacter)))
 
--- Tokens and separators cover the characters up to the fault's place, where none begins: the fault stands at the first
--- such place.
+-- Tokens and separators cover the characters up to the fault's place, where none begins: the fault stands at the first such place.
 pub data IsRefused : Context → List Character → TokenFault → Type 0 where
   here : {before : Context} (c : Character) (more : List Character) → NoFront before c more
       → IsRefused before (c ∷ more) (record { kind = wrong before (c ∷ more); place = c.place })

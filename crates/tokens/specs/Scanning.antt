@@ -39,8 +39,7 @@ abbrev pub tokens_from : ℕ → Context → ℕ → List Character → Tokens
 tokens_from left before start [] = Ok []
 tokens_from (suc left) before start (c ∷ more) = tokens_from left before (start + 1) more
 tokens_from zero before start (c ∷ more) =
-    and_then (lexeme before c more) (λ one. before_others (token_of one.kind (span_of start one.size) c.place)
-    (tokens_from (one.size - 1) (context_after before one.kind) (start + 1) more))
+    and_then (lexeme before c more) (λ one. before_others (token_of one.kind (span_of start one.size) c.place) (tokens_from (one.size - 1) (context_after before one.kind) (start + 1) more))
 
 unfoldable pub tokens : List Character → Tokens
 tokens characters = tokens_from zero context.Apart 0 characters

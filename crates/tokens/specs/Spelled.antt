@@ -1,6 +1,5 @@
 -- What the characters of a token spell.
-use Rattle.std.specs.Prelude.{◌≡◌, ℕ, ◌-◌, true, if◌then◌else◌, ◌==◌, List, [], ◌∷◌, ◌++◌, take, drop, Option, None}
-use Rattle.std.specs.Prelude.{Some}
+use Rattle.std.specs.Prelude.{◌≡◌, ℕ, ◌-◌, true, if◌then◌else◌, ◌==◌, List, [], ◌∷◌, ◌++◌, take, drop, Option, None, Some}
 use Rattle.source_lines.specs.declared.lines.Character.{Character}
 use Rattle.tokens.specs.declared.character.Class.{Class}
 use Rattle.tokens.specs.declared.character.Class.TheVariants as class
@@ -46,8 +45,7 @@ decimals_text (d ∷ more) = 46 ∷ d ∷ more
 -- the text is the literal's sign, digits, and decimals after a point
 abbrev pub IsNumberText : NumericLiteral → List Character → Type 0
 IsNumberText literal text =
-    (bytes text ≡ sign_text literal.sign ++ (literal.whole ++ decimals_text literal.decimals))
-    × All class.Digit literal.whole × All class.Digit literal.decimals
+    (bytes text ≡ sign_text literal.sign ++ (literal.whole ++ decimals_text literal.decimals)) × All class.Digit literal.whole × All class.Digit literal.decimals
 
 abbrev pub doubled_marks : ℕ → List ℕ → List ℕ
 doubled_marks mark [] = []
@@ -55,8 +53,7 @@ doubled_marks mark (b ∷ more) = if b == mark then mark ∷ mark ∷ doubled_ma
 
 -- the text is the literal between two of these marks, with each such mark in it doubled
 abbrev pub IsQuoted : ℕ → List ℕ → List Character → Type 0
-IsQuoted mark literal text =
-    (is_in class.Mark mark ≡ true) × (bytes text ≡ mark ∷ (doubled_marks mark literal ++ (mark ∷ [])))
+IsQuoted mark literal text = (is_in class.Mark mark ≡ true) × (bytes text ≡ mark ∷ (doubled_marks mark literal ++ (mark ∷ [])))
 
 -- ---- every kind
 
@@ -79,13 +76,9 @@ Front (Some kind) size characters = IsKindOf kind (take size characters)
 -- each token's kind is what the slice of the characters at its span spells
 abbrev pub AreSpelledBy : List Character → List Token → Type 0
 AreSpelledBy characters [] = Unit {0}
-AreSpelledBy characters (t ∷ more) =
-    IsKindOf t.kind (take (t.span.end - t.span.start) (drop t.span.start characters)) × AreSpelledBy characters more
+AreSpelledBy characters (t ∷ more) = IsKindOf t.kind (take (t.span.end - t.span.start) (drop t.span.start characters)) × AreSpelledBy characters more
 
--- the characters from this one on up to the first span, between spans, and after the last one, are spaces, commas and
--- semicolons
+-- the characters from this one on up to the first span, between spans, and after the last one, are spaces, commas and semicolons
 abbrev pub AreSeparated : ℕ → List Character → List Token → Type 0
 AreSeparated from characters [] = All class.Separator (bytes (drop from characters))
-AreSeparated from characters (t ∷ more) =
-    All class.Separator (bytes (take (t.span.start - from) (drop from characters)))
-    × AreSeparated t.span.end characters more
+AreSeparated from characters (t ∷ more) = All class.Separator (bytes (take (t.span.start - from) (drop from characters))) × AreSeparated t.span.end characters more

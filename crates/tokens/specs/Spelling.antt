@@ -1,5 +1,4 @@
--- The reserved words (COBOL-85, Appendix "reserved words", as far as this language has a use for them), by their first
--- letters.
+-- The reserved words (COBOL-85, Appendix "reserved words", as far as this language has a use for them), by their first letters.
 use Rattle.std.specs.Prelude.{ℕ, if◌then◌else◌, ◌==◌, List, [], ◌∷◌, Option, None, Some}
 use Rattle.std.specs.Str.{bytes_eq}
 use lib.Chars.{codes}

@@ -1,5 +1,5 @@
--- Words (COBOL-85, Nucleus, "COBOL words"): at most 30 letters, digits and hyphens, a hyphen not last. A word without a
--- hyphen last and with more than 30 characters, or with a hyphen last, is refused whole: own choice.
+-- Words (COBOL-85, Nucleus, "COBOL words"): at most 30 letters, digits and hyphens, a hyphen not last. A word without a hyphen last and with
+-- more than 30 characters, or with a hyphen last, is refused whole: own choice.
 use Rattle.std.specs.Prelude.{ℕ, ◌||◌, if◌then◌else◌, nat_lt, List, take, Option, None, Some, Result, Ok, Err}
 use Rattle.source_lines.specs.declared.lines.Character.{Character}
 use Rattle.lexical.specs.declared.place.Place.{Place}
