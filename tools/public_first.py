@@ -21,11 +21,21 @@ class Item:
     def name(self):
         """The type that an item declares, or that an implementation is of."""
         if self.kind == "impl":
-            head = re.sub(r"<[^<>]*(?:<[^<>]*>[^<>]*)*>", "", self.line)
-            head = head.split(" for ")[-1] if " for " in head else head[len("impl"):]
-            return re.findall(r"\w+", head)[0]
+            text = " ".join(self.lines[self.lines.index(self.line):])
+            head = re.split(r"\{|\bwhere\b|\brequires\b", without_brackets(text[len("impl"):]))[0]
+            return re.search(r"(\w+)[^\w:]*$", head.split(" for ")[-1])[1]
         found = re.search(r"\b(?:struct|enum|trait|fn|const|static|type) (\w+)", self.line)
         return found[1] if found else None
+
+
+def without_brackets(text):
+    """A text without what is between angle brackets. The arrow of a type closes none."""
+    kept, depth = "", 0
+    for place, letter in enumerate(text):
+        depth += letter == "<"
+        kept += letter if depth == 0 else ""
+        depth -= letter == ">" and text[place - 1] not in "-="
+    return kept
 
 
 def items_of(text):
