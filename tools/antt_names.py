@@ -41,7 +41,7 @@ class Frame:
 
     def __init__(self, bracket, is_record=False, after=()):
         self.bracket, self.is_record, self.after = bracket, is_record, after
-        self.bound, self.kept, self.lets, self.later = set(), set(), [], []
+        self.bound, self.kept, self.lets, self.later, self.fields = set(), set(), [], [], []
 
 
 class Scope:
@@ -154,6 +154,8 @@ class Terms:
             self.at += 1
         elif word in (";", ",", "|"):
             frame.bound = set()
+            frame.kept.update(frame.fields)
+            frame.fields = []
             self.at += 1
             yield from self.alternative()
         elif word == "λ":
@@ -187,14 +189,14 @@ class Terms:
             yield from self.alternative()
 
     def alternative(self):
-        """What begins a part between brackets: a label, or a pattern of a case."""
+        """What begins a part between brackets: a label, or a pattern of a case. A field is bound in the fields after it."""
         frame = self.scope.frames[-1]
         if frame.bracket == "{" and self.at < len(self.tokens) and is_name(self.tokens[self.at]) and self.text(1) in ("=", ":"):
             token, mark = self.tokens[self.at], self.text(1)
             yield self.name(token, "label")
             self.at += 1
             if mark == ":":
-                self.bind([token.text], kept=True)
+                frame.fields = [token.text]
         elif frame.bracket == "[":
             while self.text() == "|":
                 self.at += 1
