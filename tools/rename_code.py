@@ -4,8 +4,8 @@ import glob
 import os
 import re
 
-from antt_names import imports_of, names_of_term
-from renaming import Terms
+from antt_names import imports_of, names_of, names_of_term
+from renaming import ATTRIBUTE, Terms, module_of
 from repository import ROOT
 from rust_names import uses_of, variants_in, words_of
 
@@ -262,8 +262,9 @@ def is_in_code(text, offset):
 
 
 def rename_files(renaming, pairs):
+    rename_definition_files(renaming, [pair for pair in pairs if pair[0].endswith(".antt")])
     code, folders = Code(renaming), {}
-    for old, new in pairs:
+    for old, new in [pair for pair in pairs if not pair[0].endswith(".antt")]:
         (crate, before), (_, after) = place_of(f"crates/{old}"), place_of(f"crates/{new}")
         is_taken = f"crates/{new}" in renaming.texts and new not in {one for one, _ in pairs}
         if f"crates/{old}" not in renaming.texts or is_taken:
@@ -277,6 +278,71 @@ def rename_files(renaming, pairs):
         proofs = "/".join(("crates", crate, "proofs"))
         renaming.moves.append(("/".join((proofs,) + before), "/".join((proofs,) + after)))
     replace_modules(renaming, folders)
+
+
+def rename_definition_files(renaming, pairs):
+    """Renames files of definitions and proofs, each in its folder, with the folders of the same name."""
+    modules = {}
+    for old, new in pairs:
+        old, new = f"crates/{old}", f"crates/{new}"
+        if old not in renaming.texts or new.lower() in {path.lower() for path in renaming.texts} or os.path.dirname(old) != os.path.dirname(new):
+            renaming.stop(old, 0, "there is no such file, or the new one is there or in another folder")
+            continue
+        modules[module_of(old)] = module_of(new)
+        renaming.moves += [(old, new), (old[:-len(".antt")], new[:-len(".antt")])]
+        rename_path(renaming, old[len("crates/"):], new[len("crates/"):])
+        rename_declaration(renaming, old, module_of(new).split(".")[-1])
+    replace_modules(renaming, modules)
+    for path in renaming.texts:
+        if modules and path.endswith((".antt", ".rt")):
+            rename_module_attributes(renaming, path, modules)
+            rename_module_uses(renaming, path, modules)
+
+
+def rename_declaration(renaming, old, new):
+    """Renames a file of definitions or proofs where the file above it declares it."""
+    folder, name = os.path.split(old[:-len(".antt")])
+    for path in (f"{folder}/Lib.antt", f"{folder}.antt"):
+        for found in re.finditer(rf"^(?:pub )?mod {re.escape(name)}$", renaming.texts.get(path, ""), re.M):
+            renaming.replace(path, found.end() - len(name), found.end(), new)
+
+
+def rename_path(renaming, old, new):
+    """Renames a file of definitions or proofs in documents, wrong bodies and tools: where its path is, or its own crate names it."""
+    crate, within = old.split("/", 1)
+    for path, text in renaming.texts.items():
+        is_own = path.startswith(f"crates/{crate}/")
+        form = rf"(?<![\w/]){re.escape(within)}" if is_own else rf"(?<!\w){re.escape(old)}"
+        form += rf"|(?<=`){re.escape(os.path.basename(within))}(?=`)" if is_own and path.endswith(".md") else ""
+        for found in re.finditer(form, "" if path.endswith((".antt", ".rt")) else text):
+            start = found.end() - len(os.path.basename(old))
+            renaming.replace(path, start, found.end(), os.path.basename(new))
+
+
+def rename_module_attributes(renaming, path, modules):
+    """Renames modules of definitions in the attributes of code."""
+    for found in ATTRIBUTE.finditer(renaming.texts[path] if path.endswith(".rt") else ""):
+        crate = path.split("/")[1] if found[1] == "crate" else found[1]
+        old = f"Rattle.{crate}.specs.{found[2][:-2].replace('::', '.')}"
+        if old in modules:
+            start = found.end(2) - 2 - len(old.split(".")[-1])
+            renaming.replace(path, start, found.end(2) - 2, modules[old].split(".")[-1])
+
+
+def rename_module_uses(renaming, path, modules):
+    """Renames modules of definitions where terms name them."""
+    text = renaming.texts[path]
+    imported = {one.alias or one.module.split(".")[-1]: one for one in imports_of(text) if one.names is None}
+    news = {name: modules[one.module].split(".")[-1] for name, one in imported.items() if one.alias is None and one.module in modules}
+    if not news:
+        return
+    terms = [names_of(text)] if path.endswith(".antt") else [names_of_term(text, *clause[:3]) for clause in renaming.clauses(path)]
+    for name in (name for term in terms for name in term):
+        word = name.token.text
+        if word in news and name.parts and name.role != "label" and not name.is_bound:
+            renaming.replace(path, name.token.start, name.token.start + len(word), news[word])
+    for new in set(news.values()) & set(imported):
+        renaming.stop(path, imported[new].start, f"{new} is imported already")
 
 
 def rename_module(renaming, code, crate, module, new):
