@@ -21,7 +21,7 @@ use Rattle.volume_format.specs.Grows.{IsTreeAmong}
 use Rattle.volume_format.specs.Volume.{FileTrees, IsKept, MapHolds, trees_of, catalog_entry, tree_levels}
 use Rattle.volume_format.proofs.Forests.{all_left, all_right}
 use Rattle.volume_format.proofs.Names.{names_in_order}
-use Rattle.alternate_keys.specs.Created.{empty_kept}
+use Rattle.alternate_keys.specs.Created.{empty_file_trees}
 use Rattle.alternate_keys.specs.Listed.{catalog_at}
 use Rattle.alternate_keys.proofs.Empties.{forest_with, empty_grow, empty_pages, empty_is, empty_says}
 use Rattle.alternate_keys.proofs.Preparing.{map_with}
@@ -112,7 +112,7 @@ module _ (m : Map) (files : Files) (holds : MapHolds m files) (name : List ℕ) 
   gap = gap_of name holds.kept (subst (λ (l : Files). file_at name l ≡ None) (sym holds.named) none)
 
   abbrev new : FileTrees
-  new = empty_kept name spec
+  new = empty_file_trees name spec
 
   pub holds_added : (pages : List (Option Sector)) (catalog : ℕ) (listing : List ℕ) → IsTreeAmong pages [] (flat_map trees_of holds.kept) (catalog_at catalog) (with_new_entry (map catalog_entry holds.kept) (entry_as (padded_name name) listing)) →
       listing ≡ listing_bytes (record { spec = spec; prime = 0; alternates = replicate (length spec.alternates) 0; next_arrival = 1 }) → AreFiles (with_file name (empty_file spec) files) → MapHolds (map_with (m.generation + 1) catalog pages) (with_file name (empty_file spec) files)

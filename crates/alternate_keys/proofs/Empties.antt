@@ -15,7 +15,7 @@ use Rattle.volume_format.specs.Trees.{AreOf}
 use Rattle.volume_format.specs.Forest.{TreeLevels, IsForest, IsTreeIn, pages_under, pages_within}
 use Rattle.volume_format.specs.Volume.{IsKept, IsIndex, trees_of, listing_of, no_tree}
 use Rattle.volume_format.proofs.Forests.{all_left, all_right}
-use Rattle.alternate_keys.specs.Created.{empty_tree, empty_trees, empty_kept}
+use Rattle.alternate_keys.specs.Created.{empty_tree, empty_trees, empty_file_trees}
 use Rattle.alternate_keys.specs.Placed.{HasFileTrees}
 
 within_two : (left right : List TreeLevels) → pages_within (left ++ right) ≡ pages_within left ++ pages_within right
@@ -68,10 +68,10 @@ module _ (spec : Spec) where
   all_grow pages i zero = All-nil (IsTreeIn pages)
   all_grow pages i (suc n) = All-cons (IsTreeIn pages) (empty_tree spec (Alternate i)) (empty_trees spec (suc i) n) (inl (refl, refl)) (all_grow pages (suc i) n)
 
-  pub empty_grow : (pages : List (Option Sector)) (name : List ℕ) → All (IsTreeIn pages) (trees_of (empty_kept name spec))
+  pub empty_grow : (pages : List (Option Sector)) (name : List ℕ) → All (IsTreeIn pages) (trees_of (empty_file_trees name spec))
   empty_grow pages name = All-cons (IsTreeIn pages) (empty_tree spec Prime) (empty_trees spec 0 (length spec.alternates)) (inl (refl, refl)) (all_grow pages 0 (length spec.alternates))
 
-  pub empty_pages : (name : List ℕ) → pages_within (trees_of (empty_kept name spec)) ≡ []
+  pub empty_pages : (name : List ℕ) → pages_within (trees_of (empty_file_trees name spec)) ≡ []
   empty_pages name = no_pages 0 (length spec.alternates)
 
   no_pairs : (i : ℕ) → AreOf spec (Alternate i) [] []
@@ -80,7 +80,7 @@ module _ (spec : Spec) where
   index_by : (i : ℕ) (tree : TreeLevels) → tree ≡ empty_tree spec (Alternate i) → IsIndex (empty_file spec) i tree
   index_by i tree is = subst (λ (t : TreeLevels). IsIndex (empty_file spec) i t) (sym is) (record { layout = refl; pairs = no_pairs i })
 
-  pub empty_is : (generation : ℕ) (name : List ℕ) → IsKept (generation + 1) (empty_kept name spec)
+  pub empty_is : (generation : ℕ) (name : List ℕ) → IsKept (generation + 1) (empty_file_trees name spec)
   empty_is generation name = record {
     layout = refl;
     rows = refl;
@@ -93,7 +93,7 @@ module _ (spec : Spec) where
   listing_with : List ℕ → Listing
   listing_with roots = record { spec = spec; prime = 0; alternates = roots; next_arrival = 1 }
 
-  pub empty_says : (name listing : List ℕ) → listing ≡ listing_bytes (record { spec = spec; prime = 0; alternates = replicate (length spec.alternates) 0; next_arrival = 1 }) → listing ≡ listing_bytes (listing_of (empty_kept name spec))
+  pub empty_says : (name listing : List ℕ) → listing ≡ listing_bytes (record { spec = spec; prime = 0; alternates = replicate (length spec.alternates) 0; next_arrival = 1 }) → listing ≡ listing_bytes (listing_of (empty_file_trees name spec))
   unfolding listing_with
   empty_says name listing is = is ∙ ap (λ (l : List ℕ). listing_bytes (listing_with l)) (sym (no_roots 0 (length spec.alternates)))
 
@@ -101,9 +101,9 @@ module _ (spec : Spec) where
   pub empty_placed : (name : List ℕ) (generation : ℕ) (pages : List (Option Sector)) (left right : List TreeLevels) (listing : List ℕ) → IsForest pages (left ++ right) →
       listing ≡ listing_bytes (record { spec = spec; prime = 0; alternates = replicate (length spec.alternates) 0; next_arrival = 1 }) → HasFileTrees (record { name = name; file = empty_file spec }) (generation + 1) pages left right listing
   empty_placed name generation pages left right listing forest is = record {
-    kept = empty_kept name spec;
+    kept = empty_file_trees name spec;
     named_is = refl;
-    forest = forest_with pages left (trees_of (empty_kept name spec)) right forest (empty_grow pages name) (empty_pages name);
+    forest = forest_with pages left (trees_of (empty_file_trees name spec)) right forest (empty_grow pages name) (empty_pages name);
     is = empty_is generation name;
     says = empty_says name listing is;
   }

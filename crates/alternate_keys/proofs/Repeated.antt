@@ -17,7 +17,7 @@ use Rattle.records.specs.declared.key.KeyOfReference.TheVariants.{Alternate}
 use Rattle.records.specs.declared.key.Side.TheVariants as side
 use Rattle.records.specs.Spec.{Spec}
 use Rattle.records.specs.Rows.{Row, Pair, bytes_cmp, same_bytes, pair_cmp, pair_under}
-use Rattle.records.specs.Order.{RowBound, is_behind, sought_row, least_row, has_value}
+use Rattle.records.specs.Order.{RowBound, is_after, sought_row, least_row, has_value}
 use Rattle.records.specs.Stores.{key_length}
 use Rattle.records.proofs.Maps.{bytes_same}
 use Rattle.volume_format.specs.Trees.{entry_under, AreOf}
@@ -55,7 +55,7 @@ module _ (spec : Spec) (key : KeyOfReference) (v : List ℕ) where
   has row = same_bytes (value row) v
 
   abbrev test : Row → Bool
-  test row = is_behind side.From (record { value = v; number = 0 }) (pair_under spec key row)
+  test row = is_after side.From (record { value = v; number = 0 }) (pair_under spec key row)
 
   not_below_by : (o : Ordering) (n : ℕ) → o ≡ nat_cmp n 0 → not (is_lt o) ≡ true
   not_below_by Less n is = let low : n < 0 = ranked n 0 Less is in absurd (omega (arith, low))
@@ -104,7 +104,7 @@ value_there spec i v rows entries up are under long =
     let pair : Pair = record { value = v; number = 0 } in
     let place : RowBound = record { side = side.From; pair = pair } in
     let next = sought_row spec (Alternate i) place rows in
-    let tests : Row → Bool = λ r. is_behind side.From pair (pair_under spec (Alternate i) r) in
+    let tests : Row → Bool = λ r. is_after side.From pair (pair_under spec (Alternate i) r) in
     let full : nat_lt (length v) n ≡ false = not_less (length v) n (nat_lt (length v) n) refl long in
     let least_is = is_least spec (Alternate i) tests rows in
     let found : found_entry aim.From entries (v ++ big_bytes 8 0) ≡ option_map (entry_under spec (Alternate i)) next =

@@ -12,27 +12,27 @@ use Rattle.btree.specs.Entries.{Entry}
 use Rattle.records.specs.declared.key.KeyOfReference.{KeyOfReference}
 use Rattle.records.specs.Spec.{Spec}
 use Rattle.records.specs.Rows.{Row, pair_under}
-use Rattle.records.specs.Order.{RowBound, is_behind, sought_row, least_row}
+use Rattle.records.specs.Order.{RowBound, is_after, sought_row, least_row}
 use Rattle.alternate_keys.specs.declared.search_start.SearchStart.{SearchStart}
 use Rattle.alternate_keys.specs.declared.search_start.SearchStart.TheVariants as aim
 use Rattle.volume_format.specs.Trees.{entry_under, AreOf}
 use Rattle.volume_format.specs.Pairs.{IsUnder}
-use Rattle.alternate_keys.specs.Aims.{IsBound, aim_of, aim_key, wants, found_entry}
+use Rattle.alternate_keys.specs.Aims.{IsBound, aim_of, aim_key, accepts, found_entry}
 use Rattle.alternate_keys.proofs.Least.{IsLeast, is_least, IsHead, is_head, first_where, from_where, after_where, never_where}
 use Rattle.volume_format.proofs.Order.{keys_in_order}
 use Rattle.alternate_keys.proofs.Aims.{aims_right}
 
-looked_where : (a : SearchStart) (entries : List Entry) (at : List ℕ) → found_entry a entries at ≡ first_where (wants a at) entries
+looked_where : (a : SearchStart) (entries : List Entry) (at : List ℕ) → found_entry a entries at ≡ first_where (accepts a at) entries
 looked_where aim.Nothing entries at = sym (never_where entries)
 looked_where aim.From entries at = from_where entries at
 looked_where aim.After entries at = after_where entries at
 
 module _ (spec : Spec) (key : KeyOfReference) (bound : RowBound) (rows : List Row) (entries : List Entry) where
   abbrev behind : Row → Bool
-  behind row = is_behind bound.side bound.pair (pair_under spec key row)
+  behind row = is_after bound.side bound.pair (pair_under spec key row)
 
   abbrev wanted : List ℕ → Bool
-  wanted at = wants (aim_of spec key bound) (aim_key spec key bound) at
+  wanted at = accepts (aim_of spec key bound) (aim_key spec key bound) at
 
   pub record Given : Type 0 where
     pub are : AreOf spec key rows entries

@@ -19,7 +19,7 @@ use Rattle.records.specs.declared.key.KeyOfReference.TheVariants.{Prime, Alterna
 use Rattle.records.specs.declared.key.Side.TheVariants as side
 use Rattle.records.specs.Spec.{Spec}
 use Rattle.records.specs.Rows.{Row, pair_under, part, prime_place, named_pair, same_bytes}
-use Rattle.records.specs.Order.{RowBound, sought_row, is_behind, is_repeated, has_value}
+use Rattle.records.specs.Order.{RowBound, sought_row, is_after, is_repeated, has_value}
 use Rattle.records.specs.Stores.{key_length}
 use Rattle.alternate_keys.specs.declared.search_start.SearchStart.{SearchStart}
 use Rattle.alternate_keys.specs.declared.search_start.SearchStart.TheVariants as aim
@@ -133,7 +133,7 @@ repeated_is spec i n pages rows under row pairs has long =
     ap (λ v. begins_with_value v (found_entry aim.After entries (entry_under spec (Alternate i) row).key)) (take_at pair.value (big_bytes 8 pair.number) n (is.pair.0 ∙ sym long))
     ∙ ap (begins_with_value pair.value) (next_found spec i pages rows under row pairs has)
     ∙ same_value spec i pair.value rows next is.pair.0 pairs.fits
-    (least_in spec (Alternate i) (λ r. is_behind place.side place.pair (pair_under spec (Alternate i) r)) rows next (is_least spec (Alternate i) (λ r. is_behind place.side place.pair (pair_under spec (Alternate i) r)) rows))
+    (least_in spec (Alternate i) (λ r. is_after place.side place.pair (pair_under spec (Alternate i) r)) rows next (is_least spec (Alternate i) (λ r. is_after place.side place.pair (pair_under spec (Alternate i) r)) rows))
 
 -- the row that an entry was found for
 pub record IsFor (spec : Spec) (key : KeyOfReference) (bound : RowBound) (rows : List Row) (entry : Entry) : Type 0 where
@@ -149,7 +149,7 @@ for_by spec key bound rows entry (Some row) is has same = record { row = row; is
 pub found_for : (spec : Spec) (key : KeyOfReference) (bound : RowBound) (pages : List (Option Sector)) (rows : List Row) (prime under : RootedTree) (way : SearchStart) (at : List ℕ) (entry : Option Entry) (e : Entry) →
     (look : IsSought spec key bound pages rows prime under way at) → entry ≡ found_entry way (entries_of under.layout look.pairs.levels) at → entry ≡ Some e → IsFor spec key bound rows e
 found_for spec key bound pages rows prime under way at entry e look is some =
-    let test : Row → Bool = λ row. is_behind bound.side bound.pair (pair_under spec key row) in
+    let test : Row → Bool = λ row. is_after bound.side bound.pair (pair_under spec key row) in
     for_by spec key bound rows e (sought_row spec key bound rows) refl (least_in spec key test rows (sought_row spec key bound rows) (is_least spec key test rows))
     (sym some ∙ is ∙ looked_is spec key bound pages rows prime under way at look)
   where

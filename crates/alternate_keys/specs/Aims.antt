@@ -14,7 +14,7 @@ use Rattle.records.specs.declared.key.Side.{Side}
 use Rattle.records.specs.declared.key.Side.TheVariants as side
 use Rattle.records.specs.Spec.{Spec}
 use Rattle.records.specs.Rows.{Row, Pair}
-use Rattle.records.specs.Order.{RowBound, is_behind, sought_row}
+use Rattle.records.specs.Order.{RowBound, is_after, sought_row}
 use Rattle.records.specs.Stores.{key_length}
 use Rattle.alternate_keys.specs.declared.search_start.SearchStart.{SearchStart}
 use Rattle.alternate_keys.specs.declared.search_start.SearchStart.TheVariants as aim
@@ -79,10 +79,10 @@ aim_key spec (Alternate i) bound =
     else pair_aim_key (key_length spec (Alternate i) + 8) bound.side bound.pair
 
 -- whether an entry's key is looked for, and the first such entry
-abbrev pub wants : SearchStart → List ℕ → List ℕ → Bool
-wants aim.Nothing at key = false
-wants aim.From at key = not (is_lt (key_cmp key at))
-wants aim.After at key = is_gt (key_cmp key at)
+abbrev pub accepts : SearchStart → List ℕ → List ℕ → Bool
+accepts aim.Nothing at key = false
+accepts aim.From at key = not (is_lt (key_cmp key at))
+accepts aim.After at key = is_gt (key_cmp key at)
 
 abbrev pub found_entry : SearchStart → List Entry → List ℕ → Option Entry
 found_entry aim.Nothing entries at = None
@@ -98,7 +98,7 @@ pub record IsBound (spec : Spec) (key : KeyOfReference) (bound : RowBound) : Typ
 abbrev pub AimsRight : Type 0
 AimsRight = (spec : Spec) (key : KeyOfReference) (bound : RowBound) (pair : Pair) → IsBound spec key bound → IsPair spec key pair →
     All (λ byte. byte < 256) pair.value →
-    is_behind bound.side bound.pair pair ≡ wants (aim_of spec key bound) (aim_key spec key bound) (key_under spec key pair)
+    is_after bound.side bound.pair pair ≡ accepts (aim_of spec key bound) (aim_key spec key bound) (key_under spec key pair)
 
 -- the entry that is found is that of the row that is sought
 abbrev pub FindsSought : Type 0

@@ -29,8 +29,8 @@ empty_trees spec i zero = []
 empty_trees spec i (suc n) = empty_tree spec (Alternate i) ∷ empty_trees spec (suc i) n
 
 -- a file without rows
-abbrev pub empty_kept : List ℕ → Spec → FileTrees
-empty_kept name spec = record { named = record { name = name; file = empty_file spec }; prime = empty_tree spec Prime; alternates = empty_trees spec 0 (length spec.alternates) }
+abbrev pub empty_file_trees : List ℕ → Spec → FileTrees
+empty_file_trees name spec = record { named = record { name = name; file = empty_file spec }; prime = empty_tree spec Prime; alternates = empty_trees spec 0 (length spec.alternates) }
 
 -- its trees of alternate keys, as a value of the catalog says them
 pub record HasStored (value : List ℕ) (kept : FileTrees) : Type 0 where

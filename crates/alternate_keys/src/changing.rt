@@ -3,7 +3,7 @@ ghost use Rattle.std.specs.Prelude.{◌≡◌, ◌≤◌, ◌<◌, ◌+◌, ◌*
 ghost use Rattle.station.specs.Calls.{OnlyWrites};
 ghost use Rattle.pages.specs.Pages.{map_now, is_spent, committed_of, sectors_of, changed_pages_of, next_generation, IsOpen, IsUnchanged};
 ghost use Rattle.pages.specs.Use.{free_count};
-ghost use Rattle.btree.specs.Told.{FewChanged};
+ghost use Rattle.btree.specs.Results.{FewChanged};
 ghost use Rattle.records.specs.Files.{File, Files};
 ghost use Rattle.records.specs.Stores.{spec_of, Has, is_change, files_after};
 ghost use Rattle.volume_format.specs.Volume.{MapHolds};

@@ -6,7 +6,7 @@ ghost use Rattle.pages.specs.Pages.{map_now, is_spent, catalog_of, committed_of,
 ghost use Rattle.pages.specs.Use.{free_count};
 ghost use Rattle.btree.specs.Calls.{pages_on};
 ghost use Rattle.btree.specs.Entries.{entry_with, with_new_entry};
-ghost use Rattle.btree.specs.Told.{FewChanged};
+ghost use Rattle.btree.specs.Results.{FewChanged};
 ghost use Rattle.records.specs.Files.{Files, empty_file, with_file};
 ghost use Rattle.records.specs.Spec.{is_name};
 ghost use Rattle.records.specs.Stores.{spec_of};

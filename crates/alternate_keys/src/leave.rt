@@ -3,7 +3,7 @@ ghost use Rattle.std.specs.Prelude.{◌≡◌, ◌≤◌, true, Err, IsSome, len
 ghost use Rattle.pages.specs.Pages.{is_spent, sectors_of, IsOpen};
 ghost use Rattle.btree.specs.Calls.{pages_on};
 ghost use Rattle.btree.specs.Entries.{entry_with, with_value, without_entry};
-ghost use Rattle.btree.specs.Told.{FewChanged};
+ghost use Rattle.btree.specs.Results.{FewChanged};
 ghost use Rattle.volume_format.specs.Grows.{IsTreeAmong};
 ghost use Rattle.alternate_keys.specs.Among.{OnAmong};
 ghost use Rattle.alternate_keys.specs.Calls.{Edits};

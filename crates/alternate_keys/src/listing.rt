@@ -4,7 +4,7 @@ ghost use Rattle.station.specs.Calls.{OnlyReads};
 ghost use Rattle.pages.specs.Pages.{map_now, is_spent, catalog_of, sectors_of, Agrees, IsOpen, IsUnchanged};
 ghost use Rattle.btree.specs.Calls.{IfAgrees, pages_on};
 ghost use Rattle.btree.specs.Entries.{entry_with, with_value};
-ghost use Rattle.btree.specs.Told.{FewChanged, FewFilled};
+ghost use Rattle.btree.specs.Results.{FewChanged, FewFilled};
 ghost use Rattle.records.specs.Spec.{is_name};
 ghost use Rattle.records.specs.Files.{Files, file_at};
 ghost use Rattle.file_bytes.specs.Description.{padded_name};

@@ -4,7 +4,7 @@ ghost use Rattle.pages.specs.Pages.{is_spent, committed_of, sectors_of, changed_
 ghost use Rattle.pages.specs.Use.{free_count};
 ghost use Rattle.btree.specs.Calls.{pages_on};
 ghost use Rattle.btree.specs.Entries.{entry_with, with_new_entry, without_entry};
-ghost use Rattle.btree.specs.Told.{FewChanged};
+ghost use Rattle.btree.specs.Results.{FewChanged};
 ghost use Rattle.records.specs.Files.{File};
 ghost use Rattle.records.specs.Stores.{spec_of, IsKey};
 ghost use Rattle.volume_format.specs.Grows.{IsTreeAmong};

@@ -14,7 +14,7 @@ pub mod Changes
 pub mod Entering
 pub mod Outcomes
 pub mod Shrinks
-pub mod Told
+pub mod Results
 pub mod Puts
 pub mod Removals
 pub mod Clears

@@ -13,7 +13,7 @@ ghost use Rattle.btree.specs.Changes.{pages_of_map};
 ghost use Rattle.btree.specs.Clears.{HasPages, IsDown, levels_below};
 ghost use Rattle.btree.specs.Refusals.{IsRestRefusal, IsChangeRefusal};
 ghost use Rattle.btree.specs.Calls.{IfAgrees, OnNoTree, OnPages, OnChange, OnTreeChange};
-ghost use Rattle.btree.specs.Told.{TellsDamaged, OnlyIfSpent, ExactlyIfSpent};
+ghost use Rattle.btree.specs.Results.{ReturnsDamaged, OnlyIfSpent, ExactlyIfSpent};
 
 use crate::descend::LEVELS;
 use crate::node::read_node;
@@ -42,7 +42,7 @@ impl Tree {
             device.old
             (λ before levels after. OnOk result (Moves before (pages_of levels) after [])) }
         ensures damaged { OnNoTree D.Device self.old.layout self.old.root pages.old device.old
-            (TellsDamaged result) }
+            (ReturnsDamaged result) }
         ensures layout { self.new.layout ≡ self.old.layout }
         ensures root { OnOk result (self.new.root ≡ 0) }
         ensures same { OnErr result (self.new ≡ self.old) }

@@ -9,7 +9,7 @@ ghost use Rattle.btree.specs.Path.{EndsAt};
 ghost use Rattle.btree.specs.Steps.{LeadsTo};
 ghost use Rattle.btree.specs.Reading.{IsSearchRefusal, NoTree};
 ghost use Rattle.btree.specs.Calls.{IfAgrees, OnPages};
-ghost use Rattle.btree.specs.Told.{TellsDamaged, ExactlyIfSpent};
+ghost use Rattle.btree.specs.Results.{ReturnsDamaged, ExactlyIfSpent};
 
 use crate::key::Key;
 use crate::node::read_node;
@@ -63,7 +63,7 @@ pub(crate) fn follow<D: Device>(
         (λ before. (levels : List (List TreeNode)) → IsTree layout before root levels → IfOk result
         (λ way. LeadsTo layout before key.now levels way.path.items way.page way.right)) }
     ensures damaged { OnPages D.Device pages.old device.old
-        (NoTree layout root (TellsDamaged result)) }
+        (NoTree layout root (ReturnsDamaged result)) }
     ensures spent { ExactlyIfSpent pages.old result }
     ensures cause { IfErr result (IsSearchRefusal layout) }
 {
@@ -109,7 +109,7 @@ pub(crate) fn descend<D: Device>(
         → IfOk result (λ descent. EndsAt layout key.now levels descent.path.items descent.page
         descent.leaf.rows descent.right)) }
     ensures damaged { OnPages D.Device pages.old device.old
-        (NoTree layout root (TellsDamaged result)) }
+        (NoTree layout root (ReturnsDamaged result)) }
     ensures leaf { IfOk result (λ descent. (descent.leaf.layout ≡ layout)
         × (descent.leaf.kind ≡ Kind.Leaf) × (length descent.leaf.rows ≤ 4080)) }
     ensures node { IfOk result (λ descent. IsNode descent.leaf) }

@@ -8,7 +8,7 @@ ghost use Rattle.btree.specs.Entries.{entries_of, entry_with};
 ghost use Rattle.btree.specs.Changes.{Inserts};
 ghost use Rattle.btree.specs.Refusals.{IsInsertRefusal};
 ghost use Rattle.btree.specs.Calls.{IfAgrees, OnNoTree, OnTree, OnTreeChange};
-ghost use Rattle.btree.specs.Told.{TellsDamaged, ExactlyIfSpent, FullIfUsed, FewChanged, FewFilled};
+ghost use Rattle.btree.specs.Results.{ReturnsDamaged, ExactlyIfSpent, FullIfUsed, FewChanged, FewFilled};
 
 use crate::descend::{descend, follow};
 use crate::enter_leaf::enter_leaf;
@@ -55,7 +55,7 @@ impl Tree {
             → IsSome (entry_with (entries_of self.old.layout levels) key.now)) }
         ensures same { result ≡ Ok false → IsUnchanged pages.old pages.new × (self.new ≡ self.old) }
         ensures damaged { OnNoTree D.Device self.old.layout self.old.root pages.old device.old
-            (TellsDamaged result) }
+            (ReturnsDamaged result) }
         ensures layout { self.new.layout ≡ self.old.layout }
         ensures refused { OnErr result (self.new ≡ self.old) }
 
@@ -115,7 +115,7 @@ fn insert_slowly<D: Device>(
     ensures inserted { OnTreeChange D.Device layout root pages.old pages.new device.old
         (λ before levels after.
         IfOk result (Inserts layout before levels after key.now value.now)) }
-    ensures damaged { OnNoTree D.Device layout root pages.old device.old (TellsDamaged result) }
+    ensures damaged { OnNoTree D.Device layout root pages.old device.old (ReturnsDamaged result) }
     ensures there { result ≡ Ok None → IsUnchanged pages.old pages.new }
     ensures changed_pages { OnTree D.Device layout root pages.old device.old
         (λ levels. FewChanged 42 pages.old pages.new) }
@@ -165,7 +165,7 @@ fn insert_entry<D: Device>(
     ensures inserted { OnTreeChange D.Device layout root pages.old pages.new device.old
         (λ before levels after.
         IfOk result (Inserts layout before levels after key.now value.now)) }
-    ensures damaged { OnNoTree D.Device layout root pages.old device.old (TellsDamaged result) }
+    ensures damaged { OnNoTree D.Device layout root pages.old device.old (ReturnsDamaged result) }
     ensures there { result ≡ Ok None → IsUnchanged pages.old pages.new }
     ensures changed_pages { OnTree D.Device layout root pages.old device.old
         (λ levels. FewChanged 42 pages.old pages.new) }

@@ -9,7 +9,7 @@ ghost use Rattle.btree.specs.Path.{EndsAt};
 ghost use Rattle.btree.specs.Changes.{pages_of_map, HasKeys, IsRootAfter, InsertsIntoLeaf};
 ghost use Rattle.btree.specs.Refusals.{IsWriteRefusal, IsInsertRefusal};
 ghost use Rattle.btree.specs.Calls.{IfAgrees, OnPages, OnChange};
-ghost use Rattle.btree.specs.Told.{OnlyIfSpent, FullIfUsed, FewChanged, FewFilled};
+ghost use Rattle.btree.specs.Results.{OnlyIfSpent, FullIfUsed, FewChanged, FewFilled};
 
 use crate::descend::Descent;
 use crate::propagate_split::propagate_split;

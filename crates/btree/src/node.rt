@@ -7,7 +7,7 @@ ghost use Rattle.btree_pages.specs.Node.{IsNode, node_in};
 ghost use Rattle.btree.specs.Tree.{node_at, fewest};
 ghost use Rattle.btree.specs.Reading.{IsReadRefusal, SpellsNoNode, NoneStands, HasShape};
 ghost use Rattle.btree.specs.Calls.{IfAgrees, OnPages};
-ghost use Rattle.btree.specs.Told.{TellsDamaged, ExactlyIfSpent};
+ghost use Rattle.btree.specs.Results.{ReturnsDamaged, ExactlyIfSpent};
 
 use btree_pages::{Kind, NodeView, RowLayout, TreePage};
 use pages::{PageMap, PagesError};
@@ -52,7 +52,7 @@ pub fn read_node<D: Device>(
     ensures shape { IfOk result (HasShape layout) }
     ensures is_node { IfOk result IsNode }
     ensures damaged { OnPages D.Device pages.old device.old
-        (NoneStands layout page (TellsDamaged result)) }
+        (NoneStands layout page (ReturnsDamaged result)) }
     ensures spent { ExactlyIfSpent pages.old result }
     ensures cause { IfErr result IsReadRefusal }
 {
@@ -105,7 +105,7 @@ fn node_read<D: Device>(
     ensures shape { IfOk result (HasShape layout) }
     ensures is_node { IfOk result IsNode }
     ensures damaged { OnPages D.Device pages.old device.old
-        (NoneStands layout page (TellsDamaged result)) }
+        (NoneStands layout page (ReturnsDamaged result)) }
     ensures spent { ExactlyIfSpent pages.old result }
     ensures cause { IfErr result IsReadRefusal }
 {
@@ -137,7 +137,7 @@ fn node_loaded<D: Device>(
     ensures shape { IfOk result (HasShape layout) }
     ensures is_node { IfOk result IsNode }
     ensures damaged { OnPages D.Device pages.old device.old
-        (NoneStands layout page (TellsDamaged result)) }
+        (NoneStands layout page (ReturnsDamaged result)) }
     ensures spent { ExactlyIfSpent pages.old result }
     ensures cause { IfErr result IsReadRefusal }
 {

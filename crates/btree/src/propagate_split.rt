@@ -6,7 +6,7 @@ ghost use Rattle.btree_pages.specs.RowLayouts.{IsRowLayout};
 ghost use Rattle.btree.specs.Changes.{HasKeys, PropagatesBy, NeverPropagates};
 ghost use Rattle.btree.specs.Refusals.{IsParentRefusal, IsInsertRefusal};
 ghost use Rattle.btree.specs.Calls.{IfAgrees, OnPages, OnChange};
-ghost use Rattle.btree.specs.Told.{TellsDamaged, OnlyIfSpent, FullIfUsed, FewChanged, FewFilled};
+ghost use Rattle.btree.specs.Results.{ReturnsDamaged, OnlyIfSpent, FullIfUsed, FewChanged, FewFilled};
 ghost use Rattle.btree.specs.Puts.{PutsParent, NeverLeads};
 
 use crate::node::read_node;
@@ -76,7 +76,7 @@ fn update_parent_at(
     ensures changed_pages { FewChanged 2 pages.old pages.new }
     ensures filled { FewFilled 2 pages.old pages.new }
     ensures keeps { KeepsCommitted pages.old pages.new }
-    ensures damaged { NeverLeads pages.old step node (TellsDamaged result) }
+    ensures damaged { NeverLeads pages.old step node (ReturnsDamaged result) }
     ensures cause { IfErr result IsParentRefusal }
     ensures full { FullIfUsed pages.new result }
     ensures spent { OnlyIfSpent pages.old result }

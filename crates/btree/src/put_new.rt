@@ -3,7 +3,7 @@ ghost use Rattle.std.specs.Prelude.{◌≡◌, ◌<◌, ◌+◌, ◌++◌, [], �
 ghost use Rattle.pages.specs.Pages.{IsOpen, KeepsCommitted};
 ghost use Rattle.btree_pages.specs.RowLayouts.{IsRowLayout};
 ghost use Rattle.btree.specs.Refusals.{IsWriteRefusal};
-ghost use Rattle.btree.specs.Told.{ExactlyIfSpent, FullIfUsed, FewChanged, FewFilled};
+ghost use Rattle.btree.specs.Results.{ExactlyIfSpent, FullIfUsed, FewChanged, FewFilled};
 ghost use Rattle.btree.specs.Puts.{PutsNew, PutsRows, two_rows};
 
 use crate::split_result::{Right, SplitResult};

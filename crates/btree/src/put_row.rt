@@ -5,7 +5,7 @@ ghost use Rattle.pages.specs.Pages.{IsOpen, IsPage, KeepsCommitted};
 ghost use Rattle.btree_pages.specs.RowLayouts.{rest_length, capacity};
 ghost use Rattle.btree.specs.Changes.{CanTake, IsSplit};
 ghost use Rattle.btree.specs.Refusals.{IsPutRefusal, IsWriteRefusal};
-ghost use Rattle.btree.specs.Told.{ExactlyIfSpent, FullIfUsed, FewChanged, FewFilled};
+ghost use Rattle.btree.specs.Results.{ExactlyIfSpent, FullIfUsed, FewChanged, FewFilled};
 ghost use Rattle.btree.specs.Puts.{PutsWhere, HasInserted};
 
 use crate::split_node::split_node;

@@ -14,7 +14,7 @@ ghost use Rattle.btree.specs.Changes.{CanStand, HasKeys};
 ghost use Rattle.btree.specs.Outcomes.{FitsAbove, IsJoined, IsPair, RebalancesNeighbours};
 ghost use Rattle.btree.specs.Refusals.{IsPutRefusal, IsRestRefusal};
 ghost use Rattle.btree.specs.Calls.{IfAgrees, OnPages, OnChange};
-ghost use Rattle.btree.specs.Told.{TellsDamaged, OnlyIfSpent, ExactlyIfSpent, FewChanged, FewFilled, LeavesFewChanged, LeavesFewFilled};
+ghost use Rattle.btree.specs.Results.{ReturnsDamaged, OnlyIfSpent, ExactlyIfSpent, FewChanged, FewFilled, LeavesFewChanged, LeavesFewFilled};
 ghost use Rattle.btree.specs.Puts.{PutsTogether, JoinsPair, NeverTwo};
 
 use crate::node::read_node;
@@ -117,7 +117,7 @@ fn rebalance(pages: &mut PageMap, left: Child, right: Child) -> Result<SplitResu
     ensures changed_pages { OnOk result (FewChanged 2 pages.old pages.new) }
     ensures filled { OnOk result (FewFilled 2 pages.old pages.new) }
     ensures keeps { KeepsCommitted pages.old pages.new }
-    ensures damaged { NeverTwo pages.old left.page right.page (TellsDamaged result) }
+    ensures damaged { NeverTwo pages.old left.page right.page (ReturnsDamaged result) }
     ensures spent { OnlyIfSpent pages.old result }
     ensures cause { IfErr result IsRestRefusal }
 {
@@ -255,7 +255,7 @@ fn rebalance_pair(
     ensures changed_pages { IfOk result (LeavesFewChanged 3 pages.old pages.new) }
     ensures filled { IfOk result (LeavesFewFilled 3 pages.old pages.new) }
     ensures keeps { KeepsCommitted pages.old pages.new }
-    ensures damaged { NeverTwo pages.old left.page right.page (TellsDamaged result) }
+    ensures damaged { NeverTwo pages.old left.page right.page (ReturnsDamaged result) }
     ensures spent { OnlyIfSpent pages.old result }
     ensures cause { IfErr result IsRestRefusal }
 {
@@ -288,7 +288,7 @@ fn neighbour<D: Device>(
     ensures shape { IfOk result (λ child. (child.page ≡ page) × (child.node.layout ≡ layout)
         × (child.node.kind ≡ kind) × (fewest kind ≤ length child.node.rows)) }
     ensures damaged { OnPages D.Device pages.old device.old
-        (NoneOfKind layout kind page (TellsDamaged result)) }
+        (NoneOfKind layout kind page (ReturnsDamaged result)) }
     ensures spent { ExactlyIfSpent pages.old result }
     ensures cause { IfErr result IsReadRefusal }
 {

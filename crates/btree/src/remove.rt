@@ -11,7 +11,7 @@ ghost use Rattle.btree.specs.Shrinks.{HasCollapsed, HasStayed, IsShrunkRoot, Nev
 ghost use Rattle.btree.specs.Removals.{Removes};
 ghost use Rattle.btree.specs.Refusals.{IsRestRefusal, IsChangeRefusal};
 ghost use Rattle.btree.specs.Calls.{IfAgrees, OnNoTree, OnTree, OnTreeChange};
-ghost use Rattle.btree.specs.Told.{TellsDamaged, OnlyIfSpent, ExactlyIfSpentAt, FewChanged, FewFilled};
+ghost use Rattle.btree.specs.Results.{ReturnsDamaged, OnlyIfSpent, ExactlyIfSpentAt, FewChanged, FewFilled};
 ghost use Rattle.btree.specs.Puts.{NeverIn};
 
 use crate::descend::descend;
@@ -48,7 +48,7 @@ impl Tree {
             → entry_with (entries_of self.old.layout levels) key.now ≡ None) }
         ensures same { result ≡ Ok false → IsUnchanged pages.old pages.new × (self.new ≡ self.old) }
         ensures damaged { OnNoTree D.Device self.old.layout self.old.root pages.old device.old
-            (TellsDamaged result) }
+            (ReturnsDamaged result) }
         ensures layout { self.new.layout ≡ self.old.layout }
 
         // At most so many pages are changed.
@@ -88,7 +88,7 @@ fn collapse_root(pages: &mut PageMap, lone: Child) -> Result<u32, PagesError>
     ensures changed_pages { OnOk result (FewChanged 1 pages.old pages.new) }
     ensures filled { OnOk result (FewFilled 1 pages.old pages.new) }
     ensures keeps { KeepsCommitted pages.old pages.new }
-    ensures damaged { NeverIn pages.old lone.page (TellsDamaged result) }
+    ensures damaged { NeverIn pages.old lone.page (ReturnsDamaged result) }
     ensures spent { OnlyIfSpent pages.old result }
     ensures cause { IfErr result IsRestRefusal }
 {
@@ -108,7 +108,7 @@ fn keep_leaf(pages: &mut PageMap, lone: Child) -> Result<u32, PagesError>
     ensures changed_pages { OnOk result (FewChanged 1 pages.old pages.new) }
     ensures filled { OnOk result (FewFilled 1 pages.old pages.new) }
     ensures keeps { KeepsCommitted pages.old pages.new }
-    ensures damaged { NeverIn pages.old lone.page (TellsDamaged result) }
+    ensures damaged { NeverIn pages.old lone.page (ReturnsDamaged result) }
     ensures spent { OnlyIfSpent pages.old result }
     ensures cause { IfErr result IsRestRefusal }
 {
@@ -167,7 +167,7 @@ fn remove_entry<D: Device>(
     ensures only { OnlyReads D.Device (result ≡ Err PagesError.Device) device.old device.new }
     ensures removed { OnTreeChange D.Device layout root pages.old pages.new device.old
         (λ before levels after. IfOk result (Removes layout before levels after key.now)) }
-    ensures damaged { OnNoTree D.Device layout root pages.old device.old (TellsDamaged result) }
+    ensures damaged { OnNoTree D.Device layout root pages.old device.old (ReturnsDamaged result) }
     ensures missing { result ≡ Ok None → IsUnchanged pages.old pages.new }
     ensures changed_pages { OnTree D.Device layout root pages.old device.old
         (λ levels. OnOk result (FewChanged 42 pages.old pages.new)) }

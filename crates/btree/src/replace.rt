@@ -7,7 +7,7 @@ ghost use Rattle.btree.specs.Entries.{entries_of, entry_with, with_value};
 ghost use Rattle.btree.specs.Changes.{Becomes};
 ghost use Rattle.btree.specs.Refusals.{IsRestRefusal, IsChangeRefusal};
 ghost use Rattle.btree.specs.Calls.{IfAgrees, OnNoTree, OnTree, OnTreeChange};
-ghost use Rattle.btree.specs.Told.{TellsDamaged, OnlyIfSpent, ExactlyIfSpentAt, FewChanged, FewFilled};
+ghost use Rattle.btree.specs.Results.{ReturnsDamaged, OnlyIfSpent, ExactlyIfSpentAt, FewChanged, FewFilled};
 ghost use Rattle.btree.specs.Puts.{PutsRest, NeverIn};
 
 use crate::descend::{descend, follow};
@@ -45,7 +45,7 @@ impl Tree {
             → entry_with (entries_of self.old.layout levels) key.now ≡ None) }
         ensures same { result ≡ Ok false → IsUnchanged pages.old pages.new }
         ensures damaged { OnNoTree D.Device self.old.layout self.old.root pages.old device.old
-            (TellsDamaged result) }
+            (ReturnsDamaged result) }
         ensures tree { self.new ≡ self.old }
         ensures changed_pages { FewChanged 1 pages.old pages.new }
         ensures filled { FewFilled 1 pages.old pages.new }
@@ -97,7 +97,7 @@ impl Tree {
             → entry_with (entries_of self.old.layout levels) key.now ≡ None) }
         ensures same { result ≡ Ok false → IsUnchanged pages.old pages.new }
         ensures damaged { OnNoTree D.Device self.old.layout self.old.root pages.old device.old
-            (TellsDamaged result) }
+            (ReturnsDamaged result) }
         ensures tree { self.new ≡ self.old }
         ensures changed_pages { FewChanged 1 pages.old pages.new }
         ensures filled { FewFilled 1 pages.old pages.new }
@@ -140,7 +140,7 @@ fn put_rest(
     ensures changed_pages { FewChanged 1 pages.old pages.new }
     ensures filled { FewFilled 1 pages.old pages.new }
     ensures keeps { KeepsCommitted pages.old pages.new }
-    ensures damaged { NeverIn pages.old page (TellsDamaged result) }
+    ensures damaged { NeverIn pages.old page (ReturnsDamaged result) }
     ensures cause { IfErr result IsRestRefusal }
     ensures spent { OnlyIfSpent pages.old result }
 {

@@ -5,7 +5,7 @@ ghost use Rattle.pages.specs.Pages.{IsOpen, Agrees, KeepsCommitted};
 ghost use Rattle.btree_pages.specs.RowLayouts.{IsRowLayout};
 ghost use Rattle.btree.specs.Changes.{pages_of_map};
 ghost use Rattle.btree.specs.Refusals.{IsPutRefusal};
-ghost use Rattle.btree.specs.Told.{OnlyIfSpent, FewChanged, FewFilled};
+ghost use Rattle.btree.specs.Results.{OnlyIfSpent, FewChanged, FewFilled};
 ghost use Rattle.btree.specs.Entering.{SetsIn, SetsOn};
 
 use crate::node::view_node;

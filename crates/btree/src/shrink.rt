@@ -7,7 +7,7 @@ ghost use Rattle.btree.specs.Outcomes.{FitsAbove, spare};
 ghost use Rattle.btree.specs.Shrinks.{ShrinksBy, NeverShrinks, ShrinksOn, NeverShrinksOn};
 ghost use Rattle.btree.specs.Refusals.{IsChangeRefusal};
 ghost use Rattle.btree.specs.Calls.{IfAgrees, OnPages, OnChange};
-ghost use Rattle.btree.specs.Told.{OnlyIfSpent};
+ghost use Rattle.btree.specs.Results.{OnlyIfSpent};
 
 use crate::node::read_node;
 use crate::path_step::PathStep;

@@ -5,7 +5,7 @@ ghost use Rattle.btree.specs.Changes.{CountsPages, FewNumbers};
 ghost use Rattle.btree.specs.Outcomes.{FitsAbove};
 ghost use Rattle.btree.specs.Fills.{HasTooFewRows};
 ghost use Rattle.btree.specs.Refusals.{IsPutRefusal, IsRestRefusal};
-ghost use Rattle.btree.specs.Told.{TellsDamaged, OnlyIfSpent, LeavesFewChanged, LeavesFewFilled};
+ghost use Rattle.btree.specs.Results.{ReturnsDamaged, OnlyIfSpent, LeavesFewChanged, LeavesFewFilled};
 ghost use Rattle.btree.specs.Puts.{PutsBack, LosesRow, RenamesRow, NeverLeads};
 
 use crate::path_step::PathStep;
@@ -83,7 +83,7 @@ pub(crate) fn lose_at(
     ensures changed_pages { IfOk result (LeavesFewChanged 1 pages.old pages.new) }
     ensures filled { IfOk result (LeavesFewFilled 1 pages.old pages.new) }
     ensures keeps { KeepsCommitted pages.old pages.new }
-    ensures damaged { NeverLeads pages.old step node (TellsDamaged result) }
+    ensures damaged { NeverLeads pages.old step node (ReturnsDamaged result) }
     ensures spent { OnlyIfSpent pages.old result }
     ensures cause { IfErr result IsRestRefusal }
 {
@@ -110,7 +110,7 @@ pub(crate) fn rename_at(
     ensures changed_pages { IfOk result (LeavesFewChanged 1 pages.old pages.new) }
     ensures filled { IfOk result (LeavesFewFilled 1 pages.old pages.new) }
     ensures keeps { KeepsCommitted pages.old pages.new }
-    ensures damaged { NeverLeads pages.old step node (TellsDamaged result) }
+    ensures damaged { NeverLeads pages.old step node (ReturnsDamaged result) }
     ensures spent { OnlyIfSpent pages.old result }
     ensures cause { IfErr result IsRestRefusal }
 {

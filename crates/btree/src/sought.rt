@@ -9,7 +9,7 @@ ghost use Rattle.btree.specs.Entries.{HasLengths, entries_of_rows, entries_of, f
 ghost use Rattle.btree.specs.Reading.{IsReadRefusal, SpellsNoNode, NoneStands, NoneOfKind, NoTree};
 ghost use Rattle.btree.specs.Sought.{sought_in, AnswersAt, LooksIn, LooksAt, FindsEntry};
 ghost use Rattle.btree.specs.Calls.{IfAgrees, OnPages};
-ghost use Rattle.btree.specs.Told.{TellsDamaged, ExactlyIfSpent};
+ghost use Rattle.btree.specs.Results.{ReturnsDamaged, ExactlyIfSpent};
 
 use crate::child::child_place;
 use crate::descend::LEVELS;
@@ -113,7 +113,7 @@ fn look_read<D: Device>(
         (λ before. IfOk result (LooksAt layout before page key.now sought entry.new)) }
     ensures lengths { IfOk result (λ look. look ≡ Look.Here → HasLengths layout entry.new) }
     ensures damaged { OnPages D.Device pages.old device.old
-        (NoneStands layout page (TellsDamaged result)) }
+        (NoneStands layout page (ReturnsDamaged result)) }
     ensures spent { ExactlyIfSpent pages.old result }
     ensures cause { IfErr result IsReadRefusal }
 {
@@ -147,7 +147,7 @@ fn look_loaded<D: Device>(
         (λ before. IfOk result (LooksAt layout before page key.now sought entry.new)) }
     ensures lengths { IfOk result (λ look. look ≡ Look.Here → HasLengths layout entry.new) }
     ensures damaged { OnPages D.Device pages.old device.old
-        (NoneStands layout page (TellsDamaged result)) }
+        (NoneStands layout page (ReturnsDamaged result)) }
     ensures spent { ExactlyIfSpent pages.old result }
     ensures cause { IfErr result IsReadRefusal }
 {
@@ -180,7 +180,7 @@ fn look_at<D: Device>(
         (λ before. IfOk result (LooksAt layout before page key.now sought entry.new)) }
     ensures lengths { IfOk result (λ look. look ≡ Look.Here → HasLengths layout entry.new) }
     ensures damaged { OnPages D.Device pages.old device.old
-        (NoneStands layout page (TellsDamaged result)) }
+        (NoneStands layout page (ReturnsDamaged result)) }
     ensures spent { ExactlyIfSpent pages.old result }
     ensures cause { IfErr result IsReadRefusal }
 {
@@ -212,7 +212,7 @@ pub(crate) fn entry_at<D: Device>(
         (λ before. IfOk result (AnswersAt layout before page key.now sought)) }
     ensures lengths { IfOk result (λ entry. IfSome entry (HasLengths layout)) }
     ensures damaged { OnPages D.Device pages.old device.old
-        (NoneOfKind layout Kind.Leaf page (TellsDamaged result)) }
+        (NoneOfKind layout Kind.Leaf page (ReturnsDamaged result)) }
     ensures spent { ExactlyIfSpent pages.old result }
     ensures cause { IfErr result IsReadRefusal }
 {
@@ -248,7 +248,7 @@ pub(crate) fn search<D: Device>(
         → IfOk result (FindsEntry (entries_of layout levels) key.now sought entry.new)) }
     ensures lengths { IfOk result (λ found. found ≡ true → HasLengths layout entry.new) }
     ensures damaged { OnPages D.Device pages.old device.old
-        (NoTree layout root (TellsDamaged result)) }
+        (NoTree layout root (ReturnsDamaged result)) }
     ensures spent { ExactlyIfSpent pages.old result }
     ensures cause { IfErr result IsReadRefusal }
 {

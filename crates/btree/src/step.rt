@@ -6,7 +6,7 @@ ghost use Rattle.btree_pages.specs.RowLayouts.{IsRowLayout};
 ghost use Rattle.btree.specs.Reading.{IsSearchRefusal, SpellsNoNode, NoneStands};
 ghost use Rattle.btree.specs.Steps.{StepsIn, StepsAt};
 ghost use Rattle.btree.specs.Calls.{IfAgrees, OnPages};
-ghost use Rattle.btree.specs.Told.{TellsDamaged, ExactlyIfSpent};
+ghost use Rattle.btree.specs.Results.{ReturnsDamaged, ExactlyIfSpent};
 
 use crate::child::{Child, child_place, note_right};
 use crate::key::Key;
@@ -38,7 +38,7 @@ pub(crate) fn step_at<D: Device>(
     ensures step { OnPages D.Device pages.old device.old (λ before.
         IfOk result (λ child. StepsAt layout before page key.now right.old right.new child)) }
     ensures damaged { OnPages D.Device pages.old device.old
-        (NoneStands layout page (TellsDamaged result)) }
+        (NoneStands layout page (ReturnsDamaged result)) }
     ensures spent { ExactlyIfSpent pages.old result }
     ensures cause { IfErr result (IsSearchRefusal layout) }
 {
@@ -98,7 +98,7 @@ fn step_read<D: Device>(
     ensures step { OnPages D.Device pages.old device.old (λ before.
         IfOk result (λ child. StepsAt layout before page key.now right.old right.new child)) }
     ensures damaged { OnPages D.Device pages.old device.old
-        (NoneStands layout page (TellsDamaged result)) }
+        (NoneStands layout page (ReturnsDamaged result)) }
     ensures spent { ExactlyIfSpent pages.old result }
     ensures cause { IfErr result (IsSearchRefusal layout) }
 {
@@ -131,7 +131,7 @@ fn step_loaded<D: Device>(
     ensures step { OnPages D.Device pages.old device.old (λ before.
         IfOk result (λ child. StepsAt layout before page key.now right.old right.new child)) }
     ensures damaged { OnPages D.Device pages.old device.old
-        (NoneStands layout page (TellsDamaged result)) }
+        (NoneStands layout page (ReturnsDamaged result)) }
     ensures spent { ExactlyIfSpent pages.old result }
     ensures cause { IfErr result (IsSearchRefusal layout) }
 {

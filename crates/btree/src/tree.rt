@@ -9,7 +9,7 @@ ghost use Rattle.btree.specs.Entries.{HasLengths, entry_with, first_from, first_
 ghost use Rattle.btree.specs.Reading.{IsSearchRefusal};
 ghost use Rattle.btree.specs.Sought.{sought_in};
 ghost use Rattle.btree.specs.Calls.{IfAgrees, OnNoTree, OnPages, AnswersEntry};
-ghost use Rattle.btree.specs.Told.{TellsDamaged, OnlyIfSpent, ExactlyIfSpentAt};
+ghost use Rattle.btree.specs.Results.{ReturnsDamaged, OnlyIfSpent, ExactlyIfSpentAt};
 
 use crate::descend::follow;
 use crate::entry::Entry;
@@ -91,7 +91,7 @@ impl Tree {
         ensures entry { AnswersEntry D.Device self.now pages.old device.old
             (λ entries. entry_with entries key.now) result }
         ensures damaged { OnNoTree D.Device self.now.layout self.now.root pages.old device.old
-            (TellsDamaged result) }
+            (ReturnsDamaged result) }
         ensures spent { ExactlyIfSpentAt self.now.root pages.old result }
         ensures lengths { IfOk result (λ entry. IfSome entry (HasLengths self.now.layout)) }
         ensures cause { IfErr result (IsSearchRefusal self.now.layout) }
@@ -132,7 +132,7 @@ impl Tree {
         ensures entry { AnswersEntry D.Device self.now pages.old device.old
             (λ entries. first_from entries key.now) result }
         ensures damaged { OnNoTree D.Device self.now.layout self.now.root pages.old device.old
-            (TellsDamaged result) }
+            (ReturnsDamaged result) }
         ensures spent { ExactlyIfSpentAt self.now.root pages.old result }
         ensures lengths { IfOk result (λ entry. IfSome entry (HasLengths self.now.layout)) }
         ensures cause { IfErr result (IsSearchRefusal self.now.layout) }
@@ -157,7 +157,7 @@ impl Tree {
         ensures entry { AnswersEntry D.Device self.now pages.old device.old
             (λ entries. first_entry_after entries key.now) result }
         ensures damaged { OnNoTree D.Device self.now.layout self.now.root pages.old device.old
-            (TellsDamaged result) }
+            (ReturnsDamaged result) }
         ensures spent { ExactlyIfSpentAt self.now.root pages.old result }
         ensures lengths { IfOk result (λ entry. IfSome entry (HasLengths self.now.layout)) }
         ensures cause { IfErr result (IsSearchRefusal self.now.layout) }
@@ -180,7 +180,7 @@ impl Tree {
         ensures open { IsOpen pages.new }
         ensures entry { AnswersEntry D.Device self.now pages.old device.old first_entry result }
         ensures damaged { OnNoTree D.Device self.now.layout self.now.root pages.old device.old
-            (TellsDamaged result) }
+            (ReturnsDamaged result) }
         ensures spent { ExactlyIfSpentAt self.now.root pages.old result }
         ensures lengths { IfOk result (λ entry. IfSome entry (HasLengths self.now.layout)) }
         ensures cause { IfErr result (IsSearchRefusal self.now.layout) }
@@ -207,7 +207,7 @@ impl Tree {
         ensures entry { AnswersEntry D.Device self.now pages.old device.old
             (λ entries. sought_in sought entries key.now) result }
         ensures damaged { OnNoTree D.Device self.now.layout self.now.root pages.old device.old
-            (TellsDamaged result) }
+            (ReturnsDamaged result) }
         ensures spent { ExactlyIfSpentAt self.now.root pages.old result }
         ensures lengths { IfOk result (λ entry. IfSome entry (HasLengths self.now.layout)) }
         ensures cause { IfErr result (IsSearchRefusal self.now.layout) }
@@ -252,7 +252,7 @@ impl Tree {
         ensures entry { AnswersEntry D.Device self.now pages.old device.old
             (λ entries. sought_in sought entries key.now) result }
         ensures damaged { OnNoTree D.Device self.now.layout self.now.root pages.old device.old
-            (TellsDamaged result) }
+            (ReturnsDamaged result) }
         ensures spent { ExactlyIfSpentAt self.now.root pages.old result }
         ensures lengths { IfOk result (λ entry. IfSome entry (HasLengths self.now.layout)) }
         ensures cause { IfErr result (IsSearchRefusal self.now.layout) }

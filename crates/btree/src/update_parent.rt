@@ -5,7 +5,7 @@ ghost use Rattle.btree.specs.Tree.{row_of};
 ghost use Rattle.btree.specs.Propagates.{node_with};
 ghost use Rattle.btree.specs.Changes.{CanStand, IsSplit, HasKeys};
 ghost use Rattle.btree.specs.Refusals.{IsPutRefusal, IsWriteRefusal};
-ghost use Rattle.btree.specs.Told.{ExactlyIfSpent, FullIfUsed, FewChanged, FewFilled};
+ghost use Rattle.btree.specs.Results.{ExactlyIfSpent, FullIfUsed, FewChanged, FewFilled};
 ghost use Rattle.btree.specs.Puts.{PutsWhere, PutsParent, HasInserted};
 
 use crate::put_row::put_row;

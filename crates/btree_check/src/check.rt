@@ -8,7 +8,7 @@ ghost use Rattle.btree.specs.Reading.{IsReadRefusal, HasKindShape};
 ghost use Rattle.btree_check.specs.Walks.{FindsInner, FindsLeaves, NoNode, NoInner, NoLeaves, NoLevel, NoLevels, NoUnmarkedTree, BelowNext, separator_pages, CanMark, Marks, HasSeparator, FindsLevels, FindsTree};
 ghost use Rattle.btree.specs.Refusals.{IsChangeRefusal};
 ghost use Rattle.btree.specs.Calls.{IfAgrees, OnPages};
-ghost use Rattle.btree.specs.Told.{OnlyIfSpent, ExactlyIfSpentAt, TellsDamaged};
+ghost use Rattle.btree.specs.Results.{OnlyIfSpent, ExactlyIfSpentAt, ReturnsDamaged};
 
 use crate::separator::{Separator, push_separators};
 use btree::{Key, LEVELS, Tree, read_node};
@@ -42,7 +42,7 @@ pub fn check_tree<D: Device>(
     ensures holds { OnPages D.Device pages.old device.old
         (λ before. OnOk result (FindsTree tree.now.layout before tree.now.root seen.old seen.new)) }
     ensures damaged { OnPages D.Device pages.old device.old
-        (NoUnmarkedTree tree.now.layout tree.now.root seen.old (TellsDamaged result)) }
+        (NoUnmarkedTree tree.now.layout tree.now.root seen.old (ReturnsDamaged result)) }
     ensures spent { ExactlyIfSpentAt tree.now.root pages.old result }
     ensures cause { IfErr result IsChangeRefusal }
 {
@@ -102,7 +102,7 @@ fn check_node<D: Device>(
     ensures shape { IfOk result (HasKindShape layout kind) }
     ensures marks { OnOk result (Marks seen.old (separator.now.page ∷ []) seen.new) }
     ensures damaged { OnPages D.Device pages.old device.old
-        (NoNode layout kind separator.now seen.old (TellsDamaged result)) }
+        (NoNode layout kind separator.now seen.old (ReturnsDamaged result)) }
     ensures spent { OnlyIfSpent pages.old result }
     ensures cause { IfErr result IsReadRefusal }
 {
@@ -144,7 +144,7 @@ fn check_inner<D: Device>(
     ensures more { IfOk result (λ lower. length separators.now ≤ length lower.items) }
     ensures few { IfOk result (λ lower. length lower.items ≤ length seen.old) }
     ensures damaged { OnPages D.Device pages.old device.old
-        (NoInner layout separators.now seen.old (TellsDamaged result)) }
+        (NoInner layout separators.now seen.old (ReturnsDamaged result)) }
     ensures spent { OnlyIfSpent pages.old result }
     ensures cause { IfErr result IsChangeRefusal }
 {
@@ -203,7 +203,7 @@ fn check_leaves<D: Device>(
         (λ before. OnOk result (FindsLeaves layout before separators.now)) }
     ensures marks { OnOk result (Marks seen.old (separator_pages separators.now) seen.new) }
     ensures damaged { OnPages D.Device pages.old device.old
-        (NoLeaves layout separators.now seen.old (TellsDamaged result)) }
+        (NoLeaves layout separators.now seen.old (ReturnsDamaged result)) }
     ensures spent { OnlyIfSpent pages.old result }
     ensures cause { IfErr result IsReadRefusal }
 {
@@ -240,7 +240,7 @@ fn check_level<D: Device>(
     ensures marks { OnOk result (Marks seen.old (separator_pages separators.now) seen.new) }
     ensures some { IfOk result (λ lower. IfSome lower (λ lower. 0 < length lower.items)) }
     ensures damaged { OnPages D.Device pages.old device.old
-        (NoLevel layout separators.now seen.old (TellsDamaged result)) }
+        (NoLevel layout separators.now seen.old (ReturnsDamaged result)) }
     ensures spent { OnlyIfSpent pages.old result }
     ensures cause { IfErr result IsChangeRefusal }
 {
@@ -279,7 +279,7 @@ fn check_levels<D: Device>(
     ensures finds { OnPages D.Device pages.old device.old
         (λ before. OnOk result (FindsLevels layout before separators.items seen.old seen.new)) }
     ensures damaged { OnPages D.Device pages.old device.old
-        (NoLevels layout separators.items seen.old depth (TellsDamaged result)) }
+        (NoLevels layout separators.items seen.old depth (ReturnsDamaged result)) }
     ensures spent { OnlyIfSpent pages.old result }
     ensures cause { IfErr result IsChangeRefusal }
 {

@@ -159,10 +159,10 @@ adds_verb {old} {new} procedures number one does is h =
 
 -- A statement of another family performs nothing.
 pub nothing_performed : (procedures : List Procedure) (number : ℕ) (one : Statement) (all : Performs)
-    → ((x : DataStatement) × ((out-Statement one).verb ≡ verb.DataStatement x)) ⊎ (((x : TextStatement) × ((out-Statement one).verb ≡ verb.Text x)) ⊎ ((x : ControlStatement) × ((out-Statement one).verb ≡ verb.ControlStatement x)))
+    → ((x : DataStatement) × ((out-Statement one).verb ≡ verb.DataStatement x)) ⊎ (((x : TextStatement) × ((out-Statement one).verb ≡ verb.TextStatement x)) ⊎ ((x : ControlStatement) × ((out-Statement one).verb ≡ verb.ControlStatement x)))
     → AppendsPerforms all all (in_paragraph number (statement_performs procedures one))
 nothing_performed procedures number one all (inl h) = adds_verb procedures number one (verb.DataStatement h.0) h.1 (adds_nothing all)
-nothing_performed procedures number one all (inr (inl h)) = adds_verb procedures number one (verb.Text h.0) h.1 (adds_nothing all)
+nothing_performed procedures number one all (inr (inl h)) = adds_verb procedures number one (verb.TextStatement h.0) h.1 (adds_nothing all)
 nothing_performed procedures number one all (inr (inr h)) = adds_verb procedures number one (verb.ControlStatement h.0) h.1 (adds_nothing all)
 
 -- ---- a statement with phrases; `rest` is what the last call answered

@@ -87,7 +87,7 @@ module _ {A B : Type 0} (f : A → B) where
   inside_mapped place (verb.ConditionalStatement (If condition statements otherwise)) = if_inside place condition statements otherwise
   inside_mapped place (verb.ConditionalStatement (Evaluate one)) = evaluate_inside place one.subjects one.selected one.other
   inside_mapped place (verb.PerformStatement one) = performed_inside place one.turns one.performed
-  inside_mapped place (verb.Text one) = refl
+  inside_mapped place (verb.TextStatement one) = refl
   inside_mapped place (verb.StringStatement one) = strung_inside place one.sendings one.receiver one.pointer one.phrases.arose one.phrases.did_not
   inside_mapped place (verb.FileStatement one) = filed_inside place one
   inside_mapped place (verb.ControlStatement one) = refl
@@ -135,10 +135,10 @@ after_inside one what room first new is before h =
 
 -- one without others in it
 pub after_alone : (one : Statement) (room first : Room)
-    → ((x : DataStatement) × ((out-Statement one).verb ≡ verb.DataStatement x)) ⊎ (((x : TextStatement) × ((out-Statement one).verb ≡ verb.Text x)) ⊎ ((x : ControlStatement) × ((out-Statement one).verb ≡ verb.ControlStatement x)))
+    → ((x : DataStatement) × ((out-Statement one).verb ≡ verb.DataStatement x)) ⊎ (((x : TextStatement) × ((out-Statement one).verb ≡ verb.TextStatement x)) ⊎ ((x : ControlStatement) × ((out-Statement one).verb ≡ verb.ControlStatement x)))
     → first ≡ after_one room (out-Statement one).place → first ≡ room_after room (statement_places one)
 after_alone one room first (inl h) before = after_inside one (verb.DataStatement h.0) room first first h.1 before refl
-after_alone one room first (inr (inl h)) before = after_inside one (verb.Text h.0) room first first h.1 before refl
+after_alone one room first (inr (inl h)) before = after_inside one (verb.TextStatement h.0) room first first h.1 before refl
 after_alone one room first (inr (inr h)) before = after_inside one (verb.ControlStatement h.0) room first first h.1 before refl
 
 -- ---- one after another, by the places of each

@@ -211,7 +211,7 @@ module _ (items_and : Scope) (count : ℕ) (below : AllByRecursion (LiesBelow co
     verb_in_order (verb.ConditionalStatement one) e = branching_in_order one e
     verb_in_order (verb.PerformStatement one) e =
         performed_in_order one.performed (right_none (turns_rules items_and.items one.turns) (performed_rules procedures all_permitted rules one.performed) e)
-    verb_in_order (verb.Text one) e = tt
+    verb_in_order (verb.TextStatement one) e = tt
     verb_in_order (verb.StringStatement one) e = phrases_in_order one.phrases (right_none (string_rules items_and.items one) (phrases_rules rules one.phrases) e)
     verb_in_order (verb.FileStatement one) e =
         file_phrases_in_order (phrases_of one) (right_none (filing_rules items_and.items items_and.files one) (file_phrases_rules rules (phrases_of one)) e)

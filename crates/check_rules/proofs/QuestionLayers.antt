@@ -14,11 +14,11 @@ use Rattle.source_tree.specs.Places.{LocatedItem}
 use Rattle.source_tree.specs.Broken.{RuleBreach}
 use Rattle.source_tree.specs.LookUp.{first}
 use Rattle.source_tree.specs.ConditionRules.{condition_name_rules, relation_rules, condition_rules}
-use Rattle.source_tree.specs.Evaluate.{constant, told_as, alike, value_within}
+use Rattle.source_tree.specs.Evaluate.{constant, condition_or_opposite, alike, value_within}
 use Rattle.source_tree.specs.EvaluateRules.{at_object, objects_rules}
 use Rattle.entry_rules.specs.declared.rule.BrokenRule.{BrokenRule}
 use Rattle.entry_rules.specs.Checks.{IsFirstBreach}
-use Rattle.declarations.specs.Looking.{broken_in}
+use Rattle.declarations.specs.Resolved.{broken_in}
 use Rattle.check_rules.proofs.ConditionLayers.{name_is, relation_is, not_is, all_is, any_is}
 
 module _ (items : List LocatedItem) where
@@ -28,15 +28,15 @@ module _ (items : List LocatedItem) where
   constant_is false = any_is items []
 
   -- a condition, or its opposite
-  pub told_is : (truth : Bool) (one : Condition) → condition_rules items (told_as truth one) ≡ condition_rules items one
+  pub told_is : (truth : Bool) (one : Condition) → condition_rules items (condition_or_opposite truth one) ≡ condition_rules items one
   told_is true one = refl
   told_is false one = not_is items one
 
-  pub truths_is : (one other : Bool) → condition_rules items (told_as one (constant other)) ≡ []
+  pub truths_is : (one other : Bool) → condition_rules items (condition_or_opposite one (constant other)) ≡ []
   truths_is one other = told_is one (constant other) ∙ constant_is other
 
   -- a condition name, with NOT or without
-  pub name_told_is : (truth : Bool) (one : Reference) → condition_rules items (told_as truth (Name one)) ≡ condition_name_rules items one
+  pub name_told_is : (truth : Bool) (one : Reference) → condition_rules items (condition_or_opposite truth (Name one)) ≡ condition_name_rules items one
   name_told_is truth one = told_is truth (Name one) ∙ name_is items one
 
   -- two conditions

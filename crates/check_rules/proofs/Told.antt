@@ -8,7 +8,7 @@ use Rattle.source_tree.specs.Setting.{scope}
 use Rattle.entry_rules.specs.Checks.{IsFirst}
 use Rattle.declarations.specs.Declaring.{declaration_rules}
 use Rattle.declarations.proofs.Firsts.{both_none}
-use Rattle.check_rules.specs.Told.{IsFirstFault, IsBack}
+use Rattle.check_rules.specs.Refusals.{IsFirstFault, IsBack}
 
 pub told_first : (program : Program) (fault : Option RuleBreach) → IsFirst fault (program_rules program) → IsFirstFault program fault
 told_first program None h = tt

@@ -2,7 +2,7 @@
 use Rattle.std.specs.Prelude.{◌+◌, not, List, [], Option, Some, None}
 use Rattle.items.specs.declared.item.Kind.{Kind}
 use Rattle.items.specs.declared.taken.Taken.{Taken}
-use Rattle.edited_move.specs.Moves.{wants_number}
+use Rattle.edited_move.specs.Moves.{needs_number}
 use Rattle.lexical.specs.declared.place.Place.{Place}
 use Rattle.source_tree.specs.Places.{LocatedItem}
 use Rattle.source_tree.specs.Broken.{RuleBreach, where_so}
@@ -18,7 +18,7 @@ abbrev pub asks_kind : Asked → Kind → Place → List RuleBreach
 asks_kind asked.Nothing kind place = []
 asks_kind (asked.Receives sent) kind place = where_so (not (may_go sent kind)) 49 place
 asks_kind asked.Numeric kind place = where_so (not (is_numeric_kind kind)) 51 place
-asks_kind asked.StoresNumber kind place = where_so (not (wants_number kind)) 51 place
+asks_kind asked.StoresNumber kind place = where_so (not (needs_number kind)) 51 place
 asks_kind asked.Integer kind place = where_so (not (is_integer_kind kind)) 51 place
 asks_kind asked.Counts kind place = where_so (not (is_counter kind)) 64 place
 asks_kind asked.Inspected kind place = where_so (not (may_be_inspected kind)) 64 place

@@ -3,7 +3,7 @@ pub mod Sending
 pub mod Asking
 pub mod Operations
 pub mod Comparing
-pub mod Told
+pub mod Refusals
 pub mod Performs
 pub mod Counting
 pub mod FiledKeys

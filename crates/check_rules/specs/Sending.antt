@@ -6,7 +6,7 @@ use Rattle.items.specs.declared.taken.Taken.{Taken}
 use Rattle.items.specs.declared.taken.Taken.TheVariants as taken
 use Rattle.edited_move.specs.declared.category.Sending.{Sending}
 use Rattle.edited_move.specs.Permitted.{is_permitted, sending_of, receiving_of}
-use Rattle.edited_move.specs.Moves.{wants_number, is_group, is_number_sender}
+use Rattle.edited_move.specs.Moves.{needs_number, is_group, is_number_sender}
 use Rattle.source_tree.specs.declared.literal.Figurative.{Figurative}
 use Rattle.source_tree.specs.Literals.{constant_of}
 use Rattle.source_tree.specs.Accepting.{date_sender}
@@ -28,4 +28,4 @@ abbrev pub sent_of : Taken → Sent
 sent_of from = record { category = sending_of from; is_group = is_group from; is_short = is_number_sender from }
 
 abbrev pub may_go : Sent → Kind → Bool
-may_go one kind = is_permitted one.category (receiving_of kind) && (not (wants_number kind) || one.is_group || one.is_short)
+may_go one kind = is_permitted one.category (receiving_of kind) && (not (needs_number kind) || one.is_group || one.is_short)

@@ -9,37 +9,12 @@ ghost use Rattle.source_tree.specs.ConditionRules.{condition_rules};
 ghost use Rattle.source_tree.specs.Evaluate.{value_within};
 ghost use Rattle.source_tree.specs.EvaluateRules as spec;
 ghost use Rattle.declarations.specs.Named.{IsDeclared, items_in};
-ghost use Rattle.declarations.specs.Looking.{condition_meant, question_meant, is_fit, broken_in};
+ghost use Rattle.declarations.specs.Resolved.{condition_meant, question_meant, is_fit, broken_in};
 
 use crate::checker::Checker;
-use declarations::{AskedCondition, LookedSubject, Question};
+use declarations::{AskedCondition, ResolvedSubject, Question};
 use entry_rules::{BrokenRule, Rule};
 use source_tree::{Object, Place, Side, Subject, When};
-
-/// A comparison that isn't permitted is told where the object begins.
-fn told_at(place: Place, found: Result<(), BrokenRule>) -> Result<(), BrokenRule>
-    ensures { broken_in result ≡ option_map (spec.at_object place) (broken_in found) }
-{
-    match found {
-        Err(
-            BrokenRule {
-                rule: Rule::Comparison,
-                ..
-            },
-        ) => Err(BrokenRule {
-            rule: Rule::Comparison,
-            place,
-        }),
-        other => other,
-    }
-}
-
-/// The object doesn't fit its subject.
-fn is_unfit(one: Question<'_>) -> bool
-    ensures { result ≡ not (is_fit one.entry) }
-{
-    matches!(one, Question::Unfit)
-}
 
 impl<'a> Checker<'a> {
     /// A condition that is asked.
@@ -149,9 +124,9 @@ impl<'a> Checker<'a> {
         ensures { IsFirstBreach result (spec.subject_rules (items_in self.now.declarations.now) one.now) }
     {
         match self.declarations.looked_subject(one) {
-            LookedSubject::Value(side) => self.side_rules(side),
-            LookedSubject::Truth(_) => Ok(()),
-            LookedSubject::Condition(condition) => self.asked_condition_rules(condition),
+            ResolvedSubject::Value(side) => self.side_rules(side),
+            ResolvedSubject::Truth(_) => Ok(()),
+            ResolvedSubject::Condition(condition) => self.asked_condition_rules(condition),
         }
     }
 
@@ -165,4 +140,29 @@ impl<'a> Checker<'a> {
         }
         Ok(())
     }
+}
+
+/// A comparison that isn't permitted is told where the object begins.
+fn told_at(place: Place, found: Result<(), BrokenRule>) -> Result<(), BrokenRule>
+    ensures { broken_in result ≡ option_map (spec.at_object place) (broken_in found) }
+{
+    match found {
+        Err(
+            BrokenRule {
+                rule: Rule::Comparison,
+                ..
+            },
+        ) => Err(BrokenRule {
+            rule: Rule::Comparison,
+            place,
+        }),
+        other => other,
+    }
+}
+
+/// The object doesn't fit its subject.
+fn is_unfit(one: Question<'_>) -> bool
+    ensures { result ≡ not (is_fit one.entry) }
+{
+    matches!(one, Question::Unfit)
 }

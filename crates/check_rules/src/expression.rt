@@ -14,16 +14,6 @@ use crate::forms::literal_rules;
 use entry_rules::{BrokenRule, Rule};
 use source_tree::{Expression, Figurative, LiteralValue, Operand, Operator};
 
-/// A numeric literal, or ZERO.
-fn is_number(value: &LiteralValue) -> bool
-    ensures { result ≡ spec.is_number_literal value.now }
-{
-    matches!(
-        value,
-        LiteralValue::Numeric(_) | LiteralValue::Figurative(Figurative::Zero)
-    )
-}
-
 impl<'a> Checker<'a> {
     /// An operand that is a number: a numeric item, a numeric literal or ZERO.
     pub fn number_rules(&self, one: &Operand) -> Result<(), BrokenRule>
@@ -78,4 +68,14 @@ impl<'a> Checker<'a> {
         }
         Ok(())
     }
+}
+
+/// A numeric literal, or ZERO.
+fn is_number(value: &LiteralValue) -> bool
+    ensures { result ≡ spec.is_number_literal value.now }
+{
+    matches!(
+        value,
+        LiteralValue::Numeric(_) | LiteralValue::Figurative(Figurative::Zero)
+    )
 }

@@ -28,20 +28,6 @@ use source_tree::{
 };
 use std::slice;
 
-/// =, > and >=, and < behind NOT, which START permits.
-fn is_start_operator(one: RelationalOperator) -> bool
-    ensures { result ≡ spec.is_start_operator one }
-{
-    if one.negated {
-        matches!(one.relation, Relation::Less)
-    } else {
-        matches!(
-            one.relation,
-            Relation::Equal | Relation::Greater | Relation::GreaterOrEqual
-        )
-    }
-}
-
 impl<'a> Checker<'a> {
     /// The item of RELATIVE KEY.
     fn relative_key(&self, file: &ProgramFile<'_>) -> Option<&PlacedItem>
@@ -322,5 +308,19 @@ impl<'a> Checker<'a> {
             FileStatement::Delete { file, phrases } => self.delete_rules(file, phrases),
             FileStatement::Start { file, key, phrases } => self.start_rules(file, key, phrases),
         }
+    }
+}
+
+/// =, > and >=, and < behind NOT, which START permits.
+fn is_start_operator(one: RelationalOperator) -> bool
+    ensures { result ≡ spec.is_start_operator one }
+{
+    if one.negated {
+        matches!(one.relation, Relation::Less)
+    } else {
+        matches!(
+            one.relation,
+            Relation::Equal | Relation::Greater | Relation::GreaterOrEqual
+        )
     }
 }

@@ -19,50 +19,6 @@ use source_tree::{
     Replacing, Tallied, TalliedText, Tallying,
 };
 
-/// A literal that is a text: no number, and of its form.
-fn inspected_literal(one: &Literal) -> Result<(), BrokenRule>
-    ensures { IsFirstBreach result (spec.inspected_literal one.now one.now.value) }
-{
-    match &one.value {
-        LiteralValue::Numeric(_) => Err(BrokenRule {
-            rule: Rule::InspectOperand,
-            place: one.place,
-        }),
-        _ => literal_rules(one),
-    }
-}
-
-/// The characters of a literal that is a text; a number is none.
-fn literal_size(one: &Literal) -> Option<usize>
-    ensures { spec.inspected_literal one.now one.now.value ≡ [] → result ≡ Some (length (shown_literal one.now.value)) }
-{
-    match &one.value {
-        LiteralValue::Numeric(_) => None,
-        LiteralValue::Nonnumeric(bytes) => Some(bytes.as_slice().len()),
-        LiteralValue::Figurative(_) => Some(1),
-        LiteralValue::All(bytes) => Some(bytes.as_slice().len()),
-    }
-}
-
-/// The characters of a literal that is a replacing text. A figurative constant has any number.
-fn replacing_literal_size(one: &Literal) -> Option<usize>
-    ensures { spec.inspected_literal one.now one.now.value ≡ [] → result ≡ spec.literal_size one.now.value }
-{
-    match &one.value {
-        LiteralValue::Figurative(_) => None,
-        _ => literal_size(one),
-    }
-}
-
-fn same_size(one: Option<usize>, other: Option<usize>) -> bool
-    ensures { result ≡ spec.same_size one other }
-{
-    match (one, other) {
-        (Some(one), Some(other)) => one == other,
-        _ => true,
-    }
-}
-
 impl<'a> Checker<'a> {
     /// A text.
     fn inspected_rules(&self, one: &Operand) -> Result<(), BrokenRule>
@@ -259,5 +215,49 @@ impl<'a> Checker<'a> {
         self.item_rules(Asked::Inspected, &one.subject)?;
         self.counters_rules(one.tallying.as_slice())?;
         self.all_replacing_rules(one.replacing.as_slice())
+    }
+}
+
+/// A literal that is a text: no number, and of its form.
+fn inspected_literal(one: &Literal) -> Result<(), BrokenRule>
+    ensures { IsFirstBreach result (spec.inspected_literal one.now one.now.value) }
+{
+    match &one.value {
+        LiteralValue::Numeric(_) => Err(BrokenRule {
+            rule: Rule::InspectOperand,
+            place: one.place,
+        }),
+        _ => literal_rules(one),
+    }
+}
+
+/// The characters of a literal that is a text; a number is none.
+fn literal_size(one: &Literal) -> Option<usize>
+    ensures { spec.inspected_literal one.now one.now.value ≡ [] → result ≡ Some (length (shown_literal one.now.value)) }
+{
+    match &one.value {
+        LiteralValue::Numeric(_) => None,
+        LiteralValue::Nonnumeric(bytes) => Some(bytes.as_slice().len()),
+        LiteralValue::Figurative(_) => Some(1),
+        LiteralValue::All(bytes) => Some(bytes.as_slice().len()),
+    }
+}
+
+/// The characters of a literal that is a replacing text. A figurative constant has any number.
+fn replacing_literal_size(one: &Literal) -> Option<usize>
+    ensures { spec.inspected_literal one.now one.now.value ≡ [] → result ≡ spec.literal_size one.now.value }
+{
+    match &one.value {
+        LiteralValue::Figurative(_) => None,
+        _ => literal_size(one),
+    }
+}
+
+fn same_size(one: Option<usize>, other: Option<usize>) -> bool
+    ensures { result ≡ spec.same_size one other }
+{
+    match (one, other) {
+        (Some(one), Some(other)) => one == other,
+        _ => true,
     }
 }

@@ -116,7 +116,7 @@ impl<'a> Checker<'a> {
                 self.phrase_performs(number, did_not, all)
             }
             Verb::FileStatement(filing) => self.filing_performs(number, filing, all),
-            Verb::DataStatement(_) | Verb::Text(_) | Verb::ControlStatement(_) => Ok(()),
+            Verb::DataStatement(_) | Verb::TextStatement(_) | Verb::ControlStatement(_) => Ok(()),
         }
     }
 

@@ -6,7 +6,7 @@ ghost use Rattle.source_tree.specs.Rules.{program_rules};
 ghost use Rattle.entry_rules.specs.Checks.{fault_of};
 ghost use Rattle.declarations.specs.Declaring.{declaration_rules};
 ghost use Rattle.declarations.specs.Named.{Declares, IsDeclared};
-ghost use Rattle.check_rules.specs.Told.{IsFirstFault};
+ghost use Rattle.check_rules.specs.Refusals.{IsFirstFault};
 
 use crate::checker::Checker;
 use crate::procedure::procedure_rules;

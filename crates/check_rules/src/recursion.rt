@@ -6,7 +6,7 @@ ghost use Rattle.source_tree.specs.Recursion.{HasOrder};
 ghost use Rattle.source_tree.specs.Rules.{sections_rules, all_permitted};
 ghost use Rattle.entry_rules.specs.Checks.{fault_of};
 ghost use Rattle.declarations.specs.Named.{Declares, IsDeclared, scope_in};
-ghost use Rattle.check_rules.specs.Told.{IsBack};
+ghost use Rattle.check_rules.specs.Refusals.{IsBack};
 ghost use Rattle.check_rules.specs.Performs.{PerformsWithin, HasNext, IsFirstWithin};
 
 use crate::checker::Checker;
@@ -15,6 +15,32 @@ use entry_rules::{BrokenRule, CheckError, Rule};
 use perform_graph::{Order, PerformedRange, order_of};
 use source_tree::Program;
 use std::alloc::Global;
+
+impl<'a> Checker<'a> {
+    /// No PERFORM of the program that declares this leads back. Where one does, the answer is at the first that stands in one of some paragraphs that
+    /// perform one another, and performs one of them.
+    pub(crate) fn recursion_rules(&self, alloc: Global, program: &Program) -> Result<(), CheckError>
+        requires declared { IsDeclared self.now.declarations.now }
+        requires program { Declares program.now self.now.declarations.now }
+        requires kept { sections_rules (scope_in self.now.declarations.now) all_permitted program.now.sections ≡ [] }
+        ensures order { OnOk result (HasOrder program.now) }
+        ensures back { IfErr result (λ e. IsBack program.now (fault_of e)) }
+    {
+        let mut all = Performs::new(alloc);
+        let count = self.sections_performs(program.sections.as_slice(), &mut all)?;
+        let marked = match order_of(alloc, count, &all.ranges)? {
+            Order::Ranks(_) => return Ok(()),
+            Order::Recursive(marked) => marked,
+        };
+        match first_back(marked.as_slice(), &all.ranges) {
+            None => unreachable!(),
+            Some(number) => Err(CheckError::Refused(BrokenRule {
+                rule: Rule::Recursion,
+                place: all.places[number],
+            })),
+        }
+    }
+}
 
 fn is_marked(marked: &[bool], paragraph: usize) -> bool
     ensures { result ≡ marks marked.now paragraph }
@@ -52,30 +78,4 @@ fn first_back(marked: &[bool], ranges: &[PerformedRange]) -> Option<usize>
         }
     }
     None
-}
-
-impl<'a> Checker<'a> {
-    /// No PERFORM of the program that declares this leads back. Where one does, the answer is at the first that stands in one of some paragraphs that
-    /// perform one another, and performs one of them.
-    pub(crate) fn recursion_rules(&self, alloc: Global, program: &Program) -> Result<(), CheckError>
-        requires declared { IsDeclared self.now.declarations.now }
-        requires program { Declares program.now self.now.declarations.now }
-        requires kept { sections_rules (scope_in self.now.declarations.now) all_permitted program.now.sections ≡ [] }
-        ensures order { OnOk result (HasOrder program.now) }
-        ensures back { IfErr result (λ e. IsBack program.now (fault_of e)) }
-    {
-        let mut all = Performs::new(alloc);
-        let count = self.sections_performs(program.sections.as_slice(), &mut all)?;
-        let marked = match order_of(alloc, count, &all.ranges)? {
-            Order::Ranks(_) => return Ok(()),
-            Order::Recursive(marked) => marked,
-        };
-        match first_back(marked.as_slice(), &all.ranges) {
-            None => unreachable!(),
-            Some(number) => Err(CheckError::Refused(BrokenRule {
-                rule: Rule::Recursion,
-                place: all.places[number],
-            })),
-        }
-    }
 }

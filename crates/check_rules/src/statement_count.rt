@@ -75,7 +75,7 @@ fn after_statement(room: Room, one: &Statement) -> Room
         Verb::PerformStatement(performing) => after_performed(room, &performing.performed),
         Verb::StringStatement(stringing) => after_phrases(room, &stringing.phrases),
         Verb::FileStatement(filing) => after_filing(room, filing),
-        Verb::DataStatement(_) | Verb::Text(_) | Verb::ControlStatement(_) => room,
+        Verb::DataStatement(_) | Verb::TextStatement(_) | Verb::ControlStatement(_) => room,
     }
 }
 

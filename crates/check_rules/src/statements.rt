@@ -86,7 +86,7 @@ impl<'a> Checker<'a> {
                     Performed::Statements(inside) => self.statements_rules(inside.as_slice()),
                 }
             }
-            Verb::Text(text) => self.text_rules(text),
+            Verb::TextStatement(text) => self.text_rules(text),
             Verb::StringStatement(stringing) => {
                 self.string_rules(stringing)?;
                 self.phrase_rules(&stringing.phrases.arose)?;

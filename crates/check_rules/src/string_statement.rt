@@ -15,24 +15,6 @@ use source_tree::{
     Literal, LiteralValue, Operand, QualifiedName, Reference, Sending, Statement, StringStatement,
 };
 
-/// A literal that is sent: no number, and not ALL with a literal.
-fn sent_literal(one: &Literal) -> Result<(), BrokenRule>
-    ensures { IsFirstBreach result (spec.sent_literal one.now.place one.now.value) }
-{
-    let place = one.place;
-    match &one.value {
-        LiteralValue::Numeric(_) => Err(BrokenRule {
-            rule: Rule::StringOperand,
-            place,
-        }),
-        LiteralValue::All(_) => Err(BrokenRule {
-            rule: Rule::AllLiteral,
-            place,
-        }),
-        _ => Ok(()),
-    }
-}
-
 impl<'a> Checker<'a> {
     /// A sender or a delimiter.
     fn sent_rules(&self, one: &Operand) -> Result<(), BrokenRule>
@@ -115,5 +97,23 @@ impl<'a> Checker<'a> {
         self.sendings_rules(one.sendings.as_slice())?;
         self.item_rules(Asked::ReceivesText, &one.receiver)?;
         self.pointer_rules(self.length_named(&one.receiver.item), &one.pointer)
+    }
+}
+
+/// A literal that is sent: no number, and not ALL with a literal.
+fn sent_literal(one: &Literal) -> Result<(), BrokenRule>
+    ensures { IsFirstBreach result (spec.sent_literal one.now.place one.now.value) }
+{
+    let place = one.place;
+    match &one.value {
+        LiteralValue::Numeric(_) => Err(BrokenRule {
+            rule: Rule::StringOperand,
+            place,
+        }),
+        LiteralValue::All(_) => Err(BrokenRule {
+            rule: Rule::AllLiteral,
+            place,
+        }),
+        _ => Ok(()),
     }
 }

@@ -19,7 +19,7 @@ use Rattle.code_image.specs.declared.instruction.Instruction.TheVariants.{Tick, 
 use Rattle.data_instructions.specs.Scratch.{Step, Continues, Faulted, Stuck}
 use Rattle.data_instructions.specs.Table.{work, accept_step, date_step}
 use Rattle.code_image.specs.Points.{Return, Point, scratch_of, first_point}
-use Rattle.code_image.specs.Table.{Next, onward, tick_from, shown_point, worked_point, data_from, counted_turns, counted_by, counted_from, turn_from, branch_from, own_with_return, perform_at, back_if, back_from, line_taken, received_point, filed_from, tested_point, act, exec_code, Runs}
+use Rattle.code_image.specs.Table.{Next, onward, tick_from, shown_point, worked_point, data_from, counted_turns, counted_by, counted_from, turn_from, branch_from, own_with_return, perform_at, back_if, back_from, without_line, received_point, filed_from, tested_point, act, exec_code, Runs}
 
 -- where f is over, g is over with the same run
 abbrev Extends : Next → Next → Type 0
@@ -91,7 +91,7 @@ module _ (f g : Next) (h : Extends f g) where
       h (record p { address = p.address + 1; own = record p.own { counters = slice_set p.own.counters counter.number turns } }) run e
   act_extends code (Some (CountNumber counter)) p run e = counted_extends p.own.numbers counter.number p run e
   act_extends code (Some (Turn counter to)) p run e = turn_extends (slice_index p.own.counters counter.number) counter.number to p run e
-  act_extends code (Some Accept) p run e = data_extends (accept_step code.tables (next_line p.state.lines) (scratch_of p.state p.own)) (line_taken p) run e
+  act_extends code (Some Accept) p run e = data_extends (accept_step code.tables (next_line p.state.lines) (scratch_of p.state p.own)) (without_line p) run e
   act_extends code (Some Date) p run e = data_extends (date_step code.tables p.state.day (scratch_of p.state p.own)) p run e
   act_extends code (Some (Branch to)) p run e = branch_extends p.own.truth to p run e
   act_extends code (Some (Jump to)) p run e = h (record p { address = to }) run e

@@ -7,7 +7,7 @@ use Rattle.perform_graph.specs.declared.order.Order.TheVariants.{Ranks, Recursiv
 use Rattle.perform_graph.specs.Order.{IsRange, AllDecrease, Decreases, PerformsOneOf, PerformOneAnother, IsOrder, rank_in, marks}
 use Rattle.code_image.specs.declared.code.Code.{Code}
 use Rattle.code_image.specs.Demands.{performed_by_code, HasOrder}
-use Rattle.code_image.specs.Paragraphs.{HasHeights}
+use Rattle.code_image.specs.Paragraphs.{HasRanks}
 
 -- One of them would be lower than each of them.
 descends : (performed : List PerformedRange) (height : ℕ → ℕ) (among : ℕ → Bool) → AllDecrease height performed
@@ -28,7 +28,7 @@ excluded performed height among fall back = descends performed height among fall
 -- Ranks were found exactly where code has an order.
 pub order_is : (code : Code) (found : Order) → All (IsRange (length code.starts)) (performed_by_code code.instructions)
     → IsOrder (length code.starts) (performed_by_code code.instructions) found
-    → HasHeights found ↔ HasOrder code
+    → HasRanks found ↔ HasOrder code
 order_is code (Ranks all) ranges order = (λ has. record { ranges = ranges; heights = all; fall = order }, λ has. tt)
 order_is code (Recursive all) ranges order =
     (λ has. absurd has, λ has. excluded (performed_by_code code.instructions) (rank_in has.heights) (marks all) has.fall.fall order)

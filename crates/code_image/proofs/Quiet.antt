@@ -19,7 +19,7 @@ use Rattle.code_image.specs.declared.instruction.Instruction.TheVariants.{Tick, 
 use Rattle.data_instructions.specs.Scratch.{Step, Continues, Faulted, Stuck}
 use Rattle.data_instructions.specs.Table.{work, accept_step, date_step}
 use Rattle.code_image.specs.Points.{Return, Point, scratch_of, first_point}
-use Rattle.code_image.specs.Table.{Next, over, onward, tick_from, shown_point, worked_point, data_from, counted_turns, counted_by, counted_from, turn_from, branch_from, own_with_return, perform_at, back_if, back_from, line_taken, filed_from, tested_point, act, exec_code, Runs}
+use Rattle.code_image.specs.Table.{Next, over, onward, tick_from, shown_point, worked_point, data_from, counted_turns, counted_by, counted_from, turn_from, branch_from, own_with_return, perform_at, back_if, back_from, without_line, filed_from, tested_point, act, exec_code, Runs}
 
 -- where f is over, no status was told since
 abbrev Quiet : Next → Type 0
@@ -112,7 +112,7 @@ module _ (f : Next) (h : Quiet f) where
       h (record p { address = p.address + 1; own = record p.own { counters = slice_set p.own.counters counter.number turns } }) run e
   act_quiet code (Some (CountNumber counter)) p run none e = counted_quiet p.own.numbers counter.number p run e
   act_quiet code (Some (Turn counter to)) p run none e = turn_quiet (slice_index p.own.counters counter.number) counter.number to p run e
-  act_quiet code (Some Accept) p run none e = data_quiet (accept_step code.tables (next_line p.state.lines) (scratch_of p.state p.own)) (line_taken p) run e
+  act_quiet code (Some Accept) p run none e = data_quiet (accept_step code.tables (next_line p.state.lines) (scratch_of p.state p.own)) (without_line p) run e
   act_quiet code (Some Date) p run none e = data_quiet (date_step code.tables p.state.day (scratch_of p.state p.own)) p run e
   act_quiet code (Some (Branch to)) p run none e = branch_quiet p.own.truth to p run e
   act_quiet code (Some (Jump to)) p run none e = h (record p { address = to }) run e

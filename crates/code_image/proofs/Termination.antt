@@ -33,7 +33,7 @@ use Rattle.code_image.specs.declared.instruction.Instruction.{Instruction}
 use Rattle.code_image.specs.declared.instruction.Instruction.TheVariants.{Tick, Show, Stop, Count, CountNumber, Turn, Accept, Date, Branch, Jump, Join, Perform, Back, File, TestStatus, Unheard, Data}
 use Rattle.code_image.specs.Demands.{UsesBudget, IsVerified}
 use Rattle.code_image.specs.Points.{Return, Point, scratch_of, first_point}
-use Rattle.code_image.specs.Table.{onward, over, tick_from, shown_point, worked_point, data_from, counted_turns, counted_by, counted_from, turn_from, branch_from, own_with_return, perform_at, back_if, back_from, line_taken, received_point, filed_from, tested_point, act, exec_code, Runs}
+use Rattle.code_image.specs.Table.{onward, over, tick_from, shown_point, worked_point, data_from, counted_turns, counted_by, counted_from, turn_from, branch_from, own_with_return, perform_at, back_if, back_from, without_line, received_point, filed_from, tested_point, act, exec_code, Runs}
 use Rattle.code_image.proofs.WellFormed.{IsWellFormed, BudgetAt, LeadsWithin, GoesWithin, PerformsWithin, well_formed, begins}
 use Rattle.code_image.proofs.Standing.{Known, known_next, known_behind_rest, known_behind_join, known_at_start, known_behind_perform, ComesBack, Stands, StandsAtRest, stands_first, rests_here, stands_elsewhere, stands_after_count, number_here, stands_after_number}
 
@@ -263,7 +263,7 @@ module _ (code : Code) (verified : IsVerified code) where
       turn_ends (slice_index p.own.counters counter.number) counter to p here stands is onward_ends sooner
   act_ends Accept p here stands is onward_ends shorter sooner =
       let next = known_next code p.address stands.shape Accept stands.known here in
-      data_ends (accept_step code.tables (next_line p.state.lines) (scratch_of p.state p.own)) next.0 (line_taken p)
+      data_ends (accept_step code.tables (next_line p.state.lines) (scratch_of p.state p.own)) next.0 (without_line p)
       (safe_accept code.tables (next_line p.state.lines) (scratch_of p.state p.own) stands.shape next.0 stands.fits next.1) next.2 stands.returns is
       (record { by = onward_ends.by })
   act_ends Date p here stands is onward_ends shorter sooner =

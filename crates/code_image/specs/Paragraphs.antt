@@ -11,6 +11,6 @@ pub record ListsParagraphs (instructions : List Instruction) (paragraphs : List 
   pub each : (address : ℕ) → address ≤ length instructions → slice_index paragraphs address ≡ paragraph_at instructions address
 
 -- Ranks of paragraphs were found, and no paragraphs that perform one another.
-abbrev pub HasHeights : Order → Type 0
-HasHeights (Ranks all) = Unit {0}
-HasHeights (Recursive all) = ⊥
+abbrev pub HasRanks : Order → Type 0
+HasRanks (Ranks all) = Unit {0}
+HasRanks (Recursive all) = ⊥

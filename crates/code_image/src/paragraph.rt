@@ -3,7 +3,7 @@
 ghost use Rattle.std.specs.Prelude.{◌≡◌, ◌<◌, ◌↔◌, IsTrue, All, IfOk, length, slice_get};
 ghost use Rattle.perform_graph.specs.Order.{IsRange};
 ghost use Rattle.code_image.specs.Demands.{back_count, performed_by_code, IsBack, IsFront, StartsAt, AllStart, HasOrder};
-ghost use Rattle.code_image.specs.Paragraphs.{ListsParagraphs, HasHeights};
+ghost use Rattle.code_image.specs.Paragraphs.{ListsParagraphs, HasRanks};
 
 use crate::code::Code;
 use crate::instruction::Instruction;
@@ -124,8 +124,8 @@ fn are_ranges(count: usize, ranges: &[PerformedRange]) -> bool
 }
 
 /// There are ranks.
-fn has_heights(order: &Order) -> bool
-    ensures { IsTrue result ↔ HasHeights order.now }
+fn has_ranks(order: &Order) -> bool
+    ensures { IsTrue result ↔ HasRanks order.now }
 {
     match order {
         Order::Ranks(_) => true,
@@ -148,5 +148,5 @@ pub(crate) fn has_order(
         return Ok(false);
     }
     let order = order_of(alloc, count, &ranges)?;
-    Ok(has_heights(&order))
+    Ok(has_ranks(&order))
 }

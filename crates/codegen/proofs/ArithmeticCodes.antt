@@ -5,7 +5,7 @@ use Rattle.picture.specs.declared.picture.Picture.{Picture}
 use Rattle.items.specs.declared.item.Item.{Item}
 use Rattle.items.specs.declared.item.Kind.{Kind}
 use Rattle.items.specs.declared.item.Kind.TheVariants as kind
-use Rattle.edited_move.specs.Moves.{wants_number, IsPlainKind}
+use Rattle.edited_move.specs.Moves.{needs_number, IsPlainKind}
 use Rattle.lexical.specs.declared.place.Place.{Place}
 use Rattle.source_tree.specs.declared.reference.Reference.{Reference}
 use Rattle.source_tree.specs.declared.expression.Operand.{Operand}
@@ -32,9 +32,9 @@ use Rattle.data_instructions.specs.Codes.{data_item, IsTakingCode}
 use Rattle.data_instructions.specs.Chains.{LiesWhole}
 use Rattle.data_instructions.specs.ArithmeticCodes.{operator_code, duplicate, discard, Computes, PushesNumber, IsValueCode, AreAddedCode, IsTotalCode, HasScale, IsUpdateCode, AreUpdatesCode, IsGiveCode, AreGivesCode, IsRemainderCode, IsDivisionCode, IsOperationCode, IsArithmeticCode}
 use Rattle.code_image.specs.declared.code.Code.{Code}
-use Rattle.codegen.specs.Pieces.{Fragment, sequence, in_order}
+use Rattle.codegen.specs.Fragments.{Fragment, sequence, in_order}
 use Rattle.codegen.specs.DataCode.{item_number, works_fragment, take_fragment}
-use Rattle.codegen.specs.ArithmeticCode.{zero_number, scale_kept, scale_of_item, division_fragment, void_code, value_fragment, added_fragment, total_fragment, expression_fragment, quotient_scale, store_fragment, update_fragment, updates_fragment, give_fragment, gives_fragment, remainder_fragment, operation_fragment, arithmetic_fragment}
+use Rattle.codegen.specs.ArithmeticCode.{zero_number, receiver_scale, scale_of_item, division_fragment, void_code, value_fragment, added_fragment, total_fragment, expression_fragment, quotient_scale, store_fragment, update_fragment, updates_fragment, give_fragment, gives_fragment, remainder_fragment, operation_fragment, arithmetic_fragment}
 use Rattle.codegen.proofs.Codes.{left_none, right_none, item_there, keeps, Coded}
 use Rattle.codegen.proofs.CodedPieces.{CodedBy, weaker_by, both_by, before_by, behind_by}
 use Rattle.codegen.proofs.ExpressionCodes.{number_codes, taking_codes, value_codes, expression_codes}
@@ -42,13 +42,13 @@ use Rattle.codegen.proofs.Integers.{kept, not_false}
 use Rattle.codegen.proofs.Standing.{Stands}
 
 -- A numeric item, or an edited one with its picture, receives numbers.
-receives_kind : (one : Kind) (editing : Option Picture) → wants_number one ≡ true → (editing ≡ None → IsPlainKind one) → (to : NumberReceiver) × (receiver_of one editing ≡ Some to)
+receives_kind : (one : Kind) (editing : Option Picture) → needs_number one ≡ true → (editing ≡ None → IsPlainKind one) → (to : NumberReceiver) × (receiver_of one editing ≡ Some to)
 receives_kind (kind.Numeric numeric) editing wants plain = (_, refl)
 receives_kind (kind.NumericEdited blank) (Some picture) wants plain = (_, refl)
 receives_kind (kind.NumericEdited blank) None wants plain = absurd (plain refl)
 receives_kind _ editing wants plain = absurd cc
 
-receives_number : (item : Item) (editing : Option Picture) → wants_number item.kind ≡ true → IsEditing item editing → (to : NumberReceiver) × (receiver_of item.kind editing ≡ Some to)
+receives_number : (item : Item) (editing : Option Picture) → needs_number item.kind ≡ true → IsEditing item editing → (to : NumberReceiver) × (receiver_of item.kind editing ≡ Some to)
 receives_number item None wants is = receives_kind item.kind None wants (λ e. is)
 receives_number item (Some picture) wants is = receives_kind item.kind (Some picture) wants (λ e. absurd (some e))
   where
@@ -173,9 +173,9 @@ module _ (items : List LocatedItem) (whole : Code) (entries : (n : ℕ) (one : L
         let k = keeps items whole entries number_receiver one e in
         let n = item_number items one.item in
         let there : slice_get items n ≡ Some k.found = item_there items one.item k.found k.named in
-        let wants = not_false (wants_number k.found.item.kind) (kept (not (wants_number k.found.item.kind)) 51 one.item.name.place k.asks) in
+        let wants = not_false (needs_number k.found.item.kind) (kept (not (needs_number k.found.item.kind)) 51 one.item.name.place k.asks) in
         let to = receives_number k.found.item k.found.editing wants (order.items n (data_item k.found) (entries n k.found there)).editing in
-        (k.found, ap first k.named, to.0, to.1, sym (ap scale_of_item there ∙ ap scale_kept to.1))
+        (k.found, ap first k.named, to.0, to.1, sym (ap scale_of_item there ∙ ap receiver_scale to.1))
 
     -- the remainder, without the quotient's store
     abbrev IsRemainderEnd : Bool → ℕ → Reference → List DataInstruction → Type 0

@@ -34,7 +34,7 @@ use Rattle.data_instructions.specs.Codes.{integer, index_code}
 use Rattle.data_instructions.specs.TextCodes.{new_byte, new_mark}
 use Rattle.code_image.specs.declared.code.Code.{Code}
 use Rattle.code_image.specs.declared.instruction.Instruction.TheVariants as instruction
-use Rattle.codegen.specs.Pieces.{Fragment, no_tables, empty_code, joined_tables, append, sequence, in_order, plain_code}
+use Rattle.codegen.specs.Fragments.{Fragment, no_tables, empty_code, joined_tables, append, sequence, in_order, plain_code}
 use Rattle.codegen.specs.DataCode.{item_number, item_index, dimensions_of, work_fragment, works_fragment, number_fragment, integer_fragment, adjustment_fragment, text_fragment, literal_entry, literal_fragment, line_end_fragment, show_fragment, subscript_fragment, subscripts_fragment, reference_fragment, take_fragment, sender_fragment, receivers_fragment, operand_fragment, operands_fragment}
 use Rattle.codegen.specs.ConditionCode.{condition_number, condition_item}
 use Rattle.codegen.specs.PatternCode.{overlay_fragment, pattern_fragment, pattern_of, set_of, initialize_fragment, set_fragment}

@@ -19,7 +19,7 @@ use Rattle.source_tree.specs.declared.statement.Statement.{Statement, roll-State
 use Rattle.source_tree.specs.declared.statement.Statement.TheOpen.{Statement-F}
 use Rattle.source_tree.specs.declared.statement.Statement.TheFolds.{map-Statement, ind-Statement}
 use Rattle.source_tree.specs.Arithmetic.{is_there}
-use Rattle.source_tree.specs.Evaluate.{looked_subject, selected_asked}
+use Rattle.source_tree.specs.Evaluate.{resolved_subject, selected_condition}
 use Rattle.source_tree.specs.Performing.{turns_of}
 use Rattle.source_tree.specs.Places.{LocatedItem}
 use Rattle.source_tree.specs.Procedures.{Range, range_of}
@@ -27,7 +27,7 @@ use Rattle.source_tree.specs.Setting.{Scope}
 use Rattle.data_instructions.specs.declared.instruction.DataInstruction.TheVariants as i
 use Rattle.code_image.specs.declared.code.Code.{Code}
 use Rattle.code_image.specs.declared.instruction.Instruction.TheVariants.{Tick, Stop, Count, CountNumber}
-use Rattle.codegen.specs.Pieces.{Fragment, empty_code, append, sequence, in_order, plain_code}
+use Rattle.codegen.specs.Fragments.{Fragment, empty_code, append, sequence, in_order, plain_code}
 use Rattle.codegen.specs.DataCode.{take_fragment}
 use Rattle.codegen.specs.ArithmeticCode.{arithmetic_fragment}
 use Rattle.codegen.specs.Meeting.{either_fragment, nothing_fragment}
@@ -110,7 +110,7 @@ module _ (items : List LocatedItem) where
 
   taken_blind : (once : Bool) (subjects : List Subject) → Blind (taken_from items once subjects)
   taken_blind true subjects = nothing_blind
-  taken_blind false subjects = in_order_blind (subject_fragment items) (λ one. look_blind (look items (looked_subject items one))) subjects
+  taken_blind false subjects = in_order_blind (subject_fragment items) (λ one. look_blind (look items (resolved_subject items one))) subjects
 
   subjects_blind : (subjects : List Subject) (object : Option Object) → Blind (subjects_fragment items subjects object)
   subjects_blind subjects object = taken_blind (is_asked_first items subjects object) subjects
@@ -148,7 +148,7 @@ module _ (scope : Scope) where
         → Blind (selection_fragment scope inside subjects selected other)
     selecting_blind subjects [] other = phrase_blind other
     selecting_blind subjects (one ∷ more) other =
-        tested_blind (selected_asked items subjects one) (in_order inside one.statements) (selection_fragment scope inside subjects more other)
+        tested_blind (selected_condition items subjects one) (in_order inside one.statements) (selection_fragment scope inside subjects more other)
         (in_order_blind inside each_one one.statements) (selecting_blind subjects more other)
 
     evaluate_blind : (one : Evaluate S) → Blind (evaluate_fragment scope inside one)
@@ -176,7 +176,7 @@ module _ (scope : Scope) where
     verb_blind line (verb.ConditionalStatement one) = branching_blind line one
     verb_blind line (verb.PerformStatement one) =
         turns_blind items line one.turns (turn_fragment scope inside line one.performed) (turn_blind line one.performed)
-    verb_blind line (verb.Text one) = both_blind (tick_fragment line) (texts_fragment items one) (tick_blind line) (texts_blind items one)
+    verb_blind line (verb.TextStatement one) = both_blind (tick_fragment line) (texts_fragment items one) (tick_blind line) (texts_blind items one)
     verb_blind line (verb.StringStatement one) =
         let part = string_fragment items one.sendings one.receiver one.pointer in
         let phrases = phrases_from scope inside one.phrases.arose one.phrases.did_not in

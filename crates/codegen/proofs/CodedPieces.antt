@@ -3,7 +3,7 @@ use Rattle.std.proofs.Common.{◌≡◌, List, ◌++◌, map, refl, sym, ap, sub
 use Rattle.data_instructions.specs.declared.instruction.DataInstruction.{DataInstruction}
 use Rattle.code_image.specs.declared.code.Code.{Code}
 use Rattle.code_image.specs.declared.instruction.Instruction.TheVariants.{Data}
-use Rattle.codegen.specs.Pieces.{Fragment, append, sequence}
+use Rattle.codegen.specs.Fragments.{Fragment, append, sequence}
 use Rattle.codegen.specs.DataCode.{works_fragment}
 use Rattle.codegen.proofs.Codes.{map_both, Coded}
 use Rattle.codegen.proofs.Standing.{Stands, front, back}

@@ -32,8 +32,8 @@ use Rattle.name_table.specs.Positions.{look_up}
 use Rattle.name_table.proofs.Picked.{named_items}
 use Rattle.code_image.specs.declared.code.Code.{Code}
 use Rattle.code_image.specs.declared.instruction.Instruction.TheVariants.{Data, Accept, Date}
-use Rattle.codegen.specs.Pieces.{append, sequence, plain_code}
-use Rattle.codegen.specs.DataCode.{number_found, item_number, item_index, dimensions_of, work_fragment, integer_fragment, adjustment_fragment, text_fragment, literal_fragment, line_end_fragment, subscript_fragment, subscripts_fragment, reference_fragment, take_fragment, sender_fragment, receivers_fragment, move_fragment, operand_fragment, operands_fragment, accept_fragment, date_fragment}
+use Rattle.codegen.specs.Fragments.{append, sequence, plain_code}
+use Rattle.codegen.specs.DataCode.{found_number, item_number, item_index, dimensions_of, work_fragment, integer_fragment, adjustment_fragment, text_fragment, literal_fragment, line_end_fragment, subscript_fragment, subscripts_fragment, reference_fragment, take_fragment, sender_fragment, receivers_fragment, move_fragment, operand_fragment, operands_fragment, accept_fragment, date_fragment}
 use Rattle.codegen.proofs.Integers.{kept, not_false, small_integer}
 use Rattle.codegen.proofs.Standing.{Stands, front, back, number_stands, sender_stands, text_stands}
 
@@ -53,7 +53,7 @@ only_named place rules [] e = absurd cc
 only_named place rules (one ∷ []) e = (one, refl, e)
 only_named place rules (one ∷ other ∷ more) e = absurd cc
 
-found_one : (items : List LocatedItem) (name : QualifiedName) (one : LocatedItem) (found : LookUp) → IsNamed items name found → items_named items name ≡ one ∷ [] → slice_get items (number_found found) ≡ Some one
+found_one : (items : List LocatedItem) (name : QualifiedName) (one : LocatedItem) (found : LookUp) → IsNamed items name found → items_named items name ≡ one ∷ [] → slice_get items (found_number found) ≡ Some one
 found_one items name one Unknown is e = absurd (none is e)
   where
     none : items_named items name ≡ [] → items_named items name ≡ one ∷ [] → ⊥

@@ -23,7 +23,7 @@ use Rattle.data_instructions.specs.declared.test.Test.TheVariants as t
 use Rattle.data_instructions.specs.declared.instruction.DataInstruction.TheVariants as i
 use Rattle.data_instructions.specs.ConditionCodes.{negation}
 use Rattle.code_image.specs.declared.instruction.Instruction.TheVariants.{Data}
-use Rattle.codegen.specs.Pieces.{Fragment, no_tables, sequence, in_order}
+use Rattle.codegen.specs.Fragments.{Fragment, no_tables, sequence, in_order}
 use Rattle.codegen.specs.Meeting.{nothing_fragment}
 use Rattle.codegen.specs.DataCode.{dimensions_of, work_fragment, works_fragment, number_fragment, literal_entry, subscripts_fragment, take_fragment, sender_fragment}
 use Rattle.codegen.specs.ArithmeticCode.{zero_number, expression_fragment}

@@ -49,7 +49,7 @@ use Rattle.data_instructions.proofs.ConditionChains.{both_known, pair_known, sid
 use Rattle.data_instructions.proofs.Conditions.{both_decide, decides_alike, pair_works, sides_work, sign_works, class_works, name_works}
 use Rattle.data_instructions.proofs.Expressions.{value_works, value_known}
 use Rattle.code_image.specs.declared.code.Code.{Code}
-use Rattle.codegen.specs.Pieces.{Fragment, sequence}
+use Rattle.codegen.specs.Fragments.{Fragment, sequence}
 use Rattle.codegen.specs.DataCode.{dimensions_of, work_fragment, works_fragment, number_fragment, literal_entry, subscripts_fragment, take_fragment, sender_fragment}
 use Rattle.codegen.specs.ArithmeticCode.{zero_number, value_fragment, expression_fragment}
 use Rattle.codegen.specs.ConditionCode.{condition_number, condition_item, values_of, values_named, range_fragment, value_range_fragment, values_fragment, condition_name_fragment, zero_literal, compared_fragment, side_fragment, numbers_fragment, pair_fragment, is_numeric_operand, is_operand_at_hand, taken_first, relation_from, relation_fragment}

@@ -23,7 +23,7 @@ use Rattle.code_image.specs.declared.code.Code.{Code}
 use Rattle.code_image.specs.declared.instruction.Instruction.TheVariants.{Data}
 use Rattle.code_image.specs.Points.{Own, scratch_of}
 use Rattle.code_image.specs.Table.{exec_code}
-use Rattle.codegen.specs.Pieces.{Fragment, empty_code, append, sequence, in_order}
+use Rattle.codegen.specs.Fragments.{Fragment, empty_code, append, sequence, in_order}
 use Rattle.codegen.specs.Meeting.{nothing_fragment, either_fragment}
 use Rattle.codegen.specs.DataCode.{work_fragment, works_fragment, number_fragment, take_fragment}
 use Rattle.codegen.specs.ArithmeticCode.{zero_number, expression_fragment}
@@ -37,7 +37,7 @@ use Rattle.codegen.proofs.ConditionForms.{mapped_piece, mapped_rules, mapped_tru
 use Rattle.codegen.proofs.DataDoing.{behind_code}
 use Rattle.codegen.proofs.Doing.{end_of, any, keeps_all, keeps_then, keeps_more, Comes, steps_to}
 use Rattle.codegen.proofs.Evaluating.{Evaluates}
-use Rattle.codegen.proofs.Pieces.{joined_assoc, joined_nothing}
+use Rattle.codegen.proofs.Fragments.{joined_assoc, joined_nothing}
 use Rattle.codegen.proofs.Running.{at, one_step, WorksFrom, works_from}
 use Rattle.codegen.proofs.Standing.{Stands, front, back, first_stands, code_stands}
 use Rattle.codegen.proofs.Ways.{ways}

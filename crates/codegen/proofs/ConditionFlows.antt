@@ -16,7 +16,7 @@ use Rattle.data_instructions.specs.Chains.{LiesWhole}
 use Rattle.data_instructions.specs.ConditionCodes.{negation, sign_truth, class_truth}
 use Rattle.code_image.specs.declared.code.Code.{Code}
 use Rattle.code_image.specs.Known.{known_along}
-use Rattle.codegen.specs.Pieces.{Fragment, append, sequence, in_order}
+use Rattle.codegen.specs.Fragments.{Fragment, append, sequence, in_order}
 use Rattle.codegen.specs.Meeting.{nothing_fragment}
 use Rattle.codegen.specs.DataCode.{work_fragment, works_fragment, number_fragment, take_fragment}
 use Rattle.codegen.specs.ArithmeticCode.{zero_number, expression_fragment}

@@ -11,12 +11,12 @@ use Rattle.name_table.specs.declared.look_up.LookUp.TheVariants.{Unknown, One, S
 use Rattle.name_table.specs.Conditions.{called_condition, item_numbers}
 use Rattle.name_table.specs.Positions.{look_up, IsLookUpOf}
 use Rattle.name_table.proofs.Picked.{named_conditions}
-use Rattle.codegen.specs.DataCode.{number_found}
+use Rattle.codegen.specs.DataCode.{found_number}
 use Rattle.codegen.specs.ConditionCode.{condition_number}
 
 -- ---- what a name names
 
-found_one : {A : Type 0} (all named : List A) (one : A) (found : LookUp) → IsLookUpOf all named found → named ≡ one ∷ [] → slice_get all (number_found found) ≡ Some one
+found_one : {A : Type 0} (all named : List A) (one : A) (found : LookUp) → IsLookUpOf all named found → named ≡ one ∷ [] → slice_get all (found_number found) ≡ Some one
 found_one {A} all named one Unknown is e = absurd (none (sym is ∙ e))
   where
     nothing : List A

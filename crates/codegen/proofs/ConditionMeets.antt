@@ -11,7 +11,7 @@ use Rattle.source_tree.specs.Procedures.{Range}
 use Rattle.data_instructions.specs.declared.test.Test.TheVariants as t
 use Rattle.data_instructions.specs.declared.instruction.DataInstruction.TheVariants as i
 use Rattle.code_image.specs.declared.code.Code.{Code}
-use Rattle.codegen.specs.Pieces.{Fragment, append, sequence, in_order}
+use Rattle.codegen.specs.Fragments.{Fragment, append, sequence, in_order}
 use Rattle.codegen.specs.Meeting.{nothing_fragment}
 use Rattle.codegen.specs.DataCode.{work_fragment, works_fragment}
 use Rattle.codegen.specs.ConditionCode.{and_fragment, or_fragment, all_fragment, any_fragment, condition_layer_fragment, condition_fragment}

@@ -23,7 +23,7 @@ use Rattle.literals.proofs.Forms.{sender_formed}
 use Rattle.data_instructions.specs.declared.test.Test.TheVariants as t
 use Rattle.data_instructions.specs.declared.instruction.DataInstruction.TheVariants as i
 use Rattle.data_instructions.specs.ConditionCodes.{negation}
-use Rattle.codegen.specs.Pieces.{sequence}
+use Rattle.codegen.specs.Fragments.{sequence}
 use Rattle.codegen.specs.DataCode.{dimensions_of, work_fragment, works_fragment, number_fragment, subscripts_fragment, take_fragment, sender_fragment}
 use Rattle.codegen.specs.ArithmeticCode.{zero_number, expression_fragment}
 use Rattle.codegen.specs.Values.{HasForms, AreFormedValues}

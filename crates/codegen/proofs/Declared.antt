@@ -15,7 +15,7 @@ use Rattle.declarations.specs.declared.declarations.Declarations.{Declarations}
 use Rattle.declarations.specs.Named.{Declares, IsDeclared, data_in, files_in, items_in, scope_in}
 use Rattle.declarations.proofs.Declared.{same_scope}
 use Rattle.codegen.specs.Layout.{code_of, end_fragment, section_fragment, storage_code, storage_with}
-use Rattle.codegen.specs.Pieces.{in_order, append}
+use Rattle.codegen.specs.Fragments.{in_order, append}
 use Rattle.codegen.proofs.ConditionValues.{descriptions_kept}
 
 module _ (program : Program) (all : Declarations) (h : Declares program all) where

@@ -28,7 +28,7 @@ use Rattle.source_tree.specs.Arithmetic.{is_there}
 use Rattle.source_tree.specs.ArithmeticRules.{number_rules, operation_rules}
 use Rattle.source_tree.specs.Broken.{RuleBreach, each}
 use Rattle.source_tree.specs.ConditionRules.{condition_rules, varying_rules, until_rules}
-use Rattle.source_tree.specs.Evaluate.{looked_subject, selected_asked}
+use Rattle.source_tree.specs.Evaluate.{resolved_subject, selected_condition}
 use Rattle.source_tree.specs.EvaluateRules.{subject_rules, selected_rules}
 use Rattle.source_tree.specs.Filing.{phrases_of}
 use Rattle.source_tree.specs.FilingRules.{filing_rules}
@@ -51,7 +51,7 @@ use Rattle.code_image.specs.declared.instruction.Instruction.TheVariants.{Tick, 
 use Rattle.code_image.specs.Demands.{UsesBudget, ends_in, JumpsBack}
 use Rattle.declarations.proofs.RuleLayers.{mapped_rules}
 use Rattle.declarations.proofs.PerformLayers.{mapped_performs}
-use Rattle.codegen.specs.Pieces.{Fragment, append, sequence, in_order}
+use Rattle.codegen.specs.Fragments.{Fragment, append, sequence, in_order}
 use Rattle.codegen.specs.Meeting.{branch_code, either_fragment, nothing_fragment}
 use Rattle.codegen.specs.DataCode.{work_fragment, take_fragment}
 use Rattle.codegen.specs.ArithmeticCode.{arithmetic_fragment}
@@ -430,7 +430,7 @@ module _ (scope : Scope) (permits : Range → Bool) (formed : AreFormed scope.it
         let first = first_group items rules subjects one more e in
         let here = each_performs performs one.statements in
         let later = each_performs (selected_performs performs) more in
-        tested_meets (selected_asked items subjects one) (in_order inside one.statements) (selection_fragment scope inside subjects more other)
+        tested_meets (selected_condition items subjects one) (in_order inside one.statements) (selection_fragment scope inside subjects more other)
         (selected_kept items rules subjects one first) (in_order_blind inside blind one.statements)
         (selecting_blind scope inside blind subjects more other)
         (in_order_meets rules performs inside each_one one.statements (statements_of items rules subjects one first) (all_front P here later q))
@@ -443,7 +443,7 @@ module _ (scope : Scope) (permits : Range → Bool) (formed : AreFormed scope.it
     each_subject_meets : (subjects : List Subject) → each (subject_rules items) subjects ≡ [] → AlwaysMeets Q (each_subject_fragment items subjects)
     each_subject_meets [] e before = nothing_meets Q before
     each_subject_meets (one ∷ more) e before =
-        let l = looked_subject items one in
+        let l = resolved_subject items one in
         let rest = each (subject_rules items) more in
         both_meet Q before (subject_fragment items one before) (each_subject_fragment items more (append before (subject_fragment items one before)))
         (look_meets (look items l) (look_kept items l (left_none (subject_rules items one) rest e)) before)
@@ -501,7 +501,7 @@ module _ (scope : Scope) (permits : Range → Bool) (formed : AreFormed scope.it
         let performed = right_none (turns_rules items one.turns) (performed_rules scope.procedures permits rules one.performed) e in
         turns_meet Q items formed line one.turns turn (turn_blind scope inside blind line one.performed) often
         (turn_begins scope inside line one.performed) (turn_meets line one.performed performed q)
-    verb_meets line (verb.Text one) e q = ticked line (texts_fragment items one) (texts_straight items sized one e)
+    verb_meets line (verb.TextStatement one) e q = ticked line (texts_fragment items one) (texts_straight items sized one e)
     verb_meets line (verb.StringStatement one) e q =
         let part = string_fragment items one.sendings one.receiver one.pointer in
         let phrases = phrases_fragment scope inside one.phrases in

@@ -8,7 +8,7 @@ use Rattle.source_tree.specs.declared.evaluate_statement.Selected.{Selected}
 use Rattle.source_tree.specs.declared.evaluate_statement.Evaluate.{Evaluate}
 use Rattle.source_tree.specs.Broken.{RuleBreach, where_so, each}
 use Rattle.source_tree.specs.ConditionRules.{condition_rules}
-use Rattle.source_tree.specs.Evaluate.{fits, selection_condition, asked_each, when_asked, whens_asked, selected_asked}
+use Rattle.source_tree.specs.Evaluate.{fits, selection_condition, object_conditions, when_condition, when_conditions, selected_condition}
 use Rattle.source_tree.specs.EvaluateRules.{at_object, subject_rules, object_rules, objects_rules, when_rules, selected_rules}
 use Rattle.source_tree.specs.Places.{LocatedItem}
 use Rattle.source_tree.specs.Rules.{phrase_rules, evaluate_rules}
@@ -47,23 +47,23 @@ module _ (items : List LocatedItem) where
       right_none (where_so (not (length one.objects == length subjects)) 53 one.place) (objects_rules items subjects one.objects) e
 
   pub asked_each_kept : (subjects : List Subject) (objects : List Object) → objects_rules items subjects objects ≡ []
-      → each (condition_rules items) (asked_each items subjects objects) ≡ []
+      → each (condition_rules items) (object_conditions items subjects objects) ≡ []
   asked_each_kept [] objects e = refl
   asked_each_kept (one ∷ more) [] e = refl
   asked_each_kept (one ∷ more) (object ∷ others) e =
-      both_none (condition_rules items (selection_condition items one object.choice)) (each (condition_rules items) (asked_each items more others))
+      both_none (condition_rules items (selection_condition items one object.choice)) (each (condition_rules items) (object_conditions items more others))
       (asked_kept one object (first_object one more object others e)) (asked_each_kept more others (other_objects one more object others e))
 
   -- ---- WHENs
 
-  pub when_kept : (subjects : List Subject) (one : When) → when_rules items subjects one ≡ [] → condition_rules items (when_asked items subjects one) ≡ []
-  when_kept subjects one e = all_rules items (asked_each items subjects one.objects) ∙ asked_each_kept subjects one.objects (objects_of subjects one e)
+  pub when_kept : (subjects : List Subject) (one : When) → when_rules items subjects one ≡ [] → condition_rules items (when_condition items subjects one) ≡ []
+  when_kept subjects one e = all_rules items (object_conditions items subjects one.objects) ∙ asked_each_kept subjects one.objects (objects_of subjects one e)
 
   pub whens_kept : (subjects : List Subject) (whens : List When) → each (when_rules items subjects) whens ≡ []
-      → each (condition_rules items) (whens_asked items subjects whens) ≡ []
+      → each (condition_rules items) (when_conditions items subjects whens) ≡ []
   whens_kept subjects [] e = refl
   whens_kept subjects (one ∷ more) e =
-      both_none (condition_rules items (when_asked items subjects one)) (each (condition_rules items) (whens_asked items subjects more))
+      both_none (condition_rules items (when_condition items subjects one)) (each (condition_rules items) (when_conditions items subjects more))
       (when_kept subjects one (left_none (when_rules items subjects one) (each (when_rules items subjects) more) e))
       (whens_kept subjects more (right_none (when_rules items subjects one) (each (when_rules items subjects) more) e))
 
@@ -77,8 +77,8 @@ module _ (items : List LocatedItem) where
     statements_of subjects one e = right_none (each (when_rules items subjects) one.whens) (each inside one.statements) e
 
     pub selected_kept : (subjects : List Subject) (one : Selected S) → selected_rules items inside subjects one ≡ []
-        → condition_rules items (selected_asked items subjects one) ≡ []
-    selected_kept subjects one e = any_rules items (whens_asked items subjects one.whens) ∙ whens_kept subjects one.whens (whens_of subjects one e)
+        → condition_rules items (selected_condition items subjects one) ≡ []
+    selected_kept subjects one e = any_rules items (when_conditions items subjects one.whens) ∙ whens_kept subjects one.whens (whens_of subjects one e)
 
     -- the first group, and the others
     pub first_group : (subjects : List Subject) (one : Selected S) (more : List (Selected S)) → each (selected_rules items inside subjects) (one ∷ more) ≡ []

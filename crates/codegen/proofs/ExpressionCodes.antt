@@ -27,7 +27,7 @@ use Rattle.data_instructions.specs.Chains.{LiesWhole}
 use Rattle.data_instructions.specs.ArithmeticCodes.{operator_code, Computes, ComputesOn, PushesNumber, StaysOver, IsNumberCode, IsValueCode}
 use Rattle.data_instructions.proofs.Expressions.{negated_works, first_works, further_works, negated_known, first_known, further_known, value_works, value_known}
 use Rattle.code_image.specs.declared.code.Code.{Code}
-use Rattle.codegen.specs.Pieces.{Fragment, in_order}
+use Rattle.codegen.specs.Fragments.{Fragment, in_order}
 use Rattle.codegen.specs.DataCode.{number_fragment, take_fragment}
 use Rattle.codegen.specs.ArithmeticCode.{or_zero, value_fragment, chain_fragment, expression_layer_fragment, expression_fragment}
 use Rattle.codegen.proofs.Codes.{left_none, right_none, taking_coded}

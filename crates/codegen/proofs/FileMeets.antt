@@ -25,7 +25,7 @@ use Rattle.file_image.specs.declared.class.StatusClass.{StatusClass}
 use Rattle.file_image.specs.declared.class.StatusClass.TheVariants as class
 use Rattle.code_image.specs.declared.code.Code.{Code}
 use Rattle.code_image.specs.declared.instruction.Instruction.TheVariants.{File, TestStatus, Unheard}
-use Rattle.codegen.specs.Pieces.{Fragment, append, sequence, in_order}
+use Rattle.codegen.specs.Fragments.{Fragment, append, sequence, in_order}
 use Rattle.codegen.specs.Meeting.{either_fragment, nothing_fragment}
 use Rattle.codegen.specs.DataCode.{works_fragment, sender_fragment, take_fragment, receivers_fragment}
 use Rattle.codegen.specs.FileCode.{sent_index, file_fragment, test_fragment, unheard_fragment, on_file_fragment, into_fragment, from_fragment, on_record_fragment}

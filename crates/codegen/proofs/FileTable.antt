@@ -22,7 +22,7 @@ use Rattle.source_tree.specs.Meaning.{closed_connectors}
 use Rattle.source_tree.specs.NameRules.{unique_name_rules}
 use Rattle.source_tree.specs.Places.{LocatedItem}
 use Rattle.source_tree.specs.ProgramFiles.{DescribedFile, described_file, ProgramFile, plain_place, item_place, file_by, files_from}
-use Rattle.source_tree.specs.References.{ItemPlace, place_behind}
+use Rattle.source_tree.specs.References.{ItemPlace, place_after}
 use Rattle.data_instructions.specs.declared.tables.DataItem.{DataItem}
 use Rattle.data_instructions.specs.declared.tables.DataTables.{DataTables}
 use Rattle.data_instructions.specs.Codes.{data_item}

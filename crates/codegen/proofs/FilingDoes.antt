@@ -34,7 +34,7 @@ use Rattle.file_image.specs.declared.class.StatusClass.TheVariants as class
 use Rattle.file_image.specs.Classes.{is_of, has_class}
 use Rattle.code_image.specs.declared.code.Code.{Code}
 use Rattle.code_image.specs.Points.{Own}
-use Rattle.codegen.specs.Pieces.{Fragment, append, sequence}
+use Rattle.codegen.specs.Fragments.{Fragment, append, sequence}
 use Rattle.codegen.specs.Meeting.{either_fragment, nothing_fragment}
 use Rattle.codegen.specs.FileCode.{file_fragment, test_fragment, unheard_fragment, on_file_fragment, into_fragment, from_fragment, on_name_fragment, on_record_fragment}
 use Rattle.codegen.specs.Layout.{phrase_fragment, taken_fragment, success_fragment, class_fragment, failure_fragment, status_fragment, statement_on_fragment, alone_fragment, open_fragment, close_fragment, record_fragment, file_statement_fragment}

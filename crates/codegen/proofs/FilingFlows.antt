@@ -39,7 +39,7 @@ use Rattle.file_image.specs.declared.class.StatusClass.{StatusClass}
 use Rattle.file_image.specs.declared.class.StatusClass.TheVariants as class
 use Rattle.code_image.specs.declared.code.Code.{Code}
 use Rattle.code_image.specs.Known.{known_along}
-use Rattle.codegen.specs.Pieces.{Fragment, append, sequence, in_order}
+use Rattle.codegen.specs.Fragments.{Fragment, append, sequence, in_order}
 use Rattle.codegen.specs.DataCode.{move_fragment}
 use Rattle.codegen.specs.Meeting.{either_fragment, nothing_fragment}
 use Rattle.codegen.specs.FileCode.{sent_index, file_fragment, test_fragment, unheard_fragment, on_file_fragment, into_fragment, from_fragment, on_record_fragment}

@@ -11,7 +11,7 @@ use Rattle.code_image.specs.declared.code.Code.{Code}
 use Rattle.code_image.specs.declared.instruction.Instruction.{Instruction}
 use Rattle.code_image.specs.declared.instruction.Instruction.TheVariants as instruction
 use Rattle.code_image.specs.Known.{known_after, known_along}
-use Rattle.codegen.specs.Pieces.{Fragment, empty_code, append, in_order}
+use Rattle.codegen.specs.Fragments.{Fragment, empty_code, append, in_order}
 use Rattle.codegen.specs.Meeting.{branch_code, jump_code, join_code, either_fragment}
 use Rattle.codegen.proofs.Codes.{left_none, right_none}
 use Rattle.codegen.proofs.Standing.{Stands, front, back}

@@ -36,7 +36,7 @@ use Rattle.source_tree.specs.Arithmetic.{is_there}
 use Rattle.source_tree.specs.ArithmeticRules.{number_rules, operation_rules}
 use Rattle.source_tree.specs.Broken.{RuleBreach, each}
 use Rattle.source_tree.specs.ConditionRules.{condition_rules, varying_rules, until_rules}
-use Rattle.source_tree.specs.Evaluate.{looked_subject, selected_asked}
+use Rattle.source_tree.specs.Evaluate.{resolved_subject, selected_condition}
 use Rattle.source_tree.specs.EvaluateRules.{subject_rules, selected_rules}
 use Rattle.source_tree.specs.Filing.{phrases_of}
 use Rattle.source_tree.specs.FilingRules.{filing_rules}
@@ -66,7 +66,7 @@ use Rattle.code_image.specs.declared.instruction.Instruction.{Instruction}
 use Rattle.code_image.specs.declared.instruction.Instruction.TheVariants as instruction
 use Rattle.code_image.specs.Known.{known_after, known_along}
 use Rattle.declarations.proofs.RuleLayers.{mapped_rules}
-use Rattle.codegen.specs.Pieces.{Fragment, append, sequence, in_order, plain_code}
+use Rattle.codegen.specs.Fragments.{Fragment, append, sequence, in_order, plain_code}
 use Rattle.codegen.specs.Meeting.{branch_code, either_fragment, nothing_fragment}
 use Rattle.codegen.specs.DataCode.{work_fragment, take_fragment, reference_fragment, operands_fragment, line_end_fragment, show_fragment}
 use Rattle.codegen.specs.ArithmeticCode.{arithmetic_fragment}
@@ -83,7 +83,7 @@ use Rattle.codegen.proofs.InspectCodes.{inspect_codes, lies_inspect}
 use Rattle.codegen.proofs.Lying.{lies_all, shows_all, sends, receives_one, receive_each, lies_operation}
 use Rattle.codegen.proofs.Layers.{verb_map, rolled_is}
 use Rattle.codegen.proofs.Standing.{Stands, front, back}
-use Rattle.codegen.proofs.Pieces.{joined_assoc}
+use Rattle.codegen.proofs.Fragments.{joined_assoc}
 use Rattle.codegen.proofs.Blind.{Blind, in_order_blind}
 use Rattle.codegen.proofs.FilingFlows.{filing_flows}
 use Rattle.codegen.proofs.HasFiles.{HasFiles}
@@ -422,7 +422,7 @@ module _ (scope : Scope) (permits : Range → Bool) (whole : Code) (has : HasFil
     selecting_flows subjects [] other e others = phrase_flows other others
     selecting_flows subjects (one ∷ more) other e others =
         let first = first_group items rules subjects one more e in
-        tested_flows (selected_asked items subjects one) (in_order inside one.statements) (selection_fragment scope inside subjects more other)
+        tested_flows (selected_condition items subjects one) (in_order inside one.statements) (selection_fragment scope inside subjects more other)
         (selected_kept items rules subjects one first) (in_order_blind inside blind one.statements)
         (selecting_blind scope inside blind subjects more other)
         (each_flows one.statements (statements_of items rules subjects one first))
@@ -435,7 +435,7 @@ module _ (scope : Scope) (permits : Range → Bool) (whole : Code) (has : HasFil
     subject_flows : AllFlow whole (subject_rules items) (subject_fragment items)
     subject_flows = record {
       by = λ one before e st.
-          let l = looked_subject items one in (look_flows (look items l) (look_kept items l e)).by before st;
+          let l = resolved_subject items one in (look_flows (look items l) (look_kept items l e)).by before st;
     }
 
     taken_flow : (once : Bool) (subjects : List Subject) → each (subject_rules items) subjects ≡ [] → BodyFlows whole (taken_from items once subjects)
@@ -485,7 +485,7 @@ module _ (scope : Scope) (permits : Range → Bool) (whole : Code) (has : HasFil
         let performed = right_none (turns_rules items one.turns) (performed_rules scope.procedures permits rules one.performed) e in
         turns_flow items whole entries order lie line one.turns turn (turn_blind scope inside blind line one.performed) often
         (turn_flows line one.performed performed)
-    verb_flows line (verb.Text one) e =
+    verb_flows line (verb.TextStatement one) e =
         behind_tick line (texts_fragment items one) (record { by = λ before st. texts_flow items whole entries order lie one before e st })
     verb_flows line (verb.StringStatement one) e =
         let part = string_fragment items one.sendings one.receiver one.pointer in

@@ -18,7 +18,7 @@ use Rattle.data_instructions.specs.Codes.{data_item, IsReferenceCode}
 use Rattle.data_instructions.specs.Chains.{LiesWhole}
 use Rattle.data_instructions.specs.InspectCodes.{IsTakenCode, AreTakenCode, HasInspection, IsInspectCode, LiesTaking, LieTakings, LiesInspect}
 use Rattle.code_image.specs.declared.code.Code.{Code}
-use Rattle.codegen.specs.Pieces.{sequence}
+use Rattle.codegen.specs.Fragments.{sequence}
 use Rattle.codegen.specs.DataCode.{reference_fragment, text_fragment}
 use Rattle.codegen.specs.InspectCode.{inspection_fragment, taken_fragment, takings_fragment, inspection_entry, inspect_fragment}
 use Rattle.codegen.proofs.Codes.{reference_coded, text_coded}

@@ -8,10 +8,10 @@ use Rattle.source_tree.specs.Places.{LocatedItem}
 use Rattle.source_tree.specs.InspectLayout.{Source, InspectArgument, Counter, Text, InspectEntry, text_size, text_sizes, taken_size, entry_texts, entries_texts, entry_at, entries_at, counter_entries, tallying_takings, all_inspected, entry_counts, all_tallied, all_replaced, takings, tallied_size, inspected_size}
 use Rattle.data_instructions.specs.Tables.{total_length}
 use Rattle.code_image.specs.declared.code.Code.{Code}
-use Rattle.codegen.specs.Pieces.{Fragment, append, in_order}
+use Rattle.codegen.specs.Fragments.{Fragment, append, in_order}
 use Rattle.codegen.specs.InspectCode.{takings_fragment, Takes, TakesTexts}
 use Rattle.codegen.proofs.Codes.{map_both}
-use Rattle.codegen.proofs.Pieces.{joined_assoc, joined_nothing, in_order-append}
+use Rattle.codegen.proofs.Fragments.{joined_assoc, joined_nothing, in_order-append}
 
 -- ---- lists
 

@@ -18,12 +18,12 @@ use Rattle.source_tree.specs.Places.{LocatedItem}
 use Rattle.source_tree.specs.InspectLayout.{Source, Bytes, Characters, InspectArgument, Counter, Text, InspectEntry, source, found_size, text_size, text_sizes, replacing_text, replaced_text, fit_of, span_at, what_texts, by_texts, limit_text, limit_texts, entry_texts, entries_texts, limit_span, before_at, after_at, what_fit, by_span, by_at, limits_at, entry_at, entries_at, counter_entries, tallying_takings, all_inspected, entry_counts, all_replaced, tallied_size, takings}
 use Rattle.data_instructions.specs.declared.tables.Inspection.{Inspection}
 use Rattle.code_image.specs.declared.code.Code.{Code}
-use Rattle.codegen.specs.Pieces.{append, sequence, in_order}
+use Rattle.codegen.specs.Fragments.{append, sequence, in_order}
 use Rattle.codegen.specs.DataCode.{item_number, text_fragment, reference_fragment}
 use Rattle.codegen.specs.InspectCode.{inspection_fragment, taken_fragment, takings_fragment, inspection_entry, inspect_fragment, Takes, TakesTexts, TextMade, LimitMade, LimitsMade, Puts, Counts}
 use Rattle.codegen.proofs.Codes.{map_both}
 use Rattle.codegen.proofs.InspectKept.{named_length}
-use Rattle.codegen.proofs.Pieces.{joined_assoc, joined_nothing, in_order-append}
+use Rattle.codegen.proofs.Fragments.{joined_assoc, joined_nothing, in_order-append}
 use Rattle.codegen.proofs.InspectLists.{all_inspected_append, texts_append, takings_append, counts_append, sizes_append, entries_sizes, inspected_whole, so_many, entries_append}
 use Rattle.codegen.proofs.Sequences.{then_piece}
 

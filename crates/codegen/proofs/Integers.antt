@@ -6,7 +6,7 @@ use Rattle.std.specs.List.{list_all}
 use Rattle.std.proofs.Math.Nat.{mul-le-mul_right, mul_assoc, mul_comm, pow-succ', pow-le-pow_right}
 use Rattle.std.proofs.lemmas.Bool.Decides.{nat_tests}
 use Rattle.lexical.specs.declared.place.Place.{Place}
-use Rattle.decimal18.specs.Digits.{digits_behind}
+use Rattle.decimal18.specs.Digits.{digits_after}
 use Rattle.source_tree.specs.declared.literal.Integer.{Integer}
 use Rattle.source_tree.specs.Broken.{where_so}
 use Rattle.source_tree.specs.Integers.{number_of}
@@ -36,7 +36,7 @@ digit_below c e = grind arith
 regroup : (a p : ℕ) → a * (10 * p) ≡ 10 * a * p
 regroup a p = sym (mul_assoc a 10 p) ∙ ap (λ n. n * p) (mul_comm a 10)
 
-digits_below : (n : ℕ) (cs : List ℕ) → list_all is_ascii_digit cs ≡ true → digits_behind n cs < (n + 1) * 10 ^ length cs
+digits_below : (n : ℕ) (cs : List ℕ) → list_all is_ascii_digit cs ≡ true → digits_after n cs < (n + 1) * 10 ^ length cs
 digits_below n [] e = omega arith
 digits_below n (c ∷ cs) e =
     let one = digit_below c (and_left (is_ascii_digit c) (list_all is_ascii_digit cs) e) in
@@ -44,7 +44,7 @@ digits_below n (c ∷ cs) e =
     let step : 10 * n + (c - 48) + 1 ≤ 10 * (n + 1) = omega (arith, one) in
     let times = mul-le-mul_right (10 ^ length cs) step in
     let more = ap (λ q. (n + 1) * q) (pow-succ' 10 (length cs)) ∙ regroup (n + 1) (10 ^ length cs) in
-    subst (λ m. digits_behind (10 * n + (c - 48)) cs < m) (sym more) (omega (arith, rest, times))
+    subst (λ m. digits_after (10 * n + (c - 48)) cs < m) (sym more) (omega (arith, rest, times))
 
 -- An integer that keeps its rule is below 10^18.
 pub small_integer : (n : Integer) → integer_rules n ≡ [] → number_of n < 10 ^ 18

@@ -16,12 +16,12 @@ use Rattle.source_tree.specs.declared.statement.Statement.{Statement, out-Statem
 use Rattle.source_tree.specs.declared.statement.Statement.TheOpen.{Statement-F}
 use Rattle.source_tree.specs.declared.statement.Statement.TheFolds.{map-Statement, fold_out-Statement, fold-roll-Statement}
 use Rattle.code_image.specs.declared.code.Code.{Code}
-use Rattle.source_tree.specs.Evaluate.{selected_asked}
+use Rattle.source_tree.specs.Evaluate.{selected_condition}
 use Rattle.source_tree.specs.Performing.{turns_of}
 use Rattle.source_tree.specs.Places.{LocatedItem}
 use Rattle.source_tree.specs.Setting.{Scope}
 use Rattle.declarations.proofs.FilingLayers.{filing_mapped}
-use Rattle.codegen.specs.Pieces.{Fragment, append, sequence, in_order}
+use Rattle.codegen.specs.Fragments.{Fragment, append, sequence, in_order}
 use Rattle.codegen.specs.ArithmeticCode.{arithmetic_fragment}
 use Rattle.source_tree.specs.declared.conditional_statement.ConditionalStatement.{ConditionalStatement}
 use Rattle.source_tree.specs.declared.conditional_statement.ConditionalStatement.TheVariants as branch
@@ -186,7 +186,7 @@ module _ (scope : Scope) {A B : Type 0} (f : A → B) (g : B → Fragment) where
       → selection_fragment scope g subjects (map mapped_group selected) (mapped other) before ≡ selection_fragment scope (λ a. g (f a)) subjects selected other before
   selecting_map subjects [] other before = phrase_map other before
   selecting_map subjects (one ∷ more) other before =
-      let test = condition_fragment items (selected_asked items subjects one) before in
+      let test = condition_fragment items (selected_condition items subjects one) before in
       ap (append test)
       (either_map (in_order g (map f one.statements)) (in_order (λ a. g (f a)) one.statements) (selection_fragment scope g subjects (map mapped_group more) (mapped other))
       (selection_fragment scope (λ a. g (f a)) subjects more other) (in_order_map one.statements) (selecting_map subjects more other) (append before test))
@@ -235,7 +235,7 @@ module _ (scope : Scope) {A B : Type 0} (f : A → B) (g : B → Fragment) where
   verb_map place (verb.Arithmetic one) before = calculating_map place one.operation one.phrases.arose one.phrases.did_not before
   verb_map place (verb.ConditionalStatement one) before = branching_map place one before
   verb_map place (verb.PerformStatement one) before = performing_map place one.turns one.performed before
-  verb_map place (verb.Text one) before = refl
+  verb_map place (verb.TextStatement one) before = refl
   verb_map place (verb.StringStatement one) before = stringing_map place one.sendings one.receiver one.pointer one.phrases.arose one.phrases.did_not before
   verb_map place (verb.FileStatement one) before = filing_map place one before
   verb_map place (verb.ControlStatement one) before = refl

@@ -8,7 +8,7 @@ use Rattle.code_image.specs.declared.code.Code.{Code}
 use Rattle.code_image.specs.declared.instruction.Instruction.{Instruction}
 use Rattle.code_image.specs.declared.instruction.Instruction.TheVariants.{Tick, Show, Stop, Count, CountNumber, Turn, Accept, Date, Branch, Jump, Join, Perform, Back, File, TestStatus, Unheard, Data}
 use Rattle.code_image.specs.Demands.{NamesCounter, UsesBudget, IsJoin, back_count, ends_in, paragraph_at, Stays, LeadsOn, JumpsBack, HasValidTargets, AllLead}
-use Rattle.codegen.specs.Pieces.{Fragment, empty_code, append, sequence, plain_code}
+use Rattle.codegen.specs.Fragments.{Fragment, empty_code, append, sequence, plain_code}
 use Rattle.codegen.specs.Meeting.{branch_code, jump_code, join_code, either_fragment}
 use Rattle.codegen.proofs.Standing.{at_seam}
 use Rattle.codegen.proofs.Blind.{Blind}

@@ -1,5 +1,5 @@
 -- Pieces of code, and what stands where in the whole
-pub mod Pieces
+pub mod Fragments
 pub mod Standing
 pub mod Blind
 pub mod BlindArithmetic

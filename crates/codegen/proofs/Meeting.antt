@@ -9,11 +9,11 @@ use Rattle.file_image.specs.declared.file.CodeFile.{CodeFile}
 use Rattle.code_image.specs.declared.code.Code.{Code}
 use Rattle.code_image.specs.declared.instruction.Instruction.{Instruction}
 use Rattle.code_image.specs.declared.instruction.Instruction.TheVariants.{Branch, Jump, Join}
-use Rattle.codegen.specs.Pieces.{Fragment, no_tables, joined_tables, append}
+use Rattle.codegen.specs.Fragments.{Fragment, no_tables, joined_tables, append}
 use Rattle.codegen.specs.Meeting.{branch_code, jump_code, either_fragment}
 use Rattle.codegen.specs.Layout.{phrase_fragment, phrases_from}
 use Rattle.codegen.specs.Phrases.{patched_instructions, patched_code}
-use Rattle.codegen.proofs.Pieces.{tables_assoc, tables_nothing, joined_assoc}
+use Rattle.codegen.proofs.Fragments.{tables_assoc, tables_nothing, joined_assoc}
 
 -- an instruction behind others, in another's place
 set_behind : (front : List Instruction) (old new : Instruction) (back : List Instruction) (at : ℕ) → at ≡ length front → slice_set (front ++ (old ∷ back)) at new ≡ front ++ (new ∷ back)

@@ -5,17 +5,17 @@ use Rattle.std.specs.List.{AllByRecursion}
 use Rattle.std.proofs.lemmas.List.{length-set, drop_more, drop_all}
 use Rattle.source_tree.specs.declared.evaluate_statement.Subject.{Subject}
 use Rattle.source_tree.specs.declared.evaluate_statement.Selected.{Selected}
-use Rattle.source_tree.specs.Evaluate.{selected_asked}
+use Rattle.source_tree.specs.Evaluate.{selected_condition}
 use Rattle.source_tree.specs.Setting.{Scope}
 use Rattle.code_image.specs.declared.code.Code.{Code}
 use Rattle.code_image.specs.declared.instruction.Instruction.TheVariants.{Branch, Jump, Join}
 use Rattle.codegen.specs.declared.phrases.Way.{Way}
-use Rattle.codegen.specs.Pieces.{Fragment, append, sequence, in_order}
+use Rattle.codegen.specs.Fragments.{Fragment, append, sequence, in_order}
 use Rattle.codegen.specs.Meeting.{branch_code, jump_code, either_fragment}
 use Rattle.codegen.specs.ConditionCode.{condition_fragment}
 use Rattle.codegen.specs.Layout.{phrase_fragment, selection_fragment}
 use Rattle.codegen.specs.Phrases.{patched_code, IsWay, met_all, opened_fragment, Opens}
-use Rattle.codegen.proofs.Pieces.{both_joined}
+use Rattle.codegen.proofs.Fragments.{both_joined}
 use Rattle.codegen.proofs.Sequences.{then_piece}
 use Rattle.codegen.proofs.Meeting.{meeting}
 
@@ -110,12 +110,12 @@ module _ (scope : Scope) {S : Type 0} (inside : S → Fragment) (subjects : List
   -- what is there, and what is still to come, are the whole once all ways meet
   pub groups_go_on : (ways : List Way) (groups : List (Selected S)) (i : ℕ) (d : Selected S) (one : Selected S) (code next total : Code) (way : Way) → i < length groups
       → one ≡ get_or groups i d
-      → Opens (condition_fragment scope.items (selected_asked scope.items subjects one)) (in_order inside one.statements) code next way
+      → Opens (condition_fragment scope.items (selected_condition scope.items subjects one)) (in_order inside one.statements) code next way
       → met_all ways (append code (selection_fragment scope inside subjects (drop i groups) other code)) ≡ total
       → met_all (ways ++ way ∷ []) (append next (selection_fragment scope inside subjects (drop (i + 1) groups) other next)) ≡ total
   groups_go_on ways groups i d one code next total way lt is o so_far =
       let rest = drop (i + 1) groups in
-      let test = condition_fragment scope.items (selected_asked scope.items subjects one) in
+      let test = condition_fragment scope.items (selected_condition scope.items subjects one) in
       let list : one ∷ rest ≡ drop i groups = ap (λ (g : Selected S). g ∷ rest) is ∙ sym (drop_more groups i d lt) in
       last_met ways way (append next (selection_fragment scope inside subjects rest other next))
       ∙ ap (met_all ways) (opened test (in_order inside one.statements) code (selection_fragment scope inside subjects rest other) next way o

@@ -24,14 +24,14 @@ use Rattle.source_tree.specs.ArithmeticRules.{is_numeric_kind}
 use Rattle.source_tree.specs.Broken.{RuleBreach, where_so, each}
 use Rattle.source_tree.specs.Computed.{ArithmeticValue, number_at, operand_value}
 use Rattle.source_tree.specs.ConditionRules.{Characters, compared_kind, compared_only, compared_alone}
-use Rattle.source_tree.specs.Conditions.{satisfies, senders_stand, without_value, take_bytes, take_item, take_operand, numbers_stand, alone_side, side_number, relation_of}
+use Rattle.source_tree.specs.Conditions.{satisfies, senders_satisfy, without_value, take_bytes, take_item, take_operand, numbers_satisfy, alone_side, side_number, relation_of}
 use Rattle.source_tree.specs.Evaluated.{Fault, Evaluation, ◌>>=◌, evaluation_of}
 use Rattle.source_tree.specs.Literals.{Sender, item_sender}
 use Rattle.source_tree.specs.Moving.{taken_of}
 use Rattle.source_tree.specs.LookUp.{items_named, first}
 use Rattle.source_tree.specs.NameRules.{unique_name_rules, subscript_rules, reference_rules, any_item, operand_rules}
 use Rattle.source_tree.specs.Places.{LocatedItem}
-use Rattle.source_tree.specs.References.{ItemPlace, part_of, place_behind, bytes_before, occurrence, place_of}
+use Rattle.source_tree.specs.References.{ItemPlace, part_of, place_after, bytes_before, occurrence, place_of}
 use Rattle.source_tree.specs.Storage.{Storage}
 use Rattle.source_tree.proofs.Subjects.{item_beside}
 use Rattle.data_instructions.specs.ConditionCodes.{pair_truth, numbers_truth}
@@ -74,7 +74,7 @@ text_taken (kind.Numeric form) bytes e = absurd cc
 
 -- an item that is found so many bytes behind its start
 abbrev found_behind : LocatedItem → Evaluation ℕ → Evaluation ItemPlace
-found_behind one behind = behind >>= (λ n. Ok (place_behind one n))
+found_behind one behind = behind >>= (λ n. Ok (place_after one n))
 
 -- what is sent from a place
 abbrev sent_from : Storage → Evaluation ItemPlace → Evaluation Sender
@@ -87,7 +87,7 @@ value_from storage place = (place >>= number_at storage) >>= (λ x. Ok (Some x))
 text_behind : (one : LocatedItem) (behind : Evaluation ℕ) (storage : Storage) (fault : Fault) (go : Sender → Evaluation Bool) → is_numeric_kind one.item.kind ≡ false
     → (found_behind one behind >>= take_item storage) ≡ Err fault → (sent_from storage (found_behind one behind) >>= go) ≡ Err fault
 text_behind one (Ok n) storage fault go text e =
-    let taken : ◌≡◌ {A = Evaluation (Unit {0})} (Ok tt) (Err fault) = sym (text_taken one.item.kind (part_of storage (place_behind one n)) text) ∙ e in absurd cc
+    let taken : ◌≡◌ {A = Evaluation (Unit {0})} (Ok tt) (Err fault) = sym (text_taken one.item.kind (part_of storage (place_after one n)) text) ∙ e in absurd cc
 text_behind one (Err other) storage fault go text e = let is : ◌≡◌ {A = Evaluation (Unit {0})} (Err other) (Err fault) = e in cc
 
 -- ---- two numbers
@@ -102,14 +102,14 @@ numeric_behind one (Ok n) e = e
 numeric_behind one (Err fault) e = tt
 
 right_number : (by : Relation) (x : Fraction) (found : Option Fraction)
-    → (evaluation_of (compare.both order (Some x) found) >>= (λ ordering. Ok (satisfies by ordering))) ≡ ((evaluation_of found >>= (λ y. Ok (Some y))) >>= numbers_stand by (Some x))
+    → (evaluation_of (compare.both order (Some x) found) >>= (λ ordering. Ok (satisfies by ordering))) ≡ ((evaluation_of found >>= (λ y. Ok (Some y))) >>= numbers_satisfy by (Some x))
 right_number by x (Some y) = refl
 right_number by x None = refl
 
 module _ (by : Relation) (storage : Storage) where
   right_bytes : (form : Numeric) (size : ℕ) (bytes : List ℕ) (x : Fraction) (one : Kind) (length : ℕ) (others : List ℕ) → value_of form bytes ≡ Some x → is_numeric_kind one ≡ true
-      → senders_stand by (item_sender (record { kind = kind.Numeric form; length = size }) bytes) (item_sender (record { kind = one; length = length }) others)
-      ≡ ((evaluation_of (number_in one others) >>= (λ y. Ok (Some y))) >>= numbers_stand by (Some x))
+      → senders_satisfy by (item_sender (record { kind = kind.Numeric form; length = size }) bytes) (item_sender (record { kind = one; length = length }) others)
+      ≡ ((evaluation_of (number_in one others) >>= (λ y. Ok (Some y))) >>= numbers_satisfy by (Some x))
   unfolding compare.comparison_of
   right_bytes form size bytes x kind.Group length others is e = absurd cc
   right_bytes form size bytes x (kind.Alphabetic justified) length others is e = absurd cc
@@ -121,19 +121,19 @@ module _ (by : Relation) (storage : Storage) where
       ∙ right_number by x (value_of other others)
 
   right_place : (form : Numeric) (size : ℕ) (bytes : List ℕ) (x : Fraction) (other : Evaluation ItemPlace) → value_of form bytes ≡ Some x → IsNumeric other
-      → (sent_from storage other >>= senders_stand by (item_sender (record { kind = kind.Numeric form; length = size }) bytes)) ≡ (value_from storage other >>= numbers_stand by (Some x))
+      → (sent_from storage other >>= senders_satisfy by (item_sender (record { kind = kind.Numeric form; length = size }) bytes)) ≡ (value_from storage other >>= numbers_satisfy by (Some x))
   right_place form size bytes x (Ok place) is e = right_bytes form size bytes x place.item.kind place.item.length (part_of storage place) is e
   right_place form size bytes x (Err fault) is e = refl
 
   left_number : (form : Numeric) (size : ℕ) (bytes : List ℕ) (other : Evaluation ItemPlace) (value : Option Fraction) → value_of form bytes ≡ value → IsNumeric other
-      → (without_value (evaluation_of value) >>= (λ _. sent_from storage other >>= senders_stand by (item_sender (record { kind = kind.Numeric form; length = size }) bytes)))
-      ≡ ((evaluation_of value >>= (λ x. Ok (Some x))) >>= (λ x. value_from storage other >>= numbers_stand by x))
+      → (without_value (evaluation_of value) >>= (λ _. sent_from storage other >>= senders_satisfy by (item_sender (record { kind = kind.Numeric form; length = size }) bytes)))
+      ≡ ((evaluation_of value >>= (λ x. Ok (Some x))) >>= (λ x. value_from storage other >>= numbers_satisfy by x))
   left_number form size bytes other (Some x) is e = right_place form size bytes x other is e
   left_number form size bytes other None is e = refl
 
   left_bytes : (one : Kind) (size : ℕ) (bytes : List ℕ) (other : Evaluation ItemPlace) → is_numeric_kind one ≡ true → IsNumeric other
-      → (take_bytes one bytes >>= (λ _. sent_from storage other >>= senders_stand by (item_sender (record { kind = one; length = size }) bytes)))
-      ≡ ((evaluation_of (number_in one bytes) >>= (λ x. Ok (Some x))) >>= (λ x. value_from storage other >>= numbers_stand by x))
+      → (take_bytes one bytes >>= (λ _. sent_from storage other >>= senders_satisfy by (item_sender (record { kind = one; length = size }) bytes)))
+      ≡ ((evaluation_of (number_in one bytes) >>= (λ x. Ok (Some x))) >>= (λ x. value_from storage other >>= numbers_satisfy by x))
   left_bytes kind.Group size bytes other is e = absurd cc
   left_bytes (kind.Alphabetic justified) size bytes other is e = absurd cc
   left_bytes (kind.Alphanumeric justified) size bytes other is e = absurd cc
@@ -142,8 +142,8 @@ module _ (by : Relation) (storage : Storage) where
   left_bytes (kind.Numeric form) size bytes other is e = left_number form size bytes other (value_of form bytes) refl e
 
   places_compared : (one other : Evaluation ItemPlace) → IsNumeric one → IsNumeric other
-      → ((one >>= take_item storage) >>= (λ _. sent_from storage one >>= (λ x. sent_from storage other >>= senders_stand by x)))
-      ≡ (value_from storage one >>= (λ x. value_from storage other >>= numbers_stand by x))
+      → ((one >>= take_item storage) >>= (λ _. sent_from storage one >>= (λ x. sent_from storage other >>= senders_satisfy by x)))
+      ≡ (value_from storage one >>= (λ x. value_from storage other >>= numbers_satisfy by x))
   places_compared (Ok place) other is e = left_bytes place.item.kind place.item.length (part_of storage place) other is e
   places_compared (Err fault) other is e = refl
 
@@ -166,7 +166,7 @@ module _ (items : List LocatedItem) where
 
   -- its place, if it has no dimensions
   pub single_place : (one : Reference) (storage : Storage) → reference_rules items any_item one ≡ [] → is_single (slice_get items (item_number items one.item)) ≡ true
-      → (found : LocatedItem) × (slice_get items (item_number items one.item) ≡ Some found) × (place_of items one storage ≡ Ok (place_behind found 0))
+      → (found : LocatedItem) × (slice_get items (item_number items one.item) ≡ Some found) × (place_of items one storage ≡ Ok (place_after found 0))
   single_place one storage e single =
       let only = only_item one e in
       let there = item_there items one.item only.0 only.1 in
@@ -187,7 +187,7 @@ module _ (items : List LocatedItem) where
       let is = placed one storage only.0 only.1 in
       let behind = bytes_before items only.0.dimensions one.subscripts storage in
       let no_number : is_numeric_kind only.0.item.kind ≡ false = sym (ap is_numeric_item (item_there items one.item only.0 only.1)) ∙ text in
-      let go : Sender → Evaluation Bool = λ x. taken_of items b storage >>= senders_stand by x in
+      let go : Sender → Evaluation Bool = λ x. taken_of items b storage >>= senders_satisfy by x in
       ap (λ (p : Evaluation ItemPlace). sent_from storage p >>= go) is
       ∙ text_behind only.0 behind storage fault go no_number (sym (ap (λ (p : Evaluation ItemPlace). p >>= take_item storage) is) ∙ taken)
 
@@ -225,8 +225,8 @@ module _ (items : List LocatedItem) where
       → is_numeric_operand items a ≡ true → is_numeric_operand items b ≡ true → operand_rules items a ≡ [] → operand_rules items b ≡ []
       → numbers_truth items left by right storage ≡ relation_of items (Some a) (Some b) left by right storage
   numbers_alike (operand.Item one) (operand.Item other) left by right storage is of numeric also keeps others =
-      ap (λ (x : Evaluation ArithmeticValue). x >>= (λ n. side_number items right storage >>= numbers_stand by n)) (alone_number items left (operand.Item one) storage is)
-      ∙ ap (λ (y : Evaluation ArithmeticValue). operand_value items (operand.Item one) storage >>= (λ n. y >>= numbers_stand by n)) (alone_number items right (operand.Item other) storage of)
+      ap (λ (x : Evaluation ArithmeticValue). x >>= (λ n. side_number items right storage >>= numbers_satisfy by n)) (alone_number items left (operand.Item one) storage is)
+      ∙ ap (λ (y : Evaluation ArithmeticValue). operand_value items (operand.Item one) storage >>= (λ n. y >>= numbers_satisfy by n)) (alone_number items right (operand.Item other) storage of)
       ∙ sym (places_compared by storage (place_of items one storage) (place_of items other storage) (numeric_place one storage keeps numeric) (numeric_place other storage others also))
   numbers_alike (operand.Item one) (operand.Literal other) left by right storage is of numeric also keeps others = absurd cc
   numbers_alike (operand.Literal one) b left by right storage is of numeric also keeps others = absurd cc

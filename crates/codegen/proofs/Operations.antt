@@ -6,11 +6,11 @@ use Rattle.source_tree.specs.Places.{LocatedItem}
 use Rattle.source_tree.specs.NameRules.{reference_rules}
 use Rattle.source_tree.specs.ArithmeticRules.{number_rules, number_receiver, operation_rules}
 use Rattle.code_image.specs.declared.code.Code.{Code}
-use Rattle.codegen.specs.Pieces.{Fragment, append, sequence}
+use Rattle.codegen.specs.Fragments.{Fragment, append, sequence}
 use Rattle.codegen.specs.ArithmeticCode.{value_fragment, total_fragment, operation_fragment}
 use Rattle.codegen.specs.Operations.{values_rules, results_rules, values_fragment, results_fragment}
 use Rattle.codegen.proofs.Kept.{front_kept, back_kept, both_kept}
-use Rattle.codegen.proofs.Pieces.{joined_assoc}
+use Rattle.codegen.proofs.Fragments.{joined_assoc}
 
 regrouped : (first second third : Fragment) (before : Code) → sequence first (sequence second third) before ≡ sequence (sequence first second) third before
 regrouped first second third before =

@@ -17,7 +17,7 @@ use Rattle.code_image.specs.declared.code.Code.{Code}
 use Rattle.code_image.specs.declared.instruction.Instruction.{Instruction}
 use Rattle.code_image.specs.declared.instruction.Instruction.TheVariants.{Tick, Show, Stop, Count, CountNumber, Turn, Accept, Date, Branch, Jump, Join, Perform, Back, File, TestStatus, Unheard, Data}
 use Rattle.code_image.specs.Demands.{NamesParagraph, IsBack, back_count, ends_in, paragraph_at, IsFront, StartsAt, performs, performed_from}
-use Rattle.codegen.specs.Pieces.{empty_code, append, in_order}
+use Rattle.codegen.specs.Fragments.{empty_code, append, in_order}
 use Rattle.codegen.specs.Layout.{sentence_fragment, start_fragment, back_fragment, paragraph_fragment}
 use Rattle.codegen.proofs.Codes.{left_none, right_none}
 use Rattle.codegen.proofs.ConditionValues.{AreFormed}

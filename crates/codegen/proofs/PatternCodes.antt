@@ -19,7 +19,7 @@ use Rattle.data_instructions.specs.Codes.{data_item, IsReferenceCode, AreSubscri
 use Rattle.data_instructions.specs.Chains.{LiesWhole}
 use Rattle.data_instructions.specs.TextCodes.{new_byte, new_mark, HasPattern, IsInitializeCode, AreInitializedCode, IsSetCode, AreSetCode, LieEach, LieConditions}
 use Rattle.code_image.specs.declared.code.Code.{Code}
-use Rattle.codegen.specs.Pieces.{sequence}
+use Rattle.codegen.specs.Fragments.{sequence}
 use Rattle.codegen.specs.DataCode.{item_number, dimensions_of, subscripts_fragment, reference_fragment}
 use Rattle.codegen.specs.ConditionCode.{condition_number, condition_item}
 use Rattle.codegen.specs.PatternCode.{pattern_fragment, pattern_of, set_of, initialize_fragment, initializes_fragment, set_fragment, sets_fragment}

@@ -9,19 +9,19 @@ use Rattle.source_tree.specs.declared.evaluate_statement.Object.{Object}
 use Rattle.source_tree.specs.declared.evaluate_statement.When.{When}
 use Rattle.source_tree.specs.Broken.{each}
 use Rattle.source_tree.specs.ConditionRules.{relation_rules, condition_rules}
-use Rattle.source_tree.specs.Evaluate.{constant, told_as, alike, value_within, selection_condition, asked_each, when_asked, whens_asked}
+use Rattle.source_tree.specs.Evaluate.{constant, condition_or_opposite, alike, value_within, selection_condition, object_conditions, when_condition, when_conditions}
 use Rattle.source_tree.specs.EvaluateRules.{when_rules}
 use Rattle.source_tree.specs.Places.{LocatedItem}
 use Rattle.data_instructions.specs.ConditionCodes.{negation}
 use Rattle.code_image.specs.declared.code.Code.{Code}
-use Rattle.codegen.specs.Pieces.{Fragment, append, sequence, in_order}
+use Rattle.codegen.specs.Fragments.{Fragment, append, sequence, in_order}
 use Rattle.codegen.specs.DataCode.{works_fragment}
 use Rattle.codegen.specs.ConditionCode.{relation_fragment, and_fragment, or_fragment, condition_fragment}
 use Rattle.codegen.specs.EvaluateCode.{constant_fragment}
 use Rattle.codegen.proofs.ConditionLayers.{relation_is, not_is, all_is, any_is, relation_kept, not_rules, all_rules, any_rules}
 use Rattle.codegen.proofs.EvaluateKept.{objects_of, asked_each_kept}
 use Rattle.codegen.proofs.Kept.{front_kept, back_kept, both_kept}
-use Rattle.codegen.proofs.Pieces.{joined_assoc, joined_nothing}
+use Rattle.codegen.proofs.Fragments.{joined_assoc, joined_nothing}
 
 module _ (items : List LocatedItem) where
   -- ---- the code
@@ -32,14 +32,14 @@ module _ (items : List LocatedItem) where
 
   -- NOT behind a condition that is to be false
   pub told_is : (one : Condition) (truth negated : Bool) (before : Code) → negated ≡ not truth
-      → sequence (condition_fragment items one) (works_fragment (negation negated)) before ≡ condition_fragment items (told_as truth one) before
+      → sequence (condition_fragment items one) (works_fragment (negation negated)) before ≡ condition_fragment items (condition_or_opposite truth one) before
   told_is one true false before e = joined_nothing (condition_fragment items one before)
   told_is one false true before e = sym (ap (λ (p : Fragment). p before) (not_is items one))
   told_is one true true before e = absurd cc
   told_is one false false before e = absurd cc
 
   pub unless_is : (one : Condition) (negated : Bool) (before : Code)
-      → sequence (condition_fragment items one) (works_fragment (negation negated)) before ≡ condition_fragment items (told_as (not negated) one) before
+      → sequence (condition_fragment items one) (works_fragment (negation negated)) before ≡ condition_fragment items (condition_or_opposite (not negated) one) before
   unless_is one true before = told_is one false true before refl
   unless_is one false before = told_is one true false before refl
 
@@ -76,46 +76,46 @@ module _ (items : List LocatedItem) where
   -- what is there, and what is still to come, are the whole
   pub pairs_go_on : (subject : Subject) (subjects : List Subject) (object : Object) (objects : List Object) (code next : Code)
       → next ≡ append code (further_piece (selection_condition items subject object.choice) code)
-      → append next (in_order further_piece (asked_each items subjects objects) next)
-      ≡ append code (in_order further_piece (asked_each items (subject ∷ subjects) (object ∷ objects)) code)
+      → append next (in_order further_piece (object_conditions items subjects objects) next)
+      ≡ append code (in_order further_piece (object_conditions items (subject ∷ subjects) (object ∷ objects)) code)
   pairs_go_on subject subjects object objects code next is =
       let one = further_piece (selection_condition items subject object.choice) code in
-      ap (λ (c : Code). append c (in_order further_piece (asked_each items subjects objects) c)) is
-      ∙ joined_assoc code one (in_order further_piece (asked_each items subjects objects) (append code one))
+      ap (λ (c : Code). append c (in_order further_piece (object_conditions items subjects objects) c)) is
+      ∙ joined_assoc code one (in_order further_piece (object_conditions items subjects objects) (append code one))
 
-  pub no_subjects : (subjects : List Subject) (objects : List Object) → length subjects ≡ 0 → asked_each items subjects objects ≡ []
+  pub no_subjects : (subjects : List Subject) (objects : List Object) → length subjects ≡ 0 → object_conditions items subjects objects ≡ []
   no_subjects [] objects e = refl
   no_subjects (one ∷ more) objects e = absurd (omega (arith, e))
 
-  pub no_objects : (subjects : List Subject) (objects : List Object) → length objects ≡ 0 → asked_each items subjects objects ≡ []
+  pub no_objects : (subjects : List Subject) (objects : List Object) → length objects ≡ 0 → object_conditions items subjects objects ≡ []
   no_objects [] objects e = refl
   no_objects (one ∷ more) [] e = refl
   no_objects (one ∷ more) (object ∷ others) e = absurd (omega (arith, e))
 
   -- ---- the WHENs of a group
 
-  pub no_whens : (subjects : List Subject) (whens : List When) → length whens ≡ 0 → whens_asked items subjects whens ≡ []
+  pub no_whens : (subjects : List Subject) (whens : List When) → length whens ≡ 0 → when_conditions items subjects whens ≡ []
   no_whens subjects [] e = refl
   no_whens subjects (one ∷ more) e = absurd (omega (arith, e))
 
   whens_map : (subjects : List Subject) (more : List When) (before : Code)
-      → in_order (λ (one : When). or_fragment (condition_fragment items (when_asked items subjects one))) more before
-      ≡ in_order or_fragment (map (condition_fragment items) (whens_asked items subjects more)) before
+      → in_order (λ (one : When). or_fragment (condition_fragment items (when_condition items subjects one))) more before
+      ≡ in_order or_fragment (map (condition_fragment items) (when_conditions items subjects more)) before
   whens_map subjects [] before = refl
   whens_map subjects (one ∷ more) before =
-      let first = or_fragment (condition_fragment items (when_asked items subjects one)) before in
+      let first = or_fragment (condition_fragment items (when_condition items subjects one)) before in
       ap (append first) (whens_map subjects more (append before first))
 
   pub whens_are : (subjects : List Subject) (first : When) (more : List When) (before : Code)
-      → sequence (condition_fragment items (when_asked items subjects first)) (in_order (λ (one : When). or_fragment (condition_fragment items (when_asked items subjects one))) more) before
-      ≡ condition_fragment items (condition.Any (whens_asked items subjects (first ∷ more))) before
+      → sequence (condition_fragment items (when_condition items subjects first)) (in_order (λ (one : When). or_fragment (condition_fragment items (when_condition items subjects one))) more) before
+      ≡ condition_fragment items (condition.Any (when_conditions items subjects (first ∷ more))) before
   whens_are subjects first more before =
-      let one = condition_fragment items (when_asked items subjects first) before in
-      ap (append one) (whens_map subjects more (append before one)) ∙ sym (ap (λ (p : Fragment). p before) (any_is items (whens_asked items subjects (first ∷ more))))
+      let one = condition_fragment items (when_condition items subjects first) before in
+      ap (append one) (whens_map subjects more (append before one)) ∙ sym (ap (λ (p : Fragment). p before) (any_is items (when_conditions items subjects (first ∷ more))))
 
   -- ---- the rules
 
-  pub told_rules : (truth : Bool) (one : Condition) → condition_rules items (told_as truth one) ≡ condition_rules items one
+  pub told_rules : (truth : Bool) (one : Condition) → condition_rules items (condition_or_opposite truth one) ≡ condition_rules items one
   told_rules true one = refl
   told_rules false one = not_rules items one
 
@@ -151,24 +151,24 @@ module _ (items : List LocatedItem) where
 
   -- the first pair, and the further ones
   pub pair_rules : (subject : Subject) (subjects : List Subject) (object : Object) (objects : List Object)
-      → each (condition_rules items) (asked_each items (subject ∷ subjects) (object ∷ objects)) ≡ [] → condition_rules items (selection_condition items subject object.choice) ≡ []
+      → each (condition_rules items) (object_conditions items (subject ∷ subjects) (object ∷ objects)) ≡ [] → condition_rules items (selection_condition items subject object.choice) ≡ []
   pair_rules subject subjects object objects e =
-      front_kept (condition_rules items (selection_condition items subject object.choice)) (each (condition_rules items) (asked_each items subjects objects)) e
+      front_kept (condition_rules items (selection_condition items subject object.choice)) (each (condition_rules items) (object_conditions items subjects objects)) e
 
   pub pairs_rules : (subject : Subject) (subjects : List Subject) (object : Object) (objects : List Object)
-      → each (condition_rules items) (asked_each items (subject ∷ subjects) (object ∷ objects)) ≡ []
-      → each (condition_rules items) (asked_each items subjects objects) ≡ []
+      → each (condition_rules items) (object_conditions items (subject ∷ subjects) (object ∷ objects)) ≡ []
+      → each (condition_rules items) (object_conditions items subjects objects) ≡ []
   pairs_rules subject subjects object objects e =
-      back_kept (condition_rules items (selection_condition items subject object.choice)) (each (condition_rules items) (asked_each items subjects objects)) e
+      back_kept (condition_rules items (selection_condition items subject object.choice)) (each (condition_rules items) (object_conditions items subjects objects)) e
 
   -- what each WHEN asks
   pub whens_rules : (subjects : List Subject) (whens : List When) → each (when_rules items subjects) whens ≡ []
-      → each (λ (one : When). each (condition_rules items) (asked_each items subjects one.objects)) whens ≡ []
+      → each (λ (one : When). each (condition_rules items) (object_conditions items subjects one.objects)) whens ≡ []
   whens_rules subjects [] e = refl
   whens_rules subjects (one ∷ more) e =
       let first = when_rules items subjects one in
       let others = each (when_rules items subjects) more in
-      both_kept (each (condition_rules items) (asked_each items subjects one.objects))
-      (each (λ (w : When). each (condition_rules items) (asked_each items subjects w.objects)) more)
+      both_kept (each (condition_rules items) (object_conditions items subjects one.objects))
+      (each (λ (w : When). each (condition_rules items) (object_conditions items subjects w.objects)) more)
       (asked_each_kept items subjects one.objects (objects_of items subjects one (front_kept first others e)))
       (whens_rules subjects more (back_kept first others e))

@@ -2,8 +2,8 @@
 use Rattle.std.proofs.Common.{◌≡◌, ap, ◌∙◌}
 use Rattle.std.specs.Prelude.{Result, Ok, Err, OnOk}
 use Rattle.code_image.specs.declared.code.Code.{Code}
-use Rattle.codegen.specs.Pieces.{Fragment, append, sequence}
-use Rattle.codegen.proofs.Pieces.{joined_assoc}
+use Rattle.codegen.specs.Fragments.{Fragment, append, sequence}
+use Rattle.codegen.proofs.Fragments.{joined_assoc}
 
 pub then_piece : (first second : Fragment) (before now after : Code) → now ≡ append before (first before) → after ≡ append now (second now) → after ≡ append before (sequence first second before)
 then_piece first second before now after e f = f ∙ ap (λ (c : Code). append c (second c)) e ∙ joined_assoc before (first before) (second (append before (first before)))

@@ -32,7 +32,7 @@ use Rattle.source_tree.specs.Branching.{way, conditional_outcome}
 use Rattle.source_tree.specs.Broken.{RuleBreach, where_so, each}
 use Rattle.source_tree.specs.ConditionRules.{condition_rules, varying_rules, until_rules}
 use Rattle.source_tree.specs.Conditions.{holds}
-use Rattle.source_tree.specs.Evaluate.{one_of, selected_asked, selection_outcome, evaluate_outcome}
+use Rattle.source_tree.specs.Evaluate.{one_of, selected_condition, selection_outcome, evaluate_outcome}
 use Rattle.source_tree.specs.EvaluateRules.{selected_rules}
 use Rattle.source_tree.specs.Evaluated.{Fault, Evaluation, ◌>>=◌}
 use Rattle.source_tree.specs.Filing.{phrases_of, file_outcome}
@@ -75,7 +75,7 @@ use Rattle.code_image.specs.declared.instruction.Instruction.TheVariants.{Show, 
 use Rattle.code_image.specs.Points.{Own, scratch_of, state_with, own_with}
 use Rattle.code_image.specs.Table.{data_from, exec_code}
 use Rattle.initial_storage.proofs.Pictures.{some_bytes}
-use Rattle.codegen.specs.Pieces.{Fragment, empty_code, append, sequence, in_order, plain_code}
+use Rattle.codegen.specs.Fragments.{Fragment, empty_code, append, sequence, in_order, plain_code}
 use Rattle.codegen.specs.DataCode.{reference_fragment, take_fragment, move_fragment, operands_fragment, line_end_fragment, show_fragment}
 use Rattle.codegen.specs.ArithmeticCode.{arithmetic_fragment}
 use Rattle.codegen.specs.PatternCode.{initializes_fragment, sets_fragment}
@@ -86,7 +86,7 @@ use Rattle.codegen.specs.ConditionCode.{condition_fragment}
 use Rattle.codegen.specs.UntilCode.{tick_fragment, until_from_fragment, vary_begin_fragment, vary_on_fragment, until_fragment}
 use Rattle.codegen.specs.SubjectCode.{first_object, is_asked_first, subjects_fragment}
 use Rattle.codegen.specs.Layout.{data_fragment, texts_fragment, times_fragment, counted_fragment, turns_fragment, range_fragment, turn_fragment, phrase_fragment, phrases_from, phrases_fragment, selection_fragment, evaluate_fragment, conditional_fragment, file_statement_fragment, verb_fragment}
-use Rattle.codegen.proofs.Pieces.{joined_assoc}
+use Rattle.codegen.proofs.Fragments.{joined_assoc}
 use Rattle.codegen.proofs.Blind.{Blind, in_order_blind}
 use Rattle.codegen.proofs.ConditionBlind.{condition_blind}
 use Rattle.codegen.proofs.UntilBlind.{vary_on_blind}
@@ -503,7 +503,7 @@ module _ (whole : Code) (kept : ℕ → Type 0) (scope : Scope) (has : HasFiles 
         let first = first_group scope.items rules subjects one more keep in
         let here = each_does one.statements (statements_of scope.items rules subjects one first) in
         let later = selecting_does subjects more other (other_groups scope.items rules subjects one more keep) otherwise in
-        let both_ways = tested_does (selected_asked scope.items subjects one) (in_order inside one.statements)
+        let both_ways = tested_does (selected_condition scope.items subjects one) (in_order inside one.statements)
         (selection_fragment scope inside subjects more other)
         (one_of (in_turn run one.statements) (selection_outcome scope.items run subjects more other))
         (selected_kept scope.items rules subjects one first) (in_order_blind inside blind one.statements)
@@ -578,7 +578,7 @@ module _ (whole : Code) (kept : ℕ → Type 0) (scope : Scope) (has : HasFiles 
         let asks = turns_rules scope.items one.turns in
         let performed = performed_rules scope.procedures permits rules one.performed in
         performing_does line one.turns one.performed before cs s (left_none asks performed keep) (right_none asks performed keep) le room sits
-    verb_does line (verb.Text one) before cs s keep le room sits =
+    verb_does line (verb.TextStatement one) before cs s keep le room sits =
         let a = tick_fragment line before in
         let b = texts_fragment scope.items one (append before a) in
         tick_part whole kept line before b cs s (texts scope.items one) sits.stands

@@ -25,7 +25,7 @@ use Rattle.data_instructions.specs.Chains.{LiesWhole}
 use Rattle.data_instructions.specs.ArithmeticCodes.{LiesOperand, LieOperands}
 use Rattle.data_instructions.specs.TextCodes.{HasText, IsSentCode, AreSentCode, IsFoundCode, AreFoundCode, IsUpToPlaceCode, AreUpToPlaceCode, IsSendingBy, IsSendingCode, AreSendingsCode, IsPutCode, IsStringCode, LiesDelimiter, LieSendings, LiesPointer, LiesString}
 use Rattle.code_image.specs.declared.code.Code.{Code}
-use Rattle.codegen.specs.Pieces.{sequence, in_order}
+use Rattle.codegen.specs.Fragments.{sequence, in_order}
 use Rattle.codegen.specs.DataCode.{work_fragment, text_fragment, reference_fragment}
 use Rattle.codegen.specs.StringCode.{up_to_text_fragment, text_up_to_place_fragment, sent_item_fragment, sent_fragment, found_fragment, up_to_place_fragment, sender_by_fragment, sender_fragment, sendings_fragment, pointer_subscripts, put_fragment, string_fragment}
 use Rattle.codegen.proofs.Codes.{left_none, right_none, reference_coded, text_coded}

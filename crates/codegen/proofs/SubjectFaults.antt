@@ -28,8 +28,8 @@ use Rattle.source_tree.specs.Evaluated.{Fault, Data, Evaluation, ◌>>=◌, eval
 use Rattle.source_tree.specs.References.{ItemPlace, part_of, place_of}
 use Rattle.source_tree.specs.Moving.{taken_of}
 use Rattle.source_tree.specs.Computed.{ArithmeticValue, ExpressionValue, number_at, number_of_literal, number_of_operand, operand_value, expression_layer, expression_value}
-use Rattle.source_tree.specs.Conditions.{satisfies, senders_stand, without_value, take_bytes, take_item, take_operand, numbers_stand, alone, alone_side, relation_of, side_number, holds, all_hold, any_holds}
-use Rattle.source_tree.specs.Evaluate.{ObjectValues, told_as, value_within, value_asked, take_value}
+use Rattle.source_tree.specs.Conditions.{satisfies, senders_satisfy, without_value, take_bytes, take_item, take_operand, numbers_satisfy, alone, alone_side, relation_of, side_number, holds, all_hold, any_holds}
+use Rattle.source_tree.specs.Evaluate.{ObjectValues, condition_or_opposite, value_within, value_condition, take_value}
 use Rattle.data_instructions.specs.ConditionCodes.{pair_truth}
 use Rattle.source_tree.proofs.Folded.{relation_tells, not_tells, all_tell, any_tells}
 
@@ -68,7 +68,7 @@ module _ (form : Numeric) (length : ℕ) (bytes : List ℕ) (none : value_of for
       (ap (option_map (digits_of form)) none)
 
   sender_fault : (one : Relation) (other : Sender)
-      → senders_stand one (item_sender (record { kind = kind.Numeric form; length = length }) bytes) other ≡ Err Data
+      → senders_satisfy one (item_sender (record { kind = kind.Numeric form; length = length }) bytes) other ≡ Err Data
   unfolding compare.comparison_of
   sender_fault one other = ap (λ o. evaluation_of o >>= (λ ordering. Ok (satisfies one ordering))) (choice_none (compare.is_number_operand other.taken) other)
 
@@ -78,7 +78,7 @@ no_value None fault e = (refl, let is : ◌≡◌ {A = Evaluation (Unit {0})} (E
 
 -- An item whose bytes are taken with a fault, beside whatever is taken without another one.
 bytes_fault : (one : Kind) (length : ℕ) (bytes : List ℕ) (fault : Fault) (by : Relation) (found : Evaluation Sender) → OnlyData found → take_bytes one bytes ≡ Err fault
-    → (found >>= senders_stand by (item_sender (record { kind = one; length = length }) bytes)) ≡ Err fault
+    → (found >>= senders_satisfy by (item_sender (record { kind = one; length = length }) bytes)) ≡ Err fault
 bytes_fault kind.Group length bytes fault by found only e = absurd cc
 bytes_fault (kind.Alphabetic justified) length bytes fault by found only e = absurd cc
 bytes_fault (kind.Alphanumeric justified) length bytes fault by found only e = absurd cc
@@ -86,23 +86,23 @@ bytes_fault kind.AlphanumericEdited length bytes fault by found only e = absurd 
 bytes_fault (kind.NumericEdited blank) length bytes fault by found only e = absurd cc
 bytes_fault (kind.Numeric form) length bytes fault by found only e =
     let none = no_value (value_of form bytes) fault e in
-    ends_so found (senders_stand by (item_sender (record { kind = kind.Numeric form; length = length }) bytes)) only
+    ends_so found (senders_satisfy by (item_sender (record { kind = kind.Numeric form; length = length }) bytes)) only
     (λ other. sender_fault form length bytes none.0 by other)
     ∙ sym (ap (λ (f : Fault). Err f) none.1)
 
 item_fault : (storage : Storage) (place : Evaluation ItemPlace) (fault : Fault) (by : Relation) (found : Evaluation Sender) → OnlyData found
     → (place >>= take_item storage) ≡ Err fault
-    → ((place >>= (λ one. Ok (item_sender one.item (part_of storage one)))) >>= (λ x. found >>= senders_stand by x)) ≡ Err fault
+    → ((place >>= (λ one. Ok (item_sender one.item (part_of storage one)))) >>= (λ x. found >>= senders_satisfy by x)) ≡ Err fault
 item_fault storage (Ok place) fault by found only e = bytes_fault place.item.kind place.item.length (part_of storage place) fault by found only e
 item_fault storage (Err other) fault by found only e = let is : ◌≡◌ {A = Evaluation (Unit {0})} (Err other) (Err fault) = e in cc
 
 -- ---- two numbers, of which there isn't a first one
 
 number_fault : (value : Evaluation ArithmeticValue) (fault : Fault) (by : Relation) (found : Evaluation ArithmeticValue) → OnlyData found
-    → (value >>= (λ x. without_value (evaluation_of x))) ≡ Err fault → (value >>= (λ x. found >>= numbers_stand by x)) ≡ Err fault
+    → (value >>= (λ x. without_value (evaluation_of x))) ≡ Err fault → (value >>= (λ x. found >>= numbers_satisfy by x)) ≡ Err fault
 number_fault (Ok (Some x)) fault by found only e = absurd cc
 number_fault (Ok None) fault by found only e =
-    ends_so found (numbers_stand by None) only (λ y. refl) ∙ (let is : ◌≡◌ {A = Evaluation (Unit {0})} (Err Data) (Err fault) = e in cc)
+    ends_so found (numbers_satisfy by None) only (λ y. refl) ∙ (let is : ◌≡◌ {A = Evaluation (Unit {0})} (Err Data) (Err fault) = e in cc)
 number_fault (Err other) fault by found only e = let is : ◌≡◌ {A = Evaluation (Unit {0})} (Err other) (Err fault) = e in cc
 
 module _ (items : List LocatedItem) where
@@ -149,7 +149,7 @@ module _ (items : List LocatedItem) where
       → alone_side other ≡ right → IsAtHand one storage
       → take_value items left value storage ≡ Err fault → relation_of items left right value by other storage ≡ Err fault
   sides_fault (Some a) (Some b) value other by storage fault is of h e =
-      ap (λ (taken : Evaluation (Unit {0})). taken >>= (λ _. taken_of items a storage >>= (λ x. taken_of items b storage >>= senders_stand by x))) e
+      ap (λ (taken : Evaluation (Unit {0})). taken >>= (λ _. taken_of items a storage >>= (λ x. taken_of items b storage >>= senders_satisfy by x))) e
   sides_fault None (Some b) one value other by storage fault is of h e =
       number_fault (side_number items value storage) fault by (side_number items other storage) (only_side other one storage (of ∙ is) h) e
   sides_fault left None one value other by storage fault is of h e = absurd cc
@@ -161,7 +161,7 @@ module _ (items : List LocatedItem) where
       relation_tells items value by other storage ∙ sides_fault (alone_side value) (alone_side other) one value other by storage fault is refl h e
 
   -- and so it is in what begins with that relation, with NOT or without
-  pub told_fault : (truth : Bool) (one : Condition) (storage : Storage) (fault : Fault) → holds items one storage ≡ Err fault → holds items (told_as truth one) storage ≡ Err fault
+  pub told_fault : (truth : Bool) (one : Condition) (storage : Storage) (fault : Fault) → holds items one storage ≡ Err fault → holds items (condition_or_opposite truth one) storage ≡ Err fault
   told_fault true one storage fault e = e
   told_fault false one storage fault e = not_tells items one storage ∙ ap (λ (o : Evaluation Bool). o >>= (λ truth. Ok (not truth))) e
 
@@ -185,6 +185,6 @@ module _ (items : List LocatedItem) where
       (relation_fault value first one relation.GreaterOrEqual storage fault is h e)
 
   pub asked_fault : (value : Side) (wanted : ObjectValues) (one : Operand) (storage : Storage) (fault : Fault) → alone_side wanted.first ≡ Some one → IsAtHand one storage
-      → take_value items (alone_side value) value storage ≡ Err fault → holds items (value_asked value wanted) storage ≡ Err fault
+      → take_value items (alone_side value) value storage ≡ Err fault → holds items (value_condition value wanted) storage ≡ Err fault
   asked_fault value wanted one storage fault is h e =
       told_fault (not wanted.negated) (value_within value wanted.first wanted.last) storage fault (within_fault value wanted.first wanted.last one storage fault is h e)

@@ -23,20 +23,20 @@ use Rattle.source_tree.specs.ArithmeticRules.{is_numeric_kind}
 use Rattle.source_tree.specs.Broken.{RuleBreach, where_so, each}
 use Rattle.source_tree.specs.ConditionRules.{SideKind, Number, Characters, Either, compared_alone, may_compare, is_literal_alone, side_place, side_from, side_rules, relation_rules, condition_rules}
 use Rattle.source_tree.specs.Conditions.{without_value, take_item, alone_side, holds}
-use Rattle.source_tree.specs.Evaluate.{ObjectValues, ResolvedOperand, Value, Truth, Asking, told_as, value_within, value_asked, take_value, take_looked, take_subjects, looked_subject, selection_condition, asked_each, when_asked, whens_asked, selected_asked, one_of, selection_outcome}
-use Rattle.source_tree.specs.EvaluateRules.{looked_rules, object_rules, objects_rules, when_rules, selected_rules}
+use Rattle.source_tree.specs.Evaluate.{ObjectValues, ResolvedOperand, Value, Truth, Asking, condition_or_opposite, value_within, value_condition, take_value, take_resolved, take_subjects, resolved_subject, selection_condition, object_conditions, when_condition, when_conditions, selected_condition, one_of, selection_outcome}
+use Rattle.source_tree.specs.EvaluateRules.{resolved_rules, object_rules, objects_rules, when_rules, selected_rules}
 use Rattle.source_tree.specs.Evaluated.{Fault, Evaluation, ◌>>=◌, evaluation_of}
 use Rattle.source_tree.specs.LookUp.{items_named, first}
 use Rattle.source_tree.specs.NameRules.{unique_name_rules, subscript_rules, reference_rules, any_item, operand_rules}
 use Rattle.source_tree.specs.Places.{LocatedItem}
-use Rattle.source_tree.specs.References.{ItemPlace, part_of, place_behind, bytes_before, occurrence, place_of}
+use Rattle.source_tree.specs.References.{ItemPlace, part_of, place_after, bytes_before, occurrence, place_of}
 use Rattle.source_tree.specs.State.{State, Outcome, in_turn, with_value}
 use Rattle.source_tree.specs.Storage.{Storage}
 use Rattle.source_tree.proofs.Subjects.{beside_zero}
-use Rattle.declarations.specs.Looking.{choice_looked, asked_of_looked}
+use Rattle.declarations.specs.Resolved.{optional_choice, optional_condition}
 use Rattle.declarations.proofs.Looking.{asked_is}
 use Rattle.code_image.specs.declared.code.Code.{Code}
-use Rattle.codegen.specs.Pieces.{Fragment, append}
+use Rattle.codegen.specs.Fragments.{Fragment, append}
 use Rattle.codegen.specs.ConditionCode.{is_single, is_numeric_item, relation_fragment}
 use Rattle.codegen.specs.DataCode.{item_number}
 use Rattle.codegen.specs.SubjectCode.{zero_side, object_of_when, first_object, is_at_hand, is_faultless, value_look, look, look_fragment, each_subject_fragment, asks_at_once, is_asked_first, taken_from, subjects_fragment}
@@ -44,7 +44,7 @@ use Rattle.codegen.proofs.Codes.{left_none, right_none, only_named, item_there}
 use Rattle.codegen.proofs.ConditionLayers.{relation_is, relation_kept}
 use Rattle.codegen.proofs.EvaluateKept as rules
 use Rattle.codegen.proofs.Kept.{both_kept}
-use Rattle.codegen.proofs.Pieces.{joined_nothing}
+use Rattle.codegen.proofs.Fragments.{joined_nothing}
 use Rattle.codegen.proofs.Questions.{told_rules, from_rules}
 use Rattle.codegen.proofs.Sides.{right_kept}
 use Rattle.codegen.proofs.OperandOrder.{text_taken, single_place, at_hand}
@@ -109,7 +109,7 @@ module _ (items : List LocatedItem) where
   value_kept value true is e = refl
   value_kept value false is e = zero_kept value (no_literal (alone_side value) is) e
 
-  pub look_kept : (one : ResolvedOperand Side) → looked_rules items one ≡ [] → look_rules items (look items one) ≡ []
+  pub look_kept : (one : ResolvedOperand Side) → resolved_rules items one ≡ [] → look_rules items (look items one) ≡ []
   look_kept (Value one) e = value_kept one (is_faultless items (alone_side one)) refl e
   look_kept (Truth one) e = refl
   look_kept (Asking one) e = e
@@ -149,7 +149,7 @@ module _ (items : List LocatedItem) where
       let place = single_place items one storage e (first_true single (not numeric) is) in
       let text = sym (ap is_numeric_item place.1) ∙ not_so numeric (second_true single (not numeric) is) in
       ap (λ (found : Evaluation ItemPlace). found >>= take_item storage) place.2
-      ∙ text_taken place.0.item.kind (part_of storage (place_behind place.0 0)) text
+      ∙ text_taken place.0.item.kind (part_of storage (place_after place.0 0)) text
 
   faultless_taken : (alone : Option Operand) (value : Side) (storage : Storage) → is_faultless items alone ≡ true → side_from items alone value ≡ []
       → take_value items alone value storage ≡ Ok tt
@@ -163,7 +163,7 @@ module _ (items : List LocatedItem) where
   value_found value storage true is e = sym (faultless_taken (alone_side value) value storage is e)
   value_found value storage false is e = beside_zero items value _ storage (no_literal (alone_side value) is)
 
-  pub look_found : (one : ResolvedOperand Side) (storage : Storage) → looked_rules items one ≡ [] → look_value items (look items one) storage ≡ take_looked items one storage
+  pub look_found : (one : ResolvedOperand Side) (storage : Storage) → resolved_rules items one ≡ [] → look_value items (look items one) storage ≡ take_resolved items one storage
   look_found (Value one) storage e = value_found one storage (is_faultless items (alone_side one)) refl e
   look_found (Truth one) storage e = refl
   look_found (Asking one) storage e = refl
@@ -176,7 +176,7 @@ module _ (items : List LocatedItem) where
 
   value_fault : (value : Side) (wanted : ObjectValues) (alone : Option Operand) (storage : Storage) (fault : Fault) → alone_side wanted.first ≡ alone
       → is_at_hand items alone ≡ true → side_from items alone wanted.first ≡ []
-      → take_value items (alone_side value) value storage ≡ Err fault → holds items (value_asked value wanted) storage ≡ Err fault
+      → take_value items (alone_side value) value storage ≡ Err fault → holds items (value_condition value wanted) storage ≡ Err fault
   value_fault value wanted (Some one) storage fault is hand kept e = asked_fault items value wanted one storage fault is (at_hand items one storage hand kept) e
   value_fault value wanted None storage fault is hand kept e = absurd cc
 
@@ -185,8 +185,8 @@ module _ (items : List LocatedItem) where
   condition_fault (Err other) fault e = let is : ◌≡◌ {A = Evaluation (Unit {0})} (Err other) (Err fault) = e in cc
 
   looked_fault : (one : ResolvedOperand Side) (object : Option (ResolvedOperand ObjectValues)) (storage : Storage) (fault : Fault) → asks_at_once items one object ≡ true
-      → condition_rules items (asked_of_looked one object) ≡ []
-      → take_looked items one storage ≡ Err fault → holds items (asked_of_looked one object) storage ≡ Err fault
+      → condition_rules items (optional_condition one object) ≡ []
+      → take_resolved items one storage ≡ Err fault → holds items (optional_condition one object) storage ≡ Err fault
   looked_fault (Value value) (Some (Value wanted)) storage fault once kept e =
       let within = value_within value wanted.first wanted.last in
       let relates = first_kept value wanted.first wanted.last (sym (told_rules items (not wanted.negated) within) ∙ kept) in
@@ -211,26 +211,26 @@ module _ (items : List LocatedItem) where
   object_fault : (one : Subject) (object : Object) (storage : Storage) (fault : Fault) → is_asked_first items (one ∷ []) (Some object) ≡ true
       → object_rules items one object ≡ [] → take_subjects items (one ∷ []) storage ≡ Err fault → holds items (selection_condition items one object.choice) storage ≡ Err fault
   object_fault one object storage fault once kept e =
-      let l = looked_subject items one in
-      let o = choice_looked items object.choice in
+      let l = resolved_subject items one in
+      let o = optional_choice items object.choice in
       let is = asked_is items one object.choice in
       ap (λ (c : Condition). holds items c storage) is
-      ∙ looked_fault l o storage fault once (sym (ap (condition_rules items) is) ∙ rules.asked_kept items one object kept) (alone_fault (take_looked items l storage) storage fault e)
+      ∙ looked_fault l o storage fault once (sym (ap (condition_rules items) is) ∙ rules.asked_kept items one object kept) (alone_fault (take_resolved items l storage) storage fault e)
 
   when_fault : (one : Subject) (objects : List Object) (storage : Storage) (fault : Fault) → is_asked_first items (one ∷ []) (slice_get objects 0) ≡ true
       → objects_rules items (one ∷ []) objects ≡ [] → take_subjects items (one ∷ []) storage ≡ Err fault
-      → holds items (condition.All (asked_each items (one ∷ []) objects)) storage ≡ Err fault
+      → holds items (condition.All (object_conditions items (one ∷ []) objects)) storage ≡ Err fault
   when_fault one [] storage fault once kept e = absurd cc
   when_fault one (object ∷ others) storage fault once kept e =
-      all_fault items (selection_condition items one object.choice) (asked_each items [] others) storage fault
+      all_fault items (selection_condition items one object.choice) (object_conditions items [] others) storage fault
       (object_fault one object storage fault once (rules.first_object items one [] object others kept) e)
 
   whens_fault : (one : Subject) (whens : List When) (storage : Storage) (fault : Fault) → is_asked_first items (one ∷ []) (object_of_when (slice_get whens 0)) ≡ true
       → each (when_rules items (one ∷ [])) whens ≡ [] → take_subjects items (one ∷ []) storage ≡ Err fault
-      → holds items (condition.Any (whens_asked items (one ∷ []) whens)) storage ≡ Err fault
+      → holds items (condition.Any (when_conditions items (one ∷ []) whens)) storage ≡ Err fault
   whens_fault one [] storage fault once kept e = absurd cc
   whens_fault one (when ∷ more) storage fault once kept e =
-      any_fault items (when_asked items (one ∷ []) when) (whens_asked items (one ∷ []) more) storage fault
+      any_fault items (when_condition items (one ∷ []) when) (when_conditions items (one ∷ []) more) storage fault
       (when_fault one when.objects storage fault once
       (rules.objects_of items (one ∷ []) when (left_none (when_rules items (one ∷ []) when) (each (when_rules items (one ∷ [])) more) kept)) e)
 
@@ -250,7 +250,7 @@ module _ (items : List LocatedItem) where
     first_taken (one ∷ two ∷ more) selected s once kept = absurd cc
     first_taken (one ∷ []) [] s once kept = absurd cc
     first_taken (one ∷ []) (group ∷ more) s once kept =
-        fault_there (take_subjects items (one ∷ []) s.storage) (holds items (selected_asked items (one ∷ []) group) s.storage) s
+        fault_there (take_subjects items (one ∷ []) s.storage) (holds items (selected_condition items (one ∷ []) group) s.storage) s
         (one_of (in_turn run group.statements) (selection_outcome items run (one ∷ []) more other))
         (λ fault e. whens_fault one group.whens s.storage fault once
         (rules.whens_of items inside (one ∷ []) group (rules.first_group items inside (one ∷ []) group more kept)) e)

@@ -7,7 +7,7 @@ use Rattle.source_tree.specs.declared.evaluate_statement.Object.{Object}
 use Rattle.source_tree.specs.Broken.{each}
 use Rattle.source_tree.specs.ConditionRules.{condition_rules}
 use Rattle.source_tree.specs.Conditions.{without_value, holds}
-use Rattle.source_tree.specs.Evaluate.{take_looked, take_subjects, looked_subject}
+use Rattle.source_tree.specs.Evaluate.{take_resolved, take_subjects, resolved_subject}
 use Rattle.source_tree.specs.EvaluateRules.{subject_rules}
 use Rattle.source_tree.specs.Evaluated.{Evaluation, ◌>>=◌}
 use Rattle.source_tree.specs.Places.{LocatedItem}
@@ -17,7 +17,7 @@ use Rattle.data_instructions.specs.Codes.{data_item}
 use Rattle.data_instructions.specs.Chains.{LiesWhole}
 use Rattle.code_image.specs.declared.code.Code.{Code}
 use Rattle.code_image.specs.Points.{Own}
-use Rattle.codegen.specs.Pieces.{append}
+use Rattle.codegen.specs.Fragments.{append}
 use Rattle.codegen.specs.ConditionCode.{condition_fragment}
 use Rattle.codegen.specs.SubjectCode.{look, look_fragment, subject_fragment, each_subject_fragment, is_asked_first, taken_from, subjects_fragment}
 use Rattle.codegen.proofs.ConditionDoes.{condition_does}
@@ -45,12 +45,12 @@ one_more (Err fault) rest s go e = refl
 
 module _ (items : List LocatedItem) where
   abbrev taking_subject : Subject → State → Outcome
-  taking_subject one s = taking (take_looked items (looked_subject items one) s.storage) s
+  taking_subject one s = taking (take_resolved items (resolved_subject items one) s.storage) s
 
   each_taken : (subjects : List Subject) (s : State) → in_turn taking_subject subjects s ≡ taking (take_subjects items subjects s.storage) s
   each_taken [] s = refl
   each_taken (one ∷ more) s =
-      one_more (take_looked items (looked_subject items one) s.storage) (take_subjects items more s.storage) s (in_turn taking_subject more) (each_taken more s)
+      one_more (take_resolved items (resolved_subject items one) s.storage) (take_subjects items more s.storage) s (in_turn taking_subject more) (each_taken more s)
 
 module _ (whole : Code) (kept : ℕ → Type 0) (items : List LocatedItem)
     (entries : (n : ℕ) (one : LocatedItem) → slice_get items n ≡ Some one → slice_get whole.tables.items n ≡ Some (data_item one)) (order : IsTables whole.tables)
@@ -74,7 +74,7 @@ module _ (whole : Code) (kept : ℕ → Type 0) (items : List LocatedItem)
   subject_does : Follows whole kept depth (subject_rules items) (taking_subject items) (subject_fragment items)
   subject_does = record {
     by = λ one before cs s keep below room sits.
-        let l = looked_subject items one in
+        let l = resolved_subject items one in
         subst (λ (found : Evaluation (Unit {0})). PartDoes whole kept before (subject_fragment items one before) cs s (taking found s)) (look_found items l s.storage keep)
         (look_does (look items l) before cs s (look_kept items l keep) sits.stands);
   }

@@ -5,9 +5,9 @@ use Rattle.source_tree.specs.declared.reference.Subscript.{Subscript}
 use Rattle.source_tree.specs.declared.table.Dimension.{Dimension}
 use Rattle.source_tree.specs.Places.{LocatedItem}
 use Rattle.code_image.specs.declared.code.Code.{Code}
-use Rattle.codegen.specs.Pieces.{empty_code, append}
+use Rattle.codegen.specs.Fragments.{empty_code, append}
 use Rattle.codegen.specs.DataCode.{subscripts_fragment}
-use Rattle.codegen.proofs.Pieces.{joined_nothing}
+use Rattle.codegen.proofs.Fragments.{joined_nothing}
 
 module _ (items : List LocatedItem) where
   none_left : (dimensions : List Dimension) (before : Code) → subscripts_fragment items dimensions [] before ≡ empty_code

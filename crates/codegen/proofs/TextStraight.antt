@@ -11,7 +11,7 @@ use Rattle.source_tree.specs.Rules.{text_rules}
 use Rattle.data_instructions.specs.declared.gather.Gather.TheVariants as g
 use Rattle.data_instructions.specs.declared.instruction.DataInstruction.TheVariants as i
 use Rattle.code_image.specs.declared.instruction.Instruction.TheVariants as instruction
-use Rattle.codegen.specs.Pieces.{sequence, plain_code}
+use Rattle.codegen.specs.Fragments.{sequence, plain_code}
 use Rattle.codegen.specs.DataCode.{line_end_fragment, show_fragment, reference_fragment, operand_fragment, operands_fragment}
 use Rattle.codegen.specs.InspectCode.{inspection_fragment, inspection_entry, taken_fragment, takings_fragment, inspect_fragment}
 use Rattle.codegen.specs.Layout.{texts_fragment}

@@ -10,7 +10,7 @@ use Rattle.source_tree.specs.Until.{vary_operation}
 use Rattle.data_instructions.specs.declared.instruction.DataInstruction.TheVariants as i
 use Rattle.code_image.specs.declared.code.Code.{Code}
 use Rattle.code_image.specs.declared.instruction.Instruction.TheVariants.{Tick}
-use Rattle.codegen.specs.Pieces.{Fragment, append, sequence, plain_code}
+use Rattle.codegen.specs.Fragments.{Fragment, append, sequence, plain_code}
 use Rattle.codegen.specs.Meeting.{branch_code, either_fragment, nothing_fragment}
 use Rattle.codegen.specs.DataCode.{work_fragment}
 use Rattle.codegen.specs.ConditionCode.{condition_fragment}

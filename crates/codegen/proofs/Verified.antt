@@ -58,7 +58,7 @@ use Rattle.code_image.specs.declared.instruction.Instruction.{Instruction}
 use Rattle.code_image.specs.declared.instruction.Instruction.TheVariants.{Tick, Show, Stop, Count, CountNumber, Turn, Accept, Date, Branch, Jump, Join, Perform, Back, File, TestStatus, Unheard, Data}
 use Rattle.code_image.specs.Known.{known_after, known_along}
 use Rattle.code_image.specs.Demands.{NamesData, NamesCounter, NamesParagraph, IsAddress, NamesFile, SuitsFile, StartsAt, AllStart, performed_from, performed_by_code as performed_instructions, HasOrder as HasOrderCode, IsVerified}
-use Rattle.codegen.specs.Pieces.{in_order}
+use Rattle.codegen.specs.Fragments.{in_order}
 use Rattle.codegen.specs.FileCode.{sent_entry, code_file, code_files}
 use Rattle.codegen.specs.Layout.{paragraph_fragment, section_fragment, end_fragment, storage_items, storage_code, code_of}
 use Rattle.codegen.proofs.Standing.{Stands, at_seam}
@@ -71,7 +71,7 @@ use Rattle.codegen.proofs.SentItems.{IsInOrder, sent_is_item}
 use Rattle.codegen.proofs.Inspections.{AreSized}
 use Rattle.codegen.proofs.Codes.{left_none, right_none}
 use Rattle.codegen.proofs.NewBytes.{all_at}
-use Rattle.codegen.proofs.Pieces.{flat}
+use Rattle.codegen.proofs.Fragments.{flat}
 use Rattle.codegen.proofs.Straight.{all_both, IsSent}
 use Rattle.codegen.proofs.Leading.{all_weaker, more_counters, all_lead, both_lead, all_stay, Names}
 use Rattle.codegen.proofs.Ranges.{EndsWithin, procedures_end}

@@ -21,7 +21,7 @@ use Rattle.data_instructions.specs.declared.calculation.Calculation.TheVariants 
 use Rattle.data_instructions.specs.declared.instruction.DataInstruction.{DataInstruction}
 use Rattle.data_instructions.specs.declared.instruction.DataInstruction.TheVariants as i
 use Rattle.data_instructions.specs.ArithmeticCodes.{operator_code, duplicate, discard}
-use Rattle.codegen.specs.Pieces.{Fragment, sequence, in_order}
+use Rattle.codegen.specs.Fragments.{Fragment, sequence, in_order}
 use Rattle.codegen.specs.DataCode.{item_number, work_fragment, works_fragment, number_fragment, take_fragment}
 
 abbrev pub zero_number : Fraction
@@ -33,13 +33,13 @@ or_zero None = zero_number
 or_zero (Some x) = x
 
 -- the decimals that a receiver keeps
-abbrev pub scale_kept : Option NumberReceiver → ℕ
-scale_kept None = 0
-scale_kept (Some to) = to.scale
+abbrev pub receiver_scale : Option NumberReceiver → ℕ
+receiver_scale None = 0
+receiver_scale (Some to) = to.scale
 
 abbrev pub scale_of_item : Option LocatedItem → ℕ
 scale_of_item None = 0
-scale_of_item (Some one) = scale_kept (receiver_of one.item.kind one.editing)
+scale_of_item (Some one) = receiver_scale (receiver_of one.item.kind one.editing)
 
 -- The dividend below the divisor, in whatever order they were written; nothing of them is left.
 abbrev pub division_fragment : DivisionOrder → Fragment → Fragment

@@ -27,16 +27,16 @@ use Rattle.data_instructions.specs.ConditionCodes.{negation}
 use Rattle.code_image.specs.declared.instruction.Instruction.TheVariants.{Data}
 use Rattle.name_table.specs.Positions.{look_up}
 use Rattle.name_table.specs.Conditions.{called_condition, item_numbers}
-use Rattle.codegen.specs.Pieces.{Fragment, no_tables, sequence, in_order}
+use Rattle.codegen.specs.Fragments.{Fragment, no_tables, sequence, in_order}
 use Rattle.codegen.specs.Meeting.{either_fragment, nothing_fragment}
-use Rattle.codegen.specs.DataCode.{number_found, item_number, dimensions_of, work_fragment, works_fragment, number_fragment, literal_entry, subscripts_fragment, take_fragment, sender_fragment}
+use Rattle.codegen.specs.DataCode.{found_number, item_number, dimensions_of, work_fragment, works_fragment, number_fragment, literal_entry, subscripts_fragment, take_fragment, sender_fragment}
 use Rattle.codegen.specs.ArithmeticCode.{zero_number, value_fragment, expression_fragment}
 
 -- ---- condition names
 
 -- a condition name, by its place among all of them
 abbrev pub condition_number : List LocatedItem → QualifiedName → ℕ
-condition_number items name = number_found (look_up name (map called_condition (all_conditions items)))
+condition_number items name = found_number (look_up name (map called_condition (all_conditions items)))
 
 -- the item that a condition name is of, by its place in the table
 abbrev pub condition_item : List LocatedItem → QualifiedName → ItemIndex

@@ -26,16 +26,16 @@ use Rattle.name_table.specs.declared.look_up.LookUp.{LookUp}
 use Rattle.name_table.specs.declared.look_up.LookUp.TheVariants.{One}
 use Rattle.name_table.specs.Positions.{look_up}
 use Rattle.name_table.specs.Items.{called_item}
-use Rattle.codegen.specs.Pieces.{Fragment, no_tables, empty_code, sequence, in_order, plain_code}
+use Rattle.codegen.specs.Fragments.{Fragment, no_tables, empty_code, sequence, in_order, plain_code}
 
 -- the number of the only thing that is named
-abbrev pub number_found : LookUp → ℕ
-number_found (One n) = n
-number_found _ = 0
+abbrev pub found_number : LookUp → ℕ
+found_number (One n) = n
+found_number _ = 0
 
 -- the item that a name names, by its place in the table
 abbrev pub item_number : List LocatedItem → QualifiedName → ℕ
-item_number items name = number_found (look_up name (map called_item items))
+item_number items name = found_number (look_up name (map called_item items))
 
 abbrev pub item_index : List LocatedItem → QualifiedName → ItemIndex
 item_index items name = record { number = item_number items name }

@@ -6,7 +6,7 @@ use Rattle.source_tree.specs.declared.evaluate_statement.Selected.{Selected}
 use Rattle.source_tree.specs.Setting.{Scope}
 use Rattle.code_image.specs.declared.code.Code.{Code}
 use Rattle.codegen.specs.declared.phrases.Way.{Way}
-use Rattle.codegen.specs.Pieces.{Fragment, append}
+use Rattle.codegen.specs.Fragments.{Fragment, append}
 use Rattle.codegen.specs.ConditionCode.{all_fragment, any_fragment}
 use Rattle.codegen.specs.Layout.{phrase_fragment, selection_fragment}
 use Rattle.codegen.specs.Phrases.{IsWay, met_all}

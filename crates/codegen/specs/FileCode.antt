@@ -21,7 +21,7 @@ use Rattle.file_image.specs.declared.class.StatusClass.{StatusClass}
 use Rattle.file_image.specs.declared.file.CodeFile.{CodeFile}
 use Rattle.code_image.specs.declared.instruction.Instruction.TheVariants.{File, TestStatus, Unheard}
 use Rattle.file_descriptions.specs.Clauses.{clause_number}
-use Rattle.codegen.specs.Pieces.{Fragment, sequence, plain_code}
+use Rattle.codegen.specs.Fragments.{Fragment, sequence, plain_code}
 use Rattle.codegen.specs.Meeting.{nothing_fragment}
 use Rattle.codegen.specs.DataCode.{works_fragment, receivers_fragment, move_fragment}
 

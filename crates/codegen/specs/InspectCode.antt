@@ -13,7 +13,7 @@ use Rattle.data_instructions.specs.declared.tables.Inspection.{Inspection}
 use Rattle.data_instructions.specs.declared.instruction.DataInstruction.TheVariants as i
 use Rattle.code_image.specs.declared.code.Code.{Code}
 use Rattle.code_image.specs.declared.instruction.Instruction.TheVariants.{Data}
-use Rattle.codegen.specs.Pieces.{Fragment, no_tables, append, sequence, in_order}
+use Rattle.codegen.specs.Fragments.{Fragment, no_tables, append, sequence, in_order}
 use Rattle.codegen.specs.DataCode.{text_fragment, reference_fragment, take_fragment}
 
 -- the INSPECT of an entry of the table

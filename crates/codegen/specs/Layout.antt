@@ -38,7 +38,7 @@ use Rattle.source_tree.specs.declared.program.Paragraph.{Paragraph}
 use Rattle.source_tree.specs.declared.program.Section.{Section}
 use Rattle.source_tree.specs.declared.program.Program.{Program}
 use Rattle.source_tree.specs.declared.select.Select.{Select}
-use Rattle.source_tree.specs.Evaluate.{selected_asked}
+use Rattle.source_tree.specs.Evaluate.{selected_condition}
 use Rattle.source_tree.specs.Performing.{turns_of}
 use Rattle.source_tree.specs.Places.{LocatedItem}
 use Rattle.source_tree.specs.Procedures.{Range, paragraphs_or_one, range_of}
@@ -55,7 +55,7 @@ use Rattle.file_image.specs.declared.class.StatusClass.TheVariants.{Successful, 
 use Rattle.code_image.specs.declared.code.Code.{Code}
 use Rattle.code_image.specs.declared.instruction.Instruction.TheVariants.{Tick, Stop, Count, CountNumber, Turn, Perform, Back}
 use Rattle.data_instructions.specs.declared.instruction.DataInstruction.TheVariants as i
-use Rattle.codegen.specs.Pieces.{Fragment, no_tables, empty_code, append, sequence, in_order, plain_code}
+use Rattle.codegen.specs.Fragments.{Fragment, no_tables, empty_code, append, sequence, in_order, plain_code}
 use Rattle.codegen.specs.Meeting.{either_fragment, nothing_fragment}
 use Rattle.source_tree.specs.Arithmetic.{is_there}
 use Rattle.codegen.specs.DataCode.{take_fragment, move_fragment, display_fragment, accept_fragment, date_fragment}
@@ -160,7 +160,7 @@ module _ (scope : Scope) {S : Type 0} (inside : S → Fragment) where
   abbrev pub selection_fragment : List Subject → List (Selected S) → Option (List S) → Fragment
   selection_fragment subjects [] other = phrase_fragment other
   selection_fragment subjects (one ∷ more) other =
-      sequence (condition_fragment scope.items (selected_asked scope.items subjects one))
+      sequence (condition_fragment scope.items (selected_condition scope.items subjects one))
       (either_fragment (in_order inside one.statements) (selection_fragment subjects more other))
 
   -- EVALUATE, behind its `tick`
@@ -237,7 +237,7 @@ module _ (scope : Scope) {S : Type 0} (inside : S → Fragment) where
   verb_fragment line (verb.Arithmetic one) = arithmetic_statement_fragment line one
   verb_fragment line (verb.ConditionalStatement one) = conditional_fragment line one
   verb_fragment line (verb.PerformStatement one) = perform_fragment line one
-  verb_fragment line (verb.Text one) = sequence (tick_fragment line) (texts_fragment scope.items one)
+  verb_fragment line (verb.TextStatement one) = sequence (tick_fragment line) (texts_fragment scope.items one)
   verb_fragment line (verb.StringStatement one) = string_statement_fragment line one
   verb_fragment line (verb.FileStatement one) = sequence (tick_fragment line) (file_statement_fragment one)
   verb_fragment line (verb.ControlStatement one) = control_fragment line one

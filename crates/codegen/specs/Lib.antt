@@ -1,4 +1,4 @@
-pub mod Pieces
+pub mod Fragments
 pub mod Meeting
 pub mod DataCode
 pub mod ArithmeticCode

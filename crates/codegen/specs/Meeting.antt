@@ -2,7 +2,7 @@
 use Rattle.std.specs.Prelude.{ℕ, ◌+◌, [], ◌∷◌, length}
 use Rattle.code_image.specs.declared.code.Code.{Code}
 use Rattle.code_image.specs.declared.instruction.Instruction.TheVariants.{Branch, Jump, Join}
-use Rattle.codegen.specs.Pieces.{Fragment, empty_code, append, plain_code}
+use Rattle.codegen.specs.Fragments.{Fragment, empty_code, append, plain_code}
 
 abbrev pub branch_code : ℕ → Code
 branch_code to = plain_code (Branch to ∷ [])

@@ -10,7 +10,7 @@ use Rattle.source_tree.specs.ArithmeticRules.{number_rules, number_receiver, upd
 use Rattle.data_instructions.specs.declared.calculation.Calculation.TheVariants as c
 use Rattle.data_instructions.specs.declared.instruction.DataInstruction.TheVariants as i
 use Rattle.data_instructions.specs.ArithmeticCodes.{duplicate, discard}
-use Rattle.codegen.specs.Pieces.{Fragment, sequence}
+use Rattle.codegen.specs.Fragments.{Fragment, sequence}
 use Rattle.codegen.specs.DataCode.{work_fragment, works_fragment}
 use Rattle.codegen.specs.ArithmeticCode.{division_fragment, value_fragment, total_fragment, expression_fragment, updates_fragment, gives_fragment, remainder_fragment}
 

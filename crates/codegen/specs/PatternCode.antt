@@ -7,7 +7,7 @@ use Rattle.source_tree.specs.Places.{LocatedItem}
 use Rattle.data_instructions.specs.declared.instruction.DataInstruction.TheVariants as i
 use Rattle.data_instructions.specs.TextCodes.{new_byte, new_mark}
 use Rattle.code_image.specs.declared.instruction.Instruction.TheVariants.{Data}
-use Rattle.codegen.specs.Pieces.{Fragment, no_tables, sequence, in_order}
+use Rattle.codegen.specs.Fragments.{Fragment, no_tables, sequence, in_order}
 use Rattle.codegen.specs.DataCode.{item_number, dimensions_of, work_fragment, subscripts_fragment, reference_fragment}
 use Rattle.codegen.specs.ConditionCode.{condition_number, condition_item}
 

@@ -11,11 +11,11 @@ use Rattle.source_tree.specs.declared.evaluate_statement.Object.{Object}
 use Rattle.source_tree.specs.declared.evaluate_statement.When.{When}
 use Rattle.source_tree.specs.declared.evaluate_statement.Selected.{Selected}
 use Rattle.source_tree.specs.Conditions.{alone_side}
-use Rattle.source_tree.specs.Evaluate.{ObjectValues, ResolvedOperand, Value, Truth, Asking, looked_subject}
+use Rattle.source_tree.specs.Evaluate.{ObjectValues, ResolvedOperand, Value, Truth, Asking, resolved_subject}
 use Rattle.source_tree.specs.LookUp.{first}
 use Rattle.source_tree.specs.Places.{LocatedItem}
-use Rattle.declarations.specs.Looking.{choice_looked}
-use Rattle.codegen.specs.Pieces.{Fragment, in_order}
+use Rattle.declarations.specs.Resolved.{optional_choice}
+use Rattle.codegen.specs.Fragments.{Fragment, in_order}
 use Rattle.codegen.specs.Meeting.{nothing_fragment}
 use Rattle.codegen.specs.ConditionCode.{zero_literal, is_numeric_operand, is_operand_at_hand, condition_fragment}
 
@@ -64,7 +64,7 @@ module _ (items : List LocatedItem) where
   look_fragment (Some one) = condition_fragment items one
 
   abbrev pub subject_fragment : Subject → Fragment
-  subject_fragment one = look_fragment (look (looked_subject items one))
+  subject_fragment one = look_fragment (look (resolved_subject items one))
 
   abbrev pub each_subject_fragment : List Subject → Fragment
   each_subject_fragment = in_order subject_fragment
@@ -79,7 +79,7 @@ module _ (items : List LocatedItem) where
   asks_at_once _ _ = false
 
   abbrev pub is_asked_first : List Subject → Option Object → Bool
-  is_asked_first (one ∷ []) (Some object) = asks_at_once (looked_subject items one) (choice_looked items object.choice)
+  is_asked_first (one ∷ []) (Some object) = asks_at_once (resolved_subject items one) (optional_choice items object.choice)
   is_asked_first _ _ = false
 
   abbrev pub taken_from : Bool → List Subject → Fragment

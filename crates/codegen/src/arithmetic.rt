@@ -8,7 +8,7 @@ ghost use Rattle.data_instructions.specs.ArithmeticCodes as codes;
 ghost use Rattle.data_instructions.specs.declared.calculation.Calculation.TheVariants as c;
 ghost use Rattle.data_instructions.specs.declared.instruction.DataInstruction.TheVariants as i;
 ghost use Rattle.declarations.specs.Named.{IsDeclared, items_in};
-ghost use Rattle.codegen.specs.Pieces.{append, sequence};
+ghost use Rattle.codegen.specs.Fragments.{append, sequence};
 ghost use Rattle.codegen.specs.DataCode.{work_fragment, works_fragment};
 ghost use Rattle.codegen.specs.ArithmeticCode as spec;
 ghost use Rattle.codegen.specs.Operations as parts;

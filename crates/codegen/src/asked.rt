@@ -10,8 +10,8 @@ ghost use Rattle.source_tree.specs.EntryRules.{entry_rules};
 ghost use Rattle.source_tree.specs.ConditionRules.{relation_rules, condition_rules};
 ghost use Rattle.source_tree.specs.Evaluate as meaning;
 ghost use Rattle.declarations.specs.Named.{IsDeclared, items_in};
-ghost use Rattle.declarations.specs.Looking.{condition_meant, wanted_meant, question_meant};
-ghost use Rattle.codegen.specs.Pieces.{append, sequence, in_order};
+ghost use Rattle.declarations.specs.Resolved.{condition_meant, values_meant, question_meant};
+ghost use Rattle.codegen.specs.Fragments.{append, sequence, in_order};
 ghost use Rattle.codegen.specs.ConditionCode as spec;
 ghost use Rattle.codegen.specs.EvaluateCode.{constant_fragment};
 
@@ -21,25 +21,9 @@ use crate::phrases::{emit_branch, emit_jump, emit_meeting};
 use crate::references::emit_works;
 use code_image::Code;
 use data_instructions::{DataInstruction, Test};
-use declarations::{AskedCondition, Question, WantedValue};
+use declarations::{AskedCondition, Question, ObjectRange};
 use source_tree::{Choice, Object, Relation, Side, Subject, When};
 use std::alloc::AllocError;
-
-/// What is always true, or always false.
-fn emit_constant(code: &mut Code, truth: bool) -> Result<(), AllocError>
-    ensures { OnOk result (code.new ≡ append code.old (constant_fragment truth code.old)) }
-{
-    if !truth {
-        return emit_works(code, &[DataInstruction::ClearTruth]);
-    }
-    emit_works(
-        code,
-        &[
-            DataInstruction::ClearTruth,
-            DataInstruction::Test(Test::Invert),
-        ],
-    )
-}
 
 impl<'a> Emitter<'a> {
     /// A condition that is asked.
@@ -105,11 +89,11 @@ impl<'a> Emitter<'a> {
         &self,
         code: &mut Code,
         value: &Side,
-        wanted: WantedValue<'_>,
+        wanted: ObjectRange<'_>,
     ) -> Result<(), AllocError>
         requires declared { IsDeclared self.now.declarations.now }
-        requires rules { condition_rules (items_in self.now.declarations.now) (meaning.value_asked value.now (wanted_meant wanted)) ≡ [] }
-        ensures { OnOk result (code.new ≡ append code.old (spec.condition_fragment (items_in self.now.declarations.now) (meaning.value_asked value.now (wanted_meant wanted.entry)) code.old)) }
+        requires rules { condition_rules (items_in self.now.declarations.now) (meaning.value_condition value.now (values_meant wanted)) ≡ [] }
+        ensures { OnOk result (code.new ≡ append code.old (spec.condition_fragment (items_in self.now.declarations.now) (meaning.value_condition value.now (values_meant wanted.entry)) code.old)) }
     {
         self.emit_within(code, value, wanted.first, wanted.last)?;
         emit_negation(code, wanted.negated)
@@ -125,7 +109,7 @@ impl<'a> Emitter<'a> {
         requires declared { IsDeclared self.now.declarations.now }
         requires entries { entry_rules self.now.declarations.now.storage.now ≡ [] }
         requires rules { condition_rules (items_in self.now.declarations.now) (condition_meant one) ≡ [] }
-        ensures { OnOk result (code.new ≡ append code.old (spec.condition_fragment (items_in self.now.declarations.now) (meaning.told_as truth (condition_meant one.entry)) code.old)) }
+        ensures { OnOk result (code.new ≡ append code.old (spec.condition_fragment (items_in self.now.declarations.now) (meaning.condition_or_opposite truth (condition_meant one.entry)) code.old)) }
     {
         self.emit_asked_condition(code, one)?;
         emit_negation(code, !truth)
@@ -143,7 +127,7 @@ impl<'a> Emitter<'a> {
         requires entries { entry_rules self.now.declarations.now.storage.now ≡ [] }
         requires one { condition_rules (items_in self.now.declarations.now) (condition_meant one) ≡ [] }
         requires other { condition_rules (items_in self.now.declarations.now) (condition_meant other) ≡ [] }
-        ensures { OnOk result (code.new ≡ append code.old (spec.condition_fragment (items_in self.now.declarations.now) (All (meaning.told_as truth (condition_meant one.entry) ∷ meaning.told_as truth (condition_meant other.entry) ∷ [])) code.old)) }
+        ensures { OnOk result (code.new ≡ append code.old (spec.condition_fragment (items_in self.now.declarations.now) (All (meaning.condition_or_opposite truth (condition_meant one.entry) ∷ meaning.condition_or_opposite truth (condition_meant other.entry) ∷ [])) code.old)) }
     {
         self.emit_told(code, truth, one)?;
         let branch = emit_branch(code)?;
@@ -174,7 +158,7 @@ impl<'a> Emitter<'a> {
 
     /// Whether two truths are the same.
     fn emit_truths(&self, code: &mut Code, one: bool, other: bool) -> Result<(), AllocError>
-        ensures { OnOk result (code.new ≡ append code.old (spec.condition_fragment (items_in self.now.declarations.now) (meaning.told_as one (meaning.constant other)) code.old)) }
+        ensures { OnOk result (code.new ≡ append code.old (spec.condition_fragment (items_in self.now.declarations.now) (meaning.condition_or_opposite one (meaning.constant other)) code.old)) }
     {
         emit_constant(code, other)?;
         emit_negation(code, !one)
@@ -240,8 +224,8 @@ impl<'a> Emitter<'a> {
     ) -> Result<(), AllocError>
         requires declared { IsDeclared self.now.declarations.now }
         requires entries { entry_rules self.now.declarations.now.storage.now ≡ [] }
-        requires rules { each (condition_rules (items_in self.now.declarations.now)) (meaning.asked_each (items_in self.now.declarations.now) subjects.now objects.now) ≡ [] }
-        ensures { OnOk result (code.new ≡ append code.old (in_order (λ (one : Condition). spec.and_fragment (spec.condition_fragment (items_in self.now.declarations.now) one)) (meaning.asked_each (items_in self.now.declarations.now) subjects.now objects.now) code.old)) }
+        requires rules { each (condition_rules (items_in self.now.declarations.now)) (meaning.object_conditions (items_in self.now.declarations.now) subjects.now objects.now) ≡ [] }
+        ensures { OnOk result (code.new ≡ append code.old (in_order (λ (one : Condition). spec.and_fragment (spec.condition_fragment (items_in self.now.declarations.now) one)) (meaning.object_conditions (items_in self.now.declarations.now) subjects.now objects.now) code.old)) }
     {
         let mut asking = subjects;
         let mut rest = objects;
@@ -265,8 +249,8 @@ impl<'a> Emitter<'a> {
     ) -> Result<(), AllocError>
         requires declared { IsDeclared self.now.declarations.now }
         requires entries { entry_rules self.now.declarations.now.storage.now ≡ [] }
-        requires rules { each (condition_rules (items_in self.now.declarations.now)) (meaning.asked_each (items_in self.now.declarations.now) subjects.now objects.now) ≡ [] }
-        ensures { OnOk result (code.new ≡ append code.old (spec.condition_fragment (items_in self.now.declarations.now) (All (meaning.asked_each (items_in self.now.declarations.now) subjects.now objects.now)) code.old)) }
+        requires rules { each (condition_rules (items_in self.now.declarations.now)) (meaning.object_conditions (items_in self.now.declarations.now) subjects.now objects.now) ≡ [] }
+        ensures { OnOk result (code.new ≡ append code.old (spec.condition_fragment (items_in self.now.declarations.now) (All (meaning.object_conditions (items_in self.now.declarations.now) subjects.now objects.now)) code.old)) }
     {
         let Some((subject, subjects)) = subjects.split_first() else {
             return emit_constant(code, true);
@@ -287,8 +271,8 @@ impl<'a> Emitter<'a> {
     ) -> Result<(), AllocError>
         requires declared { IsDeclared self.now.declarations.now }
         requires entries { entry_rules self.now.declarations.now.storage.now ≡ [] }
-        requires rules { each (condition_rules (items_in self.now.declarations.now)) (meaning.asked_each (items_in self.now.declarations.now) subjects.now one.now.objects) ≡ [] }
-        ensures { OnOk result (code.new ≡ append code.old (spec.or_fragment (spec.condition_fragment (items_in self.now.declarations.now) (meaning.when_asked (items_in self.now.declarations.now) subjects.now one.now)) code.old)) }
+        requires rules { each (condition_rules (items_in self.now.declarations.now)) (meaning.object_conditions (items_in self.now.declarations.now) subjects.now one.now.objects) ≡ [] }
+        ensures { OnOk result (code.new ≡ append code.old (spec.or_fragment (spec.condition_fragment (items_in self.now.declarations.now) (meaning.when_condition (items_in self.now.declarations.now) subjects.now one.now)) code.old)) }
     {
         let branch = emit_branch(code)?;
         let other = emit_jump(code)?;
@@ -305,8 +289,8 @@ impl<'a> Emitter<'a> {
     ) -> Result<(), AllocError>
         requires declared { IsDeclared self.now.declarations.now }
         requires entries { entry_rules self.now.declarations.now.storage.now ≡ [] }
-        requires rules { each (λ (one : When). each (condition_rules (items_in self.now.declarations.now)) (meaning.asked_each (items_in self.now.declarations.now) subjects.now one.objects)) more.now ≡ [] }
-        ensures { OnOk result (code.new ≡ append code.old (in_order (λ (one : When). spec.or_fragment (spec.condition_fragment (items_in self.now.declarations.now) (meaning.when_asked (items_in self.now.declarations.now) subjects.now one))) more.now code.old)) }
+        requires rules { each (λ (one : When). each (condition_rules (items_in self.now.declarations.now)) (meaning.object_conditions (items_in self.now.declarations.now) subjects.now one.objects)) more.now ≡ [] }
+        ensures { OnOk result (code.new ≡ append code.old (in_order (λ (one : When). spec.or_fragment (spec.condition_fragment (items_in self.now.declarations.now) (meaning.when_condition (items_in self.now.declarations.now) subjects.now one))) more.now code.old)) }
     {
         for one in more {
             self.emit_or_when(code, subjects, one)?;
@@ -323,8 +307,8 @@ impl<'a> Emitter<'a> {
     ) -> Result<(), AllocError>
         requires declared { IsDeclared self.now.declarations.now }
         requires entries { entry_rules self.now.declarations.now.storage.now ≡ [] }
-        requires rules { each (λ (one : When). each (condition_rules (items_in self.now.declarations.now)) (meaning.asked_each (items_in self.now.declarations.now) subjects.now one.objects)) whens.now ≡ [] }
-        ensures { OnOk result (code.new ≡ append code.old (spec.condition_fragment (items_in self.now.declarations.now) (Any (meaning.whens_asked (items_in self.now.declarations.now) subjects.now whens.now)) code.old)) }
+        requires rules { each (λ (one : When). each (condition_rules (items_in self.now.declarations.now)) (meaning.object_conditions (items_in self.now.declarations.now) subjects.now one.objects)) whens.now ≡ [] }
+        ensures { OnOk result (code.new ≡ append code.old (spec.condition_fragment (items_in self.now.declarations.now) (Any (meaning.when_conditions (items_in self.now.declarations.now) subjects.now whens.now)) code.old)) }
     {
         let Some((first, more)) = whens.split_first() else {
             return emit_constant(code, false);
@@ -332,4 +316,20 @@ impl<'a> Emitter<'a> {
         self.emit_when(code, subjects, first.objects.as_slice())?;
         self.emit_each_when(code, subjects, more)
     }
+}
+
+/// What is always true, or always false.
+fn emit_constant(code: &mut Code, truth: bool) -> Result<(), AllocError>
+    ensures { OnOk result (code.new ≡ append code.old (constant_fragment truth code.old)) }
+{
+    if !truth {
+        return emit_works(code, &[DataInstruction::ClearTruth]);
+    }
+    emit_works(
+        code,
+        &[
+            DataInstruction::ClearTruth,
+            DataInstruction::Test(Test::Invert),
+        ],
+    )
 }

@@ -16,7 +16,7 @@ ghost use Rattle.data_instructions.specs.ConditionCodes.{negation};
 ghost use Rattle.data_instructions.specs.declared.test.Test.TheVariants as t;
 ghost use Rattle.data_instructions.specs.declared.instruction.DataInstruction.TheVariants as i;
 ghost use Rattle.declarations.specs.Named.{IsDeclared, items_in};
-ghost use Rattle.codegen.specs.Pieces.{append, sequence, in_order};
+ghost use Rattle.codegen.specs.Fragments.{append, sequence, in_order};
 ghost use Rattle.codegen.specs.DataCode.{sender_fragment, work_fragment, works_fragment, number_fragment, take_fragment};
 ghost use Rattle.codegen.specs.ArithmeticCode.{zero_number, value_fragment, expression_fragment};
 ghost use Rattle.codegen.specs.ConditionCode as spec;

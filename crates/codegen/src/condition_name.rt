@@ -4,7 +4,7 @@ ghost use Rattle.std.specs.Prelude.{◌≡◌, [], OnOk, IfOk};
 ghost use Rattle.source_tree.specs.EntryRules.{entry_rules};
 ghost use Rattle.source_tree.specs.ConditionRules.{condition_name_rules};
 ghost use Rattle.declarations.specs.Named.{IsDeclared, items_in};
-ghost use Rattle.codegen.specs.Pieces.{append};
+ghost use Rattle.codegen.specs.Fragments.{append};
 ghost use Rattle.codegen.specs.ConditionCode as spec;
 ghost use Rattle.codegen.specs.Values.{HasForms, AreFormedValues};
 
@@ -16,31 +16,6 @@ use data_instructions::{DataInstruction, ItemIndex, Test};
 use name_table::LookUp;
 use source_tree::{QualifiedName, Reference, ValueRange};
 use std::alloc::{AllocError, Global};
-
-/// The sender compared with a value, where it is one alone; else with what lies from it to the last one.
-fn emit_range(alloc: Global, code: &mut Code, one: &ValueRange) -> Result<(), AllocError>
-    requires { HasForms one.now.first one.now.last }
-    ensures { OnOk result (code.new ≡ append code.old (spec.value_range_fragment one.now code.old)) }
-{
-    let first = put_sender(alloc, code, &one.first.value)?;
-    let Some(last) = &one.last else {
-        let literal = first;
-        return emit_work(code, DataInstruction::Test(Test::OrEqual { literal }));
-    };
-    put_sender(alloc, code, &last.value)?;
-    emit_work(code, DataInstruction::Test(Test::OrWithin { first }))
-}
-
-/// The sender compared with each value.
-fn emit_values(alloc: Global, code: &mut Code, all: &[ValueRange]) -> Result<(), AllocError>
-    requires { AreFormedValues all.now }
-    ensures { OnOk result (code.new ≡ append code.old (spec.values_fragment all.now code.old)) }
-{
-    for one in all {
-        emit_range(alloc, code, one)?;
-    }
-    Ok(())
-}
 
 impl<'a> Emitter<'a> {
     /// The number of the condition name that a name names.
@@ -98,4 +73,29 @@ impl<'a> Emitter<'a> {
         emit_works(code, &[DataInstruction::Take, DataInstruction::ClearTruth])?;
         emit_values(self.alloc, code, self.values_named(&one.item))
     }
+}
+
+/// The sender compared with a value, where it is one alone; else with what lies from it to the last one.
+fn emit_range(alloc: Global, code: &mut Code, one: &ValueRange) -> Result<(), AllocError>
+    requires { HasForms one.now.first one.now.last }
+    ensures { OnOk result (code.new ≡ append code.old (spec.value_range_fragment one.now code.old)) }
+{
+    let first = put_sender(alloc, code, &one.first.value)?;
+    let Some(last) = &one.last else {
+        let literal = first;
+        return emit_work(code, DataInstruction::Test(Test::OrEqual { literal }));
+    };
+    put_sender(alloc, code, &last.value)?;
+    emit_work(code, DataInstruction::Test(Test::OrWithin { first }))
+}
+
+/// The sender compared with each value.
+fn emit_values(alloc: Global, code: &mut Code, all: &[ValueRange]) -> Result<(), AllocError>
+    requires { AreFormedValues all.now }
+    ensures { OnOk result (code.new ≡ append code.old (spec.values_fragment all.now code.old)) }
+{
+    for one in all {
+        emit_range(alloc, code, one)?;
+    }
+    Ok(())
 }

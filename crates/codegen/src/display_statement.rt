@@ -3,7 +3,7 @@
 ghost use Rattle.std.specs.Prelude.{◌≡◌, [], OnOk};
 ghost use Rattle.source_tree.specs.TextRules.{shown_rules, display_rules};
 ghost use Rattle.declarations.specs.Named.{IsDeclared, items_in};
-ghost use Rattle.codegen.specs.Pieces.{append};
+ghost use Rattle.codegen.specs.Fragments.{append};
 ghost use Rattle.codegen.specs.DataCode as spec;
 
 use crate::emitter::{Emitter, entry_number};

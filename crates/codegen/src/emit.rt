@@ -8,7 +8,7 @@ ghost use Rattle.source_tree.specs.Procedures.{range_of};
 ghost use Rattle.source_tree.specs.Rules as rules;
 ghost use Rattle.source_tree.specs.Rules.{all_permitted};
 ghost use Rattle.declarations.specs.Named.{IsDeclared, items_in, scope_in};
-ghost use Rattle.codegen.specs.Pieces.{append, sequence, in_order};
+ghost use Rattle.codegen.specs.Fragments.{append, sequence, in_order};
 ghost use Rattle.codegen.specs.UntilCode.{tick_fragment};
 ghost use Rattle.codegen.specs.Layout.{data_fragment, texts_fragment, stop_run_fragment, conditional_fragment, control_fragment, range_fragment, turn_fragment, perform_fragment, phrase_fragment, phrases_fragment, arithmetic_statement_fragment, statement_fragment, sentence_fragment, start_fragment, back_fragment, paragraph_fragment, section_fragment, end_fragment};
 
@@ -136,7 +136,7 @@ impl<'a> Emitter<'a> {
             Verb::Arithmetic(arithmetic) => self.emit_calculating(code, line, arithmetic),
             Verb::ConditionalStatement(branching) => self.emit_branching(code, line, branching),
             Verb::PerformStatement(performing) => self.emit_performing(code, line, performing),
-            Verb::Text(text) => self.emit_texts(code, line, text),
+            Verb::TextStatement(text) => self.emit_texts(code, line, text),
             Verb::StringStatement(stringing) => self.emit_stringing(code, line, stringing),
             Verb::FileStatement(filing) => self.emit_filing(code, line, filing),
             Verb::ControlStatement(ending) => emit_ending(code, line, *ending),

@@ -34,7 +34,7 @@ pub(crate) fn entry_number(before: usize) -> Result<u32, AllocError>
 
 /// The decimals that an item keeps of a number: none of one that takes no number.
 fn scale_kept(one: &PlacedItem) -> u8
-    ensures { result ≡ arithmetic.scale_kept (receiver_of one.now.item.kind one.now.editing) }
+    ensures { result ≡ arithmetic.receiver_scale (receiver_of one.now.item.kind one.now.editing) }
 {
     match (one.item.kind, &one.editing) {
         (Kind::Numeric(numeric), _) => numeric.scale,

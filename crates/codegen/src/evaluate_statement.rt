@@ -3,12 +3,12 @@
 ghost use Rattle.std.specs.Prelude.{◌≡◌, [], IfOk, OnOk};
 ghost use Rattle.source_tree.specs.Broken.{each};
 ghost use Rattle.source_tree.specs.EntryRules.{entry_rules};
-ghost use Rattle.source_tree.specs.Evaluate.{selected_asked};
+ghost use Rattle.source_tree.specs.Evaluate.{selected_condition};
 ghost use Rattle.source_tree.specs.EvaluateRules.{selected_rules};
 ghost use Rattle.source_tree.specs.Rules as rules;
 ghost use Rattle.source_tree.specs.Rules.{all_permitted};
 ghost use Rattle.declarations.specs.Named.{IsDeclared, items_in, scope_in};
-ghost use Rattle.codegen.specs.Pieces.{append, in_order};
+ghost use Rattle.codegen.specs.Fragments.{append, in_order};
 ghost use Rattle.codegen.specs.ConditionCode.{condition_fragment};
 ghost use Rattle.codegen.specs.Layout.{evaluate_fragment, statement_fragment};
 ghost use Rattle.codegen.specs.Phrases.{Opens};
@@ -32,7 +32,7 @@ impl<'a> Emitter<'a> {
         requires declared { IsDeclared self.now.declarations.now }
         requires entries { entry_rules self.now.declarations.now.storage.now ≡ [] }
         requires rules { selected_rules (items_in self.now.declarations.now) (rules.statement_rules (scope_in self.now.declarations.now) all_permitted) subjects.now one.now ≡ [] }
-        ensures { IfOk result (λ way. Opens (condition_fragment (items_in self.now.declarations.now) (selected_asked (items_in self.now.declarations.now) subjects.now one.now)) (in_order (statement_fragment (scope_in self.now.declarations.now)) one.now.statements) code.old code.new way) }
+        ensures { IfOk result (λ way. Opens (condition_fragment (items_in self.now.declarations.now) (selected_condition (items_in self.now.declarations.now) subjects.now one.now)) (in_order (statement_fragment (scope_in self.now.declarations.now)) one.now.statements) code.old code.new way) }
     {
         self.emit_whens(code, subjects, one.whens.as_slice())?;
         let branch = emit_branch(code)?;

@@ -7,7 +7,7 @@ ghost use Rattle.source_tree.specs.Broken.{each};
 ghost use Rattle.source_tree.specs.ArithmeticRules.{number_rules, expression_rules};
 ghost use Rattle.data_instructions.specs.ArithmeticCodes as codes;
 ghost use Rattle.declarations.specs.Named.{IsDeclared, items_in};
-ghost use Rattle.codegen.specs.Pieces.{append, in_order};
+ghost use Rattle.codegen.specs.Fragments.{append, in_order};
 ghost use Rattle.codegen.specs.ArithmeticCode as spec;
 
 use crate::emitter::Emitter;

@@ -10,7 +10,7 @@ ghost use Rattle.code_image.specs.declared.instruction.Instruction.TheVariants a
 ghost use Rattle.file_descriptions.specs.Clauses.{NamesOne};
 ghost use Rattle.file_descriptions.specs.Files.{file_in, found_in};
 ghost use Rattle.declarations.specs.Named.{IsDeclared, items_in, files_in, scope_in};
-ghost use Rattle.codegen.specs.Pieces.{append, in_order, plain_code};
+ghost use Rattle.codegen.specs.Fragments.{append, in_order, plain_code};
 ghost use Rattle.codegen.specs.FileCode as spec;
 ghost use Rattle.codegen.specs.Layout.{alone_fragment, open_fragment, close_fragment, statement_fragment};
 

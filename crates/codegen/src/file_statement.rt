@@ -10,7 +10,7 @@ ghost use Rattle.source_tree.specs.Rules as rules;
 ghost use Rattle.source_tree.specs.Rules.{all_permitted};
 ghost use Rattle.file_descriptions.specs.Files.{file_in};
 ghost use Rattle.declarations.specs.Named.{IsDeclared, items_in, files_in, scope_in};
-ghost use Rattle.codegen.specs.Pieces.{append, sequence};
+ghost use Rattle.codegen.specs.Fragments.{append, sequence};
 ghost use Rattle.codegen.specs.UntilCode.{tick_fragment};
 ghost use Rattle.codegen.specs.FileCode.{file_fragment, into_fragment, on_name_fragment};
 ghost use Rattle.codegen.specs.Layout.{alone_fragment, class_fragment, failure_fragment, file_statement_fragment, record_fragment, statement_on_fragment, statement_fragment, status_fragment, success_fragment, taken_fragment};

@@ -19,6 +19,74 @@ use records::{Access, AlternateKey, KeyOfReference, Organization, Relation, Verb
 use source_tree::{Reference, Relation as Asked, RelationalOperator, StartKey};
 use std::alloc::AllocError;
 
+impl<'a> Emitter<'a> {
+    /// The item of a key, which names one item.
+    fn key_item(&self, one: &Reference) -> KeyItem
+        requires declared { IsDeclared self.now.declarations.now }
+        requires named { NamesOne (items_in self.now.declarations.now) one.now }
+        ensures offset { result.offset ≡ (key_place (items_in self.now.declarations.now) one.now).offset }
+        ensures length { result.length ≡ (key_place (items_in self.now.declarations.now) one.now).length }
+    {
+        match self
+            .declarations
+            .layout
+            .items
+            .get(self.item_number(&one.item))
+        {
+            Some(found) => KeyItem {
+                offset: found.offset,
+                length: found.item.length,
+            },
+            None => KeyItem {
+                offset: 0,
+                length: 0,
+            },
+        }
+    }
+
+    /// The verb of READ.
+    pub(crate) fn read_verb(
+        &self,
+        file: &ProgramFile<'_>,
+        next: bool,
+        key: &Option<Reference>,
+    ) -> Result<Verb, AllocError>
+        requires declared { IsDeclared self.now.declarations.now }
+        requires rules { read_key_rules (items_in self.now.declarations.now) (files_in self.now.declarations.now) (meaning.is_in_sequence (file_in (items_in self.now.declarations.now) file.now) next) (file_in (items_in self.now.declarations.now) file.now) key.now ≡ [] }
+        ensures { IfOk result (λ verb. verb ≡ meaning.read_verb (items_in self.now.declarations.now) (file_in (items_in self.now.declarations.now) file.now) next key.now) }
+    {
+        if is_in_sequence(file, next) {
+            return Ok(Verb::ReadNext);
+        }
+        let Some(key) = key else {
+            return Ok(Verb::Read(KeyOfReference::Prime));
+        };
+        let item = self.key_item(key);
+        Ok(Verb::Read(key_from(&file.alternates, item.offset)?))
+    }
+
+    /// The verb of START.
+    pub(crate) fn start_verb(
+        &self,
+        file: &ProgramFile<'_>,
+        key: &Option<StartKey>,
+    ) -> Result<Verb, AllocError>
+        requires declared { IsDeclared self.now.declarations.now }
+        requires rules { start_key_rules (items_in self.now.declarations.now) (files_in self.now.declarations.now) (file_in (items_in self.now.declarations.now) file.now) key.now ≡ [] }
+        ensures { IfOk result (λ verb. verb ≡ meaning.start_verb (items_in self.now.declarations.now) (file_in (items_in self.now.declarations.now) file.now) key.now) }
+    {
+        let Some(one) = key else {
+            let prime = KeyOfReference::Prime;
+            let size = u32::from(key_size(file, prime));
+            return start_on(file, Relation::Equal, prime, size);
+        };
+        let item = self.key_item(&one.key);
+        let key = key_from(&file.alternates, item.offset)?;
+        let relation = start_relation(one.operator);
+        start_on(file, relation, key, item.length)
+    }
+}
+
 /// Where an item begins in its record, and how long it is.
 #[derive(Clone, Copy)]
 struct KeyItem {
@@ -96,72 +164,4 @@ fn is_in_sequence(file: &ProgramFile<'_>, next: bool) -> bool
     ensures { result ≡ (is_sequential file.now.select.now.access || next) }
 {
     matches!(file.select.access, Access::Sequential) || next
-}
-
-impl<'a> Emitter<'a> {
-    /// The item of a key, which names one item.
-    fn key_item(&self, one: &Reference) -> KeyItem
-        requires declared { IsDeclared self.now.declarations.now }
-        requires named { NamesOne (items_in self.now.declarations.now) one.now }
-        ensures offset { result.offset ≡ (key_place (items_in self.now.declarations.now) one.now).offset }
-        ensures length { result.length ≡ (key_place (items_in self.now.declarations.now) one.now).length }
-    {
-        match self
-            .declarations
-            .layout
-            .items
-            .get(self.item_number(&one.item))
-        {
-            Some(found) => KeyItem {
-                offset: found.offset,
-                length: found.item.length,
-            },
-            None => KeyItem {
-                offset: 0,
-                length: 0,
-            },
-        }
-    }
-
-    /// The verb of READ.
-    pub(crate) fn read_verb(
-        &self,
-        file: &ProgramFile<'_>,
-        next: bool,
-        key: &Option<Reference>,
-    ) -> Result<Verb, AllocError>
-        requires declared { IsDeclared self.now.declarations.now }
-        requires rules { read_key_rules (items_in self.now.declarations.now) (files_in self.now.declarations.now) (meaning.is_in_sequence (file_in (items_in self.now.declarations.now) file.now) next) (file_in (items_in self.now.declarations.now) file.now) key.now ≡ [] }
-        ensures { IfOk result (λ verb. verb ≡ meaning.read_verb (items_in self.now.declarations.now) (file_in (items_in self.now.declarations.now) file.now) next key.now) }
-    {
-        if is_in_sequence(file, next) {
-            return Ok(Verb::ReadNext);
-        }
-        let Some(key) = key else {
-            return Ok(Verb::Read(KeyOfReference::Prime));
-        };
-        let item = self.key_item(key);
-        Ok(Verb::Read(key_from(&file.alternates, item.offset)?))
-    }
-
-    /// The verb of START.
-    pub(crate) fn start_verb(
-        &self,
-        file: &ProgramFile<'_>,
-        key: &Option<StartKey>,
-    ) -> Result<Verb, AllocError>
-        requires declared { IsDeclared self.now.declarations.now }
-        requires rules { start_key_rules (items_in self.now.declarations.now) (files_in self.now.declarations.now) (file_in (items_in self.now.declarations.now) file.now) key.now ≡ [] }
-        ensures { IfOk result (λ verb. verb ≡ meaning.start_verb (items_in self.now.declarations.now) (file_in (items_in self.now.declarations.now) file.now) key.now) }
-    {
-        let Some(one) = key else {
-            let prime = KeyOfReference::Prime;
-            let size = u32::from(key_size(file, prime));
-            return start_on(file, Relation::Equal, prime, size);
-        };
-        let item = self.key_item(&one.key);
-        let key = key_from(&file.alternates, item.offset)?;
-        let relation = start_relation(one.operator);
-        start_on(file, relation, key, item.length)
-    }
 }

@@ -5,7 +5,7 @@ ghost use Rattle.source_tree.specs.EntryRules.{entry_rules};
 ghost use Rattle.source_tree.specs.NameRules.{reference_rules, any_item};
 ghost use Rattle.source_tree.specs.SettingRules.{initialize_rules, set_one, set_rules};
 ghost use Rattle.declarations.specs.Named.{IsDeclared, items_in};
-ghost use Rattle.codegen.specs.Pieces.{append};
+ghost use Rattle.codegen.specs.Fragments.{append};
 ghost use Rattle.codegen.specs.PatternCode as spec;
 
 use crate::emitter::{Emitter, entry_number};
@@ -15,22 +15,6 @@ use code_image::Code;
 use data_instructions::{DataInstruction, TextIndex};
 use source_tree::Reference;
 use std::alloc::AllocError;
-
-/// New bytes for the newest place: those that are marked.
-fn emit_overlay(code: &mut Code, one: Overlay) -> Result<(), AllocError>
-    ensures { OnOk result (code.new ≡ append code.old (spec.overlay_fragment one.bytes one.marks code.old)) }
-{
-    let number = entry_number(code.tables.texts.len())?;
-    let Overlay { bytes, marks } = one;
-    code.tables.texts.push(bytes)?;
-    code.tables.texts.push(marks)?;
-    emit_work(
-        code,
-        DataInstruction::Overlay {
-            text: TextIndex { number },
-        },
-    )
-}
 
 impl<'a> Emitter<'a> {
     /// The item of a reference, as its kind wants it.
@@ -88,4 +72,20 @@ impl<'a> Emitter<'a> {
         }
         Ok(())
     }
+}
+
+/// New bytes for the newest place: those that are marked.
+fn emit_overlay(code: &mut Code, one: Overlay) -> Result<(), AllocError>
+    ensures { OnOk result (code.new ≡ append code.old (spec.overlay_fragment one.bytes one.marks code.old)) }
+{
+    let number = entry_number(code.tables.texts.len())?;
+    let Overlay { bytes, marks } = one;
+    code.tables.texts.push(bytes)?;
+    code.tables.texts.push(marks)?;
+    emit_work(
+        code,
+        DataInstruction::Overlay {
+            text: TextIndex { number },
+        },
+    )
 }

@@ -8,7 +8,7 @@ ghost use Rattle.source_tree.specs.NameRules.{reference_rules};
 ghost use Rattle.source_tree.specs.InspectRules as rules;
 ghost use Rattle.source_tree.specs.InspectLayout as layout;
 ghost use Rattle.declarations.specs.Named.{IsDeclared, items_in};
-ghost use Rattle.codegen.specs.Pieces.{append};
+ghost use Rattle.codegen.specs.Fragments.{append};
 ghost use Rattle.codegen.specs.DataCode.{text_fragment};
 ghost use Rattle.codegen.specs.InspectCode as spec;
 
@@ -25,76 +25,6 @@ use source_tree::{
 use sqlite_items::Items;
 use std::alloc::{AllocError, Global};
 use text_ops::{Entry, Fit, Span};
-
-/// Entries, and the size in bytes of all texts up to theirs.
-#[derive(Drop)]
-struct Entries {
-    size: u32,
-    entries: Items<Entry>,
-}
-
-/// The text of a limit, if it stands, and the size of all texts up to it.
-#[derive(Clone, Copy)]
-struct LimitText {
-    span: Option<Span>,
-    end: u32,
-}
-
-/// The texts of BEFORE and AFTER, and the size of all texts up to them.
-#[derive(Clone, Copy)]
-struct LimitTexts {
-    before: Option<Span>,
-    after: Option<Span>,
-    end: u32,
-}
-
-/// The size of texts with one more. It is refused where 32 bits don't hold it.
-fn longer(size: u32, text: u32) -> Result<u32, AllocError>
-    ensures { IfOk result (λ end. end ≡ size + text) }
-{
-    entry_number(size as usize + text as usize)
-}
-
-fn fit_of(how: Occurrences, text: Span) -> Fit
-    ensures { result ≡ layout.fit_of how text }
-{
-    match how {
-        Occurrences::All => Fit::All(text),
-        Occurrences::Leading => Fit::Leading(text),
-        Occurrences::First => Fit::First(text),
-    }
-}
-
-/// A byte, so many times.
-fn repeated(alloc: Global, byte: u8, size: u32) -> Result<Items<u8>, AllocError>
-    ensures { IfOk result (λ bytes. bytes ≡ replicate size byte) }
-{
-    let mut bytes = Items::new(alloc);
-    for _ in 0..size {
-        bytes.push(byte)?;
-    }
-    Ok(bytes)
-}
-
-/// Characters that are known, behind so many bytes.
-fn emit_characters(code: &mut Code, at: u32, bytes: Items<u8>) -> Result<Span, AllocError>
-    ensures code { OnOk result (code.new ≡ append code.old (text_fragment bytes code.old)) }
-    ensures span { IfOk result (λ span. span ≡ record { start = at; length = length bytes }) }
-{
-    let length = entry_number(bytes.len())?;
-    emit_text(code, bytes)?;
-    Ok(Span { start: at, length })
-}
-
-/// The INSPECT of an inspection.
-fn emit_inspection(code: &mut Code, one: Inspection) -> Result<(), AllocError>
-    ensures { OnOk result (code.new ≡ append code.old (spec.inspection_fragment one code.old)) }
-{
-    let number = entry_number(code.tables.inspections.len())?;
-    code.tables.inspections.push(one)?;
-    let inspection = InspectionIndex { number };
-    emit_work(code, DataInstruction::Inspect { inspection })
-}
 
 impl<'a> Emitter<'a> {
     /// An item's bytes, behind so many.
@@ -468,4 +398,74 @@ impl<'a> Emitter<'a> {
         };
         emit_inspection(code, inspection)
     }
+}
+
+/// Entries, and the size in bytes of all texts up to theirs.
+#[derive(Drop)]
+struct Entries {
+    size: u32,
+    entries: Items<Entry>,
+}
+
+/// The text of a limit, if it stands, and the size of all texts up to it.
+#[derive(Clone, Copy)]
+struct LimitText {
+    span: Option<Span>,
+    end: u32,
+}
+
+/// The texts of BEFORE and AFTER, and the size of all texts up to them.
+#[derive(Clone, Copy)]
+struct LimitTexts {
+    before: Option<Span>,
+    after: Option<Span>,
+    end: u32,
+}
+
+/// The size of texts with one more. It is refused where 32 bits don't hold it.
+fn longer(size: u32, text: u32) -> Result<u32, AllocError>
+    ensures { IfOk result (λ end. end ≡ size + text) }
+{
+    entry_number(size as usize + text as usize)
+}
+
+fn fit_of(how: Occurrences, text: Span) -> Fit
+    ensures { result ≡ layout.fit_of how text }
+{
+    match how {
+        Occurrences::All => Fit::All(text),
+        Occurrences::Leading => Fit::Leading(text),
+        Occurrences::First => Fit::First(text),
+    }
+}
+
+/// A byte, so many times.
+fn repeated(alloc: Global, byte: u8, size: u32) -> Result<Items<u8>, AllocError>
+    ensures { IfOk result (λ bytes. bytes ≡ replicate size byte) }
+{
+    let mut bytes = Items::new(alloc);
+    for _ in 0..size {
+        bytes.push(byte)?;
+    }
+    Ok(bytes)
+}
+
+/// Characters that are known, behind so many bytes.
+fn emit_characters(code: &mut Code, at: u32, bytes: Items<u8>) -> Result<Span, AllocError>
+    ensures code { OnOk result (code.new ≡ append code.old (text_fragment bytes code.old)) }
+    ensures span { IfOk result (λ span. span ≡ record { start = at; length = length bytes }) }
+{
+    let length = entry_number(bytes.len())?;
+    emit_text(code, bytes)?;
+    Ok(Span { start: at, length })
+}
+
+/// The INSPECT of an inspection.
+fn emit_inspection(code: &mut Code, one: Inspection) -> Result<(), AllocError>
+    ensures { OnOk result (code.new ≡ append code.old (spec.inspection_fragment one code.old)) }
+{
+    let number = entry_number(code.tables.inspections.len())?;
+    code.tables.inspections.push(one)?;
+    let inspection = InspectionIndex { number };
+    emit_work(code, DataInstruction::Inspect { inspection })
 }

@@ -8,7 +8,7 @@ ghost use Rattle.source_tree.specs.NameRules.{operand_rules, subscript_rules};
 ghost use Rattle.source_tree.specs.MoveRules.{move_rules};
 ghost use Rattle.source_tree.specs.ValueRules.{has_form};
 ghost use Rattle.declarations.specs.Named.{IsDeclared, items_in};
-ghost use Rattle.codegen.specs.Pieces.{append};
+ghost use Rattle.codegen.specs.Fragments.{append};
 ghost use Rattle.codegen.specs.DataCode as spec;
 
 use crate::emitter::{Emitter, entry_number};

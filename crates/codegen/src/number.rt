@@ -7,7 +7,7 @@ ghost use Rattle.source_tree.specs.ValueRules.{has_form};
 ghost use Rattle.source_tree.specs.declared.literal.LiteralValue.TheVariants as literals;
 ghost use Rattle.codegen.specs.ArithmeticCode.{or_zero};
 
-use decimal18::{Dec, number_behind};
+use decimal18::{Dec, number_after};
 use source_tree::{LiteralValue, NumericLiteral, Sign};
 
 /// The number that a literal is: of ZERO, and of one that is none, 0.
@@ -34,10 +34,10 @@ fn number_written(one: &NumericLiteral) -> Dec
     requires { has_form (literals.Numeric one.now) ≡ true }
     ensures { result ≡ spec.literal_number one.now }
 {
-    let Some(whole) = number_behind(0, one.whole.as_slice()) else {
+    let Some(whole) = number_after(0, one.whole.as_slice()) else {
         unreachable!()
     };
-    let Some(magnitude) = number_behind(whole, one.decimals.as_slice()) else {
+    let Some(magnitude) = number_after(whole, one.decimals.as_slice()) else {
         unreachable!()
     };
     let scale = one.decimals.len() as u8;

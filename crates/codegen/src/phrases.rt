@@ -2,7 +2,7 @@
 
 ghost use Rattle.std.specs.Prelude.{◌≡◌, ◌+◌, ◌<◌, ◌≤◌, ◌||◌, length, OnOk, IfOk};
 ghost use Rattle.source_tree.specs.Arithmetic.{is_there};
-ghost use Rattle.codegen.specs.Pieces.{append};
+ghost use Rattle.codegen.specs.Fragments.{append};
 ghost use Rattle.codegen.specs.Meeting.{branch_code, jump_code};
 ghost use Rattle.std.specs.List.{AllByRecursion};
 ghost use Rattle.codegen.specs.Phrases.{IsWay, patched_code, met_all};

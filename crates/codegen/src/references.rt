@@ -6,13 +6,13 @@ ghost use Rattle.source_tree.specs.Integers as written;
 ghost use Rattle.source_tree.specs.NameRules.{integer_rules, adjustment_rules, subscript_rules};
 ghost use Rattle.data_instructions.specs.Codes.{integer, index_code};
 ghost use Rattle.declarations.specs.Named.{IsDeclared, items_in};
-ghost use Rattle.codegen.specs.Pieces.{append, sequence};
+ghost use Rattle.codegen.specs.Fragments.{append, sequence};
 ghost use Rattle.codegen.specs.DataCode as spec;
 
 use crate::emitter::{Emitter, entry_number};
 use code_image::{Code, Instruction};
 use data_instructions::{Calculation, DataInstruction, NumberIndex};
-use decimal18::{Dec, number_behind};
+use decimal18::{Dec, number_after};
 use source_tree::{Adjustment, Dimension, Integer, Reference, Subscript};
 use std::alloc::AllocError;
 
@@ -51,7 +51,7 @@ fn number_of(one: &Integer) -> Dec
     requires { integer_rules one.now ≡ [] }
     ensures { result ≡ integer (pos (written.number_of one.now)) }
 {
-    let Some(number) = number_behind(0, one.digits.as_slice()) else {
+    let Some(number) = number_after(0, one.digits.as_slice()) else {
         unreachable!()
     };
     Dec::from_parts(false, u128::from(number), 0)

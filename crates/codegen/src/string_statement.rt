@@ -8,7 +8,7 @@ ghost use Rattle.source_tree.specs.Rules as rules;
 ghost use Rattle.source_tree.specs.Rules.{all_permitted};
 ghost use Rattle.source_tree.specs.StringRules.{sent_rules, delimiter_rules, sending_rules, string_rules};
 ghost use Rattle.declarations.specs.Named.{IsDeclared, items_in, scope_in};
-ghost use Rattle.codegen.specs.Pieces.{append, in_order};
+ghost use Rattle.codegen.specs.Fragments.{append, in_order};
 ghost use Rattle.codegen.specs.Layout.{string_statement_fragment, statement_fragment};
 ghost use Rattle.codegen.specs.StringCode as spec;
 
@@ -23,32 +23,6 @@ use source_tree::{Operand, Reference, Sending, Statement, StringStatement};
 use sqlite_items::Items;
 use std::alloc::AllocError;
 use text_ops::delimited;
-
-/// The bytes of the newest place up to a text.
-fn emit_up_to_text(code: &mut Code, bytes: Items<u8>) -> Result<(), AllocError>
-    ensures { OnOk result (code.new ≡ append code.old (spec.up_to_text_fragment bytes code.old)) }
-{
-    let number = entry_number(code.tables.texts.len())?;
-    code.tables.texts.push(bytes)?;
-    let delimiter = TextIndex { number };
-    emit_work(
-        code,
-        DataInstruction::Gather(Gather::UpToText { delimiter }),
-    )
-}
-
-/// A text up to the bytes of the newest place.
-fn emit_text_up_to_place(code: &mut Code, bytes: Items<u8>) -> Result<(), AllocError>
-    ensures { OnOk result (code.new ≡ append code.old (spec.text_up_to_place_fragment bytes code.old)) }
-{
-    let number = entry_number(code.tables.texts.len())?;
-    code.tables.texts.push(bytes)?;
-    let text = TextIndex { number };
-    emit_work(
-        code,
-        DataInstruction::Gather(Gather::TextUpToPlace { text }),
-    )
-}
 
 impl<'a> Emitter<'a> {
     /// A sender DELIMITED BY SIZE.
@@ -286,4 +260,30 @@ impl<'a> Emitter<'a> {
         self.emit_string(code, one.sendings.as_slice(), &one.receiver, &one.pointer)?;
         self.emit_phrases(code, &one.phrases)
     }
+}
+
+/// The bytes of the newest place up to a text.
+fn emit_up_to_text(code: &mut Code, bytes: Items<u8>) -> Result<(), AllocError>
+    ensures { OnOk result (code.new ≡ append code.old (spec.up_to_text_fragment bytes code.old)) }
+{
+    let number = entry_number(code.tables.texts.len())?;
+    code.tables.texts.push(bytes)?;
+    let delimiter = TextIndex { number };
+    emit_work(
+        code,
+        DataInstruction::Gather(Gather::UpToText { delimiter }),
+    )
+}
+
+/// A text up to the bytes of the newest place.
+fn emit_text_up_to_place(code: &mut Code, bytes: Items<u8>) -> Result<(), AllocError>
+    ensures { OnOk result (code.new ≡ append code.old (spec.text_up_to_place_fragment bytes code.old)) }
+{
+    let number = entry_number(code.tables.texts.len())?;
+    code.tables.texts.push(bytes)?;
+    let text = TextIndex { number };
+    emit_work(
+        code,
+        DataInstruction::Gather(Gather::TextUpToPlace { text }),
+    )
 }

@@ -9,32 +9,16 @@ ghost use Rattle.source_tree.specs.EntryRules.{entry_rules};
 ghost use Rattle.source_tree.specs.Evaluate as tree;
 ghost use Rattle.source_tree.specs.EvaluateRules.{subject_rules};
 ghost use Rattle.declarations.specs.Named.{IsDeclared, items_in};
-ghost use Rattle.declarations.specs.Looking.{choice_looked};
-ghost use Rattle.codegen.specs.Pieces.{append};
+ghost use Rattle.declarations.specs.Resolved.{optional_choice};
+ghost use Rattle.codegen.specs.Fragments.{append};
 ghost use Rattle.codegen.specs.SubjectCode as spec;
 
 use crate::condition::{alone_side, zero_literal};
 use crate::emitter::Emitter;
 use code_image::Code;
-use declarations::{LookedObject, LookedSubject};
+use declarations::{ResolvedObject, ResolvedSubject};
 use source_tree::{Choice, Evaluate, Object, Relation, Selected, Side, Statement, Subject};
 use std::alloc::AllocError;
-
-/// ZERO, with which each value may be compared.
-fn zero_side() -> Side
-    ensures { result ≡ spec.zero_side }
-{
-    Side::Literal(zero_literal())
-}
-
-/// The first object of the first WHEN.
-fn first_object(selected: &[Selected<Statement>]) -> Option<&Object>
-    ensures { option_copied result ≡ spec.first_object selected.now }
-{
-    let group = selected.first()?;
-    let when = group.whens.as_slice().first()?;
-    when.objects.as_slice().first()
-}
 
 impl<'a> Emitter<'a> {
     /// A value is a literal, or an item without subscripts.
@@ -62,14 +46,14 @@ impl<'a> Emitter<'a> {
     /// An object asks for its subject before it can have a fault of its own that is another one.
     fn asks_at_once(&self, subject: &Subject, choice: &Choice) -> bool
         requires { IsDeclared self.now.declarations.now }
-        ensures { result ≡ spec.asks_at_once (items_in self.now.declarations.now) (tree.looked_subject (items_in self.now.declarations.now) subject.now) (choice_looked (items_in self.now.declarations.now) choice.now) }
+        ensures { result ≡ spec.asks_at_once (items_in self.now.declarations.now) (tree.resolved_subject (items_in self.now.declarations.now) subject.now) (optional_choice (items_in self.now.declarations.now) choice.now) }
     {
         match (
             self.declarations.looked_subject(subject),
             self.declarations.looked_object(choice),
         ) {
-            (LookedSubject::Value(_), LookedObject::Value(wanted)) => self.is_at_hand(wanted.first),
-            (LookedSubject::Condition(_), LookedObject::Truth(_) | LookedObject::Condition(_)) => {
+            (ResolvedSubject::Value(_), ResolvedObject::Value(wanted)) => self.is_at_hand(wanted.first),
+            (ResolvedSubject::Condition(_), ResolvedObject::Truth(_) | ResolvedObject::Condition(_)) => {
                 true
             }
             _ => false,
@@ -108,9 +92,9 @@ impl<'a> Emitter<'a> {
         ensures { OnOk result (code.new ≡ append code.old (spec.subject_fragment (items_in self.now.declarations.now) one.now code.old)) }
     {
         match self.declarations.looked_subject(one) {
-            LookedSubject::Value(value) => self.emit_value_look(code, value),
-            LookedSubject::Truth(_) => Ok(()),
-            LookedSubject::Condition(condition) => self.emit_asked_condition(code, condition),
+            ResolvedSubject::Value(value) => self.emit_value_look(code, value),
+            ResolvedSubject::Truth(_) => Ok(()),
+            ResolvedSubject::Condition(condition) => self.emit_asked_condition(code, condition),
         }
     }
 
@@ -144,4 +128,20 @@ impl<'a> Emitter<'a> {
         }
         self.emit_each_subject(code, subjects)
     }
+}
+
+/// ZERO, with which each value may be compared.
+fn zero_side() -> Side
+    ensures { result ≡ spec.zero_side }
+{
+    Side::Literal(zero_literal())
+}
+
+/// The first object of the first WHEN.
+fn first_object(selected: &[Selected<Statement>]) -> Option<&Object>
+    ensures { option_copied result ≡ spec.first_object selected.now }
+{
+    let group = selected.first()?;
+    let when = group.whens.as_slice().first()?;
+    when.objects.as_slice().first()
 }

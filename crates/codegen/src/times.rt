@@ -7,7 +7,7 @@ ghost use Rattle.source_tree.specs.Performing.{turns_of};
 ghost use Rattle.source_tree.specs.Rules as rules;
 ghost use Rattle.source_tree.specs.Rules.{all_permitted, integer_item};
 ghost use Rattle.declarations.specs.Named.{IsDeclared, items_in, scope_in};
-ghost use Rattle.codegen.specs.Pieces.{append, sequence};
+ghost use Rattle.codegen.specs.Fragments.{append, sequence};
 ghost use Rattle.codegen.specs.DataCode.{take_fragment};
 ghost use Rattle.codegen.specs.Layout.{loop_begin, count_begin, turn_end, counted_turn, times_fragment, counted_fragment, turn_fragment, statement_fragment};
 ghost use Rattle.data_instructions.specs.declared.instruction.DataInstruction.TheVariants as i;

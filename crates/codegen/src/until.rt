@@ -6,7 +6,7 @@ ghost use Rattle.source_tree.specs.ConditionRules.{varying_rules, until_rules};
 ghost use Rattle.source_tree.specs.Rules as rules;
 ghost use Rattle.source_tree.specs.Rules.{all_permitted};
 ghost use Rattle.declarations.specs.Named.{IsDeclared, items_in, scope_in};
-ghost use Rattle.codegen.specs.Pieces.{append, sequence};
+ghost use Rattle.codegen.specs.Fragments.{append, sequence};
 ghost use Rattle.codegen.specs.Meeting.{either_fragment, nothing_fragment};
 ghost use Rattle.codegen.specs.DataCode.{work_fragment};
 ghost use Rattle.codegen.specs.ConditionCode.{condition_fragment};

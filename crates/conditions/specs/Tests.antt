@@ -135,13 +135,13 @@ asked_reader = do
 
 -- ---- looking ahead
 
-abbrev pub first_told : {A : Type 0} → (Token → Option A) → List Token → Option A
-first_told tells [] = None
-first_told tells (first ∷ more) = tells first
+abbrev pub first_known : {A : Type 0} → (Token → Option A) → List Token → Option A
+first_known tells [] = None
+first_known tells (first ∷ more) = tells first
 
 -- what is asked, behind IS and NOT
 abbrev pub next_test : List Token → Option Test
-next_test i = first_told test_in (past_word w.Not (past_word w.Is i))
+next_test i = first_known test_in (past_word w.Not (past_word w.Is i))
 
 abbrev pub begins_test : List Token → Bool
 begins_test i = is_told (next_test i)

@@ -1,7 +1,7 @@
 //! Unsigned integers of entries.
 
 ghost use Rattle.std.specs.Prelude.{◌≡◌, ◌+◌, ◌-◌, ◌*◌, ◌≤◌, min};
-ghost use Rattle.decimal18.specs.Digits.{digits_behind};
+ghost use Rattle.decimal18.specs.Digits.{digits_after};
 ghost use Rattle.source_tree.specs.Clauses as clauses;
 ghost use Rattle.source_tree.specs.Integers.{number_of};
 
@@ -37,7 +37,7 @@ fn with_digit(number: u32, digit: u8) -> u32
 
 /// The number that the digits write, up to `MOST`.
 fn number_in(digits: &[u8]) -> u32
-    ensures { result ≡ min (digits_behind 0 digits.now) MOST }
+    ensures { result ≡ min (digits_after 0 digits.now) MOST }
 {
     let mut number = 0;
     for digit in digits {

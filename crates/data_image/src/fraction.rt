@@ -17,13 +17,6 @@ const COEFFICIENT_LIMIT: u128 = 100_000_000_000_000_000_000_000_000_000_000_000_
 /// The greatest scale.
 const MOST_SCALE: u8 = 18;
 
-/// A number has these parts. Zero isn't negative.
-fn is_fraction(negative: bool, magnitude: u128, scale: u8) -> bool
-    ensures { result ≡ spec.is_fraction negative magnitude scale }
-{
-    magnitude < COEFFICIENT_LIMIT && scale <= MOST_SCALE && !(negative && magnitude == 0)
-}
-
 impl TableEntry for Dec {
     ghost spelled = { fraction_bytes };
 
@@ -48,4 +41,11 @@ impl TableEntry for Dec {
         }
         Ok((Dec::from_parts(negative, magnitude, scale), rest))
     }
+}
+
+/// A number has these parts. Zero isn't negative.
+fn is_fraction(negative: bool, magnitude: u128, scale: u8) -> bool
+    ensures { result ≡ spec.is_fraction negative magnitude scale }
+{
+    magnitude < COEFFICIENT_LIMIT && scale <= MOST_SCALE && !(negative && magnitude == 0)
 }

@@ -27,6 +27,66 @@ const NO_TEXT: u8 = 0;
 
 const TEXT: u8 = 1;
 
+impl TableEntry for Entry {
+    ghost spelled = { entry_bytes };
+
+    ghost read_from = { entry_at };
+
+    ghost fits = { IsEntrySpelled };
+
+    fn put(&self, out: &mut Vec<u8>) -> Result<(), AllocError> {
+        put_fit(out, self.fit)?;
+        put_text(out, self.before)?;
+        put_text(out, self.after)?;
+        put_text(out, self.by)
+    }
+
+    #[tactic(auto, unfolding(crate::specs::Inspections::entry_at))]
+    fn read(_alloc: Global, bytes: &[u8]) -> Result<(Entry, &[u8]), ImageError> {
+        let (fit, rest) = read_fit(bytes)?;
+        let (before, rest) = read_text(rest)?;
+        let (after, rest) = read_text(rest)?;
+        let (by, rest) = read_text(rest)?;
+        let one = Entry {
+            fit,
+            before,
+            after,
+            by,
+        };
+        Ok((one, rest))
+    }
+}
+
+impl TableEntry for Inspection {
+    ghost spelled = { inspection_bytes };
+
+    ghost read_from = { inspection_at };
+
+    ghost fits = { IsInspectionSpelled };
+
+    fn put(&self, out: &mut Vec<u8>) -> Result<(), AllocError> {
+        put_short(out, self.size)?;
+        put_table(out, self.counters.as_slice())?;
+        put_table(out, self.tallying.as_slice())?;
+        put_table(out, self.replacing.as_slice())
+    }
+
+    #[tactic(auto, unfolding(crate::specs::Inspections::inspection_at))]
+    fn read(alloc: Global, bytes: &[u8]) -> Result<(Inspection, &[u8]), ImageError> {
+        let (size, rest) = read_short(bytes)?;
+        let (counters, rest) = read_table(alloc, rest)?;
+        let (tallying, rest) = read_table(alloc, rest)?;
+        let (replacing, rest) = read_table(alloc, rest)?;
+        let one = Inspection {
+            size,
+            counters,
+            tallying,
+            replacing,
+        };
+        Ok((one, rest))
+    }
+}
+
 fn put_span(out: &mut Vec<u8>, span: Span) -> Result<(), AllocError>
     ensures bytes { OnOk result (out.new.items ≡ out.old.items ++ span_bytes span) }
     ensures fits { IsSpanSpelled span }
@@ -109,65 +169,5 @@ fn read_text(bytes: &[u8]) -> Result<(Option<Span>, &[u8]), ImageError>
             Ok((Some(text), rest))
         }
         _ => Err(ImageError::Refused(ImageFault::Value)),
-    }
-}
-
-impl TableEntry for Entry {
-    ghost spelled = { entry_bytes };
-
-    ghost read_from = { entry_at };
-
-    ghost fits = { IsEntrySpelled };
-
-    fn put(&self, out: &mut Vec<u8>) -> Result<(), AllocError> {
-        put_fit(out, self.fit)?;
-        put_text(out, self.before)?;
-        put_text(out, self.after)?;
-        put_text(out, self.by)
-    }
-
-    #[tactic(auto, unfolding(crate::specs::Inspections::entry_at))]
-    fn read(_alloc: Global, bytes: &[u8]) -> Result<(Entry, &[u8]), ImageError> {
-        let (fit, rest) = read_fit(bytes)?;
-        let (before, rest) = read_text(rest)?;
-        let (after, rest) = read_text(rest)?;
-        let (by, rest) = read_text(rest)?;
-        let one = Entry {
-            fit,
-            before,
-            after,
-            by,
-        };
-        Ok((one, rest))
-    }
-}
-
-impl TableEntry for Inspection {
-    ghost spelled = { inspection_bytes };
-
-    ghost read_from = { inspection_at };
-
-    ghost fits = { IsInspectionSpelled };
-
-    fn put(&self, out: &mut Vec<u8>) -> Result<(), AllocError> {
-        put_short(out, self.size)?;
-        put_table(out, self.counters.as_slice())?;
-        put_table(out, self.tallying.as_slice())?;
-        put_table(out, self.replacing.as_slice())
-    }
-
-    #[tactic(auto, unfolding(crate::specs::Inspections::inspection_at))]
-    fn read(alloc: Global, bytes: &[u8]) -> Result<(Inspection, &[u8]), ImageError> {
-        let (size, rest) = read_short(bytes)?;
-        let (counters, rest) = read_table(alloc, rest)?;
-        let (tallying, rest) = read_table(alloc, rest)?;
-        let (replacing, rest) = read_table(alloc, rest)?;
-        let one = Inspection {
-            size,
-            counters,
-            tallying,
-            replacing,
-        };
-        Ok((one, rest))
     }
 }

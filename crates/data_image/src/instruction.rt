@@ -79,6 +79,46 @@ const DROP_PLACE: u8 = 61;
 
 const INSPECT: u8 = 69;
 
+impl TableEntry for DataInstruction {
+    ghost spelled = { data_instruction_bytes };
+
+    ghost read_from = { data_instruction_at };
+
+    ghost fits = { HasShorts };
+
+    fn put(&self, out: &mut Vec<u8>) -> Result<(), AllocError> {
+        match *self {
+            DataInstruction::Place { item } => put_naming(out, PLACE, item.number),
+            DataInstruction::Index { stride, count } => put_index(out, stride, count),
+            DataInstruction::Push => put_byte(out, PUSH),
+            DataInstruction::Literal { number } => put_naming(out, LITERAL, number.number),
+            DataInstruction::Calculate(one) => put_calculation(out, one),
+            DataInstruction::Test(one) => put_test(out, one),
+            DataInstruction::Store { rounded, keep } => put_byte(out, store_byte(rounded, keep)),
+            DataInstruction::ClearTruth => put_byte(out, CLEAR_TRUTH),
+            DataInstruction::VoidIfTrue => put_byte(out, VOID_IF_TRUE),
+            DataInstruction::Take => put_byte(out, TAKE),
+            DataInstruction::TakeLiteral { literal } => {
+                put_naming(out, TAKE_LITERAL, literal.number)
+            }
+            DataInstruction::Move => put_byte(out, MOVE),
+            DataInstruction::Append => put_byte(out, APPEND),
+            DataInstruction::AppendLiteral { text } => put_naming(out, APPEND_LITERAL, text.number),
+            DataInstruction::Overlay { text } => put_naming(out, OVERLAY, text.number),
+            DataInstruction::DropPlace => put_byte(out, DROP_PLACE),
+            DataInstruction::Gather(one) => put_gather(out, one),
+            DataInstruction::String { pointer } => put_byte(out, string_byte(pointer)),
+            DataInstruction::Inspect { inspection } => put_naming(out, INSPECT, inspection.number),
+        }
+    }
+
+    #[tactic(auto, unfolding(crate::specs::Instructions::data_instruction_at))]
+    fn read(_alloc: Global, bytes: &[u8]) -> Result<(DataInstruction, &[u8]), ImageError> {
+        let (byte, rest) = read_byte(bytes)?;
+        read_from(byte, rest)
+    }
+}
+
 fn put_index(out: &mut Vec<u8>, stride: u32, count: u32) -> Result<(), AllocError>
     ensures bytes { OnOk result (out.new.items ≡ out.old.items ++ (17 ∷ (short_bytes stride ++ short_bytes count))) }
     ensures fits { FitsFourBytes stride × FitsFourBytes count }
@@ -290,45 +330,5 @@ fn read_from(byte: u8, bytes: &[u8]) -> Result<(DataInstruction, &[u8]), ImageEr
         TRUNCATE => read_truncate(bytes),
         DUPLICATE => read_duplicate(bytes),
         _ => read_test(byte, bytes),
-    }
-}
-
-impl TableEntry for DataInstruction {
-    ghost spelled = { data_instruction_bytes };
-
-    ghost read_from = { data_instruction_at };
-
-    ghost fits = { HasShorts };
-
-    fn put(&self, out: &mut Vec<u8>) -> Result<(), AllocError> {
-        match *self {
-            DataInstruction::Place { item } => put_naming(out, PLACE, item.number),
-            DataInstruction::Index { stride, count } => put_index(out, stride, count),
-            DataInstruction::Push => put_byte(out, PUSH),
-            DataInstruction::Literal { number } => put_naming(out, LITERAL, number.number),
-            DataInstruction::Calculate(one) => put_calculation(out, one),
-            DataInstruction::Test(one) => put_test(out, one),
-            DataInstruction::Store { rounded, keep } => put_byte(out, store_byte(rounded, keep)),
-            DataInstruction::ClearTruth => put_byte(out, CLEAR_TRUTH),
-            DataInstruction::VoidIfTrue => put_byte(out, VOID_IF_TRUE),
-            DataInstruction::Take => put_byte(out, TAKE),
-            DataInstruction::TakeLiteral { literal } => {
-                put_naming(out, TAKE_LITERAL, literal.number)
-            }
-            DataInstruction::Move => put_byte(out, MOVE),
-            DataInstruction::Append => put_byte(out, APPEND),
-            DataInstruction::AppendLiteral { text } => put_naming(out, APPEND_LITERAL, text.number),
-            DataInstruction::Overlay { text } => put_naming(out, OVERLAY, text.number),
-            DataInstruction::DropPlace => put_byte(out, DROP_PLACE),
-            DataInstruction::Gather(one) => put_gather(out, one),
-            DataInstruction::String { pointer } => put_byte(out, string_byte(pointer)),
-            DataInstruction::Inspect { inspection } => put_naming(out, INSPECT, inspection.number),
-        }
-    }
-
-    #[tactic(auto, unfolding(crate::specs::Instructions::data_instruction_at))]
-    fn read(_alloc: Global, bytes: &[u8]) -> Result<(DataInstruction, &[u8]), ImageError> {
-        let (byte, rest) = read_byte(bytes)?;
-        read_from(byte, rest)
     }
 }

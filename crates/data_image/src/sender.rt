@@ -30,6 +30,26 @@ const QUOTE: u8 = 6;
 
 const ITEM: u8 = 7;
 
+impl TableEntry for LiteralSender {
+    ghost spelled = { sender_bytes };
+
+    ghost read_from = { sender_at };
+
+    ghost fits = { IsSenderSpelled };
+
+    fn put(&self, out: &mut Vec<u8>) -> Result<(), AllocError> {
+        put_taken(out, self.taken)?;
+        self.bytes.put(out)
+    }
+
+    #[tactic(auto, unfolding(crate::specs::Senders::sender_at))]
+    fn read(alloc: Global, bytes: &[u8]) -> Result<(LiteralSender, &[u8]), ImageError> {
+        let (taken, rest) = read_taken(bytes)?;
+        let (bytes, rest) = Items::read(alloc, rest)?;
+        Ok((LiteralSender { taken, bytes }, rest))
+    }
+}
+
 fn put_taken(out: &mut Vec<u8>, taken: Taken) -> Result<(), AllocError>
     ensures bytes { OnOk result (out.new.items ≡ out.old.items ++ taken_bytes taken) }
     ensures fits { OnOk result (IsTakenSpelled taken) }
@@ -74,24 +94,4 @@ fn read_taken(bytes: &[u8]) -> Result<(Taken, &[u8]), ImageError>
         return Ok((Taken::Item(item), rest));
     }
     Ok((found(plain_taken_of(byte))?, rest))
-}
-
-impl TableEntry for LiteralSender {
-    ghost spelled = { sender_bytes };
-
-    ghost read_from = { sender_at };
-
-    ghost fits = { IsSenderSpelled };
-
-    fn put(&self, out: &mut Vec<u8>) -> Result<(), AllocError> {
-        put_taken(out, self.taken)?;
-        self.bytes.put(out)
-    }
-
-    #[tactic(auto, unfolding(crate::specs::Senders::sender_at))]
-    fn read(alloc: Global, bytes: &[u8]) -> Result<(LiteralSender, &[u8]), ImageError> {
-        let (taken, rest) = read_taken(bytes)?;
-        let (bytes, rest) = Items::read(alloc, rest)?;
-        Ok((LiteralSender { taken, bytes }, rest))
-    }
 }

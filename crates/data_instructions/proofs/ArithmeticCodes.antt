@@ -11,7 +11,7 @@ use Rattle.source_tree.specs.declared.arithmetic.DivisionOrder.TheVariants.{Into
 use Rattle.source_tree.specs.declared.arithmetic.Operation.{Operation}
 use Rattle.source_tree.specs.declared.arithmetic.Operation.TheVariants as o
 use Rattle.source_tree.specs.Places.{LocatedItem}
-use Rattle.source_tree.specs.References.{ItemPlace, place_of, place_behind, occurrence}
+use Rattle.source_tree.specs.References.{ItemPlace, place_of, place_after, occurrence}
 use Rattle.source_tree.specs.References as tree
 use Rattle.source_tree.specs.Evaluated.{Evaluation, ◌>>=◌, evaluation_of}
 use Rattle.source_tree.specs.Computed.{ArithmeticValue, ExpressionValue, operate, number_at, operand_value, expression_value}
@@ -176,8 +176,8 @@ module _ (items : List LocatedItem) (tables : DataTables) (order : IsTables tabl
       last after = by_scale after.0 after.1
 
       by_bytes : (bytes : Evaluation ℕ)
-          → ((bytes >>= (λ n. Ok (place_behind found n))) >>= (λ place. quotient_at items keep q quotient.rounded before place >>= last))
-          ≡ (((bytes >>= (λ n. Ok (place_behind found n))) >>= (λ place. store keep quotient.rounded place q before)) >>= by_scale scale)
+          → ((bytes >>= (λ n. Ok (place_after found n))) >>= (λ place. quotient_at items keep q quotient.rounded before place >>= last))
+          ≡ (((bytes >>= (λ n. Ok (place_after found n))) >>= (λ place. store keep quotient.rounded place q before)) >>= by_scale scale)
       by_bytes (Err fault) = refl
       by_bytes (Ok n) =
           ap (λ r. (evaluation_of r >>= (λ one. Ok (one.scale, after one))) >>= last) receives
@@ -185,7 +185,7 @@ module _ (items : List LocatedItem) (tables : DataTables) (order : IsTables tabl
           ∙ sym (ap (λ r. (evaluation_of r >>= (λ one. Ok (after one))) >>= by_scale scale) receives)
         where
           after : NumberReceiver → StoreResult
-          after one = storing_computed keep (rounding_of quotient.rounded) (place_behind found n) one q before
+          after one = storing_computed keep (rounding_of quotient.rounded) (place_after found n) one q before
 
   kept_works : (b : Bool) (x : ArithmeticValue) (more : List DataInstruction) (s : Scratch) → works tables (kept_code items tables keep b ++ more) (over x s) ≡ works tables more (over (if b && s.truth then None else x) s)
   kept_works true x more s = refl

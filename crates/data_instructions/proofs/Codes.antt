@@ -22,7 +22,7 @@ use Rattle.source_tree.specs.Storage.{Storage}
 use Rattle.source_tree.specs.Literals.{Sender, item_sender}
 use Rattle.source_tree.specs.Computed.{number_or_none}
 use Rattle.source_tree.specs.Evaluated.{Evaluation, ◌>>=◌, evaluation_of}
-use Rattle.source_tree.specs.References.{ItemPlace, part_of, storage_with, place_behind, place_of, occurrence, subscript_value, adjusted_subscript, integer_in, whole_part, occurrence_offset}
+use Rattle.source_tree.specs.References.{ItemPlace, part_of, storage_with, place_after, place_of, occurrence, subscript_value, adjusted_subscript, integer_in, whole_part, occurrence_offset}
 use Rattle.source_tree.specs.References as tree
 use Rattle.source_tree.specs.Moving.{taken_of, move_to, move_to_each}
 use Rattle.source_tree.specs.Showing.{shown_operand, shown_operands, displayed_bytes}
@@ -156,7 +156,7 @@ module _ (items : List LocatedItem) (tables : DataTables) (order : IsTables tabl
       ap (λ step. go_on step (at_place tables f)) (reference_works reference code r s)
       ∙ go_with found_bytes (λ more. Continues (at r.index r.found.item.length (r.found.offset + more) s)) (at_place tables f)
       ∙ with_same found_bytes _ _ (λ more. ap (λ o. step_at o (λ one. f (item_place (shortened_item one r.found.item.length) (r.found.offset + more)) s)) r.has.entry)
-      ∙ sym (with_bind found_bytes (λ more. Ok (place_behind r.found more)) (λ place. f place s))
+      ∙ sym (with_bind found_bytes (λ more. Ok (place_after r.found more)) (λ place. f place s))
       ∙ ap (λ o. step_with (evaluation_of o >>= (λ found. occurrence items reference.subscripts found s.storage)) (λ place. f place s)) (sym r.has.named)
     where
       found_bytes : Evaluation ℕ

@@ -17,11 +17,11 @@ use Rattle.source_tree.specs.Places.{LocatedItem}
 use Rattle.source_tree.specs.Literals.{Sender, item_sender, literal_sender}
 use Rattle.source_tree.specs.Storage.{Storage}
 use Rattle.source_tree.specs.Evaluated.{Evaluation, ◌>>=◌, evaluation_of}
-use Rattle.source_tree.specs.References.{part_of, place_behind, place_of, occurrence}
+use Rattle.source_tree.specs.References.{part_of, place_after, place_of, occurrence}
 use Rattle.source_tree.specs.References as tree
 use Rattle.source_tree.specs.Moving.{taken_of}
 use Rattle.source_tree.specs.Computed.{ArithmeticValue, ExpressionValue, expression_value}
-use Rattle.source_tree.specs.Conditions.{senders_stand, numbers_stand, lies_within, in_range, in_ranges, negated_if, class_of, zero_value, sign_relation, side_number, ConditionValue, class_holds, value_holds, condition_holds, name_holds}
+use Rattle.source_tree.specs.Conditions.{senders_satisfy, numbers_satisfy, lies_within, in_range, in_ranges, negated_if, class_of, zero_value, sign_relation, side_number, ConditionValue, class_holds, value_holds, condition_holds, name_holds}
 use Rattle.data_instructions.specs.declared.tables.DataTables.{DataTables}
 use Rattle.data_instructions.specs.declared.test.Test.TheVariants as t
 use Rattle.data_instructions.specs.declared.instruction.DataInstruction.{DataInstruction}
@@ -82,13 +82,13 @@ module _ (tables : DataTables) where
 
   -- two values are compared
   numbers_work : (left right : ExpressionValue) (one : Relation) (front back : List DataInstruction) → Computes tables left front → Computes tables right back → (s : Scratch)
-      → works tables (front ++ (back ++ (i.Test (t.CompareNumbers one) ∷ []))) s ≡ step_with (left s.storage >>= (λ x. right s.storage >>= numbers_stand one x)) (λ truth. Continues (record s { truth = truth }))
+      → works tables (front ++ (back ++ (i.Test (t.CompareNumbers one) ∷ []))) s ≡ step_with (left s.storage >>= (λ x. right s.storage >>= numbers_satisfy one x)) (λ truth. Continues (record s { truth = truth }))
   numbers_work left right one front back computes computes_other s =
       works_append tables front (back ++ last) s
       ∙ ap (λ step. go_on step (works tables (back ++ last))) (computes s)
       ∙ go_with (left s.storage) (λ x. push_step x s) (works tables (back ++ last))
       ∙ with_same (left s.storage) _ _ compares
-      ∙ sym (with_bind (left s.storage) (λ x. right s.storage >>= numbers_stand one x) done)
+      ∙ sym (with_bind (left s.storage) (λ x. right s.storage >>= numbers_satisfy one x) done)
     where
       last : List DataInstruction
       last = i.Test (t.CompareNumbers one) ∷ []
@@ -96,14 +96,14 @@ module _ (tables : DataTables) where
       done : Bool → Step
       done truth = Continues (record s { truth = truth })
 
-      compares : (x : ArithmeticValue) → works tables (back ++ last) (record s { numbers = x ∷ s.numbers }) ≡ step_with (right s.storage >>= numbers_stand one x) done
+      compares : (x : ArithmeticValue) → works tables (back ++ last) (record s { numbers = x ∷ s.numbers }) ≡ step_with (right s.storage >>= numbers_satisfy one x) done
       compares x =
           let u : Scratch = record s { numbers = x ∷ s.numbers } in
           works_append tables back last u
           ∙ ap (λ step. go_on step (works tables last)) (computes_other u)
           ∙ go_with (right s.storage) (λ y. push_step y u) (works tables last)
-          ∙ with_same (right s.storage) _ _ (λ y. go_with (numbers_stand one x y) done (works tables []))
-          ∙ sym (with_bind (right s.storage) (numbers_stand one x) done)
+          ∙ with_same (right s.storage) _ _ (λ y. go_with (numbers_satisfy one x y) done (works tables []))
+          ∙ sym (with_bind (right s.storage) (numbers_satisfy one x) done)
 
   inverted : (negated truth : Bool) (s : Scratch) → works tables (negation negated) (record s { truth = truth }) ≡ Continues (record s { truth = negated_if negated truth })
   inverted true truth s = refl
@@ -131,8 +131,8 @@ module _ (items : List LocatedItem) (tables : DataTables) where
   range_works from None one (index, has, is) x found s =
       let u : Scratch = record s { sender = Some x; truth = found } in
       ap (λ c. work tables c u) is
-      ∙ ap (λ o. step_at o (λ entry. or_found (senders_stand relation.Equal x (sender_of entry)) u)) has.1
-      ∙ ap (λ y. or_found (senders_stand relation.Equal x y) u) has.2
+      ∙ ap (λ o. step_at o (λ entry. or_found (senders_satisfy relation.Equal x (sender_of entry)) u)) has.1
+      ∙ ap (λ y. or_found (senders_satisfy relation.Equal x y) u) has.2
   range_works from (Some last) one (index, has, has_last, is) x found s =
       let u : Scratch = record s { sender = Some x; truth = found } in
       ap (λ c. work tables c u) is
@@ -154,19 +154,19 @@ module _ (items : List LocatedItem) (tables : DataTables) where
 module _ (items : List LocatedItem) (tables : DataTables) (order : IsTables tables) where
   -- the sender beside an operand
   compared_works : (one : Relation) (other : Operand) (code : List DataInstruction) → IsComparedCode items tables one other code → (x : Sender) (s : Scratch)
-      → works tables code (record s { sender = Some x }) ≡ step_with (taken_of items other s.storage >>= senders_stand one x) (λ truth. Continues (record s { truth = truth; sender = Some x }))
+      → works tables code (record s { sender = Some x }) ≡ step_with (taken_of items other s.storage >>= senders_satisfy one x) (λ truth. Continues (record s { truth = truth; sender = Some x }))
   compared_works one (operand.Item reference) code is x s =
       let done : Bool → Step = λ truth. Continues (record s { truth = truth; sender = Some x }) in
       taking_works items tables order (i.Test (t.Compare one)) (compared_at one) (λ u. refl) reference code is (record s { sender = Some x })
-      ∙ sym (with_bind (place_of items reference s.storage) (λ place. Ok (item_sender place.item (part_of s.storage place))) (λ y. step_with (senders_stand one x y) done))
-      ∙ sym (with_bind (taken_of items (operand.Item reference) s.storage) (senders_stand one x) done)
+      ∙ sym (with_bind (place_of items reference s.storage) (λ place. Ok (item_sender place.item (part_of s.storage place))) (λ y. step_with (senders_satisfy one x y) done))
+      ∙ sym (with_bind (taken_of items (operand.Item reference) s.storage) (senders_satisfy one x) done)
   compared_works one (operand.Literal literal) code (index, has, is) x s =
       let u : Scratch = record s { sender = Some x } in
       let done : Bool → Step = λ truth. Continues (record s { truth = truth; sender = Some x }) in
       ap (λ c. works tables c u) is
-      ∙ ap (λ o. go_on (step_at o (λ entry. truth_from (senders_stand one x (sender_of entry)) u)) (works tables [])) has.1
-      ∙ ap (λ y. go_on (truth_from (senders_stand one x y) u) (works tables [])) has.2
-      ∙ go_with (senders_stand one x (literal_sender literal.value)) done (works tables [])
+      ∙ ap (λ o. go_on (step_at o (λ entry. truth_from (senders_satisfy one x (sender_of entry)) u)) (works tables [])) has.1
+      ∙ ap (λ y. go_on (truth_from (senders_satisfy one x y) u) (works tables [])) has.2
+      ∙ go_with (senders_satisfy one x (literal_sender literal.value)) done (works tables [])
 
   -- two operands alone
   pub pair_works : (a : Operand) (one : Relation) (b : Operand) (code : List DataInstruction) → IsPairCode items tables a one b code → Decides tables (pair_truth items a one b) code
@@ -178,8 +178,8 @@ module _ (items : List LocatedItem) (tables : DataTables) (order : IsTables tabl
         ∙ ap (λ step. go_on step (works tables back)) (sender_works items tables order a front is_front s)
         ∙ go_with (taken_of items a s.storage) (λ x. Continues (record s { sender = Some x })) (works tables back)
         ∙ with_same (taken_of items a s.storage) _ _ (λ x. compared_works one b back is_back x s)
-        ∙ kept_same (taken_of items a s.storage) (λ x. x) (λ x. taken_of items b s.storage >>= senders_stand one x) s
-        ∙ sym (with_bind (taken_of items a s.storage) (λ x. taken_of items b s.storage >>= senders_stand one x) _);
+        ∙ kept_same (taken_of items a s.storage) (λ x. x) (λ x. taken_of items b s.storage >>= senders_satisfy one x) s
+        ∙ sym (with_bind (taken_of items a s.storage) (λ x. taken_of items b s.storage >>= senders_satisfy one x) _);
   }
 
   pub class_works : (reference : Reference) (negated : Bool) (one : Class) (code : List DataInstruction) → IsClassCode items tables reference negated one code → Decides tables (class_truth items reference negated one) code
@@ -205,7 +205,7 @@ module _ (items : List LocatedItem) (tables : DataTables) (order : IsTables tabl
         ∙ go_with behind (λ more. Continues (at more)) (works tables later)
         ∙ with_same behind _ _ (λ more. ap (λ o. go_on (step_at o (λ one. take_step (item_place (shortened_item one found.item.item.length) (found.item.offset + more)) s)) (works tables (i.ClearTruth ∷ values))) entry ∙ values_work items tables found.condition.values values is_values (sent more) false s)
         ∙ kept_same behind sent (λ more. in_ranges false (sent more) found.condition.values) s
-        ∙ sym (with_bind behind (λ more. Ok (place_behind found.item more)) (λ place. step_with (value_holds items found s.storage place) done))
+        ∙ sym (with_bind behind (λ more. Ok (place_after found.item more)) (λ place. step_with (value_holds items found s.storage place) done))
         ∙ sym (with_bind (occurrence items reference.subscripts found.item s.storage) (value_holds items found s.storage) done)
         ∙ ap (λ o. step_with (evaluation_of o >>= condition_holds items reference s.storage) done) (sym named);
   }
@@ -217,7 +217,7 @@ module _ (items : List LocatedItem) (tables : DataTables) (order : IsTables tabl
       behind = tree.bytes_before items found.item.dimensions reference.subscripts s.storage
 
       sent : ℕ → Sender
-      sent more = item_sender found.item.item (part_of s.storage (place_behind found.item more))
+      sent more = item_sender found.item.item (part_of s.storage (place_after found.item more))
 
       at : ℕ → Scratch
       at more = record s { places = record { item = index; offset = found.item.offset + more; length = found.item.item.length } ∷ s.places }

@@ -10,7 +10,7 @@ use Rattle.source_tree.specs.LookUp.{items_named, first}
 use Rattle.source_tree.specs.Places.{LocatedItem}
 use Rattle.source_tree.specs.Storage.{Storage}
 use Rattle.source_tree.specs.Evaluated.{Evaluation, ◌>>=◌, evaluation_of}
-use Rattle.source_tree.specs.References.{ItemPlace, part_of, place_behind, place_of, occurrence}
+use Rattle.source_tree.specs.References.{ItemPlace, part_of, place_after, place_of, occurrence}
 use Rattle.source_tree.specs.References as tree
 use Rattle.source_tree.specs.InspectLayout as layout
 use Rattle.source_tree.specs.Inspecting.{text_at}
@@ -77,8 +77,8 @@ module _ (items : List LocatedItem) where
   place_long : (one : Reference) (storage : Storage) (place : ItemPlace) → place_of items one storage ≡ Ok place → place.item.length ≡ found_size (first (items_named items one.item))
   place_long one storage place e =
       let found = bound (evaluation_of (first (items_named items one.item))) (λ it. occurrence items one.subscripts it storage) place e in
-      let behind = bound (tree.bytes_before items found.0.dimensions one.subscripts storage) (λ more. Ok (place_behind found.0 more)) place found.2 in
-      sym (ap (λ (p : ItemPlace). p.item.length) (same_Ok (place_behind found.0 behind.0) place behind.2)) ∙ sym (ap found_size (needed_is (first (items_named items one.item)) found.0 found.1))
+      let behind = bound (tree.bytes_before items found.0.dimensions one.subscripts storage) (λ more. Ok (place_after found.0 more)) place found.2 in
+      sym (ap (λ (p : ItemPlace). p.item.length) (same_Ok (place_after found.0 behind.0) place behind.2)) ∙ sym (ap found_size (needed_is (first (items_named items one.item)) found.0 found.1))
 
   taken_long : (all : List InspectArgument) (storage : Storage) (taken : InspectTaken) → take_each items all storage ≡ Ok taken → length taken.texts ≡ taken_size items all
   taken_long [] storage taken e = sym (ap (λ (t : InspectTaken). length t.texts) (same_Ok (record { counters = []; texts = [] }) taken e))
@@ -187,8 +187,8 @@ module _ (items : List LocatedItem) (tables : DataTables) (order : IsTables tabl
       ∙ ap (λ step. go_on step (works tables later)) (reference_works items tables order one front r t)
       ∙ go_with behind (λ n. Continues (standing (new n ∷ ps) p line s)) (works tables later)
       ∙ with_same behind _ _ (λ n.
-      takings_work index how size has p subject at more back are_back (new n ∷ ps) (place_behind r.found n ∷ rs) (ap (place_at (new n)) r.has.entry, are) (omega (arith, many)) line s)
-      ∙ sym (with_bind behind (λ n. Ok (place_behind r.found n)) puts)
+      takings_work index how size has p subject at more back are_back (new n ∷ ps) (place_after r.found n ∷ rs) (ap (place_at (new n)) r.has.entry, are) (omega (arith, many)) line s)
+      ∙ sym (with_bind behind (λ n. Ok (place_after r.found n)) puts)
       ∙ ap (λ o. step_with (evaluation_of o >>= (λ found. occurrence items one.subscripts found s.storage)) puts) (sym r.has.named)
       ∙ with_same (place_of items one s.storage) _ _ (λ place. sym (with_bind (take_each items more s.storage) (λ taken. Ok (with_counter place taken)) (λ taken. ends how subject s (oldest rs taken.counters) (padded_text size (line ++ taken.texts)))))
       ∙ sym (with_bind (place_of items one s.storage) (λ place. take_each items more s.storage >>= (λ taken. Ok (with_counter place taken))) (λ taken. ends how subject s (oldest rs taken.counters) (padded_text size (line ++ taken.texts))))
@@ -230,10 +230,10 @@ module _ (items : List LocatedItem) (tables : DataTables) (order : IsTables tabl
       ∙ ap (λ step. go_on step (works tables later)) (reference_works items tables order one.subject subject r u)
       ∙ go_with behind (λ n. Continues (standing [] (new n) [] s)) (works tables later)
       ∙ with_same behind _ _ (λ n.
-      takings_work index how size has (new n) (place_behind r.found n) (ap (place_at (new n)) r.has.entry) (takings items one) parts are [] [] tt (omega (arith, counters_are items one)) [] s
+      takings_work index how size has (new n) (place_after r.found n) (ap (place_at (new n)) r.has.entry) (takings items one) parts are [] [] tt (omega (arith, counters_are items one)) [] s
       ∙ with_known (take_each items (takings items one) s.storage) _ _ (λ taken known.
-      ap (λ l. ends how (place_behind r.found n) s taken.counters l) (padded_whole size taken.texts (taken_long items (takings items one) s.storage taken known))))
-      ∙ sym (with_bind behind (λ n. Ok (place_behind r.found n)) puts)
+      ap (λ l. ends how (place_after r.found n) s taken.counters l) (padded_whole size taken.texts (taken_long items (takings items one) s.storage taken known))))
+      ∙ sym (with_bind behind (λ n. Ok (place_after r.found n)) puts)
       ∙ ap (λ o. step_with (evaluation_of o >>= (λ found. occurrence items one.subject.subscripts found s.storage)) puts) (sym r.has.named)
       ∙ with_same (place_of items one.subject s.storage) _ _ (λ place. sym (with_bind (take_each items (takings items one) s.storage) (λ taken. inspect_at how taken.texts taken.counters place s.storage) (λ after. Continues (record s { storage = after; line = [] }))))
       ∙ sym (with_bind (place_of items one.subject s.storage) (λ place. take_each items (takings items one) s.storage >>= (λ taken. inspect_at how taken.texts taken.counters place s.storage)) (λ after. Continues (record s { storage = after; line = [] })))

@@ -13,7 +13,7 @@ use Rattle.source_tree.specs.Places.{LocatedItem}
 use Rattle.source_tree.specs.LookUp.{NamedCondition}
 use Rattle.source_tree.specs.Storage.{Storage}
 use Rattle.source_tree.specs.Evaluated.{Evaluation, ◌>>=◌, evaluation_of}
-use Rattle.source_tree.specs.References.{ItemPlace, part_of, place_behind, place_of, occurrence}
+use Rattle.source_tree.specs.References.{ItemPlace, part_of, place_after, place_of, occurrence}
 use Rattle.source_tree.specs.References as tree
 use Rattle.source_tree.specs.Initializing.{Pattern, overlaid_storage, named_pattern, set_pattern, initialize, storage_after_set}
 use Rattle.source_tree.specs.Stringing.{Strings, text_of, texts_of, delimiter_of, sent_of, sent_of_each, sent_bytes, all_sent, held_position, pointer_of, put_text, string_stores}
@@ -80,7 +80,7 @@ module _ (items : List LocatedItem) (tables : DataTables) (order : IsTables tabl
       nothing_more items tables order (work tables (i.Overlay text) (at more))
       ∙ overlay_works (set_pattern found) text has (at more)
       ∙ ap (λ o. step_at o (λ it. laid_over (set_pattern found) (item_place (shortened_item it found.item.item.length) (found.item.offset + more)) s)) entry)
-      ∙ sym (with_bind behind (λ more. Ok (place_behind found.item more)) (λ place. laid_over (set_pattern found) place s))
+      ∙ sym (with_bind behind (λ more. Ok (place_after found.item more)) (λ place. laid_over (set_pattern found) place s))
     where
       last : List DataInstruction
       last = i.Overlay text ∷ []
@@ -194,7 +194,7 @@ module _ (items : List LocatedItem) (tables : DataTables) (order : IsTables tabl
       ∙ ap (λ step. go_on step (works tables later)) (reference_works items tables order delimiter code r s)
       ∙ go_with behind (λ more. Continues (at more)) (works tables later)
       ∙ with_same behind _ _ below
-      ∙ sym (with_bind behind (λ more. Ok (place_behind r.found more)) puts)
+      ∙ sym (with_bind behind (λ more. Ok (place_after r.found more)) puts)
       ∙ ap (λ o. step_with (evaluation_of o >>= (λ found. occurrence items delimiter.subscripts found s.storage)) puts) (sym r.has.named)
     where
       later : List DataInstruction
@@ -209,11 +209,11 @@ module _ (items : List LocatedItem) (tables : DataTables) (order : IsTables tabl
       puts : ItemPlace → Step
       puts place = step_with (texts_of items senders s.storage) (λ texts. append_step (sent_of_each (Some (part_of s.storage place)) texts) s)
 
-      below : (more : ℕ) → works tables later (at more) ≡ puts (place_behind r.found more)
+      below : (more : ℕ) → works tables later (at more) ≡ puts (place_after r.found more)
       below more =
-          let bytes : List ℕ = part_of s.storage (place_behind r.found more) in
+          let bytes : List ℕ = part_of s.storage (place_after r.found more) in
           works_append tables parts (i.DropPlace ∷ []) (at more)
-          ∙ ap (λ step. go_on step (works tables (i.DropPlace ∷ []))) (each_up senders parts are (place_behind r.found more) bytes (at more) (ap (place_at (record { item = r.index; offset = r.found.offset + more; length = r.found.item.length })) r.has.entry) refl)
+          ∙ ap (λ step. go_on step (works tables (i.DropPlace ∷ []))) (each_up senders parts are (place_after r.found more) bytes (at more) (ap (place_at (record { item = r.index; offset = r.found.offset + more; length = r.found.item.length })) r.has.entry) refl)
           ∙ go_with (texts_of items senders s.storage) (λ texts. append_step (sent_of_each (Some bytes) texts) (at more)) (works tables (i.DropPlace ∷ []))
           ∙ with_same (texts_of items senders s.storage) _ _ (λ texts. ap (λ o. go_on (step_at o (λ one. Continues (record s { line = s.line ++ sent_of_each (Some bytes) texts }))) (works tables [])) r.has.entry)
 
@@ -271,9 +271,9 @@ module _ (items : List LocatedItem) (tables : DataTables) (order : IsTables tabl
       taking_works items tables order (i.String true) (λ place t. step_with (held_position t.storage place) (λ n. at_place tables (strung_to (Some place) n) t)) (λ t. refl) pointer back is (at more)
       ∙ with_same (place_of items pointer s.storage) _ _ (λ place.
       with_same (held_position s.storage place) _ _ (λ n. ap (λ o. step_at o (λ one. strung_to (Some place) n (item_place (shortened_item one r.found.item.length) (r.found.offset + more)) s)) r.has.entry)
-      ∙ sym (with_bind (held_position s.storage place) (λ n. Ok (Some place, n)) (put (place_behind r.found more))))
-      ∙ sym (with_bind (place_of items pointer s.storage) (λ place. held_position s.storage place >>= (λ n. Ok (Some place, n))) (put (place_behind r.found more))))
-      ∙ sym (with_bind behind (λ more. Ok (place_behind r.found more)) puts)
+      ∙ sym (with_bind (held_position s.storage place) (λ n. Ok (Some place, n)) (put (place_after r.found more))))
+      ∙ sym (with_bind (place_of items pointer s.storage) (λ place. held_position s.storage place >>= (λ n. Ok (Some place, n))) (put (place_after r.found more))))
+      ∙ sym (with_bind behind (λ more. Ok (place_after r.found more)) puts)
       ∙ ap (λ o. step_with (evaluation_of o >>= (λ found. occurrence items receiver.subscripts found s.storage)) puts) (sym r.has.named)
     where
       behind : Evaluation ℕ

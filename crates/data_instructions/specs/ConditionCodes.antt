@@ -18,7 +18,7 @@ use Rattle.source_tree.specs.Evaluated.{◌>>=◌}
 use Rattle.source_tree.specs.References.{place_of}
 use Rattle.source_tree.specs.Moving.{taken_of}
 use Rattle.source_tree.specs.Computed.{expression_value}
-use Rattle.source_tree.specs.Conditions.{ConditionValue, senders_stand, numbers_stand, side_number, sign_relation, sign_holds, class_holds}
+use Rattle.source_tree.specs.Conditions.{ConditionValue, senders_satisfy, numbers_satisfy, side_number, sign_relation, sign_holds, class_holds}
 use Rattle.data_instructions.specs.declared.index.ItemIndex.{ItemIndex}
 use Rattle.data_instructions.specs.declared.index.SenderIndex.{SenderIndex}
 use Rattle.data_instructions.specs.declared.tables.LiteralSender.{LiteralSender}
@@ -114,10 +114,10 @@ module _ (items : List LocatedItem) (tables : DataTables) where
 
 -- two operands as what they are, and two sides as numbers
 abbrev pub pair_truth : List LocatedItem → Operand → Relation → Operand → ConditionValue
-pair_truth items a one b storage = taken_of items a storage >>= (λ x. taken_of items b storage >>= senders_stand one x)
+pair_truth items a one b storage = taken_of items a storage >>= (λ x. taken_of items b storage >>= senders_satisfy one x)
 
 abbrev pub numbers_truth : List LocatedItem → Side → Relation → Side → ConditionValue
-numbers_truth items left one right storage = side_number items left storage >>= (λ x. side_number items right storage >>= numbers_stand one x)
+numbers_truth items left one right storage = side_number items left storage >>= (λ x. side_number items right storage >>= numbers_satisfy one x)
 
 -- a sign condition, and a class condition
 abbrev pub sign_truth : List LocatedItem → Expression → Bool → SignTest → ConditionValue

@@ -482,7 +482,7 @@ fn line_after(
 }
 
 /// What is taken after a move.
-fn moving(
+fn sender_after_move(
     tables: &DataTables,
     newest: Option<PlaceShape>,
     sender: Option<Taken>,
@@ -551,7 +551,7 @@ fn sender_after(
         DataInstruction::TakeLiteral { literal } => {
             Some(Some(tables.senders.get(literal.number as usize)?.taken))
         }
-        DataInstruction::Move => moving(tables, newest, sender),
+        DataInstruction::Move => sender_after_move(tables, newest, sender),
         DataInstruction::Test(test) => sender_tested(tables, test, sender),
         _ => Some(sender),
     }

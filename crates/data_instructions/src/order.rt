@@ -20,6 +20,25 @@ const MOST_LENGTH: u32 = 65535;
 /// The digits that a number has at the most.
 const MOST_DIGITS: u8 = 18;
 
+impl DataTables {
+    /// Each item has its form and lies in its area, which has fewer bytes than 4 GiB, each literal has the bytes of what it counts
+    /// as, and each inspection has its texts.
+    pub fn are_in_order(&self) -> bool
+        ensures { IsTrue result ↔ IsTables self.now }
+    {
+        if !has_areas(self.areas.as_slice()) {
+            return false;
+        }
+        if !has_items(self.areas.as_slice(), self.items.as_slice()) {
+            return false;
+        }
+        if !has_senders(self.senders.as_slice()) {
+            return false;
+        }
+        has_inspections(self.inspections.as_slice())
+    }
+}
+
 fn is_numeric(numeric: Numeric) -> bool
     ensures { IsTrue result ↔ IsNumeric numeric }
 {
@@ -124,23 +143,4 @@ fn has_senders(senders: &[LiteralSender]) -> bool
         }
     }
     true
-}
-
-impl DataTables {
-    /// Each item has its form and lies in its area, which has fewer bytes than 4 GiB, each literal has the bytes of what it counts
-    /// as, and each inspection has its texts.
-    pub fn are_in_order(&self) -> bool
-        ensures { IsTrue result ↔ IsTables self.now }
-    {
-        if !has_areas(self.areas.as_slice()) {
-            return false;
-        }
-        if !has_items(self.areas.as_slice(), self.items.as_slice()) {
-            return false;
-        }
-        if !has_senders(self.senders.as_slice()) {
-            return false;
-        }
-        has_inspections(self.inspections.as_slice())
-    }
 }

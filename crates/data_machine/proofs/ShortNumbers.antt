@@ -27,7 +27,7 @@ use Rattle.source_tree.specs.Computed.{ArithmeticValue}
 use Rattle.source_tree.specs.Arithmetic.{NumberReceiver, StoreResult, held_by, receiver_of, rounding_of, storing_fitted, storing_computed}
 use Rattle.data_instructions.specs.Scratch.{Scratch, Step, Continues}
 use Rattle.data_instructions.specs.Table.{stored_number}
-use Rattle.data_machine.specs.Fused.{storing_number}
+use Rattle.data_machine.specs.Superinstructions.{storing_number}
 use Rattle.data_machine.specs.KeptAtScale.{at_scale, FitsDigits, bytes_at_scale, KeepsAs}
 
 times_one : (z : ℤ) → z *ℤ pos 1 ≡ z

@@ -7,7 +7,7 @@ use Rattle.items.specs.declared.item.Kind.{Kind}
 use Rattle.items.specs.declared.item.Kind.TheVariants as k
 use Rattle.items.specs.declared.taken.Taken.{Taken}
 use Rattle.items.specs.declared.taken.Taken.TheVariants as t
-use Rattle.edited_move.specs.Moves.{wants_number, is_group, is_group_kind, is_readable, is_short}
+use Rattle.edited_move.specs.Moves.{needs_number, is_group, is_group_kind, is_readable, is_short}
 use Rattle.text_ops.specs.Lengths.{shown_length}
 use Rattle.data_instructions.specs.Fits.{NoLonger}
 
@@ -30,9 +30,9 @@ last_of false false c d h is = h is
 -- A sender that is no longer than a short one is short.
 pub short_sender : (to : Item) (taken known : Taken) → NoLonger taken known → is_short to known ≡ true → is_short to taken ≡ true
 short_sender to (t.Item one) (t.Item known) (kind, less) is =
-    last_of (not (wants_number to.kind)) (is_group_kind one.kind) (is_readable one.kind known.length) (is_readable one.kind one.length)
+    last_of (not (needs_number to.kind)) (is_group_kind one.kind) (is_readable one.kind known.length) (is_readable one.kind one.length)
     (readable one.kind one.length known.length less)
-    (ap (λ (x : Kind). not (wants_number to.kind) || is_group_kind x || is_readable x known.length) kind ∙ is)
+    (ap (λ (x : Kind). not (needs_number to.kind) || is_group_kind x || is_readable x known.length) kind ∙ is)
 short_sender to (t.Item one) (t.Figurative constant) same is = ap (is_short to) same ∙ is
 short_sender to (t.Item one) t.All same is = ap (is_short to) same ∙ is
 short_sender to (t.Figurative constant) known same is = ap (is_short to) same ∙ is

@@ -11,7 +11,7 @@ pub mod Subscripts
 pub mod Lines
 pub mod KeptNumbers
 pub mod KeptAtScale
-pub mod Fused
+pub mod Superinstructions
 pub mod FindsFirst
 pub mod Occurrences
 pub mod Overlays

@@ -18,25 +18,6 @@ use crate::seen::{part_of, seen};
 use data_instructions::{DataItem, DataTables, Gather, ProgramFault, TextIndex};
 use text_ops::delimited;
 
-/// A text up to its delimiter, all of it where that isn't there.
-#[tactic(auto, using(crate::proofs::Gathers::delimited_long))]
-fn up_to<'a>(delimiter: &[u8], text: &'a [u8]) -> &'a [u8]
-    ensures value { result.now ≡ delimited_characters delimiter.now text.now }
-    ensures long { length result.now ≤ length text.now }
-{
-    delimited(delimiter, text)
-}
-
-/// Bytes of an item, as many as it has.
-#[tactic(auto, using(crate::proofs::Gathers::sized_whole))]
-fn sized<'a>(one: &DataItem, bytes: &'a [u8]) -> &'a [u8]
-    requires { HasLengthOf one.now.item bytes.now }
-    ensures value { result.now ≡ padded_text one.now.item.length bytes.now }
-    ensures long { length result.now ≡ one.now.item.length }
-{
-    bytes
-}
-
 impl Data {
     /// `gather bytes`: those at the newest place.
     pub fn gather_bytes(&mut self, tables: &DataTables) -> Result<(), ProgramFault>
@@ -150,4 +131,23 @@ impl Data {
             Gather::Sized => self.gather_sized(tables),
         }
     }
+}
+
+/// A text up to its delimiter, all of it where that isn't there.
+#[tactic(auto, using(crate::proofs::Gathers::delimited_long))]
+fn up_to<'a>(delimiter: &[u8], text: &'a [u8]) -> &'a [u8]
+    ensures value { result.now ≡ delimited_characters delimiter.now text.now }
+    ensures long { length result.now ≤ length text.now }
+{
+    delimited(delimiter, text)
+}
+
+/// Bytes of an item, as many as it has.
+#[tactic(auto, using(crate::proofs::Gathers::sized_whole))]
+fn sized<'a>(one: &DataItem, bytes: &'a [u8]) -> &'a [u8]
+    requires { HasLengthOf one.now.item bytes.now }
+    ensures value { result.now ≡ padded_text one.now.item.length bytes.now }
+    ensures long { length result.now ≡ one.now.item.length }
+{
+    bytes
 }

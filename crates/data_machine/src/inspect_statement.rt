@@ -22,6 +22,52 @@ use decimal18::Dec;
 use source_tree::Operator;
 use text_ops::Entry;
 
+impl Data {
+    /// An inspection: counts and replaces with the texts in the line, cut or padded with spaces to their size; adds to the counters, whose
+    /// places are the newest, and stores the text at the place below them. Fault 90 where a counter holds no number.
+    fn inspect_by(&mut self, tables: &DataTables, one: &Inspection) -> Result<(), ProgramFault>
+        requires form { IsInspection one.now }
+        requires places { FindsPlaces tables.now self.old.areas (length one.now.counters) self.old.places.newest_first }
+        requires line { one.now.size ≤ self.old.line.room }
+        requires tallying { length one.now.tallying ≤ length self.old.inspecting.progress.items }
+        requires replacing { length one.now.replacing ≤ length self.old.inspecting.progress.items }
+        requires counts { length one.now.tallying ≤ length self.old.inspecting.counts.items }
+        requires text { HasItemRoom tables.now self.old.inspecting.text.room }
+        ensures does { IsStepOf result (scratch_of self.new) (inspected_with tables.now one.now (scratch_of self.old)) }
+        ensures keeps { KeepsRoom self.old self.new }
+    {
+        let counters = one.counters.as_slice();
+        let subject = self.places.below(counters.len());
+        let to = &tables.items.as_slice()[subject.item.number as usize];
+        let part = part_of(to, subject.length);
+        let to = seen(to, &part);
+        self.line.fit(one.size as usize);
+        self.inspecting.inspect(one, self.line.bytes(), self.areas.bytes(to, subject.offset));
+        self.line.clear();
+        let places = self.places.newest(counters.len());
+        let counts = self.inspecting.counts.as_slice();
+        let text = self.inspecting.text.bytes();
+        let areas = &mut self.areas;
+        let done = add_and_store(areas, tables, one, places, counts, to, subject.offset, text);
+        self.places.leave(counters.len() + 1);
+        done
+    }
+
+    /// `inspect`: the inspection that is named. It takes no memory.
+    pub fn inspect(
+        &mut self,
+        tables: &DataTables,
+        inspection: InspectionIndex,
+    ) -> Result<(), ProgramFault>
+        requires { IsReady tables.now self.old (instructions.Inspect inspection) }
+        ensures does { IsStepOf result (scratch_of self.new) (spec.inspected_by tables.now inspection (scratch_of self.old)) }
+        ensures keeps { KeepsRoom self.old self.new }
+    {
+        let one = &tables.inspections.as_slice()[inspection.number as usize];
+        self.inspect_by(tables, one)
+    }
+}
+
 /// How often so many entries fit together, from one on.
 fn fits_together(counts: &[u64], from: usize, entries: u32) -> u128
     requires { from + entries ≤ length counts.now }
@@ -138,51 +184,5 @@ fn add_and_store(
             Ok(())
         }
         Err(fault) => Err(fault),
-    }
-}
-
-impl Data {
-    /// An inspection: counts and replaces with the texts in the line, cut or padded with spaces to their size; adds to the counters, whose
-    /// places are the newest, and stores the text at the place below them. Fault 90 where a counter holds no number.
-    fn inspect_by(&mut self, tables: &DataTables, one: &Inspection) -> Result<(), ProgramFault>
-        requires form { IsInspection one.now }
-        requires places { FindsPlaces tables.now self.old.areas (length one.now.counters) self.old.places.newest_first }
-        requires line { one.now.size ≤ self.old.line.room }
-        requires tallying { length one.now.tallying ≤ length self.old.inspecting.progress.items }
-        requires replacing { length one.now.replacing ≤ length self.old.inspecting.progress.items }
-        requires counts { length one.now.tallying ≤ length self.old.inspecting.counts.items }
-        requires text { HasItemRoom tables.now self.old.inspecting.text.room }
-        ensures does { IsStepOf result (scratch_of self.new) (inspected_with tables.now one.now (scratch_of self.old)) }
-        ensures keeps { KeepsRoom self.old self.new }
-    {
-        let counters = one.counters.as_slice();
-        let subject = self.places.below(counters.len());
-        let to = &tables.items.as_slice()[subject.item.number as usize];
-        let part = part_of(to, subject.length);
-        let to = seen(to, &part);
-        self.line.fit(one.size as usize);
-        self.inspecting.inspect(one, self.line.bytes(), self.areas.bytes(to, subject.offset));
-        self.line.clear();
-        let places = self.places.newest(counters.len());
-        let counts = self.inspecting.counts.as_slice();
-        let text = self.inspecting.text.bytes();
-        let areas = &mut self.areas;
-        let done = add_and_store(areas, tables, one, places, counts, to, subject.offset, text);
-        self.places.leave(counters.len() + 1);
-        done
-    }
-
-    /// `inspect`: the inspection that is named. It takes no memory.
-    pub fn inspect(
-        &mut self,
-        tables: &DataTables,
-        inspection: InspectionIndex,
-    ) -> Result<(), ProgramFault>
-        requires { IsReady tables.now self.old (instructions.Inspect inspection) }
-        ensures does { IsStepOf result (scratch_of self.new) (spec.inspected_by tables.now inspection (scratch_of self.old)) }
-        ensures keeps { KeepsRoom self.old self.new }
-    {
-        let one = &tables.inspections.as_slice()[inspection.number as usize];
-        self.inspect_by(tables, one)
     }
 }

@@ -10,10 +10,10 @@ use Rattle.std.proofs.lemmas.Nat.{pow-add}
 use Rattle.std.proofs.Math.Seq.{drop-cons}
 use Rattle.std.specs.Prelude.{IfSome}
 use Rattle.std.proofs.Math.Nat.{pow-suc, mul_assoc, mul-le-mul_right, mul_comm, le-mul_of_pos_right}
-use Rattle.decimal18.specs.Digits.{digits_behind, number_behind}
+use Rattle.decimal18.specs.Digits.{digits_after, number_after}
 use Rattle.decimal18.specs.TotalOrder.{ten_pos}
 
-pub behind_joined : (n : ℕ) (xs ys : List ℕ) → digits_behind n (xs ++ ys) ≡ digits_behind (digits_behind n xs) ys
+pub behind_joined : (n : ℕ) (xs ys : List ℕ) → digits_after n (xs ++ ys) ≡ digits_after (digits_after n xs) ys
 behind_joined n [] ys = refl
 behind_joined n (x ∷ xs) ys = behind_joined (10 * n + (x - 48)) xs ys
 
@@ -21,14 +21,14 @@ one_place : (n d p r : ℕ) → (10 * n + d) * p + r ≡ n * (p * 10) + (d * p +
 one_place n d p r = grind arith
 
 -- What stands in front counts as many zeros as digits follow it.
-pub behind_front : (n : ℕ) (xs : List ℕ) → digits_behind n xs ≡ n * 10 ^ length xs + digits_behind 0 xs
+pub behind_front : (n : ℕ) (xs : List ℕ) → digits_after n xs ≡ n * 10 ^ length xs + digits_after 0 xs
 behind_front n [] = let e : n ≡ n * 1 + 0 = omega arith in e
 behind_front n (x ∷ xs) =
     let none : 10 * 0 + (x - 48) ≡ x - 48 = omega arith in
     behind_front (10 * n + (x - 48)) xs
-    ∙ one_place n (x - 48) (10 ^ length xs) (digits_behind 0 xs)
-    ∙ ap (λ r. n * (10 ^ length xs * 10) + r) (sym (ap (λ m. digits_behind m xs) none ∙ behind_front (x - 48) xs))
-    ∙ ap (λ p. n * p + digits_behind (10 * 0 + (x - 48)) xs) (sym (pow-suc 10 (length xs)))
+    ∙ one_place n (x - 48) (10 ^ length xs) (digits_after 0 xs)
+    ∙ ap (λ r. n * (10 ^ length xs * 10) + r) (sym (ap (λ m. digits_after m xs) none ∙ behind_front (x - 48) xs))
+    ∙ ap (λ p. n * p + digits_after (10 * 0 + (x - 48)) xs) (sym (pow-suc 10 (length xs)))
 
 -- ---- the first eight digits, and those behind them
 
@@ -40,43 +40,43 @@ none_parts : (b : Bool) (n : ℕ) → None ≡ (if b then Some n else None) → 
 none_parts true n e = cc
 none_parts false n e = refl
 
-front_eight : (front e : ℕ) (xs : List ℕ) → length xs ≡ 8 → e ≡ digits_behind 0 xs
-    → 100000000 * front + e ≡ digits_behind front xs
+front_eight : (front e : ℕ) (xs : List ℕ) → length xs ≡ 8 → e ≡ digits_after 0 xs
+    → 100000000 * front + e ≡ digits_after front xs
 front_eight front e xs size is =
-    let whole : front * 10 ^ 8 + digits_behind 0 xs ≡ digits_behind front xs =
-    sym (behind_front front xs ∙ ap (λ k. front * 10 ^ k + digits_behind 0 xs) size) in
+    let whole : front * 10 ^ 8 + digits_after 0 xs ≡ digits_after front xs =
+    sym (behind_front front xs ∙ ap (λ k. front * 10 ^ k + digits_after 0 xs) size) in
     omega (arith, is, whole)
 
-eight_before : (front e : ℕ) (xs ys : List ℕ) → length xs ≡ 8 → Some e ≡ number_behind 0 xs
-    → number_behind (100000000 * front + e) ys ≡ number_behind front (xs ++ ys)
+eight_before : (front e : ℕ) (xs ys : List ℕ) → length xs ≡ 8 → Some e ≡ number_after 0 xs
+    → number_after (100000000 * front + e) ys ≡ number_after front (xs ++ ys)
 eight_before front e xs ys size found =
-    let parts = some_parts (list_all is_ascii_digit xs) (digits_behind 0 xs) e found in
-    ap (λ n. if list_all is_ascii_digit ys then Some (digits_behind n ys) else None)
+    let parts = some_parts (list_all is_ascii_digit xs) (digits_after 0 xs) e found in
+    ap (λ n. if list_all is_ascii_digit ys then Some (digits_after n ys) else None)
     (front_eight front e xs size parts.1)
     ∙ ap (λ n. if list_all is_ascii_digit ys then Some n else None) (sym (behind_joined front xs ys))
-    ∙ ap (λ b. if b && list_all is_ascii_digit ys then Some (digits_behind front (xs ++ ys)) else None) (sym parts.0)
-    ∙ ap (λ b. if b then Some (digits_behind front (xs ++ ys)) else None) (sym (list_all-append is_ascii_digit xs ys))
+    ∙ ap (λ b. if b && list_all is_ascii_digit ys then Some (digits_after front (xs ++ ys)) else None) (sym parts.0)
+    ∙ ap (λ b. if b then Some (digits_after front (xs ++ ys)) else None) (sym (list_all-append is_ascii_digit xs ys))
 
-none_before : (front : ℕ) (xs ys : List ℕ) → None ≡ number_behind 0 xs → None ≡ number_behind front (xs ++ ys)
+none_before : (front : ℕ) (xs ys : List ℕ) → None ≡ number_after 0 xs → None ≡ number_after front (xs ++ ys)
 none_before front xs ys none =
-    let fails = none_parts (list_all is_ascii_digit xs) (digits_behind 0 xs) none in
-    sym (ap (λ b. if b then Some (digits_behind front (xs ++ ys)) else None) (list_all-append is_ascii_digit xs ys)
-    ∙ ap (λ b. if b && list_all is_ascii_digit ys then Some (digits_behind front (xs ++ ys)) else None) fails)
+    let fails = none_parts (list_all is_ascii_digit xs) (digits_after 0 xs) none in
+    sym (ap (λ b. if b then Some (digits_after front (xs ++ ys)) else None) (list_all-append is_ascii_digit xs ys)
+    ∙ ap (λ b. if b && list_all is_ascii_digit ys then Some (digits_after front (xs ++ ys)) else None) fails)
 
 -- The same of a run that code has split.
 pub split_found : (front e : ℕ) (cs xs ys : List ℕ) → xs ≡ take 8 cs → ys ≡ drop 8 cs → length xs ≡ 8
-    → Some e ≡ number_behind 0 xs → number_behind (100000000 * front + e) ys ≡ number_behind front cs
+    → Some e ≡ number_after 0 xs → number_after (100000000 * front + e) ys ≡ number_after front cs
 split_found front e cs xs ys first rest size found =
     eight_before front e xs ys size found
-    ∙ ap (λ t. number_behind front (t ++ ys)) first ∙ ap (λ t. number_behind front (take 8 cs ++ t)) rest
-    ∙ ap (number_behind front) (take-append-drop 8 cs)
+    ∙ ap (λ t. number_after front (t ++ ys)) first ∙ ap (λ t. number_after front (take 8 cs ++ t)) rest
+    ∙ ap (number_after front) (take-append-drop 8 cs)
 
-pub split_none : (front : ℕ) (cs xs ys : List ℕ) → xs ≡ take 8 cs → ys ≡ drop 8 cs → None ≡ number_behind 0 xs
-    → None ≡ number_behind front cs
+pub split_none : (front : ℕ) (cs xs ys : List ℕ) → xs ≡ take 8 cs → ys ≡ drop 8 cs → None ≡ number_after 0 xs
+    → None ≡ number_after front cs
 split_none front cs xs ys first rest none =
     none_before front xs ys none
-    ∙ ap (λ t. number_behind front (t ++ ys)) first ∙ ap (λ t. number_behind front (take 8 cs ++ t)) rest
-    ∙ ap (number_behind front) (take-append-drop 8 cs)
+    ∙ ap (λ t. number_after front (t ++ ys)) first ∙ ap (λ t. number_after front (take 8 cs ++ t)) rest
+    ∙ ap (number_after front) (take-append-drop 8 cs)
 
 -- ---- the room that is left
 

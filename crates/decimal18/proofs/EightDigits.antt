@@ -10,7 +10,7 @@ use Rattle.std.proofs.lemmas.Nat.{and_block, and_mask, and_le_r, mod-mul-add, di
 use Rattle.std.proofs.lemmas.Nat.Bits.{and_high}
 use Rattle.byteorder.specs.Endian.{little_from}
 use Rattle.byteorder.specs.Numbers.{little_from-cons}
-use Rattle.decimal18.specs.Digits.{digits_behind, number_behind}
+use Rattle.decimal18.specs.Digits.{digits_after, number_after}
 
 -- Numbers below 2^k in places of k bits, the first in the lowest place.
 abbrev pub lanes : ℕ → List ℕ → ℕ
@@ -290,7 +290,7 @@ other_digits : (c : ℕ) (cs : List ℕ) → list_all is_ascii_digit (c ∷ cs) 
 other_digits c cs h = (and_parts (is_ascii_digit c) (list_all is_ascii_digit cs) h).1
 
 eight_joined : (d : ℕ) (cs : List ℕ) → length cs ≡ 8 → list_all is_ascii_digit cs ≡ true → d ≡ lanes 8 (values_of cs)
-    → IsJoined d (digits_behind 0 cs)
+    → IsJoined d (digits_after 0 cs)
 eight_joined d (a ∷ b ∷ c ∷ e ∷ f ∷ g ∷ h ∷ i ∷ []) size all is =
     let tb = other_digits a (b ∷ c ∷ e ∷ f ∷ g ∷ h ∷ i ∷ []) all in
     let tc = other_digits b (c ∷ e ∷ f ∷ g ∷ h ∷ i ∷ []) tb in
@@ -340,9 +340,9 @@ some_where true n m h e = ap Some e
 some_where false n m h e = cc
 
 pub no_zeros : (word : ℕ) (cs : List ℕ) → IsWord word cs → (bit_and word 17361641481138401520 ≡ 3472328296227680304 → ⊥)
-    → None ≡ number_behind 0 cs
+    → None ≡ number_after 0 cs
 no_zeros word cs w fails =
-    none_unless (list_all is_ascii_digit cs) (digits_behind 0 cs) (λ all.
+    none_unless (list_all is_ascii_digit cs) (digits_after 0 cs) (λ all.
     fails (ap (λ t. bit_and t 17361641481138401520) w.is
     ∙ subst (λ n. bit_and (lanes 8 cs) (each 8 n 240) ≡ each 8 n 48) w.size (digits_pass_first cs w.fits all)))
 
@@ -369,9 +369,9 @@ more_in word cs w high =
 
 pub no_halves : (word : ℕ) (cs : List ℕ) → IsWord word cs → bit_and word 17361641481138401520 ≡ 3472328296227680304
     → (bit_and (word - 3472328296227680304 + 434041037028460038) 17361641481138401520 ≡ 0 → ⊥)
-    → None ≡ number_behind 0 cs
+    → None ≡ number_after 0 cs
 no_halves word cs w passes fails =
-    none_unless (list_all is_ascii_digit cs) (digits_behind 0 cs) (λ all.
+    none_unless (list_all is_ascii_digit cs) (digits_after 0 cs) (λ all.
     fails (ap (λ t. bit_and t 17361641481138401520) (more_in word cs w (high_bytes word cs w passes))
     ∙ subst (λ n. bit_and (lanes 8 (more_of cs)) (each 8 n 240) ≡ 0) w.size (digits_pass_second cs all)))
 
@@ -395,10 +395,10 @@ few_values word cs w passes again =
 
 pub eight_found : (word : ℕ) (cs : List ℕ) → IsWord word cs → bit_and word 17361641481138401520 ≡ 3472328296227680304
     → bit_and (word - 3472328296227680304 + 434041037028460038) 17361641481138401520 ≡ 0
-    → (Some (whole_in (fours_in (pairs_in (word - 3472328296227680304)))) ≡ number_behind 0 cs)
+    → (Some (whole_in (fours_in (pairs_in (word - 3472328296227680304)))) ≡ number_after 0 cs)
     × (whole_in (fours_in (pairs_in (word - 3472328296227680304))) < 10 ^ 8)
 eight_found word cs w passes again =
     let all = are_eight word cs w passes again in
     let j =
     eight_joined (word - 3472328296227680304) cs w.size all (values_in word cs w (high_bytes word cs w passes)) in
-    (some_where (list_all is_ascii_digit cs) (digits_behind 0 cs) _ all j.0, subst (λ n. n < 10 ^ 8) (sym j.0) j.1)
+    (some_where (list_all is_ascii_digit cs) (digits_after 0 cs) _ all j.0, subst (λ n. n < 10 ^ 8) (sym j.0) j.1)

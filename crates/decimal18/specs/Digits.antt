@@ -7,17 +7,17 @@ use Rattle.decimal18.specs.Arithmetic.{intermediate}
 use Rattle.decimal18.specs.declared.size_error.Size.{Size}
 
 -- The number that ASCII digits stand for, behind those of n.
-abbrev pub digits_behind : ℕ → List ℕ → ℕ
-digits_behind n [] = n
-digits_behind n (c ∷ cs) = digits_behind (10 * n + (c - 48)) cs
+abbrev pub digits_after : ℕ → List ℕ → ℕ
+digits_after n [] = n
+digits_after n (c ∷ cs) = digits_after (10 * n + (c - 48)) cs
 
 -- The same of bytes that may be no digits.
-abbrev pub number_behind : ℕ → List ℕ → Option ℕ
-number_behind n cs = if list_all is_ascii_digit cs then Some (digits_behind n cs) else None
+abbrev pub number_after : ℕ → List ℕ → Option ℕ
+number_after n cs = if list_all is_ascii_digit cs then Some (digits_after n cs) else None
 
 -- The number with this sign and these digits, the last of them decimals.
 unfoldable pub decimal_of_digits : Bool → List ℕ → ℕ → Result Fraction Size
-decimal_of_digits negative digits scale = intermediate (signed_integer negative (digits_behind 0 digits)) scale
+decimal_of_digits negative digits scale = intermediate (signed_integer negative (digits_after 0 digits)) scale
 
 -- The digit of n with so many digits to its right.
 abbrev pub digit_of : ℕ → ℕ → ℕ

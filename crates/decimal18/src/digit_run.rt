@@ -15,25 +15,25 @@ const EIGHT_ZEROS: u64 = 100_000_000;
 
 /// The number that bytes stand for behind the digits of a number, if they are ASCII digits; all together are at most 18
 /// digits.
-pub fn number_behind(front: u64, digits: &[u8]) -> Option<u64>
+pub fn number_after(front: u64, digits: &[u8]) -> Option<u64>
     requires { (front + 1) * 10 ^ length digits.now ≤ 10 ^ 18 }
-    ensures value { result ≡ spec.number_behind front digits.now }
+    ensures value { result ≡ spec.number_after front digits.now }
     ensures bound { IfSome result (λ number. number < (front + 1) * 10 ^ length digits.now) }
 {
     if digits.len() < EIGHT {
-        return behind_by_one(front, digits);
+        return after_by_one(front, digits);
     }
     let (first, rest) = digits.split_at(EIGHT);
     let Some(eight) = eight_digits(first) else {
         return None;
     };
-    behind_by_eight(EIGHT_ZEROS * front + eight, rest)
+    after_by_eight(EIGHT_ZEROS * front + eight, rest)
 }
 
 /// The same, a digit at a time.
-fn behind_by_one(front: u64, digits: &[u8]) -> Option<u64>
+fn after_by_one(front: u64, digits: &[u8]) -> Option<u64>
     requires { (front + 1) * 10 ^ length digits.now ≤ 10 ^ 18 }
-    ensures value { result ≡ spec.number_behind front digits.now }
+    ensures value { result ≡ spec.number_after front digits.now }
     ensures bound { IfSome result (λ number. number < (front + 1) * 10 ^ length digits.now) }
 {
     let mut number = front;
@@ -48,17 +48,17 @@ fn behind_by_one(front: u64, digits: &[u8]) -> Option<u64>
 
 /// The same, where eight digits are taken at most once. It is kept out of its caller, which needs few registers then.
 #[inline(never)]
-fn behind_by_eight(front: u64, digits: &[u8]) -> Option<u64>
+fn after_by_eight(front: u64, digits: &[u8]) -> Option<u64>
     requires { (front + 1) * 10 ^ length digits.now ≤ 10 ^ 18 }
-    ensures value { result ≡ spec.number_behind front digits.now }
+    ensures value { result ≡ spec.number_after front digits.now }
     ensures bound { IfSome result (λ number. number < (front + 1) * 10 ^ length digits.now) }
 {
     if digits.len() < EIGHT {
-        return behind_by_one(front, digits);
+        return after_by_one(front, digits);
     }
     let (first, rest) = digits.split_at(EIGHT);
     let Some(eight) = eight_digits(first) else {
         return None;
     };
-    behind_by_one(EIGHT_ZEROS * front + eight, rest)
+    after_by_one(EIGHT_ZEROS * front + eight, rest)
 }

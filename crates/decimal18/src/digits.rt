@@ -1,11 +1,11 @@
 ghost use Rattle.std.specs.Prelude.{length, ◌≡◌, ◌<◌, ◌≤◌, ◌^◌, All, nat_lt, IfSome, if◌then◌else◌, unsigned_abs, Ok};
 ghost use Rattle.std.specs.Char.{IsAsciiDigit};
 ghost use Rattle.decimal18.specs.Arithmetic.{is_within, size_error};
-ghost use Rattle.decimal18.specs.Digits.{digits_behind, decimal_of_digits, digit_of, integer_of};
+ghost use Rattle.decimal18.specs.Digits.{digits_after, decimal_of_digits, digit_of, integer_of};
 
 use crate::arithmetic::{divided, with_sign};
 use crate::decimal::{COEFFICIENT_DIGITS, Dec};
-use crate::digit_run::number_behind;
+use crate::digit_run::number_after;
 use crate::power::power_of_ten;
 use crate::short_receiver::{SHORT_DIGITS, short_parts};
 use crate::size_error::Size;
@@ -35,11 +35,11 @@ impl Dec {
         ensures { result ≡ decimal_of_digits negative digits.now scale }
     {
         if digits.len() <= usize::from(SHORT_DIGITS) {
-            if let Some(magnitude) = number_behind(0, digits) {
+            if let Some(magnitude) = number_after(0, digits) {
                 return Ok(short_parts(negative, magnitude, SHORT_DIGITS, scale));
             }
         }
-        match long_number_behind(0, digits) {
+        match long_number_after(0, digits) {
             Some(magnitude) => Ok(Dec::from_parts(negative, magnitude, scale)),
             None => Err(Size),
         }
@@ -70,11 +70,11 @@ impl Dec {
 }
 
 /// The number that ASCII digits stand for behind those of `front`, if it has at most 38 digits.
-fn long_number_behind(front: u128, digits: &[u8]) -> Option<u128>
+fn long_number_after(front: u128, digits: &[u8]) -> Option<u128>
     requires front { front < 10 ^ 38 }
     requires digits { All IsAsciiDigit digits.now }
-    ensures value { result ≡ (if nat_lt (digits_behind front digits.now) (10 ^ 38)
-        then Some (digits_behind front digits.now) else None) }
+    ensures value { result ≡ (if nat_lt (digits_after front digits.now) (10 ^ 38)
+        then Some (digits_after front digits.now) else None) }
     ensures bound { IfSome result (λ number. number < 10 ^ 38) }
 {
     let most = power_of_ten(COEFFICIENT_DIGITS - 1);

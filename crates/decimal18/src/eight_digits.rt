@@ -1,7 +1,7 @@
 //! Eight ASCII digits at a time, as one number of 64 bits whose bytes are the characters.
 
 ghost use Rattle.std.specs.Prelude.{◌≡◌, ◌<◌, ◌^◌, length, IfSome};
-ghost use Rattle.decimal18.specs.Digits.{number_behind};
+ghost use Rattle.decimal18.specs.Digits.{number_after};
 
 use byteorder::{ByteOrder, LittleEndian};
 
@@ -31,7 +31,7 @@ const FOUR: u64 = 0x1_0000_0000;
 #[inline]
 pub fn eight_digits(bytes: &[u8]) -> Option<u64>
     requires { length bytes.now ≡ 8 }
-    ensures value { result ≡ number_behind 0 bytes.now }
+    ensures value { result ≡ number_after 0 bytes.now }
     ensures bound { IfSome result (λ number. number < 10 ^ 8) }
 {
     let word = LittleEndian::read_u64(bytes);

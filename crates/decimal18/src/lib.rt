@@ -19,7 +19,7 @@ mod short_receiver;
 mod size_error;
 
 pub use decimal::Dec;
-pub use digit_run::number_behind;
+pub use digit_run::number_after;
 pub use digit_text::put_digits;
 pub use receiver::Rounding;
 pub use size_error::Size;

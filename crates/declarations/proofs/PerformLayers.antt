@@ -113,7 +113,7 @@ module _ {A B : Type 0} (f : A → B) (performs : B → List Performance) where
   verb_map procedures place (verb.ConditionalStatement (If condition statements otherwise)) = branching_map procedures place condition statements otherwise
   verb_map procedures place (verb.ConditionalStatement (Evaluate one)) = evaluate_map procedures place one.subjects one.selected one.other
   verb_map procedures place (verb.PerformStatement one) = performing_map procedures place one.turns one.performed
-  verb_map procedures place (verb.Text one) = refl
+  verb_map procedures place (verb.TextStatement one) = refl
   verb_map procedures place (verb.StringStatement one) = strung_map procedures place one.sendings one.receiver one.pointer one.phrases.arose one.phrases.did_not
   verb_map procedures place (verb.FileStatement one) = filed_map procedures place one
   verb_map procedures place (verb.ControlStatement one) = refl

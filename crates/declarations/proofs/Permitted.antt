@@ -118,7 +118,7 @@ module _ (scope : Scope) (permits : Range → Bool) where
     verb_same (verb.Arithmetic one) h = ap (λ l. operation_rules scope.items one.operation ++ l) (phrases_same one.phrases h)
     verb_same (verb.ConditionalStatement one) h = branching_same one h
     verb_same (verb.PerformStatement one) h = ap (λ l. turns_rules scope.items one.turns ++ l) (performed_same one.performed h)
-    verb_same (verb.Text one) h = refl
+    verb_same (verb.TextStatement one) h = refl
     verb_same (verb.StringStatement one) h = ap (λ l. string_rules scope.items one ++ l) (phrases_same one.phrases h)
     verb_same (verb.FileStatement one) h = ap (λ l. filing_rules scope.items scope.files one ++ l) (file_phrases_same (phrases_of one) h)
     verb_same (verb.ControlStatement one) h = refl

@@ -128,7 +128,7 @@ module _ {A B : Type 0} (f : A → B) (rules : B → List RuleBreach) where
     verb_map place (verb.ConditionalStatement (If condition statements otherwise)) = branching_map place condition statements otherwise
     verb_map place (verb.ConditionalStatement (Evaluate one)) = evaluate_map place one.subjects one.selected one.other
     verb_map place (verb.PerformStatement one) = performing_map place one.turns one.performed
-    verb_map place (verb.Text one) = refl
+    verb_map place (verb.TextStatement one) = refl
     verb_map place (verb.StringStatement one) = strung_map place one.sendings one.receiver one.pointer one.phrases.arose one.phrases.did_not
     verb_map place (verb.FileStatement one) = filed_map place one
     verb_map place (verb.ControlStatement one) = refl

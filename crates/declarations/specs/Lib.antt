@@ -2,7 +2,7 @@ pub mod Data
 pub mod Listed
 pub mod Named
 pub mod Kept
-pub mod Looking
+pub mod Resolved
 pub mod Found
 pub mod FoundConditions
 pub mod FoundFiles

@@ -16,6 +16,22 @@ const RECORD: u32 = 1;
 /// The level of an item that stands by itself.
 const INDEPENDENT: u32 = 77;
 
+impl<'a> Declarations<'a> {
+    /// The item of that number is a record of a file, or one that stands by itself.
+    pub fn is_record(&self, number: usize) -> bool
+        ensures { (one : LocatedItem) → slice_get (items_in self.now) number ≡ Some one → result ≡ (level_of one.entry == 1) }
+    {
+        let behind = match item_among(self.storage, number) {
+            Ok(one) => return is_outermost(one),
+            Err(behind) => behind,
+        };
+        match record_among(self.descriptions, behind) {
+            Ok(one) => is_outermost(one),
+            Err(_) => false,
+        }
+    }
+}
+
 /// The level is that of a record, or of an item that stands by itself.
 fn is_outermost(one: &ItemEntry) -> bool
     ensures { result ≡ (level_of one.now == 1) }
@@ -52,20 +68,4 @@ fn record_among(files: &[FileDescription], number: usize) -> Result<&ItemEntry, 
         }
     }
     Err(left)
-}
-
-impl<'a> Declarations<'a> {
-    /// The item of that number is a record of a file, or one that stands by itself.
-    pub fn is_record(&self, number: usize) -> bool
-        ensures { (one : LocatedItem) → slice_get (items_in self.now) number ≡ Some one → result ≡ (level_of one.entry == 1) }
-    {
-        let behind = match item_among(self.storage, number) {
-            Ok(one) => return is_outermost(one),
-            Err(behind) => behind,
-        };
-        match record_among(self.descriptions, behind) {
-            Ok(one) => is_outermost(one),
-            Err(_) => false,
-        }
-    }
 }

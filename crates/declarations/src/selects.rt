@@ -30,98 +30,6 @@ const MOST_NAME_BYTES: usize = 30;
 /// The most alternate keys of a file (own choice).
 const MOST_ALTERNATE_KEYS: usize = 7;
 
-fn is_letter(byte: u8) -> bool
-    ensures { result ≡ is_letter byte }
-{
-    byte >= 1
-}
-
-fn are_letters(name: &[u8]) -> bool
-    ensures { result ≡ list_all is_letter name.now }
-{
-    name.iter().all(|byte| is_letter(*byte))
-}
-
-/// A file on the volume can have that name: 1 to 30 bytes, none of them 0.
-fn is_name(name: &[u8]) -> bool
-    ensures { result ≡ is_name name.now }
-{
-    1 <= name.len() && name.len() <= MOST_NAME_BYTES && are_letters(name)
-}
-
-fn is_sequential(access: Access) -> bool
-    ensures { result ≡ is_sequential access }
-{
-    matches!(access, Access::Sequential)
-}
-
-/// Where the records of the file of that name stand, the first of these having that area; these are the bytes of each record area.
-fn described<'a>(
-    first: u32,
-    lengths: &[u32],
-    descriptions: &'a [FileDescription],
-    name: &Name,
-) -> RecordArea<'a>
-    requires lengths { lengths.now ≡ map length_of descriptions.now }
-    requires areas { first + length descriptions.now < 2 ^ 32 }
-    ensures { selecting.described_of result ≡ described_file first name.now descriptions.now }
-{
-    for (i, one) in descriptions.iter().enumerate() {
-        if name.characters.as_slice() == one.name.characters.as_slice() {
-            return RecordArea {
-                area: first + i as u32,
-                entries: one.entries.as_slice(),
-                bytes: lengths[i],
-            };
-        }
-    }
-    RecordArea {
-        area: first + descriptions.len() as u32,
-        entries: &[],
-        bytes: 0,
-    }
-}
-
-/// A key clause of another organization.
-fn other_clause_rules(clause: &Option<Reference>) -> Result<(), BrokenRule>
-    ensures { IsFirstBreach result (spec.in_clause spec.another_clause clause.now) }
-{
-    match clause {
-        None => Ok(()),
-        Some(one) => Rule::FileKey.broken_if(true, one.item.name.place),
-    }
-}
-
-/// Alternate keys of another organization.
-fn other_keys_rules(keys: &[AlternateKeyClause]) -> Result<(), BrokenRule>
-    ensures { IsFirstBreach result (each spec.another_key keys.now) }
-{
-    match keys {
-        [] => Ok(()),
-        [one, ..] => Rule::FileKey.broken_if(true, one.key.item.name.place),
-    }
-}
-
-/// There are no more alternate keys than may be.
-fn excess_rules(keys: &[AlternateKeyClause]) -> Result<(), BrokenRule>
-    ensures { IsFirstBreach result (each spec.excess_key (drop spec.most_alternate_keys keys.now)) }
-{
-    match keys.get(MOST_ALTERNATE_KEYS) {
-        Some(one) => Rule::Limit.broken_if(true, one.key.item.name.place),
-        None => Ok(()),
-    }
-}
-
-/// A sequential file has sequential access, and no keys.
-fn sequential_rules(one: &Select) -> Result<(), BrokenRule>
-    ensures { IsFirstBreach result (selecting.sequential_rules one.now) }
-{
-    Rule::FileKey.broken_if(!is_sequential(one.access), one.name.place)?;
-    other_clause_rules(&one.relative_key)?;
-    other_clause_rules(&one.record_key)?;
-    other_keys_rules(one.alternate_keys.as_slice())
-}
-
 impl<'a> DeclaredItems<'a> {
     /// With random or dynamic access a relative file has RELATIVE KEY.
     fn relative_rules(&self, there: RecordArea<'_>, one: &Select) -> Result<(), BrokenRule>
@@ -270,4 +178,96 @@ impl<'a> DeclaredItems<'a> {
         }
         Ok(())
     }
+}
+
+fn is_letter(byte: u8) -> bool
+    ensures { result ≡ is_letter byte }
+{
+    byte >= 1
+}
+
+fn are_letters(name: &[u8]) -> bool
+    ensures { result ≡ list_all is_letter name.now }
+{
+    name.iter().all(|byte| is_letter(*byte))
+}
+
+/// A file on the volume can have that name: 1 to 30 bytes, none of them 0.
+fn is_name(name: &[u8]) -> bool
+    ensures { result ≡ is_name name.now }
+{
+    1 <= name.len() && name.len() <= MOST_NAME_BYTES && are_letters(name)
+}
+
+fn is_sequential(access: Access) -> bool
+    ensures { result ≡ is_sequential access }
+{
+    matches!(access, Access::Sequential)
+}
+
+/// Where the records of the file of that name stand, the first of these having that area; these are the bytes of each record area.
+fn described<'a>(
+    first: u32,
+    lengths: &[u32],
+    descriptions: &'a [FileDescription],
+    name: &Name,
+) -> RecordArea<'a>
+    requires lengths { lengths.now ≡ map length_of descriptions.now }
+    requires areas { first + length descriptions.now < 2 ^ 32 }
+    ensures { selecting.described_of result ≡ described_file first name.now descriptions.now }
+{
+    for (i, one) in descriptions.iter().enumerate() {
+        if name.characters.as_slice() == one.name.characters.as_slice() {
+            return RecordArea {
+                area: first + i as u32,
+                entries: one.entries.as_slice(),
+                bytes: lengths[i],
+            };
+        }
+    }
+    RecordArea {
+        area: first + descriptions.len() as u32,
+        entries: &[],
+        bytes: 0,
+    }
+}
+
+/// A key clause of another organization.
+fn other_clause_rules(clause: &Option<Reference>) -> Result<(), BrokenRule>
+    ensures { IsFirstBreach result (spec.in_clause spec.another_clause clause.now) }
+{
+    match clause {
+        None => Ok(()),
+        Some(one) => Rule::FileKey.broken_if(true, one.item.name.place),
+    }
+}
+
+/// Alternate keys of another organization.
+fn other_keys_rules(keys: &[AlternateKeyClause]) -> Result<(), BrokenRule>
+    ensures { IsFirstBreach result (each spec.another_key keys.now) }
+{
+    match keys {
+        [] => Ok(()),
+        [one, ..] => Rule::FileKey.broken_if(true, one.key.item.name.place),
+    }
+}
+
+/// There are no more alternate keys than may be.
+fn excess_rules(keys: &[AlternateKeyClause]) -> Result<(), BrokenRule>
+    ensures { IsFirstBreach result (each spec.excess_key (drop spec.most_alternate_keys keys.now)) }
+{
+    match keys.get(MOST_ALTERNATE_KEYS) {
+        Some(one) => Rule::Limit.broken_if(true, one.key.item.name.place),
+        None => Ok(()),
+    }
+}
+
+/// A sequential file has sequential access, and no keys.
+fn sequential_rules(one: &Select) -> Result<(), BrokenRule>
+    ensures { IsFirstBreach result (selecting.sequential_rules one.now) }
+{
+    Rule::FileKey.broken_if(!is_sequential(one.access), one.name.place)?;
+    other_clause_rules(&one.relative_key)?;
+    other_clause_rules(&one.record_key)?;
+    other_keys_rules(one.alternate_keys.as_slice())
 }

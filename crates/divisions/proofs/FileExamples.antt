@@ -58,7 +58,7 @@ unfolding
     adding_rule.adding_to_reader adding_rule.added_reader adding_rule.add_reader arithmetic_rule.arithmetic_reader
     continuing_rule.continue_reader stop_run_rule.stop_run_reader
     file_phrases.key_phrases_reader file_phrases.read_phrases_reader
-    filing_rule.item_behind_reader filing_rule.after_key_is filing_rule.read_reader filing_rule.file_reader
+    filing_rule.item_after_reader filing_rule.after_key_is filing_rule.read_reader filing_rule.file_reader
     statements.statements statements.verb statements.line statements.statement statements.sentence
     gathering.gathering_turns gathering.gathering_reader stated.stated_reader entries.given_reader entries.named_reader entries.item_reader
     entries.by_level entries.entry_reader files.file_reader files.described_reader files.file_section_reader

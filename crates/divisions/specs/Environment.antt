@@ -14,16 +14,16 @@ use Rattle.data_division.specs.Listed.{◌unless_no◌, listed_from, unless_none
 use Rattle.file_control.specs.Selects.{input_output, input_output_reader}
 
 -- the words of what may come after a description
-abbrev pub comes_after : Reserved → Bool
-comes_after w.ObjectComputer = true
-comes_after w.InputOutput = true
-comes_after w.Data = true
-comes_after w.Procedure = true
-comes_after _ = false
+abbrev pub follows_description : Reserved → Bool
+follows_description w.ObjectComputer = true
+follows_description w.InputOutput = true
+follows_description w.Data = true
+follows_description w.Procedure = true
+follows_description _ = false
 
 abbrev pub ends_description : Kind → Bool
 ends_description k.Period = true
-ends_description (k.Reserved one) = comes_after one
+ends_description (k.Reserved one) = follows_description one
 ends_description _ = false
 
 abbrev pub something_unless : Bool → Option (Unit {0})

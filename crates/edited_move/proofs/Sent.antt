@@ -12,7 +12,7 @@ use Rattle.items.specs.declared.taken.Taken.{Taken}
 use Rattle.items.specs.Numbers.{IsNumeric, length_of}
 use Rattle.items.specs.Items.{IsItem, IsOfLength, HasLengthOf}
 use Rattle.items.specs.Values.{integer_in, is_held, value_if_held, value_of}
-use Rattle.edited_move.specs.Moves.{is_readable, is_group, is_group_kind, has_group, wants_number, is_number_sender}
+use Rattle.edited_move.specs.Moves.{is_readable, is_group, is_group_kind, has_group, needs_number, is_number_sender}
 use Rattle.edited_move.specs.Moves.{is_short}
 
 split : (a b : Bool) → (a && b) ≡ true → (a ≡ true) × (b ≡ true)
@@ -65,8 +65,8 @@ readable item bytes h short other =
     let size = h.size in (omega arith, omega arith)
 
 pub short_number : (receiver : Item) (taken : Taken) → is_short receiver taken ≡ true → has_group receiver taken ≡ false
-    → wants_number receiver.kind ≡ true → is_number_sender taken ≡ true
-short_number receiver taken short group wants = go (wants_number receiver.kind) (is_group taken)
+    → needs_number receiver.kind ≡ true → is_number_sender taken ≡ true
+short_number receiver taken short group wants = go (needs_number receiver.kind) (is_group taken)
     (is_group_kind receiver.kind) (is_number_sender taken) short group wants
   where
     go : (wants group kind sender : Bool) → (not wants || group || sender) ≡ true → (group || kind) ≡ false

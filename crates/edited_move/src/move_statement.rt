@@ -143,7 +143,7 @@ fn move_plain(taken: Taken, from: &[u8], receiver: Item, bytes: &mut [u8]) -> Re
     requires taken { IsTaken taken from.now }
     requires receiver { IsItem receiver }
     requires plain { IsPlainKind receiver.kind }
-    requires short { spec.wants_number receiver.kind ≡ true → spec.is_number_sender taken ≡ true }
+    requires short { spec.needs_number receiver.kind ≡ true → spec.is_number_sender taken ≡ true }
     requires length { length bytes.old ≡ receiver.length }
     ensures { Writes result bytes.old bytes.new
         (spec.moved_plain receiver.kind receiver.length taken from.now) }
@@ -234,7 +234,7 @@ fn move_edited(
 ) -> Result<(), DataFault>
     requires taken { IsTaken taken from.now }
     requires edited { IsEditedBy receiver picture.now }
-    requires short { spec.wants_number receiver.kind ≡ true → spec.is_number_sender taken ≡ true }
+    requires short { spec.needs_number receiver.kind ≡ true → spec.is_number_sender taken ≡ true }
     requires length { length bytes.old ≡ receiver.length }
     ensures { Writes result bytes.old bytes.new
         (spec.moved_edited receiver.kind receiver.length picture.now taken from.now) }

@@ -30,7 +30,7 @@ pub fn has_group(receiver: Item, taken: Taken) -> bool
 pub fn is_short(receiver: Item, taken: Taken) -> bool
     ensures { result ≡ spec.is_short receiver taken }
 {
-    !wants_number(receiver.kind) || is_group(taken) || is_number_sender(taken)
+    !needs_number(receiver.kind) || is_group(taken) || is_number_sender(taken)
 }
 
 /// The number that a sender is, where its bytes hold one.
@@ -104,8 +104,8 @@ fn is_group(taken: Taken) -> bool
     }
 }
 
-fn wants_number(kind: Kind) -> bool
-    ensures { result ≡ spec.wants_number kind }
+fn needs_number(kind: Kind) -> bool
+    ensures { result ≡ spec.needs_number kind }
 {
     matches!(kind, Kind::Numeric(_) | Kind::NumericEdited { .. })
 }

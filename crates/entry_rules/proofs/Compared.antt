@@ -8,7 +8,7 @@ use Rattle.std.specs.List.{list_all}
 use Rattle.std.proofs.Math.Nat.{mul-le-mul_right, pow-succ'}
 use Rattle.std.proofs.lemmas.List.Folds.{list_all-append}
 use Rattle.decimal18.specs.Fraction.{Fraction, is_negative, signed_integer}
-use Rattle.decimal18.specs.Digits.{digits_behind}
+use Rattle.decimal18.specs.Digits.{digits_after}
 use Rattle.decimal18.specs.Order.{order}
 use Rattle.items.specs.declared.numeric.Numeric.{Numeric}
 use Rattle.items.specs.Numbers.{IsNumeric, CanHold, has_sign}
@@ -56,7 +56,7 @@ digit_below c e = grind arith
 regroup : (a p : ℕ) → a * (10 * p) ≡ 10 * a * p
 regroup a p = sym (mul_assoc a 10 p) ∙ ap (λ n. n * p) (mul_comm a 10)
 
-digits_below : (n : ℕ) (cs : List ℕ) → list_all is_ascii_digit cs ≡ true → digits_behind n cs < (n + 1) * 10 ^ length cs
+digits_below : (n : ℕ) (cs : List ℕ) → list_all is_ascii_digit cs ≡ true → digits_after n cs < (n + 1) * 10 ^ length cs
 digits_below n [] e = omega arith
 digits_below n (c ∷ cs) e =
     let one = digit_below c (and_left (is_ascii_digit c) (list_all is_ascii_digit cs) e) in
@@ -64,7 +64,7 @@ digits_below n (c ∷ cs) e =
     let step : 10 * n + (c - 48) + 1 ≤ 10 * (n + 1) = omega (arith, one) in
     let times = mul-le-mul_right (10 ^ length cs) step in
     let more = ap (λ q. (n + 1) * q) (pow-succ' 10 (length cs)) ∙ regroup (n + 1) (10 ^ length cs) in
-    subst (λ m. digits_behind (10 * n + (c - 48)) cs < m) (sym more) (omega (arith, rest, times))
+    subst (λ m. digits_after (10 * n + (c - 48)) cs < m) (sym more) (omega (arith, rest, times))
 
 magnitude : (b : Bool) (n : ℕ) → unsigned_abs (signed_integer b n) ≡ n
 magnitude false n = refl
@@ -91,11 +91,11 @@ came_back back one e =
     let written = and_left (list_all is_ascii_digit one.whole) (list_all is_ascii_digit one.decimals) digits in
     let parts = count_parts (length (one.whole ++ one.decimals)) (and_right both_digits count e) in
     let below = digits_below 0 (one.whole ++ one.decimals) (all_joined one.whole one.decimals written (and_right (list_all is_ascii_digit one.whole) (list_all is_ascii_digit one.decimals) digits)) in
-    let same = magnitude (is_minus one.sign) (digits_behind 0 (one.whole ++ one.decimals)) in
+    let same = magnitude (is_minus one.sign) (digits_after 0 (one.whole ++ one.decimals)) in
     let joined = length-append one.whole one.decimals in
     back (literal_numeric one) (literal_number one)
     (record { some = parts.0; most = parts.1; decimals = omega (arith, joined) })
-    (record { scale = refl; digits = omega (arith, below, same); sign = sign_holds one.sign (digits_behind 0 (one.whole ++ one.decimals)) })
+    (record { scale = refl; digits = omega (arith, below, same); sign = sign_holds one.sign (digits_after 0 (one.whole ++ one.decimals)) })
 
 sent : ComeBack → (value : LiteralValue) → IsNumeral value → compare.operand_number (literal_sender value).taken (literal_sender value).bytes ≡ Some (number_of_literal value)
 sent back (literal.Numeric one) h = came_back back one h.form

@@ -3,13 +3,13 @@
 ghost use Rattle.std.specs.Prelude.{◌≡◌, ◌+◌, ◌≤◌, ◌<◌, ◌^◌, ◌&&◌, ◌++◌, length, Some, None, IfSome, if◌then◌else◌};
 ghost use Rattle.std.specs.Char.{is_ascii_digit};
 ghost use Rattle.std.specs.List.{list_all};
-ghost use Rattle.decimal18.specs.Digits.{digits_behind};
+ghost use Rattle.decimal18.specs.Digits.{digits_after};
 ghost use Rattle.source_tree.specs.Literals as literals;
 ghost use Rattle.source_tree.specs.NameRules as names;
 ghost use Rattle.source_tree.specs.ValueRules as spec;
 ghost use Rattle.source_tree.specs.declared.literal.LiteralValue.TheVariants as literal;
 
-use decimal18::{Dec, number_behind};
+use decimal18::{Dec, number_after};
 use source_tree::{Integer, LiteralValue, NumericLiteral, Sign};
 
 /// The most digits of a numeric literal.
@@ -61,11 +61,11 @@ pub fn is_integer(one: &Integer) -> bool
 /// The number that 1 to 18 digits write, if they are digits.
 fn digits_number(whole: &[u8], decimals: &[u8]) -> Option<u64>
     requires { length whole.now + length decimals.now ≤ 18 }
-    ensures value { result ≡ (if list_all is_ascii_digit whole.now && list_all is_ascii_digit decimals.now then Some (digits_behind 0 (whole.now ++ decimals.now)) else None) }
+    ensures value { result ≡ (if list_all is_ascii_digit whole.now && list_all is_ascii_digit decimals.now then Some (digits_after 0 (whole.now ++ decimals.now)) else None) }
     ensures bound { IfSome result (λ n. n < 10 ^ 18) }
 {
-    let front = number_behind(0, whole)?;
-    number_behind(front, decimals)
+    let front = number_after(0, whole)?;
+    number_after(front, decimals)
 }
 
 /// There are 1 to 18 digits.

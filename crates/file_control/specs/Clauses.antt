@@ -55,12 +55,12 @@ abbrev pub begins_key : List Token → Bool
 begins_key i = begins_word w.Key i || (begins_word w.Is i || begins_name i)
 
 -- a key comes behind a word, by the tokens after the word
-abbrev pub key_behind : Option (List Token) → Bool
-key_behind None = false
-key_behind (Some after) = begins_key after
+abbrev pub has_key_after : Option (List Token) → Bool
+has_key_after None = false
+has_key_after (Some after) = begins_key after
 
 abbrev pub begins_relative_key : List Token → Bool
-begins_relative_key i = key_behind (after_word w.Relative i)
+begins_relative_key i = has_key_after (after_word w.Relative i)
 
 -- ---- the rules
 

@@ -46,8 +46,8 @@ abbrev pub clause_numbers : List LocatedItem → Select → Option ℕ × Option
 clause_numbers items one = (clause_number items one.relative_key, clause_number items one.status)
 
 -- those of SELECTs that so many stand before
-abbrev pub files_behind : Program → ℕ → List Select → List meaning.ProgramFile
-files_behind program number selects = files_from (program_items program) (storage_areas program.storage) program.files number selects
+abbrev pub files_after : Program → ℕ → List Select → List meaning.ProgramFile
+files_after program number selects = files_from (program_items program) (storage_areas program.storage) program.files number selects
 
 -- These are the files of a program with these items, in the order of their SELECTs, and their names.
 pub record AreFiles (items : List LocatedItem) (program : Program) (all : ProgramFiles) : Type 0 where

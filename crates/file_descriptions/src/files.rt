@@ -43,7 +43,7 @@ fn put_files<'a>(
     requires source { IsSource source }
     requires descriptions { KeepsDescriptions source.program.now }
     requires clauses { AllByRecursion (KeepsClauses (items_in source)) selects.now }
-    ensures files { OnOk result (map (spec.file_in (items_in source.entry)) out.new.items ≡ map (spec.file_in (items_in source.entry)) out.old.items ++ spec.files_behind source.entry.program.now 0 selects.entry.now) }
+    ensures files { OnOk result (map (spec.file_in (items_in source.entry)) out.new.items ≡ map (spec.file_in (items_in source.entry)) out.old.items ++ spec.files_after source.entry.program.now 0 selects.entry.now) }
     ensures numbers { OnOk result (map spec.numbers_in out.new.items ≡ map spec.numbers_in out.old.items ++ map (spec.clause_numbers (items_in source.entry)) selects.entry.now) }
 {
     for (number, select) in selects.iter().enumerate() {

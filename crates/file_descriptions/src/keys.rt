@@ -12,29 +12,6 @@ use records::{AlternateKey, KeyPlace, Organization};
 use source_tree::{AlternateKeyClause, OrganizationClause, Reference};
 use std::alloc::{AllocError, Global};
 
-/// How many keys stand before one.
-#[tactic(auto, unfolding(crate::specs::Keys::keys_before))]
-fn keys_before(keys: &[AlternateKey], one: AlternateKey) -> usize
-    ensures value { result ≡ spec.keys_before one keys.now }
-    ensures within { result ≤ length keys.now }
-{
-    for (index, other) in keys.iter().enumerate() {
-        if one.place.offset <= other.place.offset {
-            return index;
-        }
-    }
-    keys.len()
-}
-
-/// Puts a key among others, which are in order of place.
-fn put_key(keys: &mut Vec<AlternateKey>, one: AlternateKey) -> Result<(), AllocError>
-    ensures { OnOk result (keys.new.items ≡ meaning.with_key one keys.old.items) }
-{
-    let before = keys_before(keys, one);
-    keys.insert(before, one)?;
-    Ok(())
-}
-
 impl Source<'_, '_> {
     /// The prime key; without its clause it has no bytes.
     fn prime_key_place(&self, key: &Option<Reference>) -> KeyPlace
@@ -91,4 +68,27 @@ impl Source<'_, '_> {
         }
         Ok(keys)
     }
+}
+
+/// How many keys stand before one.
+#[tactic(auto, unfolding(crate::specs::Keys::keys_before))]
+fn keys_before(keys: &[AlternateKey], one: AlternateKey) -> usize
+    ensures value { result ≡ spec.keys_before one keys.now }
+    ensures within { result ≤ length keys.now }
+{
+    for (index, other) in keys.iter().enumerate() {
+        if one.place.offset <= other.place.offset {
+            return index;
+        }
+    }
+    keys.len()
+}
+
+/// Puts a key among others, which are in order of place.
+fn put_key(keys: &mut Vec<AlternateKey>, one: AlternateKey) -> Result<(), AllocError>
+    ensures { OnOk result (keys.new.items ≡ meaning.with_key one keys.old.items) }
+{
+    let before = keys_before(keys, one);
+    keys.insert(before, one)?;
+    Ok(())
 }

@@ -26,6 +26,59 @@ const RELATIVE: u8 = 2;
 
 const INDEXED: u8 = 3;
 
+// The byte of each access.
+const SEQUENTIAL_ACCESS: u8 = 1;
+
+const RANDOM_ACCESS: u8 = 2;
+
+const DYNAMIC_ACCESS: u8 = 3;
+
+// The first byte of an item, or of none.
+const NO_ITEM: u8 = 0;
+
+const ITEM: u8 = 1;
+
+impl TableEntry for CodeFile {
+    ghost spelled = { file_bytes };
+
+    ghost read_from = { file_at };
+
+    ghost fits = { IsFileSpelled };
+
+    fn put(&self, out: &mut Vec<u8>) -> Result<(), AllocError> {
+        self.name.put(out)?;
+        put_spec(out, self)?;
+        put_byte(out, access_byte(self.access))?;
+        put_byte(out, flag_byte(self.optional))?;
+        put_short(out, self.area)?;
+        put_item(out, self.relative_key)?;
+        put_item(out, self.status)
+    }
+
+    #[tactic(auto, unfolding(crate::specs::Spelling::file_at))]
+    fn read(alloc: Global, bytes: &[u8]) -> Result<(CodeFile, &[u8]), ImageError> {
+        let (name, rest) = Items::read(alloc, bytes)?;
+        let (spec, rest) = read_spec(alloc, rest)?;
+        let (access, rest) = read_access(rest)?;
+        let (optional, rest) = read_flag(rest)?;
+        let (area, rest) = read_short(rest)?;
+        let (relative_key, rest) = read_item(rest)?;
+        let (status, rest) = read_item(rest)?;
+        let one = CodeFile {
+            name,
+            organization: spec.organization,
+            record_length: spec.record_length,
+            alternates: spec.alternates,
+            access,
+            optional,
+            area,
+            relative_key,
+            status,
+        };
+        Ok((one, rest))
+    }
+}
+
 fn put_organization(out: &mut Vec<u8>, organization: Organization) -> Result<(), AllocError>
     ensures bytes { OnOk result (out.new.items ≡ out.old.items ++ organization_bytes organization) }
     ensures fits { IsOrganizationSpelled organization }
@@ -88,13 +141,6 @@ fn read_spec(alloc: Global, bytes: &[u8]) -> Result<(SpecRead, &[u8]), ImageErro
     Ok((spec, rest))
 }
 
-// The byte of each access.
-const SEQUENTIAL_ACCESS: u8 = 1;
-
-const RANDOM_ACCESS: u8 = 2;
-
-const DYNAMIC_ACCESS: u8 = 3;
-
 fn access_byte(access: Access) -> u8
     ensures { result ≡ spec.access_byte access }
 {
@@ -125,11 +171,6 @@ fn read_access(bytes: &[u8]) -> Result<(Access, &[u8]), ImageError>
     Ok((found(access_of(byte))?, rest))
 }
 
-// The first byte of an item, or of none.
-const NO_ITEM: u8 = 0;
-
-const ITEM: u8 = 1;
-
 fn put_item(out: &mut Vec<u8>, item: Option<ItemIndex>) -> Result<(), AllocError>
     ensures bytes { OnOk result (out.new.items ≡ out.old.items ++ item_bytes item) }
     ensures fits { IfItemSpelled item }
@@ -155,46 +196,5 @@ fn read_item(bytes: &[u8]) -> Result<(Option<ItemIndex>, &[u8]), ImageError>
             Ok((Some(ItemIndex { number }), rest))
         }
         _ => Err(ImageError::Refused(ImageFault::Value)),
-    }
-}
-
-impl TableEntry for CodeFile {
-    ghost spelled = { file_bytes };
-
-    ghost read_from = { file_at };
-
-    ghost fits = { IsFileSpelled };
-
-    fn put(&self, out: &mut Vec<u8>) -> Result<(), AllocError> {
-        self.name.put(out)?;
-        put_spec(out, self)?;
-        put_byte(out, access_byte(self.access))?;
-        put_byte(out, flag_byte(self.optional))?;
-        put_short(out, self.area)?;
-        put_item(out, self.relative_key)?;
-        put_item(out, self.status)
-    }
-
-    #[tactic(auto, unfolding(crate::specs::Spelling::file_at))]
-    fn read(alloc: Global, bytes: &[u8]) -> Result<(CodeFile, &[u8]), ImageError> {
-        let (name, rest) = Items::read(alloc, bytes)?;
-        let (spec, rest) = read_spec(alloc, rest)?;
-        let (access, rest) = read_access(rest)?;
-        let (optional, rest) = read_flag(rest)?;
-        let (area, rest) = read_short(rest)?;
-        let (relative_key, rest) = read_item(rest)?;
-        let (status, rest) = read_item(rest)?;
-        let one = CodeFile {
-            name,
-            organization: spec.organization,
-            record_length: spec.record_length,
-            alternates: spec.alternates,
-            access,
-            optional,
-            area,
-            relative_key,
-            status,
-        };
-        Ok((one, rest))
     }
 }

@@ -16,7 +16,7 @@ use Rattle.records.specs.declared.key.Side.TheVariants.{From, After, Beyond}
 use Rattle.records.specs.declared.key.KeyOfReference.TheVariants.{Prime}
 use Rattle.records.specs.Spec.{Spec}
 use Rattle.records.specs.Rows.{Row, Pair, bytes_cmp, pair_cmp, prime_pair}
-use Rattle.records.specs.Order.{RowBound, is_behind, sought_row}
+use Rattle.records.specs.Order.{RowBound, is_after, sought_row}
 use Rattle.records.specs.Laws.{first_of, RowsAscend}
 use Rattle.records.proofs.Ascending.{pair_total, first_fits}
 use Rattle.file_bytes.specs.Stored.{row_of}
@@ -66,7 +66,7 @@ not_true true h = cc
 not_true false h = refl
 
 -- what comes later is behind a place as well
-behind_later : (side : Side) (place one two : Pair) → is_gt (pair_cmp one two) ≡ false → is_behind side place one ≡ true → is_behind side place two ≡ true
+behind_later : (side : Side) (place one two : Pair) → is_gt (pair_cmp one two) ≡ false → is_after side place one ≡ true → is_after side place two ≡ true
 behind_later From place one two le behind = ap not (still_not_less pair_total one two place le (not_true (is_lt (pair_cmp one place)) behind))
 behind_later After place one two le behind = still_greater pair_total one two place le behind
 behind_later Beyond place one two le behind =
@@ -78,7 +78,7 @@ behind_later Beyond place one two le behind =
 
 module _ (o : Organization) (side : Side) (place : Pair) where
   abbrev pub is_before : StoredRow → Bool
-  is_before row = not (is_behind side place (prime_pair o (row_of row)))
+  is_before row = not (is_after side place (prime_pair o (row_of row)))
 
   abbrev pair_at : List StoredRow → ℕ → StoredRow → Pair
   pair_at rows i d = prime_pair o (row_of (get_or rows i d))
@@ -105,17 +105,17 @@ module _ (o : Organization) (side : Side) (place : Pair) where
 
   -- no row before the place comes after one behind it
   pub parted : (rows : List StoredRow) → RowsAscend o (map row_of rows) → IsPartitionedBy is_before rows
-  parted rows ascend i j d le lt before = by (is_behind side place (pair_at rows i d)) refl
+  parted rows ascend i j d le lt before = by (is_after side place (pair_at rows i d)) refl
     where
-      by : (b : Bool) → is_behind side place (pair_at rows i d) ≡ b → not (is_behind side place (pair_at rows i d)) ≡ true
+      by : (b : Bool) → is_after side place (pair_at rows i d) ≡ b → not (is_after side place (pair_at rows i d)) ≡ true
       by false is = ap not is
-      by true is = let later = behind_later side place (pair_at rows i d) (pair_at rows j d) (ordered rows i j d ascend le lt) is in absurd (let never = not_true (is_behind side place (pair_at rows j d)) before in cc)
+      by true is = let later = behind_later side place (pair_at rows i d) (pair_at rows j d) (ordered rows i j d ascend le lt) is in absurd (let never = not_true (is_after side place (pair_at rows j d)) before in cc)
 
   abbrev first_by : Bool → Row → List Row → Option Row
   first_by b row rows = first_of (cond b (row ∷ rows) rows)
 
   abbrev behind : Row → Bool
-  behind row = is_behind side place (prime_pair o row)
+  behind row = is_after side place (prime_pair o row)
 
   none_first : (rows : List StoredRow) → ((k : ℕ) (d : StoredRow) → k < length rows → behind (row_of (get_or rows k d)) ≡ false) → first_of (filter behind (map row_of rows)) ≡ None
   none_first [] all = refl
@@ -150,4 +150,4 @@ module _ (spec : Spec) (side : Side) (place : Pair) (rows : List StoredRow) (i :
   pub some_from_point : RowsAscend spec.organization (map row_of rows) → Point spec.organization side place rows i → i < length rows → (d : StoredRow) → sought_row spec Prime the_bound (map row_of rows) ≡ Some (row_of (get_or rows i d))
   some_from_point ascend point lt d = first_fits spec the_bound (map row_of rows) ascend
       ∙ some_first spec.organization side place rows i d lt (before_point spec.organization side place rows i point (omega arith))
-      (not_false spec.organization side place (is_behind side place (prime_pair spec.organization (row_of (get_or rows i d)))) (point.1 i d (omega arith) lt))
+      (not_false spec.organization side place (is_after side place (prime_pair spec.organization (row_of (get_or rows i d)))) (point.1 i d (omega arith) lt))

@@ -8,7 +8,7 @@ use Rattle.std.proofs.lemmas.List.{drop_more, drop_all}
 use Rattle.records.specs.declared.key.KeyOfReference.{KeyOfReference}
 use Rattle.records.specs.Spec.{Spec}
 use Rattle.records.specs.Rows.{Row, pair_cmp, pair_under}
-use Rattle.records.specs.Order.{RowBound, is_behind, lesser, least_row, sought_row}
+use Rattle.records.specs.Order.{RowBound, is_after, lesser, least_row, sought_row}
 use Rattle.file_bytes.specs.Stored.{row_of}
 use Rattle.half_store.specs.Seeking.{AreRecords, IsBest}
 use Rattle.file_bytes.specs.declared.stored.StoredRow.{StoredRow}
@@ -18,7 +18,7 @@ module _ (spec : Spec) (key : KeyOfReference) (b : RowBound) (rows : List Stored
   none_best k le d = ap (λ (l : List StoredRow). sought_row spec key b (map row_of l)) (drop_all k rows le)
 
   abbrev fits : Row → Bool
-  fits row = is_behind b.side b.pair (pair_under spec key row)
+  fits row = is_after b.side b.pair (pair_under spec key row)
 
   step : (k : ℕ) (d : StoredRow) → k < length rows → sought_row spec key b (map row_of (drop k rows))
       ≡ least_row spec key (cond (fits (row_of (get_or rows k d))) (row_of (get_or rows k d) ∷ filter fits (map row_of (drop (k + 1) rows))) (filter fits (map row_of (drop (k + 1) rows))))

@@ -17,17 +17,6 @@ use crate::store::HalfStore;
 use records::{Outcome, StoreFault};
 use station::Device;
 
-fn is_done(outcome: Outcome) -> bool
-    ensures { result ≡ is_change outcome }
-{
-    match outcome {
-        Outcome::Missing => false,
-        Outcome::Taken => false,
-        Outcome::Done => true,
-        Outcome::Duplicate => true,
-    }
-}
-
 impl HalfStore {
     /// Writes the files in memory.
     fn write<D: Device>(&mut self, device: &mut D) -> Result<(), StoreFault>
@@ -83,5 +72,16 @@ impl HalfStore {
         self.write(device)?;
         self.spent = false;
         Ok(outcome)
+    }
+}
+
+fn is_done(outcome: Outcome) -> bool
+    ensures { result ≡ is_change outcome }
+{
+    match outcome {
+        Outcome::Missing => false,
+        Outcome::Taken => false,
+        Outcome::Done => true,
+        Outcome::Duplicate => true,
     }
 }

@@ -4,7 +4,7 @@ ghost use Rattle.std.specs.Option.{option_map};
 ghost use Rattle.std.specs.Ordering.{is_gt};
 ghost use Rattle.records.specs.Rows.{Pair, pair_cmp, pair_under, prime_pair};
 ghost use Rattle.records.specs.Laws.{RowsAscend};
-ghost use Rattle.records.specs.Order.{is_behind, sought_row, has_value, found_row};
+ghost use Rattle.records.specs.Order.{is_after, sought_row, has_value, found_row};
 ghost use Rattle.records.specs.Stores.{spec_of, IsKey, bound_at, record_of};
 ghost use Rattle.records.specs.declared.key.Side.TheVariants.{After};
 ghost use Rattle.records.specs.declared.key.KeyOfReference.TheVariants.{Prime};
@@ -122,7 +122,7 @@ fn stands_behind(
     number: u64,
 ) -> bool
     requires { IsKey (spec_of spec.now) key }
-    ensures { result ≡ is_behind side (record { value = value.now; number = number }) (pair_under (spec_of spec.now) key (row_of row.now)) }
+    ensures { result ≡ is_after side (record { value = value.now; number = number }) (pair_under (spec_of spec.now) key (row_of row.now)) }
 {
     match side {
         Side::From => !cmp_under(spec, key, row, value, number).is_lt(),
@@ -220,7 +220,7 @@ fn seek_prime(
 {
     let place = rows.partition_point(
         |row: &StoredRow| -> bool
-            ensures { result ≡ not (is_behind side (record { value = value.entry.now; number = number }) (prime_pair spec.entry.now.organization (row_of row.now))) }
+            ensures { result ≡ not (is_after side (record { value = value.entry.now; number = number }) (prime_pair spec.entry.now.organization (row_of row.now))) }
         { !stands_behind(spec, KeyOfReference::Prime, row, side, value, number) },
     );
     if place < rows.len() {

@@ -12,7 +12,7 @@ use Rattle.source_tree.specs.Storage.{Storage}
 use Rattle.source_tree.specs.Places.{LocatedItem}
 use Rattle.source_tree.specs.Records.{program_items}
 use Rattle.source_tree.specs.LookUp.{is_item, items_named, first}
-use Rattle.source_tree.specs.References.{ItemPlace, place_behind, occurrence_offset, subscript_value, bytes_before, occurrence, place_of}
+use Rattle.source_tree.specs.References.{ItemPlace, place_after, occurrence_offset, subscript_value, bytes_before, occurrence, place_of}
 use Rattle.source_tree.specs.EntryRules.{entry_rules}
 use Rattle.source_tree.specs.FileRules.{descriptions_rules}
 use Rattle.initial_storage.specs.Reach.{reach, IsWithinArea, program_area_lengths}
@@ -62,7 +62,7 @@ occurrence_within : (lengths : List ℕ) (items : List LocatedItem) (subscripts 
 occurrence_within lengths items subscripts one storage place e h =
     let found = both (bytes_before items one.dimensions subscripts storage) _ place e in
     let most : found.0 ≤ reach one.dimensions = before_reach items one.dimensions subscripts storage found.0 found.1 in
-    let same : place_behind one found.0 ≡ place = let told = found.2 in cc in
+    let same : place_after one found.0 ≡ place = let told = found.2 in cc in
     let end : one.offset + found.0 + one.item.length ≤ get_or lengths one.area 0 = omega (arith, most, h) in
     subst (λ (p : ItemPlace). p.offset + p.item.length ≤ get_or lengths p.area 0) same end
 

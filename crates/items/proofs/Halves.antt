@@ -8,7 +8,7 @@ use Rattle.std.proofs.lemmas.Nat.{pow-add}
 use Rattle.std.proofs.Math.Nat.{div-div-eq-div-mul}
 use Rattle.std.specs.Char.{is_ascii_digit}
 use Rattle.decimal18.specs.Fraction.{signed_integer}
-use Rattle.decimal18.specs.Digits.{digits_behind, digit_text}
+use Rattle.decimal18.specs.Digits.{digits_after, digit_text}
 use Rattle.items.specs.Display.{are_digits, integer_of}
 use Rattle.items.specs.Packed.{halves, bytes_of_halves, characters_of, digit_halves, sign_half, by_sign_half, of_halves}
 use Rattle.items.specs.Packed.{packed_integer, packed_bytes}
@@ -55,14 +55,14 @@ digits_next bytes i h high low =
     ∙ pair_digits (get_or bytes i 0) (drop (i + 1) bytes) high low)
 
 pub number_next : (bytes : List ℕ) (i number : ℕ) → i < length bytes
-    → digits_behind (100 * number + (10 * (get_or bytes i 0 / 16) + get_or bytes i 0 % 16)) (shown (drop (i + 1) bytes))
-    ≡ digits_behind number (shown (drop i bytes))
+    → digits_after (100 * number + (10 * (get_or bytes i 0 / 16) + get_or bytes i 0 % 16)) (shown (drop (i + 1) bytes))
+    ≡ digits_after number (shown (drop i bytes))
 number_next bytes i number h =
     let b = get_or bytes i 0 in
     let same : 100 * number + (10 * (b / 16) + b % 16) ≡ 10 * (10 * number + (48 + b / 16 - 48)) + (48 + b % 16 - 48) =
     omega arith in
-    ap (λ n. digits_behind n (shown (drop (i + 1) bytes))) same
-    ∙ sym (at_drop_more (λ rest. digits_behind number (shown rest)) bytes i 0 h)
+    ap (λ n. digits_after n (shown (drop (i + 1) bytes))) same
+    ∙ sym (at_drop_more (λ rest. digits_after number (shown rest)) bytes i 0 h)
 
 hundred : (k : ℕ) → 100 ^ (k + 1) ≡ 100 ^ k * 100
 hundred k = pow-add 100 k 1
@@ -131,11 +131,11 @@ no_last signed bytes h above =
     ∙ neither signed _ (front ++ d ∷ []) (integer_digit false front d e) (integer_digit true front d e)
 
 both : (negative : Bool) (front : List ℕ) (d : ℕ) → are_digits front ≡ true → d ≤ 9
-    → integer_of negative (front ++ (48 + d) ∷ []) ≡ Some (signed_integer negative (10 * digits_behind 0 front + d))
+    → integer_of negative (front ++ (48 + d) ∷ []) ≡ Some (signed_integer negative (10 * digits_after 0 front + d))
 both negative front d e h =
     let same : 48 + d - 48 ≡ d = omega arith in
     integer_both negative front (48 + d) e (digit d h)
-    ∙ ap (λ n. Some (signed_integer negative (10 * digits_behind 0 front + n))) same
+    ∙ ap (λ n. Some (signed_integer negative (10 * digits_after 0 front + n))) same
 
 pub of_sign : (s negative : Bool) (half : ℕ) (digits : List ℕ) → half ≡ sign_half s negative
     → (negative ≡ true → (half ≡ sign_half s false → ⊥)) → by_sign_half s half digits ≡ integer_of negative digits
@@ -159,7 +159,7 @@ pub both_last : (s negative : Bool) (bytes : List ℕ) → 1 ≤ length bytes
     → get_or bytes (length bytes - 1) 0 % 16 ≡ sign_half s negative
     → (negative ≡ true → (get_or bytes (length bytes - 1) 0 % 16 ≡ sign_half s false → ⊥))
     → packed_integer s bytes ≡ Some (signed_integer negative
-    (10 * digits_behind 0 (shown (take (length bytes - 1) bytes)) + get_or bytes (length bytes - 1) 0 / 16))
+    (10 * digits_after 0 (shown (take (length bytes - 1) bytes)) + get_or bytes (length bytes - 1) 0 / 16))
 both_last s negative bytes h front last sign other =
     by_last s bytes h
     ∙ of_sign s negative (get_or bytes (length bytes - 1) 0 % 16)

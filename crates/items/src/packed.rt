@@ -1,7 +1,7 @@
 //! Numbers in packed usage.
 
 ghost use Rattle.std.specs.Prelude.{◌≡◌, ◌+◌, ◌-◌, ◌*◌, ◌/◌, ◌%◌, ◌<◌, ◌≤◌, ◌^◌, ◌⊎◌, length, slice_index, IfSome, if◌then◌else◌};
-ghost use Rattle.decimal18.specs.Digits.{digits_behind};
+ghost use Rattle.decimal18.specs.Digits.{digits_after};
 ghost use Rattle.decimal18.specs.Fraction as numbers;
 ghost use Rattle.items.specs.Display.{are_digits};
 ghost use Rattle.items.specs.Packed as spec;
@@ -116,7 +116,7 @@ fn pair(byte: u8) -> u8
 fn pairs(bytes: &[u8]) -> Option<u64>
     requires { length bytes.now ≤ 9 }
     ensures value { result ≡ (if are_digits (spec.characters_of (spec.halves bytes.now))
-        then Some (digits_behind 0 (spec.characters_of (spec.halves bytes.now))) else None) }
+        then Some (digits_after 0 (spec.characters_of (spec.halves bytes.now))) else None) }
     ensures bound { IfSome result (λ number. number < 100 ^ length bytes.now) }
 {
     let mut number = 0;

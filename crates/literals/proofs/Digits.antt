@@ -4,7 +4,7 @@ use Rattle.std.proofs.Math.Nat.{pow-le-pow_right, mul-le-mul_right}
 use Rattle.std.specs.Prelude.{zero, suc, unsigned_abs}
 use Rattle.std.specs.Char.{is_ascii_digit}
 use Rattle.std.specs.List.{list_all}
-use Rattle.decimal18.specs.Digits.{digits_behind, number_behind}
+use Rattle.decimal18.specs.Digits.{digits_after, number_after}
 use Rattle.decimal18.specs.Fraction.{Fraction, of_parts, signed_integer, is_negative}
 use Rattle.lexical.specs.declared.number.Sign.{Sign}
 use Rattle.lexical.specs.declared.number.Sign.TheVariants as sign
@@ -30,7 +30,7 @@ few one e =
     let h : all ≤ 18 = at_most 18 all (last_of (list_all is_ascii_digit one.whole) (list_all is_ascii_digit one.decimals) (nat_le 1 all) (nat_le all 18) e) in
     omega (arith, h, length-append one.whole one.decimals)
 
-behind_all : (n : ℕ) (front back : List ℕ) → digits_behind n (front ++ back) ≡ digits_behind (digits_behind n front) back
+behind_all : (n : ℕ) (front back : List ℕ) → digits_after n (front ++ back) ≡ digits_after (digits_after n front) back
 behind_all n [] back = refl
 behind_all n (c ∷ front) back = behind_all (10 * n + (c - 48)) front back
 
@@ -60,14 +60,14 @@ told true m n e = cc
 told false m n e = cc
 
 pub magnitude_of : (one : NumericLiteral) (front back : List ℕ) (whole magnitude : ℕ) → front ≡ one.whole → back ≡ one.decimals
-    → Some whole ≡ number_behind 0 front → Some magnitude ≡ number_behind whole back → magnitude ≡ digits_behind 0 (one.whole ++ one.decimals)
+    → Some whole ≡ number_after 0 front → Some magnitude ≡ number_after whole back → magnitude ≡ digits_after 0 (one.whole ++ one.decimals)
 magnitude_of one front back whole magnitude e f first last =
-    told (list_all is_ascii_digit back) magnitude (digits_behind whole back) last
-    ∙ ap (digits_behind whole) f
-    ∙ ap (λ n. digits_behind n one.decimals) (told (list_all is_ascii_digit front) whole (digits_behind 0 front) first ∙ ap (digits_behind 0) e)
+    told (list_all is_ascii_digit back) magnitude (digits_after whole back) last
+    ∙ ap (digits_after whole) f
+    ∙ ap (λ n. digits_after n one.decimals) (told (list_all is_ascii_digit front) whole (digits_after 0 front) first ∙ ap (digits_after 0) e)
     ∙ sym (behind_all 0 one.whole one.decimals)
 
-pub number_of : (one : NumericLiteral) (negative : Bool) (magnitude scale : ℕ) → negative ≡ is_minus one.sign → magnitude ≡ digits_behind 0 (one.whole ++ one.decimals) → scale ≡ length one.decimals
+pub number_of : (one : NumericLiteral) (negative : Bool) (magnitude scale : ℕ) → negative ≡ is_minus one.sign → magnitude ≡ digits_after 0 (one.whole ++ one.decimals) → scale ≡ length one.decimals
     → of_parts negative magnitude scale ≡ literal_number one
 number_of one negative magnitude scale e f g = cc
 
@@ -84,10 +84,10 @@ signed_so sign.Minus digits scale magnitude = refl
 
 -- The item of the literal's digits can hold it.
 pub held : (one : NumericLiteral) (x : Fraction) (front back : List ℕ) (whole magnitude : ℕ) → front ≡ one.whole → back ≡ one.decimals
-    → x ≡ literal_number one → magnitude ≡ digits_behind 0 (one.whole ++ one.decimals)
+    → x ≡ literal_number one → magnitude ≡ digits_after 0 (one.whole ++ one.decimals)
     → whole < 1 * 10 ^ length front → magnitude < (whole + 1) * 10 ^ length back → CanHold (literal_numeric one) x
 held one x front back whole magnitude e f is m below bound =
-    let all : ℕ = digits_behind 0 (one.whole ++ one.decimals) in
+    let all : ℕ = digits_after 0 (one.whole ++ one.decimals) in
     let size : unsigned_abs (literal_number one).coefficient ≡ all = size_of (is_minus one.sign) all in
     let top : (whole + 1) * 10 ^ length back ≤ 10 ^ (length front + length back) = times_pow whole (length front) (length back) below in
     let count : length (one.whole ++ one.decimals) ≡ length front + length back = omega (arith, length-append one.whole one.decimals, ap length e, ap length f) in

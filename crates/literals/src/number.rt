@@ -6,7 +6,7 @@ ghost use Rattle.source_tree.specs.Literals as spec;
 ghost use Rattle.source_tree.specs.ValueRules.{has_form};
 ghost use Rattle.source_tree.specs.declared.literal.LiteralValue.TheVariants as literals;
 
-use decimal18::{Dec, number_behind};
+use decimal18::{Dec, number_after};
 use items::{Numeric, OperationalSign, Usage};
 use lexical::{NumericLiteral, Sign};
 
@@ -30,10 +30,10 @@ pub fn number(literal: &NumericLiteral) -> Dec
     ensures value { result ≡ spec.literal_number literal.now }
     ensures holds { CanHold (spec.literal_numeric literal.now) result }
 {
-    let Some(whole) = number_behind(0, literal.whole.as_slice()) else {
+    let Some(whole) = number_after(0, literal.whole.as_slice()) else {
         unreachable!()
     };
-    let Some(magnitude) = number_behind(whole, literal.decimals.as_slice()) else {
+    let Some(magnitude) = number_after(whole, literal.decimals.as_slice()) else {
         unreachable!()
     };
     let scale = literal.decimals.len() as u8;

@@ -21,7 +21,7 @@ use Rattle.records.specs.declared.verb.Verb.{Verb}
 use Rattle.records.specs.declared.verb.Verb.TheVariants.{Open, Close, ReadNext, Read, Write, Rewrite, Delete, Start}
 use Rattle.records.specs.Spec.{Spec, same_spec, is_spec, are_keys}
 use Rattle.records.specs.Rows.{Row, Pair, number_pair, named_pair, pair_cmp, pair_under}
-use Rattle.records.specs.Order.{RowBound, is_behind, is_repeated, lesser, least_row, sought_row}
+use Rattle.records.specs.Order.{RowBound, is_after, is_repeated, lesser, least_row, sought_row}
 use Rattle.records.specs.Files.{File, Files}
 use Rattle.records.specs.Changes.{FileChange, insertion, replacement, removal}
 use Rattle.records.specs.Stores.{IsKey, key_length, is_change}
@@ -100,8 +100,8 @@ filtered spec key P [] row e = absurd cc
 filtered spec key P (first ∷ more) row e = filtered_by spec key P first more row (filtered spec key P more row) (P first) refl e
 
 sought_behind : (spec : Spec) (key : KeyOfReference) (bound : RowBound) (rows : List Row) (row : Row) → sought_row spec key bound rows ≡ Some row
-    → is_behind bound.side bound.pair (pair_under spec key row) ≡ true
-sought_behind spec key bound rows row e = filtered spec key (λ r. is_behind bound.side bound.pair (pair_under spec key r)) rows row e
+    → is_after bound.side bound.pair (pair_under spec key row) ≡ true
+sought_behind spec key bound rows row e = filtered spec key (λ r. is_after bound.side bound.pair (pair_under spec key r)) rows row e
 
 -- a number that is neither less nor greater
 between : (m n : ℕ) → is_lt (nat_cmp m n) ≡ false → is_gt (nat_cmp m n) ≡ false → m ≡ n
@@ -139,7 +139,7 @@ module _ (entry : Entry) (files : Files) (c : Connector) (area : Area) where
   named_number organization.Sequential so key count = absurd cc
   named_number (organization.Indexed place) so key count = absurd cc
 
-  fits_place : (o : Organization) → is_relative o ≡ true → (place pair : Pair) → steps.if_fits o relation.Equal place pair ≡ not (is_behind After place pair)
+  fits_place : (o : Organization) → is_relative o ≡ true → (place pair : Pair) → steps.if_fits o relation.Equal place pair ≡ not (is_after After place pair)
   fits_place organization.Relative so place pair = refl
   fits_place organization.Sequential so place pair = absurd cc
   fits_place (organization.Indexed p) so place pair = absurd cc
@@ -166,11 +166,11 @@ module _ (entry : Entry) (files : Files) (c : Connector) (area : Area) where
           let behind = sought_behind entry.spec key (record { side = From; pair = place }) (steps.rows entry files c area) other is in
           let no_less : is_lt (nat_cmp other.number area.number) ≡ false =
           untrue (is_lt (nat_cmp other.number area.number))
-          (sym (ap (λ (q : Pair). is_behind From place q) own ∙ ap (λ (q : Pair). is_behind From q (number_pair other.number)) place_is) ∙ behind) in
+          (sym (ap (λ (q : Pair). is_after From place q) own ∙ ap (λ (q : Pair). is_after From q (number_pair other.number)) place_is) ∙ behind) in
           let no_more : is_gt (nat_cmp other.number area.number) ≡ false =
           untrue (is_gt (nat_cmp other.number area.number))
           (sym (fits_place entry.spec.organization so place (pair_under entry.spec key other)
-          ∙ ap (λ (q : Pair). not (is_behind After place q)) own ∙ ap (λ (q : Pair). not (is_behind After q (number_pair other.number))) place_is) ∙ fit) in
+          ∙ ap (λ (q : Pair). not (is_after After place q)) own ∙ ap (λ (q : Pair). not (is_after After q (number_pair other.number))) place_is) ∙ fit) in
           ap (λ (r : Row). r.number) (sym same) ∙ between other.number area.number no_less no_more
       by_fit other false fit is e = absurd cc
 

@@ -23,7 +23,7 @@ use Rattle.name_table.specs.Items.{called_item}
 use Rattle.name_table.specs.Table.{IsTable, calls_in}
 use Rattle.name_table.specs.declared.conditions.DeclaredCondition.{DeclaredCondition}
 use Rattle.name_table.specs.Conditions.{called_condition, pair_of, pairs_in, condition_at, condition_of, item_numbers, AreConditions}
-use Rattle.name_table.specs.Passing.{of_last, conditions_behind, item_count, behind_records, record_item_count, AreCalled}
+use Rattle.name_table.specs.Passing.{of_last, conditions_after, item_count, behind_records, record_item_count, AreCalled}
 
 -- the condition names of each item, in order
 abbrev lists : Forest → List (List ConditionEntry)
@@ -60,16 +60,16 @@ none_passed n one = by (nat_lt n n) (grind arith)
     by true e = cc
     by false e = refl
 
-after : (before n : ℕ) (entries : List Entry) → before ≤ n → conditions_behind before (suc n) entries ≡ map (λ c. (c, n)) (leading_conditions entries) ++ numbered (suc n) (lists (forest_of entries))
+after : (before n : ℕ) (entries : List Entry) → before ≤ n → conditions_after before (suc n) entries ≡ map (λ c. (c, n)) (leading_conditions entries) ++ numbered (suc n) (lists (forest_of entries))
 after before n [] h = refl
 after before n (Item one ∷ more) h =
     after before (suc n) more (omega arith) ∙ sym (ap (λ l. map (λ c. (c, suc n)) (leading_conditions more) ++ numbered (suc (suc n)) l) (split (level_of one) (forest_of more)))
-after before n (Condition one ∷ more) h = ap (λ l. l ++ conditions_behind before (suc n) more) (passed before n one h) ∙ ap (λ l. (one, n) ∷ l) (after before n more h)
+after before n (Condition one ∷ more) h = ap (λ l. l ++ conditions_after before (suc n) more) (passed before n one h) ∙ ap (λ l. (one, n) ∷ l) (after before n more h)
 
-from_start : (n : ℕ) (entries : List Entry) → conditions_behind n n entries ≡ numbered n (lists (forest_of entries))
+from_start : (n : ℕ) (entries : List Entry) → conditions_after n n entries ≡ numbered n (lists (forest_of entries))
 from_start n [] = refl
 from_start n (Item one ∷ more) = after n n more (omega arith) ∙ sym (ap (λ l. map (λ c. (c, n)) (leading_conditions more) ++ numbered (suc n) l) (split (level_of one) (forest_of more)))
-from_start n (Condition one ∷ more) = ap (λ l. l ++ conditions_behind n n more) (none_passed n one) ∙ from_start n more
+from_start n (Condition one ∷ more) = ap (λ l. l ++ conditions_after n n more) (none_passed n one) ∙ from_start n more
 
 counted : (entries : List Entry) → item_count entries ≡ length (lists (forest_of entries))
 counted [] = refl
@@ -149,7 +149,7 @@ module _ {B : Type 0} (items : List LocatedItem) (told : ConditionEntry × ℕ �
 
 -- what is told of a program's
 abbrev program_pairs : Program → List (ConditionEntry × ℕ)
-program_pairs program = conditions_behind 0 0 program.storage ++ behind_records (item_count program.storage) program.files
+program_pairs program = conditions_after 0 0 program.storage ++ behind_records (item_count program.storage) program.files
 
 of_program : (program : Program) → program_pairs program ≡ numbered 0 (map (λ (p : LocatedItem). p.conditions) (program_items program))
 of_program program =
@@ -204,7 +204,7 @@ numbers_are : (program : Program) (all : ConditionNames) → pairs_in all ≡ pr
 numbers_are program all pairs = sym (map_map number pair_of all.conditions.items) ∙ ap (map number) (pairs ∙ of_program program) ∙ numbers_from 0 (program_items program)
 
 pub all_told : (calls : List NamePath) (program : Program) (all : ConditionNames) → calls ≡ map called_item (program_items program) → AreCalled calls all
-    → pairs_in all ≡ conditions_behind 0 0 program.storage ++ behind_records (item_count program.storage) program.files → AreConditions (program_items program) all
+    → pairs_in all ≡ conditions_after 0 0 program.storage ++ behind_records (item_count program.storage) program.files → AreConditions (program_items program) all
 all_told calls program all e told pairs =
     let items = program_items program in
     record {
@@ -221,7 +221,7 @@ all_told calls program all e told pairs =
 -- Of the entries before these, which so many items are in front of, all condition names are told, behind those that were there.
 pub record AreTold (calls : List NamePath) (before : ℕ) (old : List (ConditionEntry × ℕ)) (entries rest : List Entry) (count : ℕ) (all : ConditionNames) : Type 0 where
   pub called : AreCalled calls all
-  pub pairs : pairs_in all ++ conditions_behind before count rest ≡ old ++ conditions_behind before before entries
+  pub pairs : pairs_in all ++ conditions_after before count rest ≡ old ++ conditions_after before before entries
   pub range : count + item_count rest ≡ before + item_count entries
 
 pub told_start : (calls : List NamePath) (entries : List Entry) (before : ℕ) (all : ConditionNames) → AreCalled calls all → AreTold calls before (pairs_in all) entries entries before all
@@ -260,7 +260,7 @@ module _ (calls : List NamePath) (before : ℕ) (old : List (ConditionEntry × �
       let next : count + 1 ≡ suc count = omega arith in
       record {
         called = h.called;
-        pairs = ap (λ n. pairs_in all ++ conditions_behind before n more) next ∙ sym (ap (λ l. pairs_in all ++ conditions_behind before count l) e) ∙ h.pairs;
+        pairs = ap (λ n. pairs_in all ++ conditions_after before n more) next ∙ sym (ap (λ l. pairs_in all ++ conditions_after before count l) e) ∙ h.pairs;
         range = omega arith;
       }
 
@@ -275,9 +275,9 @@ module _ (calls : List NamePath) (before : ℕ) (old : List (ConditionEntry × �
           calls_are = added ∙ ap (λ l. l ++ condition_at calls (one, count - 1) ∷ []) h.called.calls_are
               ∙ sym (map-append (condition_at calls) (pairs_in all) ((one, count - 1) ∷ [])) ∙ ap (map (condition_at calls)) (sym told);
         };
-        pairs = ap (λ l. l ++ conditions_behind before count more) told ∙ append_assoc (pairs_in all) ((one, count - 1) ∷ []) (conditions_behind before count more)
-            ∙ ap (λ l. pairs_in all ++ (l ++ conditions_behind before count more)) (sym (some_last before count one some))
-            ∙ sym (ap (λ l. pairs_in all ++ conditions_behind before count l) e) ∙ h.pairs;
+        pairs = ap (λ l. l ++ conditions_after before count more) told ∙ append_assoc (pairs_in all) ((one, count - 1) ∷ []) (conditions_after before count more)
+            ∙ ap (λ l. pairs_in all ++ (l ++ conditions_after before count more)) (sym (some_last before count one some))
+            ∙ sym (ap (λ l. pairs_in all ++ conditions_after before count l) e) ∙ h.pairs;
         range = omega arith;
       }
 
@@ -287,7 +287,7 @@ module _ (calls : List NamePath) (before : ℕ) (old : List (ConditionEntry × �
       let range = h.range in
       record {
         called = h.called;
-        pairs = ap (λ l. pairs_in all ++ (l ++ conditions_behind before count more)) (sym (no_last before count one none))
-            ∙ sym (ap (λ l. pairs_in all ++ conditions_behind before count l) e) ∙ h.pairs;
+        pairs = ap (λ l. pairs_in all ++ (l ++ conditions_after before count more)) (sym (no_last before count one none))
+            ∙ sym (ap (λ l. pairs_in all ++ conditions_after before count l) e) ∙ h.pairs;
         range = omega arith;
       }

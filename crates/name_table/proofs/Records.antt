@@ -7,7 +7,7 @@ use Rattle.source_tree.specs.FileRules.{description_rules}
 use Rattle.source_tree.specs.Levels.{forest_of}
 use Rattle.name_table.specs.Positions.{NamePath}
 use Rattle.name_table.specs.Items.{item_calls, record_calls}
-use Rattle.name_table.specs.Passing.{conditions_behind, item_count, behind_records, record_item_count}
+use Rattle.name_table.specs.Passing.{conditions_after, item_count, behind_records, record_item_count}
 
 pub rest_at : {A : Type 0} (xs : List A) (i : ℕ) (one : A) → i < length xs → one ≡ get_or xs i one → drop i xs ≡ one ∷ drop (i + 1) xs
 rest_at xs i one h is = drop-cons xs i one h ∙ ap (λ k. get_or xs i one ∷ drop k xs) (sym (add-one i)) ∙ ap (λ x. x ∷ drop (i + 1) xs) (sym is)
@@ -32,12 +32,12 @@ module _ (rest more : List FileDescription) (one : FileDescription) (e : rest �
       ap (λ l. l ++ record_calls more) added ∙ append_assoc old (item_calls (one.name ∷ []) (forest_of one.entries)) (record_calls more)
       ∙ ap (λ l. old ++ record_calls l) (sym e) ∙ before
 
-  pub passed_step : (new old all : List (ConditionEntry × ℕ)) (count after : ℕ) → after ≡ count + item_count one.entries → new ≡ old ++ conditions_behind count count one.entries
+  pub passed_step : (new old all : List (ConditionEntry × ℕ)) (count after : ℕ) → after ≡ count + item_count one.entries → new ≡ old ++ conditions_after count count one.entries
       → old ++ behind_records count rest ≡ all → new ++ behind_records after more ≡ all
   passed_step new old all count after counted added before =
       ap (λ n. new ++ behind_records n more) counted
       ∙ ap (λ l. l ++ behind_records (count + item_count one.entries) more) added
-      ∙ append_assoc old (conditions_behind count count one.entries) (behind_records (count + item_count one.entries) more)
+      ∙ append_assoc old (conditions_after count count one.entries) (behind_records (count + item_count one.entries) more)
       ∙ ap (λ l. old ++ behind_records count l) (sym e) ∙ before
 
   pub counted_step : (count after most : ℕ) → after ≡ count + item_count one.entries → count + record_item_count rest ≤ most → after + record_item_count more ≤ most

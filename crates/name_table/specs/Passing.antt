@@ -14,10 +14,10 @@ abbrev pub of_last : ℕ → ℕ → ConditionEntry → List (ConditionEntry × 
 of_last before count one = if nat_lt before count then (one, count - 1) ∷ [] else []
 
 -- those of the entries behind so many items
-abbrev pub conditions_behind : ℕ → ℕ → List Entry → List (ConditionEntry × ℕ)
-conditions_behind before count [] = []
-conditions_behind before count (Item one ∷ more) = conditions_behind before (suc count) more
-conditions_behind before count (Condition one ∷ more) = of_last before count one ++ conditions_behind before count more
+abbrev pub conditions_after : ℕ → ℕ → List Entry → List (ConditionEntry × ℕ)
+conditions_after before count [] = []
+conditions_after before count (Item one ∷ more) = conditions_after before (suc count) more
+conditions_after before count (Condition one ∷ more) = of_last before count one ++ conditions_after before count more
 
 abbrev pub item_count : List Entry → ℕ
 item_count [] = 0
@@ -27,7 +27,7 @@ item_count (Condition one ∷ more) = item_count more
 -- the same of records
 abbrev pub behind_records : ℕ → List FileDescription → List (ConditionEntry × ℕ)
 behind_records count [] = []
-behind_records count (one ∷ more) = conditions_behind count count one.entries ++ behind_records (count + item_count one.entries) more
+behind_records count (one ∷ more) = conditions_after count count one.entries ++ behind_records (count + item_count one.entries) more
 
 abbrev pub record_item_count : List FileDescription → ℕ
 record_item_count [] = 0

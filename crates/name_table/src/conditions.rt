@@ -5,7 +5,7 @@ ghost use Rattle.source_tree.specs.Records.{program_items};
 ghost use Rattle.name_table.specs.Items.{called_item};
 ghost use Rattle.name_table.specs.Conditions as spec;
 ghost use Rattle.name_table.specs.Conditions.{AreConditions, pairs_in};
-ghost use Rattle.name_table.specs.Passing.{AreCalled, item_count, record_item_count, conditions_behind, behind_records};
+ghost use Rattle.name_table.specs.Passing.{AreCalled, item_count, record_item_count, conditions_after, behind_records};
 ghost use Rattle.name_table.specs.Table.{IsTable, calls_in};
 
 use crate::declaration::names_within;
@@ -83,7 +83,7 @@ fn with_entries<'a>(
     requires told { AreCalled (calls_in items.now) passed.conditions }
     ensures items { IfOk result (λ new. new.items ≡ passed.entry.items + item_count entries.now) }
     ensures told { IfOk result (λ new. AreCalled (calls_in items.now) new.conditions) }
-    ensures pairs { IfOk result (λ new. pairs_in new.conditions ≡ pairs_in passed.entry.conditions ++ conditions_behind passed.entry.items passed.entry.items entries.now) }
+    ensures pairs { IfOk result (λ new. pairs_in new.conditions ≡ pairs_in passed.entry.conditions ++ conditions_after passed.entry.items passed.entry.items entries.now) }
 {
     let before = passed.items;
     let mut count = before;

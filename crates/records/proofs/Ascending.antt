@@ -15,7 +15,7 @@ use Rattle.records.specs.declared.file_spec.Organization.{Organization}
 use Rattle.records.specs.declared.key.KeyOfReference.TheVariants.{Prime}
 use Rattle.records.specs.Spec.{Spec}
 use Rattle.records.specs.Rows.{Row, Pair, pair_cmp, prime_pair}
-use Rattle.records.specs.Order.{RowBound, is_behind, lesser, least_row, sought_row}
+use Rattle.records.specs.Order.{RowBound, is_after, lesser, least_row, sought_row}
 use Rattle.records.specs.Changes.{is_at, row_at, with_row}
 use Rattle.records.specs.Laws.{first_of, RowsAscend}
 
@@ -143,7 +143,7 @@ first_least spec (row ∷ other ∷ rows) ascend =
 
 pub first_fits : (spec : Spec) (bound : RowBound) (rows : List Row) → RowsAscend spec.organization rows
     → sought_row spec Prime bound rows
-    ≡ first_of (filter (λ row. is_behind bound.side bound.pair (prime_pair spec.organization row)) rows)
+    ≡ first_of (filter (λ row. is_after bound.side bound.pair (prime_pair spec.organization row)) rows)
 first_fits spec bound rows ascend = first_least
-    spec (filter (λ row. is_behind bound.side bound.pair (prime_pair spec.organization row)) rows) (ascend_filter
-    spec.organization (λ row. is_behind bound.side bound.pair (prime_pair spec.organization row)) rows ascend)
+    spec (filter (λ row. is_after bound.side bound.pair (prime_pair spec.organization row)) rows) (ascend_filter
+    spec.organization (λ row. is_after bound.side bound.pair (prime_pair spec.organization row)) rows ascend)

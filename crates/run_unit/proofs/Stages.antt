@@ -24,14 +24,14 @@ use Rattle.source_tree.specs.Broken.{RuleBreach}
 use Rattle.source_tree.specs.LookUp.{first}
 use Rattle.source_tree.specs.Recursion.{HasOrder, performed_by_program}
 use Rattle.source_tree.specs.Rules.{program_rules}
-use Rattle.check_rules.specs.Told.{IsBroken, IsFirstFault}
+use Rattle.check_rules.specs.Refusals.{IsBroken, IsFirstFault}
 use Rattle.entry_rules.specs.Checks as rules
 use Rattle.entry_rules.specs.declared.rule.CheckError.{CheckError}
 use Rattle.entry_rules.specs.declared.rule.CheckError.TheVariants as in_rules
 use Rattle.run_unit.specs.Faults as compiling
 use Rattle.run_unit.specs.Faults.{StageFault, OfLines, OfTokens, OfTree, OfRules, from_tokens, from_tree, from_rules}
 use Rattle.run_unit.specs.Trees.{IsReadFrom, broken_rules}
-use Rattle.run_unit.specs.Stages.{IsTreeAnswer, IsRecursion, IsToldOf, IsFaultOf, then_read, tree_by, tree_with_rules, tree_in_tokens, tree_in_characters, tree_of}
+use Rattle.run_unit.specs.Stages.{IsTreeAnswer, IsRecursion, IsReported, IsFaultOf, then_read, tree_by, tree_with_rules, tree_in_tokens, tree_in_characters, tree_of}
 use Rattle.run_unit.specs.Images.{IsImageAnswer}
 use Rattle.run_unit.specs.declared.fault.CompileError.{CompileError}
 use Rattle.run_unit.specs.declared.fault.CompileError.TheVariants.{Memory, Refused}
@@ -97,13 +97,13 @@ by_first : (tree : Program) (rules : List RuleBreach) (one : RuleBreach) → fir
 by_first tree [] one e = cc
 by_first tree (other ∷ more) one e = cc
 
-told_fault : (tree : Program) (one : RuleBreach) → IsBroken tree one → IsToldOf tree (Some (OfRules one))
+told_fault : (tree : Program) (one : RuleBreach) → IsBroken tree one → IsReported tree (Some (OfRules one))
 unfolding broken_rules
 told_fault tree one (inl is) = inl (by_first tree (program_rules tree) one is)
 told_fault tree one (inr back) = inr (record { broken = one; is = refl; back = back })
 
 -- the first rule that is broken is what is told of the tree, or a PERFORM that leads back
-pub rules_fault : (tree : Program) (e : CheckError) → IsFirstFault tree (rules.fault_of e) → IsToldOf tree (compiling.fault_of (from_rules e))
+pub rules_fault : (tree : Program) (e : CheckError) → IsFirstFault tree (rules.fault_of e) → IsReported tree (compiling.fault_of (from_rules e))
 rules_fault tree in_rules.Memory told = tt
 rules_fault tree (in_rules.Refused broken) told = told_fault tree (rules.broken_of broken) told
 
@@ -112,14 +112,14 @@ unfolding broken_rules
 kept_tree tree fault is = ap (tree_by tree) is.back.kept
 
 -- what is told of a tree is told of its source text
-pub source_fault : (source : List ℕ) (tree : Program) (fault : Option StageFault) → tree_of source ≡ tree_with_rules tree → IsToldOf tree fault → IsFaultOf source fault
+pub source_fault : (source : List ℕ) (tree : Program) (fault : Option StageFault) → tree_of source ≡ tree_with_rules tree → IsReported tree fault → IsFaultOf source fault
 source_fault source tree None same told = tt
 source_fault source tree (Some fault) same (inl is) = inl (same ∙ is)
 source_fault source tree (Some fault) same (inr back) = inr (tree, same ∙ kept_tree tree fault back, back)
 
 -- where a result is an error
 pub result_fault : {A : Type 0} (source : List ℕ) (tree : Program) (result : Result A CompileError) → tree_of source ≡ tree_with_rules tree
-    → IfErr result (λ e. IsToldOf tree (compiling.fault_of e)) → IfErr result (λ e. IsFaultOf source (compiling.fault_of e))
+    → IfErr result (λ e. IsReported tree (compiling.fault_of e)) → IfErr result (λ e. IsFaultOf source (compiling.fault_of e))
 result_fault source tree (Ok value) same told = tt
 result_fault source tree (Err e) same told = source_fault source tree (compiling.fault_of e) same told
 

@@ -6,7 +6,7 @@ use Rattle.tokens.specs.declared.token.Token.{Token}
 use Rattle.tokens.specs.Scanning.{tokens}
 use Rattle.source_tree.specs.declared.program.Program.{Program}
 use Rattle.source_tree.specs.Broken.{RuleBreach}
-use Rattle.check_rules.specs.Told.{Recurses}
+use Rattle.check_rules.specs.Refusals.{Recurses}
 use Rattle.divisions.specs.Faults.{parse_of}
 use Rattle.run_unit.specs.Faults.{StageFault, OfLines, OfTokens, OfTree, OfRules}
 use Rattle.run_unit.specs.Trees.{broken_rules}
@@ -48,9 +48,9 @@ pub record IsRecursion (tree : Program) (fault : StageFault) : Type 0 where
   pub back : Recurses tree broken
 
 -- What may be told of a tree: the first rule that it breaks, or a PERFORM that leads back. Of memory nothing is said.
-abbrev pub IsToldOf : Program → Option StageFault → Type 0
-IsToldOf tree None = Unit {0}
-IsToldOf tree (Some fault) = (tree_with_rules tree ≡ Err fault) ⊎ IsRecursion tree fault
+abbrev pub IsReported : Program → Option StageFault → Type 0
+IsReported tree None = Unit {0}
+IsReported tree (Some fault) = (tree_with_rules tree ≡ Err fault) ⊎ IsRecursion tree fault
 
 -- the same of a source text: the first fault of its stages, or a PERFORM that leads back where there is none
 abbrev pub IsFaultOf : List ℕ → Option StageFault → Type 0

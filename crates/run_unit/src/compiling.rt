@@ -6,10 +6,10 @@ ghost use Rattle.source_tree.specs.declared.program.Program.{Program};
 ghost use Rattle.source_tree.specs.Recursion.{HasOrder};
 ghost use Rattle.source_tree.specs.Meaning.{meaning};
 ghost use Rattle.entry_rules.specs.Checks as rules;
-ghost use Rattle.check_rules.specs.Told.{IsFirstFault};
+ghost use Rattle.check_rules.specs.Refusals.{IsFirstFault};
 ghost use Rattle.run_unit.specs.Faults.{fault_of};
 ghost use Rattle.run_unit.specs.Trees.{IsReadFrom, IsTreeOf, broken_rules};
-ghost use Rattle.run_unit.specs.Stages.{IsTreeAnswer, IsToldOf, IsFaultOf, tree_with_rules, tree_of};
+ghost use Rattle.run_unit.specs.Stages.{IsTreeAnswer, IsReported, IsFaultOf, tree_with_rules, tree_of};
 ghost use Rattle.run_unit.specs.Images.{MeansAs, IsCompiled, IsImageAnswer};
 
 use crate::fault::CompileError;
@@ -81,7 +81,7 @@ fn image_of_tree(alloc: Global, tree: &Program) -> Result<Vec<u8>, CompileError>
     ensures order { OnOk result (HasOrder tree.now) }
     ensures image { IfOk result (λ image. MeansAs tree.now image.items) }
     ensures only { broken_rules tree.now ≡ [] → HasOrder tree.now → IsImageAnswer tree.now result }
-    ensures fault { IfErr result (λ e. IsToldOf tree.now (fault_of e)) }
+    ensures fault { IfErr result (λ e. IsReported tree.now (fault_of e)) }
 {
     one_answer();
     let checked = check_tree(alloc, tree)?;

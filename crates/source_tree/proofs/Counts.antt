@@ -4,7 +4,7 @@ use Rattle.std.specs.Prelude.{min}
 use Rattle.std.specs.List.{AllByRecursion}
 use Rattle.std.proofs.Math.Nat.{mul-le-mul_right, mul_assoc, pow-succ', pow-le-pow_right}
 use Rattle.std.proofs.lemmas.Bool.{cases_lt}
-use Rattle.decimal18.specs.Digits.{digits_behind}
+use Rattle.decimal18.specs.Digits.{digits_after}
 use Rattle.lexical.specs.declared.place.Place.{Place}
 use Rattle.source_tree.specs.declared.literal.Integer.{Integer}
 use Rattle.source_tree.specs.declared.statement.Statement.{Statement}
@@ -21,7 +21,7 @@ use Rattle.source_tree.proofs.Depth.{then_same, spend_same}
 abbrev pub of_digits : Place → List ℕ → Integer
 of_digits place digits = record { digits = digits; place = place }
 
-behind_last : (n : ℕ) (digits : List ℕ) (digit : ℕ) → digits_behind n (digits ++ digit ∷ []) ≡ 10 * digits_behind n digits + (digit - 48)
+behind_last : (n : ℕ) (digits : List ℕ) (digit : ℕ) → digits_after n (digits ++ digit ∷ []) ≡ 10 * digits_after n digits + (digit - 48)
 behind_last n [] digit = refl
 behind_last n (first ∷ more) digit = behind_last (10 * n + (first - 48)) more digit
 
@@ -32,11 +32,11 @@ cut_last n d = omega arith
 pub turns_more : (place : Place) (digits : List ℕ) (digit : ℕ)
     → min (min (turns_of (of_digits place digits) * 10) most_turns + (digit - 48)) most_turns ≡ turns_of (of_digits place (digits ++ digit ∷ []))
 turns_more place digits digit =
-    cut_last (digits_behind 0 digits) (digit - 48) ∙ ap (λ n. min n most_turns) (sym (behind_last 0 digits digit))
+    cut_last (digits_after 0 digits) (digit - 48) ∙ ap (λ n. min n most_turns) (sym (behind_last 0 digits digit))
 
 -- ---- 18 digits
 
-below : (n : ℕ) (digits : List ℕ) → AllByRecursion IsDigit digits → digits_behind n digits + 1 ≤ (n + 1) * 10 ^ length digits
+below : (n : ℕ) (digits : List ℕ) → AllByRecursion IsDigit digits → digits_after n digits + 1 ≤ (n + 1) * 10 ^ length digits
 below n [] all = omega arith
 below n (first ∷ more) all =
     let next = 10 * n + (first - 48) in

@@ -25,7 +25,7 @@ abbrev move : ℕ → Operand → List Reference → Statement
 move line sender receivers = statement line (verb.DataStatement (Move sender receivers))
 
 abbrev display : ℕ → List Operand → Statement
-display line operands = statement line (verb.Text (Display operands true))
+display line operands = statement line (verb.TextStatement (Display operands true))
 
 abbrev program : List Entry → List Statement → Program
 program storage statements = record {

@@ -37,7 +37,7 @@ number whole decimals = record { value = Numeric (record { sign = sign.Unsigned;
 
 -- DISPLAY with these literals
 abbrev pub display : Place → List Literal → Bool → Statement
-display place literals advancing = roll-Statement (record { place = place; verb = verb.Text (text_as.Display (map operand.Literal literals) advancing) })
+display place literals advancing = roll-Statement (record { place = place; verb = verb.TextStatement (text_as.Display (map operand.Literal literals) advancing) })
 
 abbrev pub stop_run : Place → Statement
 stop_run place = roll-Statement (record { place = place; verb = verb.ControlStatement ending.StopRun })

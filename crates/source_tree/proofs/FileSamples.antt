@@ -117,7 +117,7 @@ abbrev pub put : String → String → Verb Statement
 put bytes item = verb.DataStatement (Move (the_literal (text (codes bytes))) (plain (codes item) ∷ []))
 
 abbrev pub show : String → Verb Statement
-show item = verb.Text (Display (the_item (codes item) ∷ []) false)
+show item = verb.TextStatement (Display (the_item (codes item) ∷ []) false)
 
 -- phrases
 abbrev pub at_end : List Statement → List Statement → FilePhrases Statement

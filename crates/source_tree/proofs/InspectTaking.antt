@@ -25,7 +25,7 @@ use Rattle.source_tree.specs.LookUp.{items_named, first}
 use Rattle.source_tree.specs.Places.{LocatedItem}
 use Rattle.source_tree.specs.Storage.{Storage}
 use Rattle.source_tree.specs.Evaluated.{Evaluation, ◌>>=◌, evaluation_of}
-use Rattle.source_tree.specs.References.{ItemPlace, part_of, place_behind, bytes_before, occurrence, place_of}
+use Rattle.source_tree.specs.References.{ItemPlace, part_of, place_after, bytes_before, occurrence, place_of}
 use Rattle.source_tree.specs.InspectWalk.{Pattern, AnyCharacter, Occurrence, TextEntry}
 use Rattle.source_tree.specs.Inspecting.{text_at, replacing_characters, LimitTexts, text_entry, take_all, take_text, take_by, take_limit, take_limits, take_tallied_text, take_tallied, take_replaced_text, take_replacing}
 use Rattle.source_tree.specs.InspectLayout as layout
@@ -145,8 +145,8 @@ module _ (items : List LocatedItem) (storage : Storage) where
       let found = bound (evaluation_of (first (items_named items one.item)))
       (λ it. occurrence items one.subscripts it storage) place e in
       let behind = bound (bytes_before items found.0.dimensions one.subscripts storage)
-      (λ more. Ok (place_behind found.0 more)) place found.2 in
-      sym (ap (λ (p : ItemPlace). p.item.length) (same_Ok (place_behind found.0 behind.0) place behind.2))
+      (λ more. Ok (place_after found.0 more)) place found.2 in
+      sym (ap (λ (p : ItemPlace). p.item.length) (same_Ok (place_after found.0 behind.0) place behind.2))
       ∙ sym (ap found_size (needed_is (first (items_named items one.item)) found.0 found.1))
 
   read_long : (one : Source) (text : List ℕ) → read one ≡ Ok text → length text ≡ text_size items one

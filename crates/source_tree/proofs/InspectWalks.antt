@@ -20,7 +20,7 @@ use Rattle.text_ops.specs.Walk as spans
 use Rattle.text_ops.specs.Walk.{fits_at, progress_after, later, walk_after, size_of, walk as walk_spans}
 use Rattle.text_ops.specs.Inspect.{count_of, replacement, text_written_at, with_each, tally, replaced_subject as replaced_spans}
 use Rattle.source_tree.specs.declared.inspect_statement.Occurrences.TheVariants as how
-use Rattle.source_tree.specs.InspectWalk.{Pattern, AnyCharacter, Occurrence, TextEntry, ActiveEntry, pattern_size, first_place_after, end_before, entry_at_start, may_fit, is_met, fits, after_fit, FirstFit, with_active_entry, first_fit, WalkResult, behind_text, walk_on, walk, tallies, replaced_subject}
+use Rattle.source_tree.specs.InspectWalk.{Pattern, AnyCharacter, Occurrence, TextEntry, ActiveEntry, pattern_size, first_place_after, end_before, entry_at_start, may_fit, is_met, fits, after_fit, FirstFit, with_active_entry, first_fit, WalkResult, after_text, walk_on, walk, tallies, replaced_subject}
 
 -- ---- plain facts
 
@@ -395,7 +395,7 @@ module _ (texts : List ℕ) (K : Entry → Type 0) (is_entry : (one : Entry) →
   no_place all at = record { counts = refl; text = λ has done e. refl }
 
   past_none : (all : List Fitted) (active : List ActiveEntry) (w : WalkResult) (at c : ℕ) (rest : List ℕ)
-      → Walks all active w (at + 1) rest → Walks all active (behind_text (c ∷ []) w) at (c ∷ rest)
+      → Walks all active w (at + 1) rest → Walks all active (after_text (c ∷ []) w) at (c ∷ rest)
   past_none all active w at c rest h = record {
     counts = h.counts;
     text = λ has done e.
@@ -407,7 +407,7 @@ module _ (texts : List ℕ) (K : Entry → Type 0) (is_entry : (one : Entry) →
   past_fit : (g : Fitted) (all : List Fitted) (ps : List Progress) (active : List ActiveEntry) (h : FirstFit)
       (w : WalkResult) (at : ℕ) (rest : List ℕ) → IsFound ps active at g h
       → Walks all h.active w (at + size_of g) (drop (size_of g) rest)
-      → Walks (g ∷ all) active (behind_text h.entry.by w) at rest
+      → Walks (g ∷ all) active (after_text h.entry.by w) at rest
   past_fit g all ps active h w at rest found walks = record {
     counts = walks.counts ∙ ap (all_raised all) found.counts;
     text = λ has done e.
@@ -448,7 +448,7 @@ module _ (texts : List ℕ) (K : Entry → Type 0) (is_entry : (one : Entry) →
       let more = on (walk_after ps (Some a)) b.active (at + size) (drop size (c ∷ rest)) found.active
       (omega (arith, length-drop size (c ∷ rest), le, some)) in
       subst (λ w. Walks (a ∷ walk_spans depth texts (walk_after ps (Some a)) (at + size) (drop size (c ∷ rest))) active
-      (behind_text b.entry.by w) at (c ∷ rest)) (sym further)
+      (after_text b.entry.by w) at (c ∷ rest)) (sym further)
       (past_fit a _ ps active b _ at (c ∷ rest) found more)
 
   walks_on : (depth : ℕ) → WalksOn depth

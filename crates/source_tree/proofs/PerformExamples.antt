@@ -215,7 +215,7 @@ stop_performs = performs_is here (record { place = at 3 12; verb = verb.ControlS
 
 show_performs : (line : ℕ) (bytes : List ℕ) → statement_performs here (show line bytes) ≡ []
 show_performs line bytes =
-    performs_is here (record { place = at line 12; verb = verb.Text (text_as.Display (map operand.Literal (text bytes ∷ [])) false) })
+    performs_is here (record { place = at line 12; verb = verb.TextStatement (text_as.Display (map operand.Literal (text bytes ∷ [])) false) })
 
 abbrev performed_range : ℕ → ℕ → ℕ → PerformedRange
 performed_range performer from to = record { performer = performer; first = from; last = to }

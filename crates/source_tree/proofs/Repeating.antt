@@ -13,7 +13,7 @@ use Rattle.source_tree.specs.Places.{LocatedItem}
 use Rattle.source_tree.specs.Evaluated.{Evaluation}
 use Rattle.source_tree.specs.Conditions.{ConditionValue, holds}
 use Rattle.source_tree.specs.Branching.{way, conditional_outcome}
-use Rattle.source_tree.specs.Evaluate.{selected_asked, one_of, take_subjects, selection_outcome, evaluate_outcome}
+use Rattle.source_tree.specs.Evaluate.{selected_condition, one_of, take_subjects, selection_outcome, evaluate_outcome}
 use Rattle.source_tree.specs.Until.{done_if, unless_true, until_before, until_after, until_from, vary_begin, vary_on, until}
 use Rattle.source_tree.specs.State.{State, Budget, Outcome, Over, then_do, in_turn, spend, with_value, change_outcome}
 use Rattle.source_tree.proofs.Telling.{itself}
@@ -76,7 +76,7 @@ module _ {S : Type 0} (run : S → State → Outcome) (r : (one : S) → IsRun (
   selecting_runs items subjects (one ∷ more) other =
       value_runs (λ truth s. one_of (in_turn run one.statements) (selection_outcome items run subjects more other) truth s)
       (one_of_runs (in_turn run one.statements) (selection_outcome items run subjects more other) (in_turn_runs run r one.statements) (selecting_runs items subjects more other))
-      (holds items (selected_asked items subjects one))
+      (holds items (selected_condition items subjects one))
 
   evaluating_runs : (items : List LocatedItem) (one : Evaluate S) → IsRun (evaluate_outcome items run one)
   evaluating_runs items one =
@@ -188,7 +188,7 @@ module _ {S : Type 0} (n : ℕ) (run other : S → State → Outcome) (r : (one 
     by = λ s le.
         one_of_same n (in_turn run one.statements) (selection_outcome items run subjects more phrase) (in_turn other one.statements) (selection_outcome items other subjects more phrase)
         (in_turn_agrees n run other r a one.statements) (selecting_agrees items subjects more phrase)
-        (holds items (selected_asked items subjects one) s.storage) s le;
+        (holds items (selected_condition items subjects one) s.storage) s le;
   }
 
   taken_same : (items : List LocatedItem) (one : Evaluate S) (e : Evaluation (Unit {0})) (s : State) → s.budget ≤ n

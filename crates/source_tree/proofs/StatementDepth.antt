@@ -44,7 +44,7 @@ module _ {S : Type 0} (n d e : ℕ) (below : n < d) (under : n < e) (run other :
   step_same line (verb.PerformStatement one) =
       repeat_agrees scope.items n d e line one.turns (body run range scope.procedures one.performed) (body other others scope.procedures one.performed) below under
       (body_runs run range r rr scope.procedures one.performed) (body_agrees n run other r a range others ranges scope.procedures one.performed)
-  step_same line (verb.Text one) = record { by = λ s le. refl }
+  step_same line (verb.TextStatement one) = record { by = λ s le. refl }
   step_same line (verb.StringStatement one) = stringing_agrees n run other r a scope.items one
   step_same line (verb.FileStatement one) = filing_agrees n run other r a scope.items scope.files one
   step_same line (verb.ControlStatement one) = record { by = λ s le. refl }

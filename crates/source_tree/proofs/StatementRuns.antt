@@ -35,7 +35,7 @@ module _ {S : Type 0} (run : S → State → Outcome) (range : Range → State �
   step_runs depth line (verb.Arithmetic one) = calculating_runs run r scope.items one
   step_runs depth line (verb.ConditionalStatement one) = branching_runs run r scope.items one
   step_runs depth line (verb.PerformStatement one) = performing_runs depth line one
-  step_runs depth line (verb.Text one) = texts_runs scope.items one
+  step_runs depth line (verb.TextStatement one) = texts_runs scope.items one
   step_runs depth line (verb.StringStatement one) = stringing_runs run r scope.items one
   step_runs depth line (verb.FileStatement one) = filing_runs run r scope.items scope.files one
   step_runs depth line (verb.ControlStatement one) = finish_runs one

@@ -23,7 +23,7 @@ use Rattle.source_tree.specs.References.{ItemPlace, part_of, place_of}
 use Rattle.source_tree.specs.Moving.{taken_of}
 use Rattle.source_tree.specs.Computed.{ArithmeticValue}
 use Rattle.source_tree.specs.ConditionRules.{is_literal_alone}
-use Rattle.source_tree.specs.Conditions.{satisfies, senders_stand, without_value, take_bytes, take_item, take_operand, numbers_stand, zero_value, alone_side, relation_of, side_number, holds}
+use Rattle.source_tree.specs.Conditions.{satisfies, senders_satisfy, without_value, take_bytes, take_item, take_operand, numbers_satisfy, zero_value, alone_side, relation_of, side_number, holds}
 use Rattle.source_tree.specs.Evaluate.{take_value}
 use Rattle.source_tree.proofs.Folded.{relation_tells}
 
@@ -31,7 +31,7 @@ use Rattle.source_tree.proofs.Folded.{relation_tells}
 abbrev pub zero_at : Place → Side
 zero_at place = side.Literal (record { value = literal.Figurative figurative.Zero; place = place })
 
-number_beside : (found : Evaluation ArithmeticValue) → without_value (found >>= (λ x. numbers_stand relation.Equal x zero_value)) ≡ (found >>= (λ x. without_value (evaluation_of x)))
+number_beside : (found : Evaluation ArithmeticValue) → without_value (found >>= (λ x. numbers_satisfy relation.Equal x zero_value)) ≡ (found >>= (λ x. without_value (evaluation_of x)))
 number_beside (Ok (Some x)) = refl
 number_beside (Ok None) = refl
 number_beside (Err fault) = refl
@@ -43,7 +43,7 @@ order_beside (Some x) zero = refl
 order_beside None zero = refl
 
 bytes_beside : (one : Kind) (length : ℕ) (bytes : List ℕ)
-    → without_value (senders_stand relation.Equal (item_sender (record { kind = one; length = length }) bytes) (literal_sender (literal.Figurative figurative.Zero)))
+    → without_value (senders_satisfy relation.Equal (item_sender (record { kind = one; length = length }) bytes) (literal_sender (literal.Figurative figurative.Zero)))
     ≡ take_bytes one bytes
 unfolding compare.comparison_of
 bytes_beside kind.Group length bytes = refl
@@ -60,7 +60,7 @@ taken_before (Err fault) found e = refl
 
 module _ (items : List LocatedItem) where
   pub item_beside : (storage : Storage) (found : Evaluation ItemPlace)
-      → without_value ((found >>= (λ place. Ok (item_sender place.item (part_of storage place)))) >>= (λ x. senders_stand relation.Equal x (literal_sender (literal.Figurative figurative.Zero))))
+      → without_value ((found >>= (λ place. Ok (item_sender place.item (part_of storage place)))) >>= (λ x. senders_satisfy relation.Equal x (literal_sender (literal.Figurative figurative.Zero))))
       ≡ (found >>= take_item storage)
   item_beside storage (Ok place) = bytes_beside place.item.kind place.item.length (part_of storage place)
   item_beside storage (Err fault) = refl
@@ -69,7 +69,7 @@ module _ (items : List LocatedItem) where
       → without_value (relation_of items alone (alone_side (zero_at place)) value relation.Equal (zero_at place) storage) ≡ take_value items alone value storage
   value_beside (Some (operand.Item one)) value place storage e =
       taken_before (take_operand items (operand.Item one) storage)
-      (taken_of items (operand.Item one) storage >>= (λ x. senders_stand relation.Equal x (literal_sender (literal.Figurative figurative.Zero))))
+      (taken_of items (operand.Item one) storage >>= (λ x. senders_satisfy relation.Equal x (literal_sender (literal.Figurative figurative.Zero))))
       (item_beside storage (place_of items one storage))
   value_beside (Some (operand.Literal one)) value place storage e = absurd cc
   value_beside None value place storage e = number_beside (side_number items value storage)

@@ -3,7 +3,7 @@
 use Rattle.std.specs.Prelude.{Bool, true, false, not, List, ◌++◌}
 use Rattle.items.specs.declared.item.Kind.{Kind}
 use Rattle.items.specs.declared.item.Kind.TheVariants as kind
-use Rattle.edited_move.specs.Moves.{wants_number}
+use Rattle.edited_move.specs.Moves.{needs_number}
 use Rattle.lexical.specs.declared.place.Place.{Place}
 use Rattle.source_tree.specs.declared.literal.Figurative.TheVariants as figurative
 use Rattle.source_tree.specs.declared.literal.LiteralValue.{LiteralValue}
@@ -31,7 +31,7 @@ numeric_item place one = where_so (not (is_numeric_kind one.item.kind)) 51 place
 
 -- an item that a number can be stored in: numeric, or numeric edited
 abbrev pub number_receiver : Place → LocatedItem → List RuleBreach
-number_receiver place one = where_so (not (wants_number one.item.kind)) 51 place
+number_receiver place one = where_so (not (needs_number one.item.kind)) 51 place
 
 -- a numeric literal, or ZERO
 abbrev pub is_number_literal : LiteralValue → Bool

@@ -53,8 +53,8 @@ satisfies relation.Greater o.Greater = true
 satisfies relation.Greater _ = false
 
 -- Two operands alone: by their values, or by their characters. Bytes that are no number are a fault.
-abbrev pub senders_stand : Relation → Sender → Sender → Evaluation Bool
-senders_stand one a b = evaluation_of (comparison_of a.taken a.bytes b.taken b.bytes) >>= (λ ordering. Ok (satisfies one ordering))
+abbrev pub senders_satisfy : Relation → Sender → Sender → Evaluation Bool
+senders_satisfy one a b = evaluation_of (comparison_of a.taken a.bytes b.taken b.bytes) >>= (λ ordering. Ok (satisfies one ordering))
 
 -- ---- how an operand is taken: what is left of it is whether that is a fault
 
@@ -77,8 +77,8 @@ take_operand items (operand.Literal one) storage = Ok tt
 -- ---- relations
 
 -- A size error in a condition is a fault (own choice).
-abbrev pub numbers_stand : Relation → ArithmeticValue → ArithmeticValue → Evaluation Bool
-numbers_stand one x y = evaluation_of x >>= (λ a. evaluation_of y >>= (λ b. Ok (satisfies one (order a b))))
+abbrev pub numbers_satisfy : Relation → ArithmeticValue → ArithmeticValue → Evaluation Bool
+numbers_satisfy one x y = evaluation_of x >>= (λ a. evaluation_of y >>= (λ b. Ok (satisfies one (order a b))))
 
 abbrev pub zero_value : ArithmeticValue
 zero_value = Some (record { coefficient = pos 0; scale = 0 })
@@ -104,11 +104,11 @@ negated_if negated truth = if negated then not truth else truth
 -- from one to another
 abbrev pub lies_within : Sender → Sender → Sender → Evaluation Bool
 lies_within value first last =
-    senders_stand relation.GreaterOrEqual value first >>= (λ above. senders_stand relation.LessOrEqual value last >>= (λ below. Ok (above && below)))
+    senders_satisfy relation.GreaterOrEqual value first >>= (λ above. senders_satisfy relation.LessOrEqual value last >>= (λ below. Ok (above && below)))
 
 -- A value of a condition name: the literal, or what lies from it to the last one.
 abbrev pub in_range : Sender → Literal → Option Literal → Evaluation Bool
-in_range value first None = senders_stand relation.Equal value (literal_sender first.value)
+in_range value first None = senders_satisfy relation.Equal value (literal_sender first.value)
 in_range value first (Some last) = lies_within value (literal_sender first.value) (literal_sender last.value)
 
 -- All values are looked at, which tells nothing else than stopping at the first that fits: the item is a number or isn't. `found`: an
@@ -140,15 +140,15 @@ module _ (items : List LocatedItem) where
   -- Two operands alone are compared as what they are, others as numbers. The left one is taken before the right one's place is found.
   abbrev pub relation_of : Option Operand → Option Operand → Side → Relation → Side → ConditionValue
   relation_of (Some a) (Some b) left one right storage =
-      take_operand items a storage >>= (λ _. taken_of items a storage >>= (λ x. taken_of items b storage >>= senders_stand one x))
+      take_operand items a storage >>= (λ _. taken_of items a storage >>= (λ x. taken_of items b storage >>= senders_satisfy one x))
   relation_of _ _ left one right storage =
-      side_number left storage >>= (λ x. side_number right storage >>= numbers_stand one x)
+      side_number left storage >>= (λ x. side_number right storage >>= numbers_satisfy one x)
 
   abbrev pub relation_holds : Side → Relation → Side → ConditionValue
   relation_holds left one right = relation_of (alone_side left) (alone_side right) left one right
 
   abbrev pub sign_holds : ArithmeticValue → Bool → SignTest → Evaluation Bool
-  sign_holds x negated one = numbers_stand (sign_relation one negated) x zero_value
+  sign_holds x negated one = numbers_satisfy (sign_relation one negated) x zero_value
 
   abbrev pub class_holds : Bool → Class → Storage → ItemPlace → Evaluation Bool
   class_holds negated one storage place = Ok (negated_if negated (is_class (class_of one) place.item.kind (part_of storage place)))

@@ -36,9 +36,9 @@ constant true = All []
 constant false = Any []
 
 -- a condition, or its opposite
-abbrev pub told_as : Bool → Condition → Condition
-told_as true one = one
-told_as false one = Not one
+abbrev pub condition_or_opposite : Bool → Condition → Condition
+condition_or_opposite true one = one
+condition_or_opposite false one = Not one
 
 -- both true, or neither
 abbrev pub alike : Condition → Condition → Condition
@@ -55,8 +55,8 @@ abbrev pub value_within : Side → Side → Option Side → Condition
 value_within value first None = Relation value Equal first
 value_within value first (Some last) = All (Relation value GreaterOrEqual first ∷ Relation value LessOrEqual last ∷ [])
 
-abbrev pub value_asked : Side → ObjectValues → Condition
-value_asked value one = told_as (not one.negated) (value_within value one.first one.last)
+abbrev pub value_condition : Side → ObjectValues → Condition
+value_condition value one = condition_or_opposite (not one.negated) (value_within value one.first one.last)
 
 -- What a subject or an object is once its names are looked up: a value, TRUE or FALSE, or a condition.
 pub data ResolvedOperand (V : Type 0) : Type 0 where
@@ -65,31 +65,31 @@ pub data ResolvedOperand (V : Type 0) : Type 0 where
   Asking : Condition → ResolvedOperand V
 
 -- a reference alone, which is a condition name where some condition is called so
-abbrev pub looked_name : {V : Type 0} → V → Bool → Reference → List NamedCondition → ResolvedOperand V
-looked_name value negated one [] = Value value
-looked_name value negated one (found ∷ more) = Asking (told_as (not negated) (Name one))
+abbrev pub resolved_name : {V : Type 0} → V → Bool → Reference → List NamedCondition → ResolvedOperand V
+resolved_name value negated one [] = Value value
+resolved_name value negated one (found ∷ more) = Asking (condition_or_opposite (not negated) (Name one))
 
-abbrev pub looked_operand : {V : Type 0} → List LocatedItem → V → Bool → Option Operand → ResolvedOperand V
-looked_operand items value negated (Some (operand.Item one)) = looked_name value negated one (conditions_named items one.item)
-looked_operand items value negated (Some (operand.Literal one)) = Value value
-looked_operand items value negated None = Value value
+abbrev pub resolved_operand : {V : Type 0} → List LocatedItem → V → Bool → Option Operand → ResolvedOperand V
+resolved_operand items value negated (Some (operand.Item one)) = resolved_name value negated one (conditions_named items one.item)
+resolved_operand items value negated (Some (operand.Literal one)) = Value value
+resolved_operand items value negated None = Value value
 
 -- With THRU there are values alone.
-abbrev pub looked_wanted : List LocatedItem → ObjectValues → Option Side → ResolvedOperand ObjectValues
-looked_wanted items one None = looked_operand items one one.negated (alone_side one.first)
-looked_wanted items one (Some last) = Value one
+abbrev pub resolved_values : List LocatedItem → ObjectValues → Option Side → ResolvedOperand ObjectValues
+resolved_values items one None = resolved_operand items one one.negated (alone_side one.first)
+resolved_values items one (Some last) = Value one
 
-abbrev pub looked_subject : List LocatedItem → Subject → ResolvedOperand Side
-looked_subject items (subject.Value one) = looked_operand items one false (alone_side one)
-looked_subject items (subject.Condition one) = Asking one
-looked_subject items (subject.Truth one) = Truth one
+abbrev pub resolved_subject : List LocatedItem → Subject → ResolvedOperand Side
+resolved_subject items (subject.Value one) = resolved_operand items one false (alone_side one)
+resolved_subject items (subject.Condition one) = Asking one
+resolved_subject items (subject.Truth one) = Truth one
 
 -- an object other than ANY
-abbrev pub looked_choice : List LocatedItem → Choice → ResolvedOperand ObjectValues
-looked_choice items choice.Any = Truth true
-looked_choice items (choice.Value negated first last) = looked_wanted items (record { negated = negated; first = first; last = last }) last
-looked_choice items (choice.Condition one) = Asking one
-looked_choice items (choice.Truth one) = Truth one
+abbrev pub resolved_choice : List LocatedItem → Choice → ResolvedOperand ObjectValues
+resolved_choice items choice.Any = Truth true
+resolved_choice items (choice.Value negated first last) = resolved_values items (record { negated = negated; first = first; last = last }) last
+resolved_choice items (choice.Condition one) = Asking one
+resolved_choice items (choice.Truth one) = Truth one
 
 -- whether both are values, or neither
 abbrev pub are_comparable : ResolvedOperand Side → ResolvedOperand ObjectValues → Bool
@@ -99,13 +99,13 @@ are_comparable _ (Value b) = false
 are_comparable _ _ = true
 
 -- What asks for a value, or whether two truths are the same. Where they don't fit that is never so; the rules leave no such case.
-abbrev pub asked_of : ResolvedOperand Side → ResolvedOperand ObjectValues → Condition
-asked_of (Value a) (Value b) = value_asked a b
-asked_of (Truth a) (Truth b) = told_as a (constant b)
-asked_of (Truth a) (Asking b) = told_as a b
-asked_of (Asking a) (Truth b) = told_as b a
-asked_of (Asking a) (Asking b) = alike a b
-asked_of _ _ = constant false
+abbrev pub match_condition : ResolvedOperand Side → ResolvedOperand ObjectValues → Condition
+match_condition (Value a) (Value b) = value_condition a b
+match_condition (Truth a) (Truth b) = condition_or_opposite a (constant b)
+match_condition (Truth a) (Asking b) = condition_or_opposite a b
+match_condition (Asking a) (Truth b) = condition_or_opposite b a
+match_condition (Asking a) (Asking b) = alike a b
+match_condition _ _ = constant false
 
 -- ---- how a subject is taken: what is left of it is whether that is a fault
 
@@ -117,51 +117,51 @@ module _ (items : List LocatedItem) where
   take_value None value storage = side_number items value storage >>= (λ x. without_value (evaluation_of x))
 
   -- A condition is taken by its truth.
-  abbrev pub take_looked : ResolvedOperand Side → Storage → Evaluation (Unit {0})
-  take_looked (Value one) storage = take_value (alone_side one) one storage
-  take_looked (Truth one) storage = Ok tt
-  take_looked (Asking one) storage = without_value (holds items one storage)
+  abbrev pub take_resolved : ResolvedOperand Side → Storage → Evaluation (Unit {0})
+  take_resolved (Value one) storage = take_value (alone_side one) one storage
+  take_resolved (Truth one) storage = Ok tt
+  take_resolved (Asking one) storage = without_value (holds items one storage)
 
   -- each in turn
   abbrev pub take_subjects : List Subject → Storage → Evaluation (Unit {0})
   take_subjects [] storage = Ok tt
-  take_subjects (one ∷ more) storage = take_looked (looked_subject items one) storage >>= (λ _. take_subjects more storage)
+  take_subjects (one ∷ more) storage = take_resolved (resolved_subject items one) storage >>= (λ _. take_subjects more storage)
 
   -- ---- what objects ask
 
   -- whether an object may stand for a subject: ANY for each, a value for a value, what is true or false for what is true or false
   abbrev pub fits : Subject → Choice → Bool
   fits one choice.Any = true
-  fits one other = are_comparable (looked_subject items one) (looked_choice items other)
+  fits one other = are_comparable (resolved_subject items one) (resolved_choice items other)
 
   -- the condition that an object asks of its subject
   abbrev pub selection_condition : Subject → Choice → Condition
   selection_condition one choice.Any = constant true
-  selection_condition one other = asked_of (looked_subject items one) (looked_choice items other)
+  selection_condition one other = match_condition (resolved_subject items one) (resolved_choice items other)
 
   -- those of a WHEN, subject by subject
-  abbrev pub asked_each : List Subject → List Object → List Condition
-  asked_each (one ∷ more) (object ∷ others) = selection_condition one object.choice ∷ asked_each more others
-  asked_each _ _ = []
+  abbrev pub object_conditions : List Subject → List Object → List Condition
+  object_conditions (one ∷ more) (object ∷ others) = selection_condition one object.choice ∷ object_conditions more others
+  object_conditions _ _ = []
 
   -- whether all objects of a WHEN are met
-  abbrev pub when_asked : List Subject → When → Condition
-  when_asked subjects one = All (asked_each subjects one.objects)
+  abbrev pub when_condition : List Subject → When → Condition
+  when_condition subjects one = All (object_conditions subjects one.objects)
 
-  abbrev pub whens_asked : List Subject → List When → List Condition
-  whens_asked subjects [] = []
-  whens_asked subjects (one ∷ more) = when_asked subjects one ∷ whens_asked subjects more
+  abbrev pub when_conditions : List Subject → List When → List Condition
+  when_conditions subjects [] = []
+  when_conditions subjects (one ∷ more) = when_condition subjects one ∷ when_conditions subjects more
 
   -- whether one of some WHENs is met
-  abbrev pub selected_asked : {S : Type 0} → List Subject → Selected S → Condition
-  selected_asked subjects one = Any (whens_asked subjects one.whens)
+  abbrev pub selected_condition : {S : Type 0} → List Subject → Selected S → Condition
+  selected_condition subjects one = Any (when_conditions subjects one.whens)
 
   module _ {S : Type 0} (run : S → State → Outcome) where
     -- the statements behind the first WHENs of which one is met, else those of OTHER
     abbrev pub selection_outcome : List Subject → List (Selected S) → Option (List S) → State → Outcome
     selection_outcome subjects [] other s = in_phrase run other s
     selection_outcome subjects (one ∷ more) other s =
-        with_value (holds items (selected_asked subjects one) s.storage) s
+        with_value (holds items (selected_condition subjects one) s.storage) s
         (λ truth. one_of (in_turn run one.statements) (selection_outcome subjects more other) truth s)
 
     abbrev pub evaluate_outcome : Evaluate S → State → Outcome

@@ -10,7 +10,7 @@ use Rattle.source_tree.specs.declared.evaluate_statement.Selected.{Selected}
 use Rattle.source_tree.specs.Places.{LocatedItem}
 use Rattle.source_tree.specs.Broken.{RuleBreach, where_so, each}
 use Rattle.source_tree.specs.ConditionRules.{side_rules, condition_rules}
-use Rattle.source_tree.specs.Evaluate.{ResolvedOperand, Value, Truth, Asking, looked_subject, fits, selection_condition}
+use Rattle.source_tree.specs.Evaluate.{ResolvedOperand, Value, Truth, Asking, resolved_subject, fits, selection_condition}
 
 -- a comparison that isn't permitted is told where the object begins
 abbrev pub at_object : Place → RuleBreach → RuleBreach
@@ -18,13 +18,13 @@ at_object place one = if one.rule == 52 then record one { place = place } else o
 
 module _ (items : List LocatedItem) where
   -- a value is ruled by itself
-  abbrev pub looked_rules : ResolvedOperand Side → List RuleBreach
-  looked_rules (Value one) = side_rules items one
-  looked_rules (Truth one) = []
-  looked_rules (Asking one) = condition_rules items one
+  abbrev pub resolved_rules : ResolvedOperand Side → List RuleBreach
+  resolved_rules (Value one) = side_rules items one
+  resolved_rules (Truth one) = []
+  resolved_rules (Asking one) = condition_rules items one
 
   abbrev pub subject_rules : Subject → List RuleBreach
-  subject_rules one = looked_rules (looked_subject items one)
+  subject_rules one = resolved_rules (resolved_subject items one)
 
   abbrev pub object_rules : Subject → Object → List RuleBreach
   object_rules one object =

@@ -99,13 +99,13 @@ pub record WalkResult : Type 0 where
   pub active : List ActiveEntry
   pub text : List ℕ
 
-abbrev pub behind_text : List ℕ → WalkResult → WalkResult
-behind_text text result = record result { text = text ++ result.text }
+abbrev pub after_text : List ℕ → WalkResult → WalkResult
+after_text text result = record result { text = text ++ result.text }
 
 abbrev pub walk_on : (List ActiveEntry → ℕ → ℕ → WalkResult) → List ActiveEntry → ℕ → ℕ → Option FirstFit → WalkResult
-walk_on walk active at c None = behind_text (c ∷ []) (walk active (at + 1) 0)
+walk_on walk active at c None = after_text (c ∷ []) (walk active (at + 1) 0)
 walk_on walk active at c (Some fit) =
-    behind_text fit.entry.by (walk fit.active (at + 1) (pattern_size fit.entry.pattern - 1))
+    after_text fit.entry.by (walk fit.active (at + 1) (pattern_size fit.entry.pattern - 1))
 
 -- The last number is how many characters from here on still belong to the last fit.
 unfoldable pub walk : List ℕ → List ActiveEntry → ℕ → ℕ → WalkResult

@@ -1,7 +1,7 @@
 -- What literals send (COBOL-85, Nucleus, "Literals", "Figurative constants").
 use Rattle.std.specs.Prelude.{ℕ, Bool, true, false, List, [], ◌++◌, length}
 use Rattle.decimal18.specs.Fraction.{Fraction, of_parts}
-use Rattle.decimal18.specs.Digits.{digits_behind}
+use Rattle.decimal18.specs.Digits.{digits_after}
 use Rattle.items.specs.declared.usage.OperationalSign.{OperationalSign}
 use Rattle.items.specs.declared.usage.OperationalSign.TheVariants as operational
 use Rattle.items.specs.declared.usage.Usage.TheVariants as usage
@@ -35,7 +35,7 @@ is_minus sign.Minus = true
 is_minus _ = false
 
 abbrev pub literal_number : NumericLiteral → Fraction
-literal_number one = of_parts (is_minus one.sign) (digits_behind 0 (one.whole ++ one.decimals)) (length one.decimals)
+literal_number one = of_parts (is_minus one.sign) (digits_after 0 (one.whole ++ one.decimals)) (length one.decimals)
 
 -- with S where a sign is written
 abbrev pub literal_sign : Sign → OperationalSign

@@ -24,7 +24,7 @@ use Rattle.source_tree.specs.Clauses.{nothing_around, group}
 use Rattle.source_tree.specs.Rooms.{item_with}
 use Rattle.source_tree.specs.Places.{LocatedItem}
 use Rattle.source_tree.specs.LookUp.{items_named, first}
-use Rattle.source_tree.specs.References.{ItemPlace, place_behind}
+use Rattle.source_tree.specs.References.{ItemPlace, place_after}
 use Rattle.source_tree.specs.Records.{storage_areas, record_length}
 
 -- What a file statement works on.
@@ -70,7 +70,7 @@ place_in_record (Some one) = record { offset = one.offset; length = one.item.len
 -- Items without subscripts have one place.
 abbrev pub plain_place : Option LocatedItem → Option ItemPlace
 plain_place None = None
-plain_place (Some one) = Some (place_behind one 0)
+plain_place (Some one) = Some (place_after one 0)
 
 abbrev pub digits_in : Kind → ℕ
 digits_in (kind.Numeric numeric) = numeric.digits

@@ -33,8 +33,8 @@ abbrev pub storage_with : ItemPlace → List ℕ → Storage → Storage
 storage_with place bytes storage = with_bytes storage place.area place.offset place.item.length bytes
 
 -- so many bytes behind the first occurrence
-abbrev pub place_behind : LocatedItem → ℕ → ItemPlace
-place_behind one behind = record { item = one.item; editing = one.editing; area = one.area; offset = one.offset + behind }
+abbrev pub place_after : LocatedItem → ℕ → ItemPlace
+place_after one behind = record { item = one.item; editing = one.editing; area = one.area; offset = one.offset + behind }
 
 -- The bytes before the occurrence that a subscript names. Occurrences count from 1.
 abbrev pub occurrence_offset : Dimension → ℤ → Evaluation ℕ
@@ -52,7 +52,7 @@ whole_part (Some x) = integer_of x
 
 -- the integer in an item that isn't subscripted itself
 abbrev pub integer_in : Storage → LocatedItem → Evaluation ℤ
-integer_in storage one = evaluation_of (whole_part (number_in one.item.kind (part_of storage (place_behind one 0))))
+integer_in storage one = evaluation_of (whole_part (number_in one.item.kind (part_of storage (place_after one 0))))
 
 abbrev pub subscript_value : List LocatedItem → written.Subscript → Storage → Evaluation ℤ
 subscript_value items (subscript.Literal n) storage = Ok (pos (number_of n))
@@ -70,7 +70,7 @@ bytes_before items (one ∷ more) (written ∷ others) storage =
 -- the occurrence of an item that subscripts name
 abbrev pub occurrence : List LocatedItem → List written.Subscript → LocatedItem → Storage → Evaluation ItemPlace
 occurrence items subscripts one storage =
-    bytes_before items one.dimensions subscripts storage >>= (λ behind. Ok (place_behind one behind))
+    bytes_before items one.dimensions subscripts storage >>= (λ behind. Ok (place_after one behind))
 
 abbrev pub place_of : List LocatedItem → Reference → Storage → Evaluation ItemPlace
 place_of items reference storage =

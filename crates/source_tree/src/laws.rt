@@ -18,7 +18,7 @@ ghost use Rattle.source_tree.specs.declared.reference.Reference.{Reference};
 ghost use Rattle.source_tree.specs.declared.statement.Statement.{Statement};
 ghost use Rattle.source_tree.specs.ConditionRules.{is_literal_alone};
 ghost use Rattle.source_tree.specs.Conditions.{without_value, alone_side, holds};
-ghost use Rattle.source_tree.specs.Evaluate.{Value, take_looked};
+ghost use Rattle.source_tree.specs.Evaluate.{Value, take_resolved};
 ghost use Rattle.source_tree.specs.Filing.{read_verb, start_verb};
 ghost use Rattle.source_tree.specs.Given.{RunInput, with_budget};
 ghost use Rattle.source_tree.specs.InspectLayout.{inspect_by_spans};
@@ -79,7 +79,7 @@ pub fn record_areas_law()
 /// value but a literal may be compared with ZERO, which has none.
 pub fn subject_law()
     ensures value { (items : List LocatedItem) (value : Side) (place : Place) (storage : Storage) → is_literal_alone (alone_side value) ≡ false →
-        without_value (holds items (Relation value Equal (side.Literal (record { value = literal.Figurative figurative.Zero; place = place }))) storage) ≡ take_looked items (Value value) storage }
+        without_value (holds items (Relation value Equal (side.Literal (record { value = literal.Figurative figurative.Zero; place = place }))) storage) ≡ take_resolved items (Value value) storage }
 {}
 
 /// Of an integer of 18 digits no turn is cut. A run with less budget than a loop has turns can't tell whether some were cut: it

@@ -17,7 +17,7 @@ pub enum Verb<S> {
     Arithmetic(Arithmetic<S>),
     ConditionalStatement(ConditionalStatement<S>),
     PerformStatement(PerformStatement<S>),
-    Text(TextStatement),
+    TextStatement(TextStatement),
     StringStatement(StringStatement<S>),
     FileStatement(FileStatement<S>),
     ControlStatement(ControlStatement),

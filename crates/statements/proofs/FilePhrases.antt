@@ -21,7 +21,7 @@ use Rattle.grammar.proofs.Looking.{some_is, word_stands, word_begins, begins_no_
 use Rattle.grammar.proofs.Lists.{Sound, Complete, Shrinks}
 use Rattle.grammar.proofs.Phrases.{two_sided_shrinks, two_sided_sound, two_sided_complete}
 use Rattle.statements.specs.FilePhrases as g
-use Rattle.statements.specs.FilePhrases.{one_stands, phrase_beginning, some_side, on_invalid_key, key_phrases_reader, or_invalid_key, read_phrases_reader}
+use Rattle.statements.specs.FilePhrases.{has_phrase, phrase_beginning, some_side, on_invalid_key, key_phrases_reader, or_invalid_key, read_phrases_reader}
 
 -- ---- AT END and INVALID KEY don't both begin
 
@@ -82,7 +82,7 @@ module _ {S : Type 0} (statements : List S → Part) where
       go after (inl s) = first.1 after s
       go after (inr s) = second.1 after (subst (λ j. negated_phrase_words one j after) first.0 s)
 
-  absent : (one : Phrase) (both : Phrases S) (i rest : List Token) → one_stands both ≡ false → two_sided statements one both i rest → absence_of (phrase_beginning one) i rest
+  absent : (one : Phrase) (both : Phrases S) (i rest : List Token) → has_phrase both ≡ false → two_sided statements one both i rest → absence_of (phrase_beginning one) i rest
   absent one both i rest e s = absent_by one both.arose both.did_not i rest e s
 
   nothing : (one : Phrase) (i rest : List Token) → absence_of (phrase_beginning one) i rest → two_sided statements one neither i rest
@@ -102,9 +102,9 @@ module _ {S : Type 0} (statements : List S → Part) where
   key_phrases_shrink each (InvalidKey both) i rest s = two_sided_shrinks statements phrase.InvalidKey each both i rest s.1
 
   key_told : (both : Phrases S) (i rest : List Token) → two_sided statements phrase.InvalidKey both i rest → g.key_phrases statements (on_invalid_key both) i rest
-  key_told both i rest s = go (one_stands both) refl
+  key_told both i rest s = go (has_phrase both) refl
     where
-      go : (b : Bool) → one_stands both ≡ b → g.key_phrases statements (if b then InvalidKey both else Absent) i rest
+      go : (b : Bool) → has_phrase both ≡ b → g.key_phrases statements (if b then InvalidKey both else Absent) i rest
       go true is = (is, s)
       go false is = absent phrase.InvalidKey both i rest is s
 
@@ -138,9 +138,9 @@ module _ {S : Type 0} (statements : List S → Part) where
     unfolding read_phrases_reader
     read_phrases_sound each x i rest e =
         unstep (two_sided_reader reader phrase.AtEnd i) _ e (λ both i1 is1 e1.
-        go both i1 (two_sided_sound statements reader phrase.AtEnd each both i i1 is1) (one_stands both) refl e1)
+        go both i1 (two_sided_sound statements reader phrase.AtEnd each both i i1 is1) (has_phrase both) refl e1)
       where
-        go : (both : Phrases S) (i1 : List Token) → two_sided statements phrase.AtEnd both i i1 → (b : Bool) → one_stands both ≡ b
+        go : (both : Phrases S) (i1 : List Token) → two_sided statements phrase.AtEnd both i i1 → (b : Bool) → has_phrase both ≡ b
             → (if b then read.pure (AtEnd both) else key_phrases_reader reader) i1 ≡ Ok (x, rest) → g.read_phrases statements x i rest
         go both i1 s true is e =
             subst (λ y. g.read_phrases statements y i rest) (value e) (is, subst (λ j. two_sided statements phrase.AtEnd both i j) (after e) s)

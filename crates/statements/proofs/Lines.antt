@@ -52,10 +52,10 @@ module _ (depth : ℕ) (p : Statement → Part) where
   verb_shrinks fewer (verb.ConditionalStatement (If asked done otherwise)) i rest s = branching_shrinks (g.statements p) depth (statements_shrink p fewer) asked done otherwise i rest s
   verb_shrinks fewer (verb.ConditionalStatement (Evaluate one)) i rest s = evaluating_shrinks (g.statements p) depth (statements_shrink p fewer) one i rest s
   verb_shrinks fewer (verb.PerformStatement one) i rest s = performing_shrinks (g.statements p) depth (statements_shrink p fewer) one i rest s
-  verb_shrinks fewer (verb.Text (text.Display operands advancing)) i rest s = display_shrinks operands advancing i rest s
-  verb_shrinks fewer (verb.Text (text.Accept receiver)) i rest s = accepting_shrinks receiver true i rest s
-  verb_shrinks fewer (verb.Text (text.AcceptDate receiver)) i rest s = accepting_shrinks receiver false i rest s
-  verb_shrinks fewer (verb.Text (text.Inspect one)) i rest s = inspecting_shrinks one i rest s
+  verb_shrinks fewer (verb.TextStatement (text.Display operands advancing)) i rest s = display_shrinks operands advancing i rest s
+  verb_shrinks fewer (verb.TextStatement (text.Accept receiver)) i rest s = accepting_shrinks receiver true i rest s
+  verb_shrinks fewer (verb.TextStatement (text.AcceptDate receiver)) i rest s = accepting_shrinks receiver false i rest s
+  verb_shrinks fewer (verb.TextStatement (text.Inspect one)) i rest s = inspecting_shrinks one i rest s
   verb_shrinks fewer (verb.StringStatement one) i rest s = stringing_shrinks (g.statements p) (statements_shrink p fewer) one i rest s
   verb_shrinks fewer (verb.FileStatement one) i rest s = filing_shrinks (g.statements p) (statements_shrink p fewer) one i rest s
   verb_shrinks fewer (verb.ControlStatement ending.StopRun) i rest s = stop_run_shrinks i rest s
@@ -74,10 +74,10 @@ module _ (depth : ℕ) (p : Statement → Part) where
   word_of (verb.ConditionalStatement (If asked done otherwise)) = v.If
   word_of (verb.ConditionalStatement (Evaluate one)) = v.Evaluate
   word_of (verb.PerformStatement one) = v.Perform
-  word_of (verb.Text (text.Display operands advancing)) = v.Display
-  word_of (verb.Text (text.Accept receiver)) = v.Accept
-  word_of (verb.Text (text.AcceptDate receiver)) = v.Accept
-  word_of (verb.Text (text.Inspect one)) = v.Inspect
+  word_of (verb.TextStatement (text.Display operands advancing)) = v.Display
+  word_of (verb.TextStatement (text.Accept receiver)) = v.Accept
+  word_of (verb.TextStatement (text.AcceptDate receiver)) = v.Accept
+  word_of (verb.TextStatement (text.Inspect one)) = v.Inspect
   word_of (verb.StringStatement one) = v.String
   word_of (verb.FileStatement one) = v.Filing (file_verb one)
   word_of (verb.ControlStatement ending.StopRun) = v.Stop
@@ -92,10 +92,10 @@ module _ (depth : ℕ) (p : Statement → Part) where
   verb_stands (verb.ConditionalStatement (If asked done otherwise)) i rest s = branching_stands (g.statements p) depth asked done otherwise i rest s
   verb_stands (verb.ConditionalStatement (Evaluate one)) i rest s = evaluating_stands (g.statements p) depth one i rest s
   verb_stands (verb.PerformStatement one) i rest s = performing_stands (g.statements p) depth one i rest s
-  verb_stands (verb.Text (text.Display operands advancing)) i rest s = display_stands operands advancing i rest s
-  verb_stands (verb.Text (text.Accept receiver)) i rest s = accepting_stands receiver true i rest s
-  verb_stands (verb.Text (text.AcceptDate receiver)) i rest s = accepting_stands receiver false i rest s
-  verb_stands (verb.Text (text.Inspect one)) i rest s = inspecting_stands one i rest s
+  verb_stands (verb.TextStatement (text.Display operands advancing)) i rest s = display_stands operands advancing i rest s
+  verb_stands (verb.TextStatement (text.Accept receiver)) i rest s = accepting_stands receiver true i rest s
+  verb_stands (verb.TextStatement (text.AcceptDate receiver)) i rest s = accepting_stands receiver false i rest s
+  verb_stands (verb.TextStatement (text.Inspect one)) i rest s = inspecting_stands one i rest s
   verb_stands (verb.StringStatement one) i rest s = stringing_stands (g.statements p) one i rest s
   verb_stands (verb.FileStatement one) i rest s = filing_stands (g.statements p) one i rest s
   verb_stands (verb.ControlStatement ending.StopRun) i rest s = stop_run_stands i rest s
@@ -156,10 +156,10 @@ module _ (Allowed : Halt → Type 0) (depth depth' : ℕ) (computes : Complete A
   by_verb_complete (verb.PerformStatement one) i rest s =
       performing_complete (g.statements p) Allowed depth depth' asks (r.statements nested) (statements_complete Allowed p nested each fewer begins) (statements_start p begins)
       one.turns one.performed i rest s
-  by_verb_complete (verb.Text (text.Display operands advancing)) i rest s = display_complete operands advancing i rest s
-  by_verb_complete (verb.Text (text.Accept receiver)) i rest s = accepting_complete receiver true i rest s
-  by_verb_complete (verb.Text (text.AcceptDate receiver)) i rest s = accepting_complete receiver false i rest s
-  by_verb_complete (verb.Text (text.Inspect one)) i rest s = inspecting_complete one i rest s
+  by_verb_complete (verb.TextStatement (text.Display operands advancing)) i rest s = display_complete operands advancing i rest s
+  by_verb_complete (verb.TextStatement (text.Accept receiver)) i rest s = accepting_complete receiver true i rest s
+  by_verb_complete (verb.TextStatement (text.AcceptDate receiver)) i rest s = accepting_complete receiver false i rest s
+  by_verb_complete (verb.TextStatement (text.Inspect one)) i rest s = inspecting_complete one i rest s
   by_verb_complete (verb.StringStatement one) i rest s =
       stringing_complete (g.statements p) (r.statements nested) Allowed (statements_complete Allowed p nested each fewer begins) one i rest s
   by_verb_complete (verb.FileStatement one) i rest s =

@@ -31,4 +31,4 @@ accept_reader = do
   expect w.Accept
   receiver ← reference_reader
   console ← r.left_out after_from_date
-  pure (verb.Text (accept_tree receiver console))
+  pure (verb.TextStatement (accept_tree receiver console))

@@ -28,4 +28,4 @@ display_reader = do
   expect w.Display
   shown ← r.several operand_reader begins_operand
   advancing ← r.left_out after_no_advancing
-  pure (verb.Text (text.Display shown advancing))
+  pure (verb.TextStatement (text.Display shown advancing))

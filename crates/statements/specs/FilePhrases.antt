@@ -11,8 +11,8 @@ use Rattle.grammar.specs.Reading.{Parser, ◌>>=◌, pure}
 use Rattle.grammar.specs.Phrases.{phrase_words, negated_phrase_words, two_sided, two_sided_reader}
 
 -- one of the two stands, or both do
-abbrev pub one_stands : {S : Type 0} → Phrases S → Bool
-one_stands both = is_some both.arose || is_some both.did_not
+abbrev pub has_phrase : {S : Type 0} → Phrases S → Bool
+has_phrase both = is_some both.arose || is_some both.did_not
 
 -- the words of a phrase or of its opposite
 abbrev pub phrase_beginning : Phrase → Part
@@ -20,7 +20,7 @@ phrase_beginning one = phrase_words one or negated_phrase_words one
 
 -- a phrase, its opposite, or both
 abbrev pub some_side : {S : Type 0} → (List S → Part) → Phrase → Phrases S → Part
-some_side statements one both = λ from rest. (one_stands both ≡ true) × two_sided statements one both from rest
+some_side statements one both = λ from rest. (has_phrase both ≡ true) × two_sided statements one both from rest
 
 -- [INVALID [KEY] s] [NOT INVALID [KEY] s]
 abbrev pub key_phrases : {S : Type 0} → (List S → Part) → FilePhrases S → Part
@@ -37,7 +37,7 @@ read_phrases statements (InvalidKey both) = some_side statements phrase.InvalidK
 -- ---- reading
 
 abbrev pub on_invalid_key : {S : Type 0} → Phrases S → FilePhrases S
-on_invalid_key both = if one_stands both then InvalidKey both else Absent
+on_invalid_key both = if has_phrase both then InvalidKey both else Absent
 
 unfoldable pub key_phrases_reader : {S : Type 0} → Parser (List S) → Parser (FilePhrases S)
 key_phrases_reader statements = do
@@ -46,7 +46,7 @@ key_phrases_reader statements = do
 
 -- INVALID KEY is looked for where neither AT END nor its opposite stands
 abbrev pub or_invalid_key : {S : Type 0} → Parser (List S) → Phrases S → Parser (FilePhrases S)
-or_invalid_key statements both = if one_stands both then pure (AtEnd both) else key_phrases_reader statements
+or_invalid_key statements both = if has_phrase both then pure (AtEnd both) else key_phrases_reader statements
 
 unfoldable pub read_phrases_reader : {S : Type 0} → Parser (List S) → Parser (FilePhrases S)
 read_phrases_reader statements = do

@@ -26,9 +26,9 @@ use Rattle.statements.specs.Opening.{openings, close_statement, openings_reader,
 -- ---- items behind words
 
 -- words and d, or neither where the words do not stand
-abbrev pub item_behind : Part → Option Reference → Part
-item_behind words None = absence_of words
-item_behind words (Some one) = words then reference one
+abbrev pub item_after : Part → Option Reference → Part
+item_after words None = absence_of words
+item_after words (Some one) = words then reference one
 
 -- KEY [IS]
 abbrev pub key_is : Part
@@ -46,13 +46,13 @@ module _ (statements : List Statement → Part) where
   -- READ f [NEXT] [RECORD] [INTO d] [KEY [IS] d] {end|inv} [END-READ]
   abbrev pub read_statement : Name → Bool → Option Reference → Option Reference → FilePhrases Statement → Part
   read_statement file next into key phrases =
-      word w.Read then name file then optional_part (word w.Next) next then optional (word w.Record) then item_behind (word w.Into) into
-      then item_behind key_is key then read_phrases statements phrases then optional (word w.EndRead)
+      word w.Read then name file then optional_part (word w.Next) next then optional (word w.Record) then item_after (word w.Into) into
+      then item_after key_is key then read_phrases statements phrases then optional (word w.EndRead)
 
   -- WRITE d [FROM d] inv [END-WRITE], and the same by REWRITE
   abbrev pub record_statement : Reserved → Reserved → Reference → Option Reference → FilePhrases Statement → Part
   record_statement verb end row from phrases =
-      word verb then reference row then item_behind (word w.From) from then key_phrases statements phrases then optional (word end)
+      word verb then reference row then item_after (word w.From) from then key_phrases statements phrases then optional (word end)
 
   -- DELETE f [RECORD] inv [END-DELETE]
   abbrev pub delete_statement : Name → FilePhrases Statement → Part
@@ -78,8 +78,8 @@ abbrev pub item_at : Option (List Token) → Parser (Option Reference)
 item_at None i = Ok (None, i)
 item_at (Some after) i = (reference_reader >>= (λ one. pure (Some one))) after
 
-unfoldable pub item_behind_reader : Words → Parser (Option Reference)
-item_behind_reader words i = item_at (words i) i
+unfoldable pub item_after_reader : Words → Parser (Option Reference)
+item_after_reader words i = item_at (words i) i
 
 unfoldable pub after_key_is : Words
 after_key_is i = option_map (past_word w.Is) (after_word w.Key i)
@@ -106,8 +106,8 @@ module _ (statements : Parser (List Statement)) where
     file ← r.name
     next ← r.presence_reader (after_word w.Next)
     skip w.Record
-    into ← item_behind_reader (after_word w.Into)
-    key ← item_behind_reader after_key_is
+    into ← item_after_reader (after_word w.Into)
+    key ← item_after_reader after_key_is
     phrases ← read_phrases_reader statements
     skip w.EndRead
     pure (filing_as.Read file next into key phrases)
@@ -116,7 +116,7 @@ module _ (statements : Parser (List Statement)) where
   unfoldable pub stored_reader : Parser (Reference × (Option Reference × FilePhrases Statement))
   stored_reader = do
     row ← reference_reader
-    from ← item_behind_reader (after_word w.From)
+    from ← item_after_reader (after_word w.From)
     phrases ← key_phrases_reader statements
     pure (row, (from, phrases))
 

@@ -211,4 +211,4 @@ inspect_reader = do
   expect w.Inspect
   subject ← reference_reader
   both ← phrases_reader
-  pure (verb.Text (text_as.Inspect (record { subject = subject; tallying = both.0; replacing = both.1 })))
+  pure (verb.TextStatement (text_as.Inspect (record { subject = subject; tallying = both.0; replacing = both.1 })))

@@ -59,7 +59,7 @@ module _ (depth : ℕ) (statement : Statement → Part) where
   verb_line (verb.Arithmetic one) = arithmetic depth (statements statement) one
   verb_line (verb.ConditionalStatement one) = conditional_statement depth (statements statement) one
   verb_line (verb.PerformStatement one) = perform_statement depth (statements statement) one
-  verb_line (verb.Text one) = text_line one
+  verb_line (verb.TextStatement one) = text_line one
   verb_line (verb.StringStatement one) = string_statement (statements statement) one
   verb_line (verb.FileStatement one) = file_statement (statements statement) one
   verb_line (verb.ControlStatement one) = ending_line one

@@ -13,13 +13,13 @@ use tokens::{Reserved, Token};
 
 /// From the verb on.
 #[tactic(auto, unfolding(crate::specs::Accepting::accept_reader, grammar::specs::Reading::left_out))]
-pub fn accepting(alloc: Global, tokens: &mut Tokens<'_>) -> Result<Verb<Statement>, ReadFault>
+pub fn read_accept(alloc: Global, tokens: &mut Tokens<'_>) -> Result<Verb<Statement>, ReadFault>
     ensures { Reads (spec.accept_reader tokens.old) result tokens.new }
 {
     tokens.expect(Reserved::Accept)?;
     let receiver = reference(alloc, tokens)?;
     let console = tokens.is_left_out(after_from_date(tokens.rest()));
-    Ok(Verb::Text(if console {
+    Ok(Verb::TextStatement(if console {
         TextStatement::Accept { receiver }
     } else {
         TextStatement::AcceptDate { receiver }

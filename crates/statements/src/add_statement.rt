@@ -13,7 +13,7 @@ use tokens::Reserved;
 
 /// From the verb on, without its phrases.
 #[tactic(auto, unfolding(crate::specs::Adding::add_reader))]
-pub fn adding(alloc: Global, tokens: &mut Tokens<'_>) -> Result<Operation, ReadFault>
+pub fn read_add(alloc: Global, tokens: &mut Tokens<'_>) -> Result<Operation, ReadFault>
     ensures { Reads (spec.add_reader tokens.old) result tokens.new }
 {
     tokens.expect(Reserved::Add)?;

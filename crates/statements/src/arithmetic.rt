@@ -6,50 +6,17 @@ ghost use Rattle.statements.specs.Arithmetic as rule;
 ghost use Rattle.statements.specs.Nests.{Nests};
 ghost use Rattle.statements.specs.Reading as spec;
 
-use crate::add_statement::adding;
-use crate::compute_statement::computing;
-use crate::divide_statement::dividing;
-use crate::multiply_statement::multiplying;
+use crate::add_statement::read_add;
+use crate::compute_statement::read_compute;
+use crate::divide_statement::read_divide;
+use crate::multiply_statement::read_multiply;
 use crate::nesting::Nesting;
-use crate::subtract_statement::subtracting;
+use crate::subtract_statement::read_subtract;
 use crate::verb::ArithmeticVerb;
 use grammar::{Phrase, ReadFault, Tokens, beside, two_sided};
 use source_tree::{Arithmetic, Operation, Statement, Verb};
 use std::alloc::Global;
 use tokens::Reserved;
-
-/// What is computed, from the verb on; `depth` is how deep an expression may nest.
-fn operation(
-    alloc: Global,
-    depth: usize,
-    verb: ArithmeticVerb,
-    tokens: &mut Tokens<'_>,
-) -> Result<Operation, ReadFault>
-    ensures { Reads (rule.operation_reader depth verb tokens.old) result tokens.new }
-{
-    match verb {
-        ArithmeticVerb::Add => adding(alloc, tokens),
-        ArithmeticVerb::Subtract => subtracting(alloc, tokens),
-        ArithmeticVerb::Multiply => multiplying(alloc, tokens),
-        ArithmeticVerb::Divide => dividing(alloc, tokens),
-        ArithmeticVerb::Compute => computing(alloc, depth, tokens),
-    }
-}
-
-/// The END word of a statement.
-fn end_word(operation: &Operation) -> Reserved
-    ensures { result ≡ rule.end_word operation.now }
-{
-    match operation {
-        Operation::Add { .. } | Operation::AddGiving { .. } => Reserved::EndAdd,
-        Operation::Subtract { .. } | Operation::SubtractGiving { .. } => Reserved::EndSubtract,
-        Operation::Multiply { .. } | Operation::MultiplyGiving { .. } => Reserved::EndMultiply,
-        Operation::Divide { .. }
-        | Operation::DivideGiving { .. }
-        | Operation::DivideRemainder { .. } => Reserved::EndDivide,
-        Operation::Compute { .. } => Reserved::EndCompute,
-    }
-}
 
 impl<F: Fn(Global, &mut Tokens<'_>, usize) -> Result<Statement, ReadFault>> Nesting<F> {
     /// From the verb on: what is computed, the SIZE ERROR phrases and the END word.
@@ -67,5 +34,38 @@ impl<F: Fn(Global, &mut Tokens<'_>, usize) -> Result<Statement, ReadFault>> Nest
         let (operation, phrases) = beside(operation, phrases)?;
         tokens.skip(end_word(&operation));
         Ok(Verb::Arithmetic(Arithmetic { operation, phrases }))
+    }
+}
+
+/// What is computed, from the verb on; `depth` is how deep an expression may nest.
+fn operation(
+    alloc: Global,
+    depth: usize,
+    verb: ArithmeticVerb,
+    tokens: &mut Tokens<'_>,
+) -> Result<Operation, ReadFault>
+    ensures { Reads (rule.operation_reader depth verb tokens.old) result tokens.new }
+{
+    match verb {
+        ArithmeticVerb::Add => read_add(alloc, tokens),
+        ArithmeticVerb::Subtract => read_subtract(alloc, tokens),
+        ArithmeticVerb::Multiply => read_multiply(alloc, tokens),
+        ArithmeticVerb::Divide => read_divide(alloc, tokens),
+        ArithmeticVerb::Compute => read_compute(alloc, depth, tokens),
+    }
+}
+
+/// The END word of a statement.
+fn end_word(operation: &Operation) -> Reserved
+    ensures { result ≡ rule.end_word operation.now }
+{
+    match operation {
+        Operation::Add { .. } | Operation::AddGiving { .. } => Reserved::EndAdd,
+        Operation::Subtract { .. } | Operation::SubtractGiving { .. } => Reserved::EndSubtract,
+        Operation::Multiply { .. } | Operation::MultiplyGiving { .. } => Reserved::EndMultiply,
+        Operation::Divide { .. }
+        | Operation::DivideGiving { .. }
+        | Operation::DivideRemainder { .. } => Reserved::EndDivide,
+        Operation::Compute { .. } => Reserved::EndCompute,
     }
 }

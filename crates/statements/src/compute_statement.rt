@@ -15,7 +15,7 @@ use tokens::{Kind, Operator, Reserved, Token};
 
 /// From the verb on, without its phrases; `depth` is how deep the expression may nest.
 #[tactic(auto, unfolding(crate::specs::Computing::compute_reader))]
-pub fn computing(
+pub fn read_compute(
     alloc: Global,
     depth: usize,
     tokens: &mut Tokens<'_>,

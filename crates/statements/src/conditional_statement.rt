@@ -27,7 +27,7 @@ impl<F: Fn(Global, &mut Tokens<'_>, usize) -> Result<Statement, ReadFault>> Nest
 
     /// From the verb on.
     #[tactic(auto, unfolding(crate::specs::Branching::conditional_reader))]
-    pub fn branching(&self, tokens: &mut Tokens<'_>) -> Result<Verb<Statement>, ReadFault>
+    pub fn read_if(&self, tokens: &mut Tokens<'_>) -> Result<Verb<Statement>, ReadFault>
         requires { Nests self.now.depth (F.pre self.now.statement) (F.post self.now.statement) }
         ensures { Reads (rule.conditional_reader self.now.depth (spec.statements (spec.statement self.now.depth)) tokens.old) result tokens.new }
     {

@@ -10,7 +10,7 @@ use tokens::Reserved;
 
 /// From the verb on.
 #[tactic(auto, unfolding(crate::specs::Continuing::continue_reader))]
-pub fn continuing(tokens: &mut Tokens<'_>) -> Result<Verb<Statement>, ReadFault>
+pub fn read_continue(tokens: &mut Tokens<'_>) -> Result<Verb<Statement>, ReadFault>
     ensures { Reads (spec.continue_reader tokens.old) result tokens.new }
 {
     tokens.expect(Reserved::Continue)?;

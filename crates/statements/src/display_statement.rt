@@ -19,7 +19,7 @@ pub fn display(alloc: Global, tokens: &mut Tokens<'_>) -> Result<Verb<Statement>
     tokens.expect(Reserved::Display)?;
     let operands = several(&Operands, alloc, tokens)?;
     let advancing = tokens.is_left_out(after_no_advancing(tokens.rest()));
-    Ok(Verb::Text(TextStatement::Display {
+    Ok(Verb::TextStatement(TextStatement::Display {
         operands,
         advancing,
     }))

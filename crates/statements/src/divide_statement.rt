@@ -14,7 +14,7 @@ use tokens::Reserved;
 
 /// From the verb on, without its phrases.
 #[tactic(auto, unfolding(crate::specs::Dividing::divide_reader))]
-pub fn dividing(alloc: Global, tokens: &mut Tokens<'_>) -> Result<Operation, ReadFault>
+pub fn read_divide(alloc: Global, tokens: &mut Tokens<'_>) -> Result<Operation, ReadFault>
     ensures { Reads (spec.divide_reader tokens.old) result tokens.new }
 {
     tokens.expect(Reserved::Divide)?;

@@ -18,6 +18,36 @@ use sqlite_items::Items;
 use std::alloc::{AllocError, Global};
 use tokens::{Reserved, Token};
 
+impl<F: Fn(Global, &mut Tokens<'_>, usize) -> Result<Statement, ReadFault>> Nesting<F> {
+    /// WHEN OTHER and its statements, where it stands.
+    #[tactic(auto, unfolding(crate::specs::Evaluate::other_reader, crate::specs::Reading::statements, grammar::specs::Phrases::phrase_reader))]
+    fn other(&self, tokens: &mut Tokens<'_>) -> Result<Option<Items<Statement>>, ReadFault>
+        requires { Nests self.now.depth (F.pre self.now.statement) (F.post self.now.statement) }
+        ensures { Reads (rule.other_reader (spec.statements (spec.statement self.now.depth)) tokens.old) result tokens.new }
+    {
+        let after = after_when_other(tokens.rest());
+        phrase_at(self, self.alloc, tokens, after)
+    }
+
+    /// From the verb on.
+    #[tactic(auto, unfolding(crate::specs::Evaluate::evaluate_reader))]
+    pub fn read_evaluate(&self, tokens: &mut Tokens<'_>) -> Result<Verb<Statement>, ReadFault>
+        requires { Nests self.now.depth (F.pre self.now.statement) (F.post self.now.statement) }
+        ensures { Reads (rule.evaluate_reader self.now.depth (spec.statements (spec.statement self.now.depth)) tokens.old) result tokens.new }
+    {
+        tokens.expect(Reserved::Evaluate)?;
+        let subjects = subjects(self.alloc, self.depth, tokens)?;
+        let selected = several(&Selections { nesting: self }, self.alloc, tokens)?;
+        let other = self.other(tokens)?;
+        tokens.skip(Reserved::EndEvaluate);
+        Ok(Verb::ConditionalStatement(ConditionalStatement::Evaluate(Evaluate {
+            subjects,
+            selected,
+            other,
+        })))
+    }
+}
+
 /// ALSO and the subject behind it.
 #[derive(Clone, Copy)]
 struct FurtherSubjects {
@@ -191,35 +221,5 @@ impl<F: Fn(Global, &mut Tokens<'_>, usize) -> Result<Statement, ReadFault>> Part
 
     fn begins(&self, tokens: &Tokens<'_>) -> bool {
         begins_when(tokens)
-    }
-}
-
-impl<F: Fn(Global, &mut Tokens<'_>, usize) -> Result<Statement, ReadFault>> Nesting<F> {
-    /// WHEN OTHER and its statements, where it stands.
-    #[tactic(auto, unfolding(crate::specs::Evaluate::other_reader, crate::specs::Reading::statements, grammar::specs::Phrases::phrase_reader))]
-    fn other(&self, tokens: &mut Tokens<'_>) -> Result<Option<Items<Statement>>, ReadFault>
-        requires { Nests self.now.depth (F.pre self.now.statement) (F.post self.now.statement) }
-        ensures { Reads (rule.other_reader (spec.statements (spec.statement self.now.depth)) tokens.old) result tokens.new }
-    {
-        let after = after_when_other(tokens.rest());
-        phrase_at(self, self.alloc, tokens, after)
-    }
-
-    /// From the verb on.
-    #[tactic(auto, unfolding(crate::specs::Evaluate::evaluate_reader))]
-    pub fn evaluating(&self, tokens: &mut Tokens<'_>) -> Result<Verb<Statement>, ReadFault>
-        requires { Nests self.now.depth (F.pre self.now.statement) (F.post self.now.statement) }
-        ensures { Reads (rule.evaluate_reader self.now.depth (spec.statements (spec.statement self.now.depth)) tokens.old) result tokens.new }
-    {
-        tokens.expect(Reserved::Evaluate)?;
-        let subjects = subjects(self.alloc, self.depth, tokens)?;
-        let selected = several(&Selections { nesting: self }, self.alloc, tokens)?;
-        let other = self.other(tokens)?;
-        tokens.skip(Reserved::EndEvaluate);
-        Ok(Verb::ConditionalStatement(ConditionalStatement::Evaluate(Evaluate {
-            subjects,
-            selected,
-            other,
-        })))
     }
 }

@@ -10,7 +10,7 @@ use tokens::Reserved;
 
 /// From the verb on.
 #[tactic(auto, unfolding(crate::specs::Exiting::exit_reader))]
-pub fn exiting(tokens: &mut Tokens<'_>) -> Result<Verb<Statement>, ReadFault>
+pub fn read_exit(tokens: &mut Tokens<'_>) -> Result<Verb<Statement>, ReadFault>
     ensures { Reads (spec.exit_reader tokens.old) result tokens.new }
 {
     tokens.expect(Reserved::Exit)?;

@@ -11,13 +11,6 @@ use grammar::{Phrase, ReadFault, Tokens, two_sided};
 use source_tree::{FilePhrases, Phrases, Statement};
 use std::alloc::Global;
 
-/// One of the two stands, or both do.
-fn one_stands(both: &Phrases<Statement>) -> bool
-    ensures { result ≡ rule.one_stands both.now }
-{
-    both.arose.is_some() || both.did_not.is_some()
-}
-
 impl<F: Fn(Global, &mut Tokens<'_>, usize) -> Result<Statement, ReadFault>> Nesting<F> {
     /// INVALID KEY and its opposite, where one of them stands.
     #[tactic(auto, unfolding(crate::specs::FilePhrases::key_phrases_reader, crate::specs::Reading::statements))]
@@ -26,7 +19,7 @@ impl<F: Fn(Global, &mut Tokens<'_>, usize) -> Result<Statement, ReadFault>> Nest
         ensures { Reads (rule.key_phrases_reader (spec.statements (spec.statement self.now.depth)) tokens.old) result tokens.new }
     {
         let both = two_sided(Phrase::InvalidKey, self, self.alloc, tokens)?;
-        Ok(if one_stands(&both) {
+        Ok(if has_phrase(&both) {
             FilePhrases::InvalidKey(both)
         } else {
             FilePhrases::Absent
@@ -40,10 +33,17 @@ impl<F: Fn(Global, &mut Tokens<'_>, usize) -> Result<Statement, ReadFault>> Nest
         ensures { Reads (rule.read_phrases_reader (spec.statements (spec.statement self.now.depth)) tokens.old) result tokens.new }
     {
         let both = two_sided(Phrase::AtEnd, self, self.alloc, tokens)?;
-        if one_stands(&both) {
+        if has_phrase(&both) {
             Ok(FilePhrases::AtEnd(both))
         } else {
             self.key_phrases(tokens)
         }
     }
+}
+
+/// One of the two stands, or both do.
+fn has_phrase(both: &Phrases<Statement>) -> bool
+    ensures { result ≡ rule.has_phrase both.now }
+{
+    both.arose.is_some() || both.did_not.is_some()
 }

@@ -9,7 +9,7 @@ ghost use Rattle.statements.specs.Nests.{Nests};
 ghost use Rattle.statements.specs.Reading as spec;
 
 use crate::nesting::Nesting;
-use crate::open_statement::{closing, opening};
+use crate::open_statement::{read_close, read_open};
 use crate::verb::FileVerb;
 use conditions::relation;
 use expressions::reference;
@@ -17,74 +17,6 @@ use grammar::{ReadFault, Tokens, after_word, beside, name, past_word};
 use source_tree::{FilePhrases, FileStatement, Reference, StartKey, Statement, Verb};
 use std::alloc::Global;
 use tokens::{Reserved, Token};
-
-/// The item behind words that `after` follows; none where the words aren't there.
-fn item_at<'a>(
-    alloc: Global,
-    tokens: &mut Tokens<'a>,
-    after: Option<&'a [Token]>,
-) -> Result<Option<Reference>, ReadFault>
-    ensures { Reads (rule.item_at (option_copied after.entry) tokens.old) result tokens.new }
-{
-    let Some(after) = after else {
-        return Ok(None);
-    };
-    tokens.go_to(after);
-    Ok(Some(reference(alloc, tokens)?))
-}
-
-/// The item behind this word, where it stands.
-#[tactic(auto, unfolding(crate::specs::Filing::item_behind_reader))]
-fn item_behind(
-    alloc: Global,
-    word: Reserved,
-    tokens: &mut Tokens<'_>,
-) -> Result<Option<Reference>, ReadFault>
-    ensures { Reads (rule.item_behind_reader (read.after_word word) tokens.old) result tokens.new }
-{
-    let after = after_word(tokens.rest(), word);
-    item_at(alloc, tokens, after)
-}
-
-/// The tokens after `KEY [IS]`, where that comes first.
-#[tactic(auto, unfolding(crate::specs::Filing::after_key_is))]
-fn after_key_is(tokens: &[Token]) -> Option<&[Token]>
-    ensures { option_copied result ≡ rule.after_key_is tokens.now }
-{
-    let rest = after_word(tokens, Reserved::Key)?;
-    Some(past_word(rest, Reserved::Is))
-}
-
-/// The key of a READ, where the phrase stands.
-#[tactic(auto, unfolding(crate::specs::Filing::item_behind_reader))]
-fn read_key(alloc: Global, tokens: &mut Tokens<'_>) -> Result<Option<Reference>, ReadFault>
-    ensures { Reads (rule.item_behind_reader rule.after_key_is tokens.old) result tokens.new }
-{
-    let after = after_key_is(tokens.rest());
-    item_at(alloc, tokens, after)
-}
-
-/// The relation and the key of a START, behind KEY.
-#[tactic(auto, unfolding(crate::specs::Filing::some_key_reader))]
-fn some_key(alloc: Global, tokens: &mut Tokens<'_>) -> Result<Option<StartKey>, ReadFault>
-    ensures { Reads (rule.some_key_reader tokens.old) result tokens.new }
-{
-    let operator = relation(tokens)?;
-    let key = reference(alloc, tokens)?;
-    Ok(Some(StartKey { operator, key }))
-}
-
-/// The KEY phrase of a START, where it stands.
-#[tactic(auto, unfolding(crate::specs::Filing::start_key_reader))]
-fn start_key(alloc: Global, tokens: &mut Tokens<'_>) -> Result<Option<StartKey>, ReadFault>
-    ensures { Reads (rule.start_key_reader tokens.old) result tokens.new }
-{
-    let Some(after) = after_word(tokens.rest(), Reserved::Key) else {
-        return Ok(None);
-    };
-    tokens.go_to(after);
-    some_key(alloc, tokens)
-}
 
 impl<F: Fn(Global, &mut Tokens<'_>, usize) -> Result<Statement, ReadFault>> Nesting<F> {
     /// READ, from the verb on.
@@ -97,7 +29,7 @@ impl<F: Fn(Global, &mut Tokens<'_>, usize) -> Result<Statement, ReadFault>> Nest
         let file = name(self.alloc, tokens)?;
         let next = tokens.take(Reserved::Next);
         tokens.skip(Reserved::Record);
-        let into = item_behind(self.alloc, Reserved::Into, tokens);
+        let into = item_after(self.alloc, Reserved::Into, tokens);
         let head = beside(file, into)?;
         let head = beside(head, read_key(self.alloc, tokens))?;
         let (((file, into), key), phrases) = beside(head, self.read_phrases(tokens))?;
@@ -121,7 +53,7 @@ impl<F: Fn(Global, &mut Tokens<'_>, usize) -> Result<Statement, ReadFault>> Nest
         ensures { Reads (rule.stored_reader (spec.statements (spec.statement self.now.depth)) tokens.old) result tokens.new }
     {
         let record = reference(self.alloc, tokens)?;
-        let from = item_behind(self.alloc, Reserved::From, tokens);
+        let from = item_after(self.alloc, Reserved::From, tokens);
         let head = beside(record, from)?;
         let ((record, from), phrases) = beside(head, self.key_phrases(tokens))?;
         Ok((record, (from, phrases)))
@@ -197,8 +129,8 @@ impl<F: Fn(Global, &mut Tokens<'_>, usize) -> Result<Statement, ReadFault>> Nest
         ensures { Reads (rule.by_file_verb (spec.statements (spec.statement self.now.depth)) verb tokens.old) result tokens.new }
     {
         match verb {
-            FileVerb::Open => opening(self.alloc, tokens),
-            FileVerb::Close => closing(self.alloc, tokens),
+            FileVerb::Open => read_open(self.alloc, tokens),
+            FileVerb::Close => read_close(self.alloc, tokens),
             FileVerb::Read => self.reading(tokens),
             FileVerb::Write => self.writing(tokens),
             FileVerb::Rewrite => self.rewriting(tokens),
@@ -209,7 +141,7 @@ impl<F: Fn(Global, &mut Tokens<'_>, usize) -> Result<Statement, ReadFault>> Nest
 
     /// From the verb on.
     #[tactic(auto, unfolding(crate::specs::Filing::file_reader))]
-    pub fn filing(
+    pub fn read_file_statement(
         &self,
         verb: FileVerb,
         tokens: &mut Tokens<'_>,
@@ -220,4 +152,72 @@ impl<F: Fn(Global, &mut Tokens<'_>, usize) -> Result<Statement, ReadFault>> Nest
         let found = self.by_file_verb(verb, tokens)?;
         Ok(Verb::FileStatement(found))
     }
+}
+
+/// The item behind words that `after` follows; none where the words aren't there.
+fn item_at<'a>(
+    alloc: Global,
+    tokens: &mut Tokens<'a>,
+    after: Option<&'a [Token]>,
+) -> Result<Option<Reference>, ReadFault>
+    ensures { Reads (rule.item_at (option_copied after.entry) tokens.old) result tokens.new }
+{
+    let Some(after) = after else {
+        return Ok(None);
+    };
+    tokens.go_to(after);
+    Ok(Some(reference(alloc, tokens)?))
+}
+
+/// The item behind this word, where it stands.
+#[tactic(auto, unfolding(crate::specs::Filing::item_after_reader))]
+fn item_after(
+    alloc: Global,
+    word: Reserved,
+    tokens: &mut Tokens<'_>,
+) -> Result<Option<Reference>, ReadFault>
+    ensures { Reads (rule.item_after_reader (read.after_word word) tokens.old) result tokens.new }
+{
+    let after = after_word(tokens.rest(), word);
+    item_at(alloc, tokens, after)
+}
+
+/// The tokens after `KEY [IS]`, where that comes first.
+#[tactic(auto, unfolding(crate::specs::Filing::after_key_is))]
+fn after_key_is(tokens: &[Token]) -> Option<&[Token]>
+    ensures { option_copied result ≡ rule.after_key_is tokens.now }
+{
+    let rest = after_word(tokens, Reserved::Key)?;
+    Some(past_word(rest, Reserved::Is))
+}
+
+/// The key of a READ, where the phrase stands.
+#[tactic(auto, unfolding(crate::specs::Filing::item_after_reader))]
+fn read_key(alloc: Global, tokens: &mut Tokens<'_>) -> Result<Option<Reference>, ReadFault>
+    ensures { Reads (rule.item_after_reader rule.after_key_is tokens.old) result tokens.new }
+{
+    let after = after_key_is(tokens.rest());
+    item_at(alloc, tokens, after)
+}
+
+/// The relation and the key of a START, behind KEY.
+#[tactic(auto, unfolding(crate::specs::Filing::some_key_reader))]
+fn some_key(alloc: Global, tokens: &mut Tokens<'_>) -> Result<Option<StartKey>, ReadFault>
+    ensures { Reads (rule.some_key_reader tokens.old) result tokens.new }
+{
+    let operator = relation(tokens)?;
+    let key = reference(alloc, tokens)?;
+    Ok(Some(StartKey { operator, key }))
+}
+
+/// The KEY phrase of a START, where it stands.
+#[tactic(auto, unfolding(crate::specs::Filing::start_key_reader))]
+fn start_key(alloc: Global, tokens: &mut Tokens<'_>) -> Result<Option<StartKey>, ReadFault>
+    ensures { Reads (rule.start_key_reader tokens.old) result tokens.new }
+{
+    let Some(after) = after_word(tokens.rest(), Reserved::Key) else {
+        return Ok(None);
+    };
+    tokens.go_to(after);
+    some_key(alloc, tokens)
 }

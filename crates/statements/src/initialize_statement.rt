@@ -12,7 +12,7 @@ use tokens::Reserved;
 
 /// From the verb on.
 #[tactic(auto, unfolding(crate::specs::Initializing::initialize_reader))]
-pub fn initializing(alloc: Global, tokens: &mut Tokens<'_>) -> Result<Verb<Statement>, ReadFault>
+pub fn read_initialize(alloc: Global, tokens: &mut Tokens<'_>) -> Result<Verb<Statement>, ReadFault>
     ensures { Reads (spec.initialize_reader tokens.old) result tokens.new }
 {
     tokens.expect(Reserved::Initialize)?;

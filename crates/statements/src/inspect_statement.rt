@@ -19,13 +19,13 @@ use tokens::{Kind, Reserved, Token};
 
 /// From the verb on: an item, and what of its text is counted and replaced.
 #[tactic(auto, unfolding(crate::specs::Inspecting::inspect_reader))]
-pub fn inspecting(alloc: Global, tokens: &mut Tokens<'_>) -> Result<Verb<Statement>, ReadFault>
+pub fn read_inspect(alloc: Global, tokens: &mut Tokens<'_>) -> Result<Verb<Statement>, ReadFault>
     ensures { Reads (rule.inspect_reader tokens.old) result tokens.new }
 {
     tokens.expect(Reserved::Inspect)?;
     let subject = reference(alloc, tokens)?;
     let (subject, (tallying, replacing)) = beside(subject, phrases(alloc, tokens))?;
-    Ok(Verb::Text(TextStatement::Inspect(InspectStatement {
+    Ok(Verb::TextStatement(TextStatement::Inspect(InspectStatement {
         subject,
         tallying,
         replacing,

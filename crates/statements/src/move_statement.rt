@@ -12,7 +12,7 @@ use tokens::Reserved;
 
 /// From the verb on.
 #[tactic(auto, unfolding(crate::specs::Moving::move_reader))]
-pub fn moving(alloc: Global, tokens: &mut Tokens<'_>) -> Result<Verb<Statement>, ReadFault>
+pub fn read_move(alloc: Global, tokens: &mut Tokens<'_>) -> Result<Verb<Statement>, ReadFault>
     ensures { Reads (spec.move_reader tokens.old) result tokens.new }
 {
     tokens.expect(Reserved::Move)?;

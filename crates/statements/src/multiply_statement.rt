@@ -13,7 +13,7 @@ use tokens::Reserved;
 
 /// From the verb on, without its phrases.
 #[tactic(auto, unfolding(crate::specs::Multiplying::multiply_reader))]
-pub fn multiplying(alloc: Global, tokens: &mut Tokens<'_>) -> Result<Operation, ReadFault>
+pub fn read_multiply(alloc: Global, tokens: &mut Tokens<'_>) -> Result<Operation, ReadFault>
     ensures { Reads (spec.multiply_reader tokens.old) result tokens.new }
 {
     tokens.expect(Reserved::Multiply)?;

@@ -6,14 +6,14 @@ ghost use Rattle.grammar.specs.Reading.{Reads};
 ghost use Rattle.statements.specs.Reading as spec;
 ghost use Rattle.statements.specs.Nests.{Nests};
 
-use crate::accept_statement::accepting;
-use crate::continue_statement::continuing;
+use crate::accept_statement::read_accept;
+use crate::continue_statement::read_continue;
 use crate::display_statement::display;
-use crate::exit_statement::exiting;
-use crate::initialize_statement::initializing;
-use crate::inspect_statement::inspecting;
-use crate::move_statement::moving;
-use crate::set_statement::setting;
+use crate::exit_statement::read_exit;
+use crate::initialize_statement::read_initialize;
+use crate::inspect_statement::read_inspect;
+use crate::move_statement::read_move;
+use crate::set_statement::read_set;
 use crate::stop_statement::stop_run;
 use crate::verb::{VerbWord, begins_statement, verb_at};
 use grammar::{Halt, Part, ReadFault, Tokens, several};
@@ -68,21 +68,21 @@ impl<F: Fn(Global, &mut Tokens<'_>, usize) -> Result<Statement, ReadFault>> Nest
         ensures { Reads (spec.verb self.now.depth (spec.statement self.now.depth) tokens.old) result tokens.new }
     {
         match verb_at(tokens) {
-            Some(VerbWord::Accept) => accepting(self.alloc, tokens),
+            Some(VerbWord::Accept) => read_accept(self.alloc, tokens),
             Some(VerbWord::Arithmetic(verb)) => self.arithmetic(verb, tokens),
-            Some(VerbWord::Continue) => continuing(tokens),
+            Some(VerbWord::Continue) => read_continue(tokens),
             Some(VerbWord::Display) => display(self.alloc, tokens),
-            Some(VerbWord::Evaluate) => self.evaluating(tokens),
-            Some(VerbWord::Exit) => exiting(tokens),
-            Some(VerbWord::Filing(verb)) => self.filing(verb, tokens),
-            Some(VerbWord::If) => self.branching(tokens),
-            Some(VerbWord::Initialize) => initializing(self.alloc, tokens),
-            Some(VerbWord::Inspect) => inspecting(self.alloc, tokens),
-            Some(VerbWord::Move) => moving(self.alloc, tokens),
-            Some(VerbWord::Perform) => self.performing(tokens),
-            Some(VerbWord::Set) => setting(self.alloc, tokens),
+            Some(VerbWord::Evaluate) => self.read_evaluate(tokens),
+            Some(VerbWord::Exit) => read_exit(tokens),
+            Some(VerbWord::Filing(verb)) => self.read_file_statement(verb, tokens),
+            Some(VerbWord::If) => self.read_if(tokens),
+            Some(VerbWord::Initialize) => read_initialize(self.alloc, tokens),
+            Some(VerbWord::Inspect) => read_inspect(self.alloc, tokens),
+            Some(VerbWord::Move) => read_move(self.alloc, tokens),
+            Some(VerbWord::Perform) => self.read_perform(tokens),
+            Some(VerbWord::Set) => read_set(self.alloc, tokens),
             Some(VerbWord::Stop) => stop_run(tokens),
-            Some(VerbWord::String) => self.stringing(tokens),
+            Some(VerbWord::String) => self.read_string(tokens),
             None => Err(tokens.refuse()),
         }
     }

@@ -14,7 +14,7 @@ use tokens::{Kind, Reserved, Token};
 
 /// From the verb on.
 #[tactic(auto, unfolding(crate::specs::Opening::openings_reader))]
-pub fn opening(
+pub fn read_open(
     alloc: Global,
     tokens: &mut Tokens<'_>,
 ) -> Result<FileStatement<Statement>, ReadFault>
@@ -27,7 +27,7 @@ pub fn opening(
 
 /// From the verb on.
 #[tactic(auto, unfolding(crate::specs::Opening::close_reader))]
-pub fn closing(
+pub fn read_close(
     alloc: Global,
     tokens: &mut Tokens<'_>,
 ) -> Result<FileStatement<Statement>, ReadFault>

@@ -14,6 +14,37 @@ use source_tree::{Name, PerformStatement, Performed, Statement, Verb};
 use std::alloc::Global;
 use tokens::Reserved;
 
+impl<F: Fn(Global, &mut Tokens<'_>, usize) -> Result<Statement, ReadFault>> Nesting<F> {
+    /// How often, the statements and END-PERFORM.
+    #[tactic(auto, unfolding(crate::specs::Performing::in_line_reader))]
+    fn in_line(&self, tokens: &mut Tokens<'_>) -> Result<Verb<Statement>, ReadFault>
+        requires { Nests self.now.depth (F.pre self.now.statement) (F.post self.now.statement) }
+        ensures { Reads (rule.in_line_reader self.now.depth (spec.statements (spec.statement self.now.depth)) tokens.old) result tokens.new }
+    {
+        let turns = turns(self.alloc, self.depth, tokens)?;
+        let line = beside(turns, self.statements(tokens))?;
+        let ((turns, inside), ()) = beside(line, tokens.expect(Reserved::EndPerform))?;
+        Ok(Verb::PerformStatement(PerformStatement {
+            performed: Performed::Statements(inside),
+            turns,
+        }))
+    }
+
+    /// From the verb on.
+    #[tactic(auto, unfolding(crate::specs::Performing::perform_reader))]
+    pub fn read_perform(&self, tokens: &mut Tokens<'_>) -> Result<Verb<Statement>, ReadFault>
+        requires { Nests self.now.depth (F.pre self.now.statement) (F.post self.now.statement) }
+        ensures { Reads (rule.perform_reader self.now.depth (spec.statements (spec.statement self.now.depth)) tokens.old) result tokens.new }
+    {
+        tokens.expect(Reserved::Perform)?;
+        if begins_procedures(tokens) {
+            procedures(self.alloc, self.depth, tokens)
+        } else {
+            self.in_line(tokens)
+        }
+    }
+}
+
 /// THRU or THROUGH, whichever `thru` is, and the last procedure's name.
 fn through(
     alloc: Global,
@@ -63,35 +94,4 @@ fn procedures(
         performed: Performed::Procedures { first, last },
         turns,
     }))
-}
-
-impl<F: Fn(Global, &mut Tokens<'_>, usize) -> Result<Statement, ReadFault>> Nesting<F> {
-    /// How often, the statements and END-PERFORM.
-    #[tactic(auto, unfolding(crate::specs::Performing::in_line_reader))]
-    fn in_line(&self, tokens: &mut Tokens<'_>) -> Result<Verb<Statement>, ReadFault>
-        requires { Nests self.now.depth (F.pre self.now.statement) (F.post self.now.statement) }
-        ensures { Reads (rule.in_line_reader self.now.depth (spec.statements (spec.statement self.now.depth)) tokens.old) result tokens.new }
-    {
-        let turns = turns(self.alloc, self.depth, tokens)?;
-        let line = beside(turns, self.statements(tokens))?;
-        let ((turns, inside), ()) = beside(line, tokens.expect(Reserved::EndPerform))?;
-        Ok(Verb::PerformStatement(PerformStatement {
-            performed: Performed::Statements(inside),
-            turns,
-        }))
-    }
-
-    /// From the verb on.
-    #[tactic(auto, unfolding(crate::specs::Performing::perform_reader))]
-    pub fn performing(&self, tokens: &mut Tokens<'_>) -> Result<Verb<Statement>, ReadFault>
-        requires { Nests self.now.depth (F.pre self.now.statement) (F.post self.now.statement) }
-        ensures { Reads (rule.perform_reader self.now.depth (spec.statements (spec.statement self.now.depth)) tokens.old) result tokens.new }
-    {
-        tokens.expect(Reserved::Perform)?;
-        if begins_procedures(tokens) {
-            procedures(self.alloc, self.depth, tokens)
-        } else {
-            self.in_line(tokens)
-        }
-    }
 }

@@ -12,7 +12,7 @@ use tokens::Reserved;
 
 /// From the verb on.
 #[tactic(auto, unfolding(crate::specs::Setting::set_reader))]
-pub fn setting(alloc: Global, tokens: &mut Tokens<'_>) -> Result<Verb<Statement>, ReadFault>
+pub fn read_set(alloc: Global, tokens: &mut Tokens<'_>) -> Result<Verb<Statement>, ReadFault>
     ensures { Reads (spec.set_reader tokens.old) result tokens.new }
 {
     tokens.expect(Reserved::Set)?;

@@ -15,6 +15,28 @@ use sqlite_items::Items;
 use std::alloc::Global;
 use tokens::{Reserved, Token};
 
+impl<F: Fn(Global, &mut Tokens<'_>, usize) -> Result<Statement, ReadFault>> Nesting<F> {
+    /// From the verb on: what is strung together, the OVERFLOW phrases and END-STRING.
+    #[tactic(auto, unfolding(crate::specs::Stringing::string_reader, crate::specs::Reading::statements))]
+    pub fn read_string(&self, tokens: &mut Tokens<'_>) -> Result<Verb<Statement>, ReadFault>
+        requires { Nests self.now.depth (F.pre self.now.statement) (F.post self.now.statement) }
+        ensures { Reads (rule.string_reader (spec.statements (spec.statement self.now.depth)) tokens.old) result tokens.new }
+    {
+        tokens.expect(Reserved::String)?;
+        let strung = strung(self.alloc, tokens)?;
+        let head = beside(strung, pointer(self.alloc, tokens))?;
+        let phrases = two_sided(Phrase::Overflow, self, self.alloc, tokens);
+        let (((sendings, receiver), pointer), phrases) = beside(head, phrases)?;
+        tokens.skip(Reserved::EndString);
+        Ok(Verb::StringStatement(StringStatement {
+            sendings,
+            receiver,
+            pointer,
+            phrases,
+        }))
+    }
+}
+
 /// What the senders are DELIMITED BY; none is SIZE.
 #[tactic(auto, unfolding(crate::specs::Stringing::delimiter_reader))]
 fn delimiter(alloc: Global, tokens: &mut Tokens<'_>) -> Result<Option<Operand>, ReadFault>
@@ -88,26 +110,4 @@ fn pointer(alloc: Global, tokens: &mut Tokens<'_>) -> Result<Option<Reference>, 
     };
     tokens.go_to(after);
     Ok(Some(reference(alloc, tokens)?))
-}
-
-impl<F: Fn(Global, &mut Tokens<'_>, usize) -> Result<Statement, ReadFault>> Nesting<F> {
-    /// From the verb on: what is strung together, the OVERFLOW phrases and END-STRING.
-    #[tactic(auto, unfolding(crate::specs::Stringing::string_reader, crate::specs::Reading::statements))]
-    pub fn stringing(&self, tokens: &mut Tokens<'_>) -> Result<Verb<Statement>, ReadFault>
-        requires { Nests self.now.depth (F.pre self.now.statement) (F.post self.now.statement) }
-        ensures { Reads (rule.string_reader (spec.statements (spec.statement self.now.depth)) tokens.old) result tokens.new }
-    {
-        tokens.expect(Reserved::String)?;
-        let strung = strung(self.alloc, tokens)?;
-        let head = beside(strung, pointer(self.alloc, tokens))?;
-        let phrases = two_sided(Phrase::Overflow, self, self.alloc, tokens);
-        let (((sendings, receiver), pointer), phrases) = beside(head, phrases)?;
-        tokens.skip(Reserved::EndString);
-        Ok(Verb::StringStatement(StringStatement {
-            sendings,
-            receiver,
-            pointer,
-            phrases,
-        }))
-    }
 }

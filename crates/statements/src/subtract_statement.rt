@@ -12,7 +12,7 @@ use tokens::Reserved;
 
 /// From the verb on, without its phrases.
 #[tactic(auto, unfolding(crate::specs::Subtracting::subtract_reader))]
-pub fn subtracting(alloc: Global, tokens: &mut Tokens<'_>) -> Result<Operation, ReadFault>
+pub fn read_subtract(alloc: Global, tokens: &mut Tokens<'_>) -> Result<Operation, ReadFault>
     ensures { Reads (spec.subtract_reader tokens.old) result tokens.new }
 {
     tokens.expect(Reserved::Subtract)?;

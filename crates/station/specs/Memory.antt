@@ -52,8 +52,8 @@ abbrev pub memory_after_sync : Memory → Memory
 memory_after_sync m = record m { plan = plan_after m.plan; syncs = count_after_call (fate_of m.plan) m.syncs }
 
 -- it went to this state
-abbrev pub went : Memory → State → Memory
-went m s = record m { state = s; history = m.history ++ s ∷ [] }
+abbrev pub with_state : Memory → State → Memory
+with_state m s = record m { state = s; history = m.history ++ s ∷ [] }
 
 -- it showed these bytes
 abbrev pub memory_after_show : Memory → List ℕ → Memory

@@ -167,7 +167,7 @@ impl MemoryStation {
 
 impl Device for MemoryStation {
     ghost use Rattle.station.specs.Journal.{journal_state, journal_history, journal_sectors};
-    ghost use Rattle.station.specs.Memory.{memory, memory_after_read, memory_after_write, memory_after_sync, went, Obeys, Follows};
+    ghost use Rattle.station.specs.Memory.{memory, memory_after_read, memory_after_write, memory_after_sync, with_state, Obeys, Follows};
 
     ghost is_honest = { λ _. Unit {0} };
 
@@ -228,7 +228,7 @@ impl Device for MemoryStation {
         ensures moves { Moves (memory self.old).history (memory self.old).state
             (memory self.new).history (memory self.new).state }
         ensures memory { let m = memory self.old in let begun = memory_after_write m in
-            Follows (fate_of m.plan) begun (went begun (wrote m.state sector bytes.now)) (went begun
+            Follows (fate_of m.plan) begun (with_state begun (wrote m.state sector bytes.now)) (with_state begun
             (state_after_failed_write m.state sector bytes.now)) result (memory self.new) }
     {
         let fate = self.plan.step();
@@ -257,7 +257,7 @@ impl Device for MemoryStation {
         ensures moves { Moves (memory self.old).history (memory self.old).state
             (memory self.new).history (memory self.new).state }
         ensures memory { let m = memory self.old in let begun = memory_after_sync m in
-            Follows (fate_of m.plan) begun (went begun (state_after_sync m.state)) begun result
+            Follows (fate_of m.plan) begun (with_state begun (state_after_sync m.state)) begun result
             (memory self.new) }
     {
         let fate = self.plan.step();
@@ -271,7 +271,7 @@ impl Device for MemoryStation {
 }
 
 impl Station for MemoryStation {
-    ghost use Rattle.station.specs.Memory.{memory, memory_after_call, went, memory_after_show, memory_after_line, Follows};
+    ghost use Rattle.station.specs.Memory.{memory, memory_after_call, with_state, memory_after_show, memory_after_line, Follows};
 
     fn line(&mut self, into: &mut [u8]) -> Result<Option<usize>, DeviceError>
         ensures sectors { (memory self.new).sectors ≡ (memory self.old).sectors }
@@ -325,7 +325,7 @@ impl Station for MemoryStation {
         ensures moves { Moves (memory self.old).history (memory self.old).state
             (memory self.new).history (memory self.new).state }
         ensures memory { let m = memory self.old in let begun = memory_after_call m in
-            Follows (fate_of m.plan) begun (went begun (state_after_note m.state note)) begun result
+            Follows (fate_of m.plan) begun (with_state begun (state_after_note m.state note)) begun result
             (memory self.new) }
     {
         let hears = self.plan.step() == Fate::Works;

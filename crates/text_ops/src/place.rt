@@ -9,7 +9,7 @@ pub fn first_place(sought: &[u8], text: &[u8]) -> Option<usize>
     ensures within { IfSome result (λ at. at + length sought.now ≤ length text.now) }
 {
     for at in 0..text.len() {
-        if stands_in_front(sought, &text[at..]) {
+        if begins_text(sought, &text[at..]) {
             return Some(at);
         }
     }
@@ -17,8 +17,8 @@ pub fn first_place(sought: &[u8], text: &[u8]) -> Option<usize>
 }
 
 /// The text stands in front of the other. The empty text stands nowhere.
-fn stands_in_front(sought: &[u8], text: &[u8]) -> bool
-    ensures value { result ≡ spec.stands_in_front sought.now text.now }
+fn begins_text(sought: &[u8], text: &[u8]) -> bool
+    ensures value { result ≡ spec.begins_text sought.now text.now }
     ensures within { IsTrue result → length sought.now ≤ length text.now }
 {
     !sought.is_empty() && text.starts_with(sought)

@@ -26,7 +26,7 @@ use Rattle.conditions.specs.declared.asked.Test.TheVariants as test
 use Rattle.conditions.specs.declared.asked.Asked.{Asked}
 use Rattle.conditions.specs.declared.asked.Asked.TheVariants as asked_as
 use Rattle.conditions.specs.Tests as g
-use Rattle.conditions.specs.Tests.{test_in, symbol_of, with_equal, operator, first_told, next_test, is_class, begins_test, begins_class}
+use Rattle.conditions.specs.Tests.{test_in, symbol_of, with_equal, operator, first_known, next_test, is_class, begins_test, begins_class}
 
 -- ---- words that stand or not
 
@@ -178,7 +178,7 @@ passed true i rest (i1, is, stands) = ap (past_word w.Not) (past_is w.Is i i1 is
 passed false i rest (i1, is, stands) = ap (past_word w.Not) (past_is w.Is i i1 is) ∙ past_is w.Not i1 rest (inr stands)
 
 pub seen : (negated : Bool) (one : Test) (i i1 rest : List Token) → g.is_not negated i i1 → token_with test_in one i1 rest → next_test i ≡ Some one
-seen negated one i i1 rest before (first, is, tell) = ap (first_told test_in) (passed negated i i1 before) ∙ ap (first_told test_in) is ∙ tell
+seen negated one i i1 rest before (first, is, tell) = ap (first_known test_in) (passed negated i i1 before) ∙ ap (first_known test_in) is ∙ tell
 
 abbrev pub asks_class : Asked → Bool
 asks_class (asked_as.Class negated one) = true
@@ -235,7 +235,7 @@ pub operator_no_class : (i : List Token) → begins_operator i ≡ true → begi
 operator_no_class [] e = cc
 operator_no_class (first ∷ more) e =
     let o = operator_is first.kind e in
-    ap (λ j. is_class (first_told test_in (past_word w.Not j))) (word_stays w.Is first more o.0 o.1)
-    ∙ ap (λ j. is_class (first_told test_in j)) (word_stays w.Not first more o.0 o.1)
+    ap (λ j. is_class (first_known test_in (past_word w.Not j))) (word_stays w.Is first more o.0 o.1)
+    ∙ ap (λ j. is_class (first_known test_in j)) (word_stays w.Not first more o.0 o.1)
     ∙ ap (λ kind. is_class (g.test_by kind)) o.1
     ∙ symbol_no_class (symbol_of o.0)

@@ -17,7 +17,7 @@ use Rattle.expressions.proofs.Exact.References.{reference_starts}
 use Rattle.file_control.specs.declared.clause.ClauseKind.{ClauseKind}
 use Rattle.file_control.specs.declared.clause.ClauseKind.TheVariants as kind
 use Rattle.file_control.specs.Clauses as g
-use Rattle.file_control.specs.Clauses.{organization_of, organization_by, organization_in, begins_key, key_behind, begins_relative_key, clause_of, clause_in, clause_by_word, clause_at}
+use Rattle.file_control.specs.Clauses.{organization_of, organization_by, organization_in, begins_key, has_key_after, begins_relative_key, clause_of, clause_in, clause_by_word, clause_at}
 
 two_words : (one other : Reserved) → same_word one other ≡ false → (i a b : List Token) → word one i a → word other i b → ⊥
 two_words one other differ i a b s t =
@@ -35,7 +35,7 @@ by_word one i rest (first, is, kind) = ap clause_by_word is ∙ ap clause_in kin
 pub stands : (one : Reserved) → same_word one w.Relative ≡ false → (i rest : List Token) → word one i rest → clause_at i ≡ clause_of one
 stands one differ i rest s =
     let none = is_missing (finds_word w.Relative) i (λ after t. two_words one w.Relative differ i rest after s t) in
-    ap (λ o. chosen (key_behind o) i) none ∙ by_word one i rest s
+    ap (λ o. chosen (has_key_after o) i) none ∙ by_word one i rest s
 
 -- ---- organizations
 
@@ -86,4 +86,4 @@ key_begins one i rest (i1, inr (same, absent), (i2, inr (same', absent'), item))
 
 pub relative_stands : (one : Reference) (i i1 rest : List Token) → word w.Relative i i1 → g.key one i1 rest → clause_at i ≡ Some kind.RelativeKey
 relative_stands one i i1 rest first key =
-    ap (λ o. chosen (key_behind o) i) (word_stands w.Relative i i1 first) ∙ ap (λ b. chosen b i) (key_begins one i1 rest key)
+    ap (λ o. chosen (has_key_after o) i) (word_stands w.Relative i i1 first) ∙ ap (λ b. chosen b i) (key_begins one i1 rest key)

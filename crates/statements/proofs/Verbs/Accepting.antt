@@ -41,7 +41,7 @@ module _ (receiver : Reference) (console : Bool) where
   accepting_stands i rest s = stands w.Accept i s.0 s.1
 
   pub accepting_complete : {Allowed : Halt → Type 0} (i rest : List Token) → accept_statement receiver console i rest
-      → Answers Allowed (accept_reader i) (verb.Text (accept_tree receiver console)) rest
+      → Answers Allowed (accept_reader i) (verb.TextStatement (accept_tree receiver console)) rest
   unfolding accept_reader
   accepting_complete i rest (i1, verb, (i2, into, out)) =
       step (read.expect w.Accept i) _ (word_complete w.Accept tt i i1 verb)
@@ -49,7 +49,7 @@ module _ (receiver : Reference) (console : Bool) where
       (step (read.left_out after_from_date i2) _ (left_out_complete finds_from_date console i2 rest out) (Reached refl)))
 
 accepted_spelled : (depth : ℕ) (p : Statement → Part) (receiver : Reference) (console : Bool) (i rest : List Token)
-    → accept_statement receiver console i rest → g.verb_line depth p (verb.Text (accept_tree receiver console)) i rest
+    → accept_statement receiver console i rest → g.verb_line depth p (verb.TextStatement (accept_tree receiver console)) i rest
 accepted_spelled depth p receiver true i rest s = s
 accepted_spelled depth p receiver false i rest s = s
 

@@ -50,7 +50,7 @@ module _ (operands : List Operand) (advancing : Bool) where
   display_stands i rest s = stands w.Display i s.0 s.1
 
   pub display_complete : {Allowed : Halt → Type 0} (i rest : List Token) → display operands advancing i rest
-      → Answers Allowed (display_reader i) (verb.Text (text.Display operands advancing)) rest
+      → Answers Allowed (display_reader i) (verb.TextStatement (text.Display operands advancing)) rest
   unfolding display_reader
   display_complete i rest (i1, verb, (i2, shown, out)) =
       step (read.expect w.Display i) _ (word_complete w.Display tt i i1 verb)

@@ -29,7 +29,7 @@ use Rattle.statements.specs.declared.verb.VerbWord.TheVariants as v
 use Rattle.statements.specs.Verbs.{verb_at}
 use Rattle.statements.specs.FilePhrases.{key_phrases, key_phrases_reader, read_phrases_reader}
 use Rattle.statements.specs.Filing as rule
-use Rattle.statements.specs.Filing.{file_statement, item_at, item_behind_reader, after_key_is, some_key_reader, start_key_at, start_key_reader, by_file_verb, file_reader}
+use Rattle.statements.specs.Filing.{file_statement, item_at, item_after_reader, after_key_is, some_key_reader, start_key_at, start_key_reader, by_file_verb, file_reader}
 use Rattle.statements.specs.Spelling as g
 use Rattle.statements.specs.Reading as r
 use Rattle.statements.proofs.Standing.{stands}
@@ -40,23 +40,23 @@ use Rattle.statements.proofs.Verbs.Opening.{openings_shrink, openings_stand, ope
 -- ---- items behind words
 
 module _ {p : Part} {words : Words} (finds : Finds p words) where
-  item_sound : Sound (rule.item_behind p) (item_behind_reader words)
-  unfolding item_behind_reader
+  item_sound : Sound (rule.item_after p) (item_after_reader words)
+  unfolding item_after_reader
   item_sound x i rest e = go (words i) refl e
     where
-      go : (o : Option (List Token)) → words i ≡ o → item_at o i ≡ Ok (x, rest) → rule.item_behind p x i rest
-      go None is e = subst (λ y. rule.item_behind p y i rest) (value e) (after e, is_absent finds i is)
+      go : (o : Option (List Token)) → words i ≡ o → item_at o i ≡ Ok (x, rest) → rule.item_after p x i rest
+      go None is e = subst (λ y. rule.item_after p y i rest) (value e) (after e, is_absent finds i is)
       go (Some m) is e =
           unstep (reference_reader m) _ e (λ one i1 is1 e1.
-          subst (λ y. rule.item_behind p y i rest) (value e1) (m, finds.found i m is, reference_sound one m rest (last is1 e1)))
+          subst (λ y. rule.item_after p y i rest) (value e1) (m, finds.found i m is, reference_sound one m rest (last is1 e1)))
 
-  item_complete : {Allowed : Halt → Type 0} → Complete Allowed (rule.item_behind p) (item_behind_reader words)
-  unfolding item_behind_reader
+  item_complete : {Allowed : Halt → Type 0} → Complete Allowed (rule.item_after p) (item_after_reader words)
+  unfolding item_after_reader
   item_complete None i rest s = rw (is_missing finds i s.1) (Reached (ap (λ j. Ok (None, j)) s.0))
   item_complete (Some one) i rest (m, behind, item) =
       rw (finds.stands i m behind) (step (reference_reader m) _ (reference_complete one m rest item) (Reached refl))
 
-item_shrinks : (p : Part) → ((i rest : List Token) → p i rest → length rest < length i) → (x : Option Reference) (i rest : List Token) → rule.item_behind p x i rest
+item_shrinks : (p : Part) → ((i rest : List Token) → p i rest → length rest < length i) → (x : Option Reference) (i rest : List Token) → rule.item_after p x i rest
     → length rest ≤ length i
 item_shrinks p fewer None i rest s = let l = ap length s.0 in omega arith
 item_shrinks p fewer (Some one) i rest (m, behind, item) =
@@ -176,7 +176,7 @@ module _ (statements : List Statement → Part) where
   Stored = Reference × (Option Reference × FilePhrases Statement)
 
   abbrev stored : Stored → Part
-  stored x = reference x.0 then rule.item_behind (word w.From) x.1.0 then key_phrases statements x.1.1
+  stored x = reference x.0 then rule.item_after (word w.From) x.1.0 then key_phrases statements x.1.1
 
   module _ (reader : Parser (List Statement)) (each : Sound statements reader) where
     reading_sound : Sound (file_statement statements) (rule.read_reader reader)
@@ -186,8 +186,8 @@ module _ (statements : List Statement → Part) where
         unstep (read.name i1) _ e1 (λ file i2 is2 e2.
         unstep (read.presence_reader (after_word w.Next) i2) _ e2 (λ next i3 is3 e3.
         unstep (read.skip w.Record i3) _ e3 (λ t i4 is4 e4.
-        unstep (item_behind_reader (after_word w.Into) i4) _ e4 (λ into i5 is5 e5.
-        unstep (item_behind_reader after_key_is i5) _ e5 (λ key i6 is6 e6.
+        unstep (item_after_reader (after_word w.Into) i4) _ e4 (λ into i5 is5 e5.
+        unstep (item_after_reader after_key_is i5) _ e5 (λ key i6 is6 e6.
         unstep (read_phrases_reader reader i6) _ e6 (λ phrases i7 is7 e7.
         unstep (read.skip w.EndRead i7) _ e7 (λ z i8 is8 e8.
         let end = skip_sound w.EndRead z i7 rest (last is8 e8) in
@@ -202,7 +202,7 @@ module _ (statements : List Statement → Part) where
     unfolding rule.stored_reader
     stored_sound x i rest e =
         unstep (reference_reader i) _ e (λ row i1 is1 e1.
-        unstep (item_behind_reader (after_word w.From) i1) _ e1 (λ from i2 is2 e2.
+        unstep (item_after_reader (after_word w.From) i1) _ e1 (λ from i2 is2 e2.
         unstep (key_phrases_reader reader i2) _ e2 (λ phrases i3 is3 e3.
         subst (λ y. stored y i rest) (value e3)
         (i1, reference_sound row i i1 is1, (i2, item_sound (finds_word w.From) from i1 i2 is2, key_phrases_sound statements reader each phrases i2 rest (last is3 e3))))))
@@ -267,7 +267,7 @@ module _ (statements : List Statement → Part) where
     unfolding rule.stored_reader
     stored_complete x i rest (i1, item, (i2, sent, both)) =
         step (reference_reader i) _ (reference_complete x.0 i i1 item)
-        (step (item_behind_reader (after_word w.From) i1) _ (item_complete (finds_word w.From) x.1.0 i1 i2 sent)
+        (step (item_after_reader (after_word w.From) i1) _ (item_complete (finds_word w.From) x.1.0 i1 i2 sent)
         (step (key_phrases_reader reader i2) _ (key_phrases_complete statements reader Allowed each x.1.1 i2 rest both) (Reached refl)))
 
     by_verb_complete : (x : FileStatement Statement) (i rest : List Token) → file_statement statements x i rest → Answers Allowed (by_file_verb reader (file_verb x) i) x rest
@@ -279,8 +279,8 @@ module _ (statements : List Statement → Part) where
         (step (read.name i1) _ (name_complete file i1 i2 named)
         (step (read.presence_reader (after_word w.Next) i2) _ (stands_complete (finds_word w.Next) next i2 i3 next_word)
         (step (read.skip w.Record i3) _ (skip_complete w.Record tt i3 i4 row)
-        (step (item_behind_reader (after_word w.Into) i4) _ (item_complete (finds_word w.Into) into i4 i5 taken)
-        (step (item_behind_reader after_key_is i5) _ (item_complete finds_key_is key i5 i6 by)
+        (step (item_after_reader (after_word w.Into) i4) _ (item_complete (finds_word w.Into) into i4 i5 taken)
+        (step (item_after_reader after_key_is i5) _ (item_complete finds_key_is key i5 i6 by)
         (step (read_phrases_reader reader i6) _ (read_phrases_complete statements reader Allowed each phrases i6 i7 both)
         (step (read.skip w.EndRead i7) _ (skip_complete w.EndRead tt i7 rest end) (Reached refl))))))))
     by_verb_complete (filing_as.Write row from phrases) i rest (i1, first, (i2, item, (i3, sent, (i4, both, end)))) =

@@ -394,7 +394,7 @@ pub inspecting_stands : (one : InspectStatement) (i rest : List Token) → rule.
 inspecting_stands one i rest s = stands w.Inspect i s.0 s.1
 
 pub inspecting_complete : {Allowed : Halt → Type 0} (one : InspectStatement) (i rest : List Token) → rule.inspect_statement one i rest
-    → Answers Allowed (inspect_reader i) (verb.Text (text_as.Inspect one)) rest
+    → Answers Allowed (inspect_reader i) (verb.TextStatement (text_as.Inspect one)) rest
 unfolding inspect_reader
 inspecting_complete one i rest (i1, verb, (i2, subject, s)) =
     step (read.expect w.Inspect i) _ (word_complete w.Inspect tt i i1 verb)

@@ -1,6 +1,6 @@
 use Rattle.std.proofs.Common.{◌≡◌, ◌*◌, length}
 use Rattle.btree.specs.Calls.{pages_on}
-use Rattle.btree.specs.Told.{FewChanged}
+use Rattle.btree.specs.Results.{FewChanged}
 use Rattle.records.specs.Files.{File}
 use Rattle.records.specs.Stores.{spec_of}
 use Rattle.alternate_keys.specs.Calls.{Edits}

@@ -1,5 +1,5 @@
 use Rattle.std.proofs.Common.{◌≡◌, drop}
-use Rattle.codegen.specs.Pieces.{append, in_order}
+use Rattle.codegen.specs.Fragments.{append, in_order}
 use Rattle.codegen.specs.ConditionCode.{value_range_fragment}
 use Rattle.codegen.proofs.condition_name.emit_values.Given as goal
 

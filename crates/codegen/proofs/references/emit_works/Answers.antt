@@ -1,7 +1,7 @@
 use Rattle.std.proofs.Common.{ap, ◌∙◌}
-use Rattle.codegen.specs.Pieces.{append}
+use Rattle.codegen.specs.Fragments.{append}
 use Rattle.codegen.specs.DataCode.{work_fragment}
-use Rattle.codegen.proofs.Pieces.{is_done}
+use Rattle.codegen.proofs.Fragments.{is_done}
 use Rattle.codegen.proofs.Works.{works_are}
 use Rattle.codegen.proofs.references.emit_works.Goals as goal
 

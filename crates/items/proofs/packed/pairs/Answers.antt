@@ -1,5 +1,5 @@
 use Rattle.std.proofs.Common.{◌+◌, ◌*◌, ◌<◌, ◌^◌, ap, sym, ◌∙◌, drop, arith}
-use Rattle.decimal18.specs.Digits.{digits_behind}
+use Rattle.decimal18.specs.Digits.{digits_after}
 use Rattle.items.proofs.Bounds.{hundreds_below}
 use Rattle.items.proofs.Halves.{shown, no_pair, none_of, digits_next, number_next, bound_next}
 use Rattle.items.proofs.packed.pairs.Goals as goal
@@ -28,7 +28,7 @@ loop-byte-preserved c =
     record {
       bound = bound_next c.loop-byte.number i c.from.result c.loop-byte.invariant.bound
           (omega (arith, c.from.ensures, c.if-pair-gt-MOST.false));
-      number = ap (λ p. digits_behind (100 * c.loop-byte.number + p) (shown (drop (i + 1) c.args.bytes.now)))
+      number = ap (λ p. digits_after (100 * c.loop-byte.number + p) (shown (drop (i + 1) c.args.bytes.now)))
           (c.from.ensures ∙ digits.2)
           ∙ number_next c.args.bytes.now i c.loop-byte.number c.loop-byte-test.true ∙ c.loop-byte.invariant.number;
       digits = digits_next c.args.bytes.now i c.loop-byte-test.true digits.0 digits.1 ∙ c.loop-byte.invariant.digits;

@@ -1,5 +1,5 @@
 use Rattle.std.proofs.Common.{◌≡◌, ◌<◌, ◌^◌, drop}
-use Rattle.decimal18.specs.Digits.{digits_behind}
+use Rattle.decimal18.specs.Digits.{digits_after}
 use Rattle.items.specs.Display.{are_digits}
 use Rattle.items.proofs.Halves.{shown}
 use Rattle.items.proofs.packed.pairs.Given as goal
@@ -7,6 +7,6 @@ use Rattle.items.proofs.packed.pairs.Given as goal
 abbrev pub invariant-loop-byte : goal.invariant-loop-byte
 invariant-loop-byte l = record {
   bound : l.number < 100 ^ l.byte-index;
-  number : digits_behind l.number (shown (drop l.byte-index l.bytes)) ≡ digits_behind 0 (shown l.bytes);
+  number : digits_after l.number (shown (drop l.byte-index l.bytes)) ≡ digits_after 0 (shown l.bytes);
   digits : are_digits (shown (drop l.byte-index l.bytes)) ≡ are_digits (shown l.bytes);
 }

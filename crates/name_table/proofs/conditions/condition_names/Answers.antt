@@ -4,7 +4,7 @@ use Rattle.std.proofs.lemmas.List.{length-map}
 use Rattle.source_tree.specs.Records.{program_items}
 use Rattle.name_table.specs.Conditions.{pair_of}
 use Rattle.name_table.specs.Items.{called_item}
-use Rattle.name_table.specs.Passing.{item_count, record_item_count, conditions_behind, behind_records}
+use Rattle.name_table.specs.Passing.{item_count, record_item_count, conditions_after, behind_records}
 use Rattle.name_table.specs.Table.{calls_in}
 use Rattle.name_table.proofs.ConditionCalls.{items_are_counted, all_told}
 use Rattle.name_table.proofs.conditions.condition_names.Goals as goal
@@ -40,8 +40,8 @@ returns c =
     let calls = calls_in c.args.items.now in
     if_both c.with_records.result _ _ _ (λ all told pairs.
     all_told calls program all c.requires told
-    (pairs ∙ ap (λ l. l ++ behind_records c.in_ok-passed.passed.items c.as_slice-2.result.now) (c.in_ok-passed.ensures.pairs ∙ ap (λ l. l ++ conditions_behind 0 0 c.as_slice.result.now) (ap (map pair_of) c.new.ensures.conditions))
-    ∙ ap (λ n. conditions_behind 0 0 c.as_slice.result.now ++ behind_records n c.as_slice-2.result.now) (c.in_ok-passed.ensures.items ∙ first_items (item_count c.as_slice.result.now))
-    ∙ ap (λ l. conditions_behind 0 0 l ++ behind_records (item_count l) c.as_slice-2.result.now) c.as_slice.ensures
-    ∙ ap (λ l. conditions_behind 0 0 program.storage ++ behind_records (item_count program.storage) l) c.as_slice-2.ensures))
+    (pairs ∙ ap (λ l. l ++ behind_records c.in_ok-passed.passed.items c.as_slice-2.result.now) (c.in_ok-passed.ensures.pairs ∙ ap (λ l. l ++ conditions_after 0 0 c.as_slice.result.now) (ap (map pair_of) c.new.ensures.conditions))
+    ∙ ap (λ n. conditions_after 0 0 c.as_slice.result.now ++ behind_records n c.as_slice-2.result.now) (c.in_ok-passed.ensures.items ∙ first_items (item_count c.as_slice.result.now))
+    ∙ ap (λ l. conditions_after 0 0 l ++ behind_records (item_count l) c.as_slice-2.result.now) c.as_slice.ensures
+    ∙ ap (λ l. conditions_after 0 0 program.storage ++ behind_records (item_count program.storage) l) c.as_slice-2.ensures))
     c.with_records.ensures.told c.with_records.ensures.pairs

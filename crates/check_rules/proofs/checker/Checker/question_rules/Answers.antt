@@ -1,8 +1,8 @@
 use Rattle.std.proofs.Common.{true, false, ap, ◌∙◌}
 use Rattle.source_tree.specs.ConditionRules.{condition_rules}
-use Rattle.declarations.specs.declared.looked.Question.{Question}
+use Rattle.declarations.specs.declared.resolved.Question.{Question}
 use Rattle.declarations.specs.Named.{items_in}
-use Rattle.declarations.specs.Looking.{question_meant}
+use Rattle.declarations.specs.Resolved.{question_meant}
 use Rattle.check_rules.proofs.QuestionLayers.{constant_is}
 use Rattle.check_rules.proofs.checker.Checker.question_rules.Goals as goal
 

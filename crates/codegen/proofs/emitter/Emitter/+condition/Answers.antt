@@ -5,7 +5,7 @@ use Rattle.source_tree.specs.ConditionRules.{condition_rules}
 use Rattle.data_instructions.specs.declared.instruction.DataInstruction.TheVariants as i
 use Rattle.data_instructions.specs.declared.test.Test.TheVariants as test
 use Rattle.declarations.specs.Named.{items_in}
-use Rattle.codegen.specs.Pieces.{Fragment, append, sequence, in_order}
+use Rattle.codegen.specs.Fragments.{Fragment, append, sequence, in_order}
 use Rattle.codegen.specs.Meeting.{nothing_fragment}
 use Rattle.codegen.specs.DataCode.{work_fragment}
 use Rattle.codegen.specs.ConditionCode.{condition_name_fragment, relation_fragment, and_fragment, or_fragment, all_fragment, any_fragment, condition_layer_fragment, condition_fragment}
@@ -14,7 +14,7 @@ use Rattle.codegen.specs.Phrases.{patched_code}
 use Rattle.codegen.proofs.ConditionLayers.{name_is, relation_is, sign_is, class_is, not_is, all_is, any_is, name_rules, relation_kept, sign_rules, class_rules, not_rules, all_rules, any_rules, all_parts, any_parts}
 use Rattle.codegen.proofs.Kept.{front_kept, back_kept, one_kept}
 use Rattle.codegen.proofs.Meeting.{meeting}
-use Rattle.codegen.proofs.Pieces.{joined_nothing}
+use Rattle.codegen.proofs.Fragments.{joined_nothing}
 use Rattle.codegen.proofs.Sequences.{is_so, ends_so, on_ok}
 use Rattle.codegen.proofs.emitter.Emitter.+condition.Goals as goal
 

@@ -1,7 +1,7 @@
 use Rattle.std.proofs.Common.{◌≡◌, ◌+◌, ◌*◌, drop}
 use Rattle.source_tree.specs.declared.condition.Condition.{Condition}
 use Rattle.declarations.specs.Named.{items_in}
-use Rattle.codegen.specs.Pieces.{append, in_order}
+use Rattle.codegen.specs.Fragments.{append, in_order}
 use Rattle.codegen.specs.ConditionCode.{and_fragment, or_fragment, condition_fragment}
 use Rattle.codegen.proofs.emitter.Emitter.+condition.Given as goal
 

@@ -8,7 +8,7 @@ use Rattle.data_instructions.specs.declared.instruction.DataInstruction.TheVaria
 use Rattle.declarations.specs.Named.{items_in}
 use Rattle.declarations.specs.Chains.{further_rules}
 use Rattle.declarations.proofs.Layers as layers
-use Rattle.codegen.specs.Pieces.{append, sequence, in_order}
+use Rattle.codegen.specs.Fragments.{append, sequence, in_order}
 use Rattle.codegen.specs.DataCode.{work_fragment}
 use Rattle.codegen.specs.ArithmeticCode.{value_fragment, expression_fragment}
 use Rattle.codegen.proofs.ExpressionForms.{link_piece, operand_is, negated_is, chain_is}

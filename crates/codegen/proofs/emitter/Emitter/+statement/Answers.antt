@@ -14,7 +14,7 @@ use Rattle.source_tree.specs.declared.evaluate_statement.When.{When}
 use Rattle.source_tree.specs.declared.evaluate_statement.Selected.{Selected}
 use Rattle.source_tree.specs.declared.string_statement.Sending.{Sending}
 use Rattle.source_tree.specs.Broken.{each}
-use Rattle.source_tree.specs.Evaluate.{asked_each, whens_asked, selected_asked}
+use Rattle.source_tree.specs.Evaluate.{object_conditions, when_conditions, selected_condition}
 use Rattle.source_tree.specs.EvaluateRules.{when_rules, selected_rules}
 use Rattle.source_tree.specs.Filing as meaning
 use Rattle.source_tree.specs.Filing.{file_with_record, phrases_of}
@@ -34,7 +34,7 @@ use Rattle.file_image.specs.declared.class.StatusClass.TheVariants.{Successful}
 use Rattle.code_image.specs.declared.code.Code.{Code}
 use Rattle.code_image.specs.declared.instruction.Instruction.TheVariants.{Jump, Join}
 use Rattle.codegen.specs.declared.phrases.Way.{Way}
-use Rattle.codegen.specs.Pieces.{Fragment, append, sequence, in_order}
+use Rattle.codegen.specs.Fragments.{Fragment, append, sequence, in_order}
 use Rattle.codegen.specs.Meeting.{branch_code, jump_code, either_fragment, nothing_fragment}
 use Rattle.codegen.specs.DataCode.{work_fragment, take_fragment}
 use Rattle.codegen.specs.ConditionCode.{condition_fragment}
@@ -48,7 +48,7 @@ use Rattle.codegen.proofs.EvaluateKept.{subjects_of, groups_of, other_of}
 use Rattle.codegen.proofs.Opening.{opened_way, opened_longer, with_last, still_ways, groups_go_on, groups_done}
 use Rattle.codegen.proofs.Questions.{whens_rules}
 use Rattle.codegen.proofs.StringCodes.{keeps_string, pointer_kept}
-use Rattle.codegen.proofs.Pieces.{joined_nothing}
+use Rattle.codegen.proofs.Fragments.{joined_nothing}
 use Rattle.codegen.proofs.Sequences.{then_piece, is_so, ends_so, on_ok}
 use Rattle.codegen.proofs.Meeting.{meeting, phrases_stand}
 use Rattle.codegen.proofs.Kept.{front_kept, back_kept, one_kept, item_kept}
@@ -191,7 +191,7 @@ emit_counted_turn-returns t c =
 pub emit_statement-emit_texts-requires-clause-rules : goal.emit_statement-emit_texts-requires-clause-rules
 emit_statement-emit_texts-requires-clause-rules t c =
     let scope = scope_in c.args.self.now.declarations.now in
-    sym (ap (verb_rules scope all_permitted (statement_rules scope all_permitted)) c.in-Text.is) ∙ sym (layers.statement_is scope all_permitted c.args.one.now) ∙ c.requires.rules
+    sym (ap (verb_rules scope all_permitted (statement_rules scope all_permitted)) c.in-TextStatement.is) ∙ sym (layers.statement_is scope all_permitted c.args.one.now) ∙ c.requires.rules
 
 pub emit_statements-emit_statement-requires : goal.emit_statements-emit_statement-requires
 emit_statements-emit_statement-requires t c =
@@ -267,7 +267,7 @@ emit_selected-emit_whens-requires-clause-rules t c =
     let scope = scope_in c.args.self.now.declarations.now in
     let subjects = c.args.subjects.now in
     let whens = c.args.one.now.whens in
-    let kept = λ (one : When). each (condition_rules scope.items) (asked_each scope.items subjects one.objects) in
+    let kept = λ (one : When). each (condition_rules scope.items) (object_conditions scope.items subjects one.objects) in
     ap (each kept) c.as_slice.ensures
     ∙ whens_rules scope.items subjects whens
     (front_kept (each (when_rules scope.items subjects) whens) (each (statement_rules scope all_permitted) c.args.one.now.statements) c.requires.rules)
@@ -289,12 +289,12 @@ emit_selected-returns t c =
     let asks = c.emit_whens.new.code in
     let after = c.emit_jump.new.code in
     let done = c.emit_statements.new.code in
-    let test = condition_fragment scope.items (selected_asked scope.items c.args.subjects.now one) in
+    let test = condition_fragment scope.items (selected_condition scope.items c.args.subjects.now one) in
     let first = in_order (statement_fragment scope) one.statements in
     let branch_piece : Fragment = λ now. branch_code 0 in
     let jump_piece : Fragment = λ now. jump_code 0 in
     let begun : asks ≡ append old (test old) =
-    c.in_ok-emit_whens.ensures ∙ ap (λ (l : List When). append old (condition_fragment scope.items (Any (whens_asked scope.items c.args.subjects.now l)) old)) c.as_slice.ensures in
+    c.in_ok-emit_whens.ensures ∙ ap (λ (l : List When). append old (condition_fragment scope.items (Any (when_conditions scope.items c.args.subjects.now l)) old)) c.as_slice.ensures in
     let inner : done ≡ append c.emit_branch.new.code (first c.emit_branch.new.code) =
     c.in_ok-emit_statements.ensures
     ∙ ap (λ (l : List Statement). append c.emit_branch.new.code (in_order (statement_fragment scope) l c.emit_branch.new.code)) c.as_slice-2.ensures in
@@ -325,7 +325,7 @@ emit_groups-loop-one-preserved t c =
     let way = c.in_ok-way.way in
     let now = c.loop-one.code in
     let next = c.emit_selected.new.code in
-    let test = condition_fragment scope.items (selected_asked scope.items subjects one) in
+    let test = condition_fragment scope.items (selected_condition scope.items subjects one) in
     let first = in_order inside one.statements in
     let pushed : c.push.new.self.items ≡ ways ++ way ∷ [] = c.in_ok-push.ensures.items in
     record {

@@ -2,7 +2,7 @@ use Rattle.std.proofs.Common.{◌≡◌, ◌+◌, ◌*◌, List, Option, length,
 use Rattle.std.specs.List.{AllByRecursion}
 use Rattle.source_tree.specs.declared.statement.Statement.{Statement}
 use Rattle.declarations.specs.Named.{scope_in}
-use Rattle.codegen.specs.Pieces.{append, in_order}
+use Rattle.codegen.specs.Fragments.{append, in_order}
 use Rattle.codegen.specs.Layout.{selection_fragment, statement_fragment}
 use Rattle.codegen.specs.Phrases.{IsWay, met_all}
 use Rattle.codegen.proofs.emitter.Emitter.+statement.Given as goal

@@ -1,14 +1,14 @@
 use Rattle.std.proofs.Common.{◌≡◌, true, false, [], ◌∷◌, sym, ap, ◌∙◌}
 use Rattle.source_tree.specs.declared.condition.Condition.TheVariants.{All}
-use Rattle.source_tree.specs.Evaluate.{told_as}
-use Rattle.declarations.specs.Looking.{condition_meant}
+use Rattle.source_tree.specs.Evaluate.{condition_or_opposite}
+use Rattle.declarations.specs.Resolved.{condition_meant}
 use Rattle.declarations.specs.Named.{items_in}
-use Rattle.codegen.specs.Pieces.{append}
+use Rattle.codegen.specs.Fragments.{append}
 use Rattle.codegen.specs.Meeting.{nothing_fragment}
 use Rattle.codegen.specs.ConditionCode.{or_fragment, condition_fragment}
 use Rattle.codegen.specs.Phrases.{patched_code}
 use Rattle.codegen.proofs.Meeting.{meeting}
-use Rattle.codegen.proofs.Pieces.{joined_nothing}
+use Rattle.codegen.proofs.Fragments.{joined_nothing}
 use Rattle.codegen.proofs.Questions.{either_is}
 use Rattle.codegen.proofs.Sequences.{then_piece, on_ok}
 use Rattle.codegen.proofs.emitter.Emitter.emit_alike.Goals as goal
@@ -20,8 +20,8 @@ returns c =
     let new = c.emit_meeting.new.code in
     let one = condition_meant c.args.one in
     let other = condition_meant c.args.other in
-    let both_true = All (told_as true one ∷ told_as true other ∷ []) in
-    let both_false = All (told_as false one ∷ told_as false other ∷ []) in
+    let both_true = All (condition_or_opposite true one ∷ condition_or_opposite true other ∷ []) in
+    let both_false = All (condition_or_opposite false one ∷ condition_or_opposite false other ∷ []) in
     let first = condition_fragment items both_true in
     let behind = condition_fragment items both_false in
     let branch = c.in_ok-branch.branch in

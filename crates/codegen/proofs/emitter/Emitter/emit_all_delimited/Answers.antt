@@ -1,6 +1,6 @@
 use Rattle.declarations.specs.Named.{items_in}
 use Rattle.data_instructions.specs.declared.instruction.DataInstruction.TheVariants as i
-use Rattle.codegen.specs.Pieces.{sequence, in_order}
+use Rattle.codegen.specs.Fragments.{sequence, in_order}
 use Rattle.codegen.specs.DataCode.{work_fragment, reference_fragment}
 use Rattle.codegen.specs.StringCode.{found_fragment, up_to_place_fragment}
 use Rattle.codegen.proofs.Sequences.{ends_so}

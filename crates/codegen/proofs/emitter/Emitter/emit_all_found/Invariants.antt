@@ -1,7 +1,7 @@
 use Rattle.std.proofs.Common.{◌≡◌, drop}
 use Rattle.codegen.specs.StringCode.{found_fragment}
 use Rattle.declarations.specs.Named.{items_in}
-use Rattle.codegen.specs.Pieces.{append, in_order}
+use Rattle.codegen.specs.Fragments.{append, in_order}
 use Rattle.codegen.proofs.emitter.Emitter.emit_all_found.Given as goal
 
 -- what is there, and what is still to come, are the whole

@@ -3,7 +3,7 @@ use Rattle.source_tree.specs.declared.phrases.FilePhrases.TheVariants.{Absent}
 use Rattle.source_tree.specs.ProgramFiles.{ProgramFile}
 use Rattle.file_descriptions.specs.Files.{file_in}
 use Rattle.declarations.specs.Named.{items_in, scope_in}
-use Rattle.codegen.specs.Pieces.{append}
+use Rattle.codegen.specs.Fragments.{append}
 use Rattle.codegen.specs.FileCode.{on_file_fragment}
 use Rattle.codegen.specs.Layout.{alone_fragment, statement_fragment}
 use Rattle.codegen.specs.Phrases.{patched_code}

@@ -5,7 +5,7 @@ use Rattle.codegen.specs.Meeting.{nothing_fragment}
 use Rattle.codegen.specs.ConditionCode.{condition_fragment}
 use Rattle.codegen.specs.Phrases.{patched_code}
 use Rattle.codegen.proofs.Meeting.{meeting}
-use Rattle.codegen.proofs.Pieces.{joined_nothing}
+use Rattle.codegen.proofs.Fragments.{joined_nothing}
 use Rattle.codegen.proofs.Sequences.{on_ok}
 use Rattle.codegen.proofs.emitter.Emitter.emit_and_asked.Goals as goal
 

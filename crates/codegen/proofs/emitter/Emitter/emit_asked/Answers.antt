@@ -2,9 +2,9 @@ use Rattle.std.proofs.Common.{ap, ◌∙◌}
 use Rattle.source_tree.specs.declared.condition.Condition.{Condition}
 use Rattle.source_tree.specs.ConditionRules.{condition_rules}
 use Rattle.source_tree.specs.Evaluate.{selection_condition}
-use Rattle.declarations.specs.Looking.{question_meant}
+use Rattle.declarations.specs.Resolved.{question_meant}
 use Rattle.declarations.specs.Named.{items_in}
-use Rattle.codegen.specs.Pieces.{append}
+use Rattle.codegen.specs.Fragments.{append}
 use Rattle.codegen.specs.ConditionCode.{condition_fragment}
 use Rattle.codegen.proofs.Sequences.{is_so}
 use Rattle.codegen.proofs.emitter.Emitter.emit_asked.Goals as goal

@@ -3,10 +3,10 @@ use Rattle.std.specs.Prelude.{not}
 use Rattle.source_tree.specs.declared.condition.Condition.TheVariants.{Name}
 use Rattle.source_tree.specs.ConditionRules.{condition_rules}
 use Rattle.data_instructions.specs.ConditionCodes.{negation}
-use Rattle.declarations.specs.declared.looked.AskedCondition.{AskedCondition}
-use Rattle.declarations.specs.Looking.{condition_meant}
+use Rattle.declarations.specs.declared.resolved.AskedCondition.{AskedCondition}
+use Rattle.declarations.specs.Resolved.{condition_meant}
 use Rattle.declarations.specs.Named.{items_in}
-use Rattle.codegen.specs.Pieces.{Fragment, append, sequence}
+use Rattle.codegen.specs.Fragments.{Fragment, append, sequence}
 use Rattle.codegen.specs.DataCode.{works_fragment}
 use Rattle.codegen.specs.ConditionCode.{condition_fragment}
 use Rattle.codegen.proofs.ConditionLayers.{name_is, name_rules}

@@ -1,13 +1,13 @@
 use Rattle.std.proofs.Common.{◌≡◌, sym, ap, ◌∙◌}
-use Rattle.source_tree.specs.Evaluate.{told_as}
-use Rattle.declarations.specs.Looking.{condition_meant}
+use Rattle.source_tree.specs.Evaluate.{condition_or_opposite}
+use Rattle.declarations.specs.Resolved.{condition_meant}
 use Rattle.declarations.specs.Named.{items_in}
-use Rattle.codegen.specs.Pieces.{append}
+use Rattle.codegen.specs.Fragments.{append}
 use Rattle.codegen.specs.Meeting.{nothing_fragment}
 use Rattle.codegen.specs.ConditionCode.{and_fragment, condition_fragment}
 use Rattle.codegen.specs.Phrases.{patched_code}
 use Rattle.codegen.proofs.Meeting.{meeting}
-use Rattle.codegen.proofs.Pieces.{joined_nothing}
+use Rattle.codegen.proofs.Fragments.{joined_nothing}
 use Rattle.codegen.proofs.Questions.{both_are}
 use Rattle.codegen.proofs.Sequences.{then_piece, on_ok}
 use Rattle.codegen.proofs.emitter.Emitter.emit_both_told.Goals as goal
@@ -17,8 +17,8 @@ returns c =
     let items = items_in c.args.self.now.declarations.now in
     let old = c.args.code.now in
     let new = c.emit_meeting.new.code in
-    let one = told_as c.args.truth (condition_meant c.args.one) in
-    let further = told_as c.args.truth (condition_meant c.args.other) in
+    let one = condition_or_opposite c.args.truth (condition_meant c.args.one) in
+    let further = condition_or_opposite c.args.truth (condition_meant c.args.other) in
     let first = condition_fragment items one in
     let behind = condition_fragment items further in
     let branch = c.in_ok-branch.branch in

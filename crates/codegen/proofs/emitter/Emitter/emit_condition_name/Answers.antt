@@ -8,7 +8,7 @@ use Rattle.source_tree.specs.NameRules.{subscript_rules}
 use Rattle.data_instructions.specs.declared.index.ItemIndex.{ItemIndex}
 use Rattle.data_instructions.specs.declared.instruction.DataInstruction.TheVariants as i
 use Rattle.declarations.specs.Named.{data_in, items_in}
-use Rattle.codegen.specs.Pieces.{append, sequence}
+use Rattle.codegen.specs.Fragments.{append, sequence}
 use Rattle.codegen.specs.DataCode.{dimensions_of, work_fragment, works_fragment, subscripts_fragment}
 use Rattle.codegen.specs.ConditionCode.{condition_item, values_fragment, condition_name_fragment}
 use Rattle.codegen.specs.Values.{AreFormedValues}

@@ -2,10 +2,10 @@ use Rattle.std.proofs.Common.{ap, ◌∙◌}
 use Rattle.source_tree.specs.declared.evaluate_statement.Subject.{Subject}
 use Rattle.source_tree.specs.EvaluateRules.{subject_rules}
 use Rattle.declarations.specs.Named.{items_in}
-use Rattle.codegen.specs.Pieces.{append, in_order}
+use Rattle.codegen.specs.Fragments.{append, in_order}
 use Rattle.codegen.specs.SubjectCode.{subject_fragment}
 use Rattle.codegen.proofs.Kept.{one_kept}
-use Rattle.codegen.proofs.Pieces.{goes_on}
+use Rattle.codegen.proofs.Fragments.{goes_on}
 use Rattle.codegen.proofs.emitter.Emitter.emit_each_subject.Goals as goal
 
 pub emit_subject-requires-clause-rules : goal.emit_subject-requires-clause-rules

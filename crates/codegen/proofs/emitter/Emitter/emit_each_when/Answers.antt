@@ -2,24 +2,24 @@ use Rattle.std.proofs.Common.{ap, ◌∙◌}
 use Rattle.source_tree.specs.declared.evaluate_statement.When.{When}
 use Rattle.source_tree.specs.Broken.{each}
 use Rattle.source_tree.specs.ConditionRules.{condition_rules}
-use Rattle.source_tree.specs.Evaluate.{asked_each, when_asked}
+use Rattle.source_tree.specs.Evaluate.{object_conditions, when_condition}
 use Rattle.declarations.specs.Named.{items_in}
-use Rattle.codegen.specs.Pieces.{append, in_order}
+use Rattle.codegen.specs.Fragments.{append, in_order}
 use Rattle.codegen.specs.ConditionCode.{or_fragment, condition_fragment}
 use Rattle.codegen.proofs.Kept.{one_kept}
-use Rattle.codegen.proofs.Pieces.{goes_on}
+use Rattle.codegen.proofs.Fragments.{goes_on}
 use Rattle.codegen.proofs.emitter.Emitter.emit_each_when.Goals as goal
 
 pub emit_or_when-requires-clause-rules : goal.emit_or_when-requires-clause-rules
 emit_or_when-requires-clause-rules c =
     let items = items_in c.args.self.now.declarations.now in
-    let kept = λ (one : When). each (condition_rules items) (asked_each items c.args.subjects.now one.objects) in
+    let kept = λ (one : When). each (condition_rules items) (object_conditions items c.args.subjects.now one.objects) in
     ap kept c.one-item.is ∙ one_kept kept c.args.more.now c.loop-one.one-index c.one-item.result c.loop-one-test.true c.requires.rules
 
 pub loop-one-preserved : goal.loop-one-preserved
 loop-one-preserved c =
     let items = items_in c.args.self.now.declarations.now in
-    let when_piece = λ (one : When). or_fragment (condition_fragment items (when_asked items c.args.subjects.now one)) in
+    let when_piece = λ (one : When). or_fragment (condition_fragment items (when_condition items c.args.subjects.now one)) in
     let all = c.args.more.now in
     let i = c.loop-one.one-index in
     let one = c.one-item.result in

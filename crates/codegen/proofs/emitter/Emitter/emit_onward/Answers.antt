@@ -1,12 +1,12 @@
 use Rattle.std.proofs.Common.{◌≡◌, sym}
 use Rattle.data_instructions.specs.declared.instruction.DataInstruction.TheVariants as i
 use Rattle.declarations.specs.Named.{items_in}
-use Rattle.codegen.specs.Pieces.{sequence}
+use Rattle.codegen.specs.Fragments.{sequence}
 use Rattle.codegen.specs.Meeting.{nothing_fragment}
 use Rattle.codegen.specs.DataCode.{work_fragment}
 use Rattle.codegen.specs.UntilCode.{vary_on_fragment}
 use Rattle.codegen.specs.Phrases.{patched_code}
-use Rattle.codegen.proofs.Pieces.{joined_nothing}
+use Rattle.codegen.proofs.Fragments.{joined_nothing}
 use Rattle.codegen.proofs.Sequences.{then_piece, on_ok}
 use Rattle.codegen.proofs.Meeting.{meeting}
 use Rattle.codegen.proofs.emitter.Emitter.emit_onward.Goals as goal

@@ -1,6 +1,6 @@
 use Rattle.std.proofs.Common.{sym, ap}
 use Rattle.declarations.specs.Named.{items_in}
-use Rattle.codegen.specs.Pieces.{append, sequence}
+use Rattle.codegen.specs.Fragments.{append, sequence}
 use Rattle.codegen.specs.ArithmeticCode.{operation_fragment}
 use Rattle.codegen.specs.Operations.{values_fragment, results_fragment}
 use Rattle.codegen.proofs.Operations.{operation_parts, values_kept, results_kept}

@@ -1,6 +1,6 @@
 use Rattle.std.proofs.Common.{◌≡◌, drop}
 use Rattle.declarations.specs.Named.{scope_in}
-use Rattle.codegen.specs.Pieces.{append, in_order}
+use Rattle.codegen.specs.Fragments.{append, in_order}
 use Rattle.codegen.specs.Layout.{paragraph_fragment}
 use Rattle.codegen.proofs.emitter.Emitter.emit_paragraphs.Given as goal
 

@@ -1,9 +1,9 @@
 use Rattle.std.proofs.Common.{true, false, sym, ap, ◌∙◌}
 use Rattle.source_tree.specs.ConditionRules.{condition_rules}
-use Rattle.declarations.specs.declared.looked.Question.{Question}
-use Rattle.declarations.specs.Looking.{condition_meant, question_meant}
+use Rattle.declarations.specs.declared.resolved.Question.{Question}
+use Rattle.declarations.specs.Resolved.{condition_meant, question_meant}
 use Rattle.declarations.specs.Named.{items_in}
-use Rattle.codegen.specs.Pieces.{Fragment, append}
+use Rattle.codegen.specs.Fragments.{Fragment, append}
 use Rattle.codegen.specs.ConditionCode.{condition_fragment}
 use Rattle.codegen.specs.EvaluateCode.{constant_fragment}
 use Rattle.codegen.proofs.Questions.{constant_is, told_rules, one_alike, other_alike}

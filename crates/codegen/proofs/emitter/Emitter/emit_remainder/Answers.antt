@@ -5,7 +5,7 @@ use Rattle.data_instructions.specs.declared.calculation.Calculation.TheVariants 
 use Rattle.data_instructions.specs.declared.instruction.DataInstruction.TheVariants as i
 use Rattle.data_instructions.specs.ArithmeticCodes.{duplicate}
 use Rattle.declarations.specs.Named.{items_in}
-use Rattle.codegen.specs.Pieces.{append, sequence}
+use Rattle.codegen.specs.Fragments.{append, sequence}
 use Rattle.codegen.specs.DataCode.{works_fragment, take_fragment}
 use Rattle.codegen.specs.ArithmeticCode.{void_code, give_fragment, remainder_fragment}
 use Rattle.codegen.proofs.Kept.{front_kept, back_kept, item_kept}

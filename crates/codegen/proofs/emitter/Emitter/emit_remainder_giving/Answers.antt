@@ -3,7 +3,7 @@ use Rattle.source_tree.specs.declared.arithmetic.DivisionOrder.{DivisionOrder}
 use Rattle.data_instructions.specs.declared.instruction.DataInstruction.{DataInstruction}
 use Rattle.data_instructions.specs.ArithmeticCodes.{duplicate}
 use Rattle.declarations.specs.Named.{items_in}
-use Rattle.codegen.specs.Pieces.{append, sequence}
+use Rattle.codegen.specs.Fragments.{append, sequence}
 use Rattle.codegen.specs.DataCode.{work_fragment}
 use Rattle.codegen.specs.ArithmeticCode.{remainder_fragment, division_fragment}
 use Rattle.codegen.proofs.Sequences.{is_so, ends_so}

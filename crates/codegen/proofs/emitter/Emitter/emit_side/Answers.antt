@@ -2,7 +2,7 @@ use Rattle.std.proofs.Common.{◌≡◌, Some, sym, ap, ◌∙◌}
 use Rattle.std.specs.Option.{option_map}
 use Rattle.source_tree.specs.Conditions.{alone_side}
 use Rattle.declarations.specs.Named.{items_in}
-use Rattle.codegen.specs.Pieces.{append}
+use Rattle.codegen.specs.Fragments.{append}
 use Rattle.codegen.specs.ArithmeticCode.{value_fragment}
 use Rattle.codegen.specs.ConditionCode.{side_fragment}
 use Rattle.codegen.specs.Sides.{operand_of}

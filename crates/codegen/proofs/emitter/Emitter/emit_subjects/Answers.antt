@@ -6,7 +6,7 @@ use Rattle.source_tree.specs.declared.evaluate_statement.Selected.{Selected}
 use Rattle.source_tree.specs.declared.evaluate_statement.Subject.{Subject}
 use Rattle.source_tree.specs.declared.statement.Statement.{Statement}
 use Rattle.declarations.specs.Named.{items_in}
-use Rattle.codegen.specs.Pieces.{append}
+use Rattle.codegen.specs.Fragments.{append}
 use Rattle.codegen.specs.SubjectCode.{first_object, each_subject_fragment, is_asked_first, subjects_fragment}
 use Rattle.codegen.proofs.Sequences.{is_so}
 use Rattle.codegen.proofs.SubjectLooks.{all_looks}

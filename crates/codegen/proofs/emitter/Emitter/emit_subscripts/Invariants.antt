@@ -1,6 +1,6 @@
 use Rattle.std.proofs.Common.{◌≡◌, drop}
 use Rattle.declarations.specs.Named.{items_in}
-use Rattle.codegen.specs.Pieces.{append}
+use Rattle.codegen.specs.Fragments.{append}
 use Rattle.codegen.specs.DataCode.{subscripts_fragment}
 use Rattle.codegen.proofs.emitter.Emitter.emit_subscripts.Given as goal
 

@@ -1,9 +1,9 @@
 use Rattle.std.proofs.Common.{◌≡◌, refl, sym, ap, ◌∙◌}
 use Rattle.std.specs.Prelude.{not}
-use Rattle.source_tree.specs.Evaluate.{constant, told_as}
+use Rattle.source_tree.specs.Evaluate.{constant, condition_or_opposite}
 use Rattle.data_instructions.specs.ConditionCodes.{negation}
 use Rattle.declarations.specs.Named.{items_in}
-use Rattle.codegen.specs.Pieces.{Fragment, append, sequence}
+use Rattle.codegen.specs.Fragments.{Fragment, append, sequence}
 use Rattle.codegen.specs.DataCode.{works_fragment}
 use Rattle.codegen.specs.ConditionCode.{condition_fragment}
 use Rattle.codegen.proofs.Questions.{constant_is, told_is}
@@ -20,6 +20,6 @@ returns c =
     let behind = works_fragment (negation (not c.args.one)) in
     let begun : c.emit_constant.new.code ≡ append old (test old) =
     c.in_ok-emit_constant.ensures ∙ ap (λ (p : Fragment). append old (p old)) (sym (constant_is items c.args.other)) in
-    is_so result new (append old (sequence test behind old)) (append old (condition_fragment items (told_as c.args.one (constant c.args.other)) old))
+    is_so result new (append old (sequence test behind old)) (append old (condition_fragment items (condition_or_opposite c.args.one (constant c.args.other)) old))
     (ends_so result test behind old c.emit_constant.new.code new begun c.emit_negation.ensures)
     (ap (append old) (told_is items (constant c.args.other) c.args.one (not c.args.one) old refl))

@@ -5,7 +5,7 @@ use Rattle.source_tree.specs.ConditionRules.{varying_rules}
 use Rattle.data_instructions.specs.declared.instruction.DataInstruction.{DataInstruction}
 use Rattle.data_instructions.specs.declared.instruction.DataInstruction.TheVariants as i
 use Rattle.declarations.specs.Named.{items_in}
-use Rattle.codegen.specs.Pieces.{append, sequence}
+use Rattle.codegen.specs.Fragments.{append, sequence}
 use Rattle.codegen.specs.DataCode.{work_fragment}
 use Rattle.codegen.specs.ArithmeticCode.{value_fragment, update_fragment}
 use Rattle.codegen.specs.UntilCode.{vary_on_fragment}

@@ -1,9 +1,9 @@
 use Rattle.std.proofs.Common.{sym, ap, ◌∙◌}
 use Rattle.std.specs.Prelude.{not}
-use Rattle.source_tree.specs.Evaluate.{told_as, value_within}
+use Rattle.source_tree.specs.Evaluate.{condition_or_opposite, value_within}
 use Rattle.data_instructions.specs.ConditionCodes.{negation}
 use Rattle.declarations.specs.Named.{items_in}
-use Rattle.codegen.specs.Pieces.{append, sequence}
+use Rattle.codegen.specs.Fragments.{append, sequence}
 use Rattle.codegen.specs.DataCode.{works_fragment}
 use Rattle.codegen.specs.ConditionCode.{condition_fragment}
 use Rattle.codegen.proofs.Questions.{unless_is, told_rules}
@@ -25,6 +25,6 @@ returns c =
     let wanted = c.args.wanted in
     let inner = value_within c.args.value.now wanted.first.now wanted.last.now in
     let behind = works_fragment (negation wanted.negated) in
-    is_so result new (append old (sequence (condition_fragment items inner) behind old)) (append old (condition_fragment items (told_as (not wanted.negated) inner) old))
+    is_so result new (append old (sequence (condition_fragment items inner) behind old)) (append old (condition_fragment items (condition_or_opposite (not wanted.negated) inner) old))
     (ends_so result (condition_fragment items inner) behind old c.emit_within.new.code new c.in_ok-emit_within.ensures c.emit_negation.ensures)
     (ap (append old) (unless_is items inner wanted.negated old))

@@ -8,7 +8,7 @@ use Rattle.data_machine.specs.declared.data.Data.{Data}
 use Rattle.data_machine.specs.declared.superinstruction.Superinstruction.TheVariants as f
 use Rattle.data_machine.specs.Data.{scratch_of}
 use Rattle.data_machine.specs.Comes.{KeepsRoom}
-use Rattle.data_machine.specs.Fused.{at_item}
+use Rattle.data_machine.specs.Superinstructions.{at_item}
 use Rattle.data_machine.specs.Ready.{IsReadyAlong}
 use Rattle.data_machine.proofs.FusedIs.{fused_is}
 use Rattle.data_machine.proofs.ReadyTogether.{item_stands, move_found}

@@ -1,5 +1,5 @@
 use Rattle.decimal18.proofs.DigitRuns.{too_long}
-use Rattle.decimal18.proofs.digits.long_number_behind.Goals as goal
+use Rattle.decimal18.proofs.digits.long_number_after.Goals as goal
 
 pub returns-then-number-most-clause-value : goal.returns-then-number-most-clause-value
 returns-then-number-most-clause-value c =

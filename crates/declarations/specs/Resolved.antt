@@ -10,19 +10,19 @@ use Rattle.source_tree.specs.declared.evaluate_statement.Choice.{Choice}
 use Rattle.source_tree.specs.declared.evaluate_statement.Choice.TheVariants as choice
 use Rattle.source_tree.specs.Places.{LocatedItem}
 use Rattle.source_tree.specs.LookUp.{NamedCondition, conditions_named}
-use Rattle.source_tree.specs.Evaluate.{ObjectValues, ResolvedOperand, Value, Truth, Asking, constant, told_as, alike, value_asked, looked_wanted, looked_choice, are_comparable, asked_of}
+use Rattle.source_tree.specs.Evaluate.{ObjectValues, ResolvedOperand, Value, Truth, Asking, constant, condition_or_opposite, alike, value_condition, resolved_values, resolved_choice, are_comparable, match_condition}
 use Rattle.source_tree.specs.Broken.{RuleBreach}
 use Rattle.entry_rules.specs.declared.rule.BrokenRule.{BrokenRule}
 use Rattle.entry_rules.specs.Checks.{broken_of}
-use Rattle.declarations.specs.declared.looked.AskedCondition.{AskedCondition}
-use Rattle.declarations.specs.declared.looked.AskedCondition.TheVariants as asked
-use Rattle.declarations.specs.declared.looked.WantedValue.{WantedValue}
-use Rattle.declarations.specs.declared.looked.LookedSubject.{LookedSubject}
-use Rattle.declarations.specs.declared.looked.LookedSubject.TheVariants as subject
-use Rattle.declarations.specs.declared.looked.LookedObject.{LookedObject}
-use Rattle.declarations.specs.declared.looked.LookedObject.TheVariants as object
-use Rattle.declarations.specs.declared.looked.Question.{Question}
-use Rattle.declarations.specs.declared.looked.Question.TheVariants as question
+use Rattle.declarations.specs.declared.resolved.AskedCondition.{AskedCondition}
+use Rattle.declarations.specs.declared.resolved.AskedCondition.TheVariants as asked
+use Rattle.declarations.specs.declared.resolved.ObjectRange.{ObjectRange}
+use Rattle.declarations.specs.declared.resolved.ResolvedSubject.{ResolvedSubject}
+use Rattle.declarations.specs.declared.resolved.ResolvedSubject.TheVariants as subject
+use Rattle.declarations.specs.declared.resolved.ResolvedObject.{ResolvedObject}
+use Rattle.declarations.specs.declared.resolved.ResolvedObject.TheVariants as object
+use Rattle.declarations.specs.declared.resolved.Question.{Question}
+use Rattle.declarations.specs.declared.resolved.Question.TheVariants as question
 
 -- ---- names
 
@@ -52,38 +52,38 @@ condition_alone items one = condition_named items (item_of one)
 -- ---- what is looked up
 
 abbrev pub condition_meant : AskedCondition → Condition
-condition_meant (asked.Name negated one) = told_as (not negated) (Name one.now)
+condition_meant (asked.Name negated one) = condition_or_opposite (not negated) (Name one.now)
 condition_meant (asked.Other one) = one.now
 
-abbrev pub wanted_meant : WantedValue → ObjectValues
-wanted_meant one = record { negated = one.negated; first = one.first.now; last = one.last.now }
+abbrev pub values_meant : ObjectRange → ObjectValues
+values_meant one = record { negated = one.negated; first = one.first.now; last = one.last.now }
 
-abbrev pub subject_meant : LookedSubject → ResolvedOperand Side
+abbrev pub subject_meant : ResolvedSubject → ResolvedOperand Side
 subject_meant (subject.Value one) = Value one.now
 subject_meant (subject.Truth one) = Truth one
 subject_meant (subject.Condition one) = Asking (condition_meant one)
 
 -- ANY names nothing.
-abbrev pub object_meant : LookedObject → Option (ResolvedOperand ObjectValues)
+abbrev pub object_meant : ResolvedObject → Option (ResolvedOperand ObjectValues)
 object_meant object.Any = None
-object_meant (object.Value one) = Some (Value (wanted_meant one))
+object_meant (object.Value one) = Some (Value (values_meant one))
 object_meant (object.Truth one) = Some (Truth one)
 object_meant (object.Condition one) = Some (Asking (condition_meant one))
 
-abbrev pub wanted_looked : List LocatedItem → ObjectValues → Option (ResolvedOperand ObjectValues)
-wanted_looked items one = Some (looked_wanted items one one.last)
+abbrev pub optional_values : List LocatedItem → ObjectValues → Option (ResolvedOperand ObjectValues)
+optional_values items one = Some (resolved_values items one one.last)
 
-abbrev pub choice_looked : List LocatedItem → Choice → Option (ResolvedOperand ObjectValues)
-choice_looked items choice.Any = None
-choice_looked items other = Some (looked_choice items other)
+abbrev pub optional_choice : List LocatedItem → Choice → Option (ResolvedOperand ObjectValues)
+optional_choice items choice.Any = None
+optional_choice items other = Some (resolved_choice items other)
 
 -- ---- what is asked
 
 abbrev pub question_meant : Question → Condition
 question_meant question.Nothing = constant true
-question_meant (question.Within value wanted) = value_asked value.now (wanted_meant wanted)
-question_meant (question.Truths one other) = told_as one (constant other)
-question_meant (question.Told truth one) = told_as truth (condition_meant one)
+question_meant (question.Within value wanted) = value_condition value.now (values_meant wanted)
+question_meant (question.Truths one other) = condition_or_opposite one (constant other)
+question_meant (question.Told truth one) = condition_or_opposite truth (condition_meant one)
 question_meant (question.Alike one other) = alike (condition_meant one) (condition_meant other)
 question_meant question.Unfit = constant false
 
@@ -92,13 +92,13 @@ is_fit question.Unfit = false
 is_fit _ = true
 
 -- ANY fits each subject, and asks nothing.
-abbrev pub asked_of_looked : ResolvedOperand Side → Option (ResolvedOperand ObjectValues) → Condition
-asked_of_looked subject None = constant true
-asked_of_looked subject (Some object) = asked_of subject object
+abbrev pub optional_condition : ResolvedOperand Side → Option (ResolvedOperand ObjectValues) → Condition
+optional_condition subject None = constant true
+optional_condition subject (Some object) = match_condition subject object
 
-abbrev pub fit_looked : ResolvedOperand Side → Option (ResolvedOperand ObjectValues) → Bool
-fit_looked subject None = true
-fit_looked subject (Some object) = are_comparable subject object
+abbrev pub fits_optional : ResolvedOperand Side → Option (ResolvedOperand ObjectValues) → Bool
+fits_optional subject None = true
+fits_optional subject (Some object) = are_comparable subject object
 
 -- ---- what is told
 

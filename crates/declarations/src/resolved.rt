@@ -7,7 +7,7 @@ ghost use Rattle.source_tree.specs.Conditions as conditions;
 ghost use Rattle.source_tree.specs.Evaluate as tree;
 ghost use Rattle.source_tree.specs.LookUp.{conditions_named};
 ghost use Rattle.declarations.specs.Named.{IsDeclared, items_in};
-ghost use Rattle.declarations.specs.Looking as spec;
+ghost use Rattle.declarations.specs.Resolved as spec;
 
 use crate::alone::operand_alone;
 use crate::declarations::Declarations;
@@ -28,7 +28,7 @@ pub enum AskedCondition<'a> {
 
 /// The values that an object names.
 #[derive(Clone, Copy)]
-pub struct WantedValue<'a> {
+pub struct ObjectRange<'a> {
     pub negated: bool,
     pub first: &'a Side,
     pub last: &'a Option<Side>,
@@ -36,7 +36,7 @@ pub struct WantedValue<'a> {
 
 /// A selection subject.
 #[derive(Clone, Copy)]
-pub enum LookedSubject<'a> {
+pub enum ResolvedSubject<'a> {
     Value(&'a Side),
     Truth(bool),
     Condition(AskedCondition<'a>),
@@ -44,9 +44,9 @@ pub enum LookedSubject<'a> {
 
 /// What a selection object names.
 #[derive(Clone, Copy)]
-pub enum LookedObject<'a> {
+pub enum ResolvedObject<'a> {
     Any,
-    Value(WantedValue<'a>),
+    Value(ObjectRange<'a>),
     Truth(bool),
     Condition(AskedCondition<'a>),
 }
@@ -59,7 +59,7 @@ pub enum Question<'a> {
     /// That a value is one of those.
     Within {
         value: &'a Side,
-        wanted: WantedValue<'a>,
+        wanted: ObjectRange<'a>,
     },
     /// That two truths are the same.
     Truths(bool, bool),
@@ -85,19 +85,19 @@ fn item_alone(one: &Side) -> Option<&Reference>
 }
 
 /// What an object asks of its subject, when both are looked up.
-fn question_of<'a>(subject: LookedSubject<'a>, object: LookedObject<'a>) -> Question<'a>
-    ensures asked { spec.question_meant result ≡ spec.asked_of_looked (spec.subject_meant subject.entry) (spec.object_meant object.entry) }
-    ensures fit { spec.is_fit result ≡ spec.fit_looked (spec.subject_meant subject.entry) (spec.object_meant object.entry) }
+fn question_of<'a>(subject: ResolvedSubject<'a>, object: ResolvedObject<'a>) -> Question<'a>
+    ensures asked { spec.question_meant result ≡ spec.optional_condition (spec.subject_meant subject.entry) (spec.object_meant object.entry) }
+    ensures fit { spec.is_fit result ≡ spec.fits_optional (spec.subject_meant subject.entry) (spec.object_meant object.entry) }
 {
     match (subject, object) {
-        (_, LookedObject::Any) => Question::Nothing,
-        (LookedSubject::Value(value), LookedObject::Value(wanted)) => {
+        (_, ResolvedObject::Any) => Question::Nothing,
+        (ResolvedSubject::Value(value), ResolvedObject::Value(wanted)) => {
             Question::Within { value, wanted }
         }
-        (LookedSubject::Truth(one), LookedObject::Truth(other)) => Question::Truths(one, other),
-        (LookedSubject::Truth(truth), LookedObject::Condition(one)) => Question::Told(truth, one),
-        (LookedSubject::Condition(one), LookedObject::Truth(truth)) => Question::Told(truth, one),
-        (LookedSubject::Condition(one), LookedObject::Condition(other)) => {
+        (ResolvedSubject::Truth(one), ResolvedObject::Truth(other)) => Question::Truths(one, other),
+        (ResolvedSubject::Truth(truth), ResolvedObject::Condition(one)) => Question::Told(truth, one),
+        (ResolvedSubject::Condition(one), ResolvedObject::Truth(truth)) => Question::Told(truth, one),
+        (ResolvedSubject::Condition(one), ResolvedObject::Condition(other)) => {
             Question::Alike(one, other)
         }
         _ => Question::Unfit,
@@ -131,60 +131,60 @@ impl<'a> Declarations<'a> {
 
     /// What a subject is.
     #[tactic(auto, using(crate::proofs::Looking::operand_is))]
-    pub fn looked_subject<'b>(&self, one: &'b Subject) -> LookedSubject<'b>
+    pub fn resolved_subject<'b>(&self, one: &'b Subject) -> ResolvedSubject<'b>
         requires { IsDeclared self.now }
-        ensures { spec.subject_meant result ≡ tree.looked_subject (items_in self.now) one.now }
+        ensures { spec.subject_meant result ≡ tree.resolved_subject (items_in self.now) one.now }
     {
         match one {
             Subject::Value(side) => match self.condition_alone(side) {
-                Some(reference) => LookedSubject::Condition(AskedCondition::Name {
+                Some(reference) => ResolvedSubject::Condition(AskedCondition::Name {
                     negated: false,
                     reference,
                 }),
-                None => LookedSubject::Value(side),
+                None => ResolvedSubject::Value(side),
             },
             Subject::Condition(condition) => {
-                LookedSubject::Condition(AskedCondition::Other(condition))
+                ResolvedSubject::Condition(AskedCondition::Other(condition))
             }
-            Subject::Truth(truth) => LookedSubject::Truth(*truth),
+            Subject::Truth(truth) => ResolvedSubject::Truth(*truth),
         }
     }
 
     /// What an object's value is; with THRU it names values alone.
     #[tactic(auto, using(crate::proofs::Looking::operand_is))]
-    fn looked_wanted<'b>(&self, one: WantedValue<'b>) -> LookedObject<'b>
+    fn resolved_values<'b>(&self, one: ObjectRange<'b>) -> ResolvedObject<'b>
         requires { IsDeclared self.now }
-        ensures { spec.object_meant result ≡ spec.wanted_looked (items_in self.now) (spec.wanted_meant one.entry) }
+        ensures { spec.object_meant result ≡ spec.optional_values (items_in self.now) (spec.values_meant one.entry) }
     {
         match (one.last, self.condition_alone(one.first)) {
-            (None, Some(reference)) => LookedObject::Condition(AskedCondition::Name {
+            (None, Some(reference)) => ResolvedObject::Condition(AskedCondition::Name {
                 negated: one.negated,
                 reference,
             }),
-            _ => LookedObject::Value(one),
+            _ => ResolvedObject::Value(one),
         }
     }
 
     /// What an object names.
-    pub fn looked_object<'b>(&self, one: &'b Choice) -> LookedObject<'b>
+    pub fn resolved_object<'b>(&self, one: &'b Choice) -> ResolvedObject<'b>
         requires { IsDeclared self.now }
-        ensures { spec.object_meant result ≡ spec.choice_looked (items_in self.now) one.now }
+        ensures { spec.object_meant result ≡ spec.optional_choice (items_in self.now) one.now }
     {
         match one {
-            Choice::Any => LookedObject::Any,
+            Choice::Any => ResolvedObject::Any,
             Choice::Value {
                 negated,
                 first,
                 last,
-            } => self.looked_wanted(WantedValue {
+            } => self.resolved_values(ObjectRange {
                 negated: *negated,
                 first,
                 last,
             }),
             Choice::Condition(condition) => {
-                LookedObject::Condition(AskedCondition::Other(condition))
+                ResolvedObject::Condition(AskedCondition::Other(condition))
             }
-            Choice::Truth(truth) => LookedObject::Truth(*truth),
+            Choice::Truth(truth) => ResolvedObject::Truth(*truth),
         }
     }
 
@@ -195,6 +195,6 @@ impl<'a> Declarations<'a> {
         ensures asked { spec.question_meant result ≡ tree.selection_condition (items_in self.now) subject.now choice.now }
         ensures fit { spec.is_fit result ≡ tree.fits (items_in self.now) subject.now choice.now }
     {
-        question_of(self.looked_subject(subject), self.looked_object(choice))
+        question_of(self.resolved_subject(subject), self.resolved_object(choice))
     }
 }

@@ -12,7 +12,7 @@ use Rattle.data_instructions.specs.declared.tables.DataTables.{DataTables}
 use Rattle.file_image.specs.declared.file.CodeFile.{CodeFile}
 use Rattle.code_image.specs.declared.code.Code.{Code}
 use Rattle.code_image.specs.declared.instruction.Instruction.{Instruction}
-use Rattle.codegen.specs.Pieces.{Fragment, no_tables, empty_code, joined_tables, append, sequence, in_order}
+use Rattle.codegen.specs.Fragments.{Fragment, no_tables, empty_code, joined_tables, append, sequence, in_order}
 use Rattle.codegen.specs.Layout.{paragraph_fragment, section_fragment}
 
 made_tables : (a b : List (List ℕ)) (c d : List DataItem) (e f : List Fraction) (g h : List LiteralSender) (i j : List (List ℕ)) (k l : List Inspection) → a ≡ b → c ≡ d → e ≡ f → g ≡ h → i ≡ j → k ≡ l

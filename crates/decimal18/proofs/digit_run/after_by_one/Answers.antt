@@ -1,8 +1,8 @@
 use Rattle.std.proofs.Common.{rules, ◌≡◌, ◌<◌, ◌≤◌, ◌+◌, ◌-◌, ◌*◌, ◌^◌, length, ap, sym, ◌∙◌, drop, subst, arith}
-use Rattle.decimal18.specs.Digits.{digits_behind}
+use Rattle.decimal18.specs.Digits.{digits_after}
 use Rattle.decimal18.proofs.DigitRuns.{one_more}
 use Rattle.decimal18.proofs.DigitRunParts.{next_room, room_now, digits_next}
-use Rattle.decimal18.proofs.digit_run.behind_by_one.Goals as goal
+use Rattle.decimal18.proofs.digit_run.after_by_one.Goals as goal
 
 pub overflow_mul-number : goal.overflow_mul-number
 overflow_mul-number c =
@@ -40,7 +40,7 @@ loop-digit-preserved c =
     next_room n c.from.result (length cs - i) _ digit (omega arith) c.loop-digit.invariant.room in
     record {
       room = subst (λ k. (10 * n + c.from.result + 1) * 10 ^ k ≤ (c.args.front + 1) * 10 ^ length cs) left next;
-      number = ap (λ d. digits_behind (10 * n + d) (drop (i + 1) cs)) c.from.ensures
+      number = ap (λ d. digits_after (10 * n + d) (drop (i + 1) cs)) c.from.ensures
           ∙ sym (one_more n i cs c.loop-digit-test.true) ∙ c.loop-digit.invariant.number;
       digits = digits_next cs i c.loop-digit-test.true (sym c.if-not-is_ascii_digit.ensures.value)
           ∙ c.loop-digit.invariant.digits;

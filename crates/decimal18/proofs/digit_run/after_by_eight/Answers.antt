@@ -1,6 +1,6 @@
 use Rattle.std.proofs.Common.{rules, ◌≡◌, ◌<◌, ◌≤◌, ◌+◌, ◌^◌, length, arith}
 use Rattle.decimal18.proofs.DigitRunParts.{less_room, front_small, some_below}
-use Rattle.decimal18.proofs.digit_run.behind_by_eight.Goals as goal
+use Rattle.decimal18.proofs.digit_run.after_by_eight.Goals as goal
 
 pub overflow_mul-front : goal.overflow_mul-front
 overflow_mul-front c =
@@ -17,8 +17,8 @@ overflow_add-front c =
     let eight : c.in-Some.eight < 10 ^ 8 = c.in-Some.ensures.bound in
     search rules
 
-pub behind_by_one-requires-2 : goal.behind_by_one-requires-2
-behind_by_one-requires-2 c =
+pub after_by_one-requires-2 : goal.after_by_one-requires-2
+after_by_one-requires-2 c =
     let rest : length c.split_at.result.1.now + 8 ≡ length c.args.digits.now =
     omega (arith, c.split_at.ensures.back_len) in
     let room = less_room c.args.front c.in-Some.eight (length c.args.digits.now) (length c.split_at.result.1.now) rest
@@ -31,4 +31,4 @@ returns-clause-bound c =
     omega (arith, c.split_at.ensures.back_len) in
     let room = less_room c.args.front c.in-Some.eight (length c.args.digits.now) (length c.split_at.result.1.now) rest
     c.in-Some.ensures.bound in
-    some_below c.behind_by_one-2.result _ _ room c.behind_by_one-2.ensures.bound
+    some_below c.after_by_one-2.result _ _ room c.after_by_one-2.ensures.bound

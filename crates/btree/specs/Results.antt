@@ -7,8 +7,8 @@ use Rattle.pages.specs.declared.error.PagesError.TheVariants.{Full, Damaged, Spe
 use Rattle.btree.specs.declared.removal_outcome.RemovalOutcome.{RemovalOutcome}
 use Rattle.btree.specs.Outcomes.{spare}
 
-abbrev pub TellsDamaged : {T : Type 0} → Result T PagesError → Type 0
-TellsDamaged result = result ≡ Err Damaged
+abbrev pub ReturnsDamaged : {T : Type 0} → Result T PagesError → Type 0
+ReturnsDamaged result = result ≡ Err Damaged
 
 -- `Spent` comes only where the map is spent; exactly there; and exactly where there is a root besides
 abbrev pub OnlyIfSpent : {T : Type 0} → PageMap → Result T PagesError → Type 0

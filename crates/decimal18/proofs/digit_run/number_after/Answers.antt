@@ -1,6 +1,6 @@
 use Rattle.std.proofs.Common.{rules, ◌≡◌, ◌<◌, ◌≤◌, ◌+◌, ◌^◌, length, arith}
 use Rattle.decimal18.proofs.DigitRunParts.{less_room, front_small, some_below}
-use Rattle.decimal18.proofs.digit_run.number_behind.Goals as goal
+use Rattle.decimal18.proofs.digit_run.number_after.Goals as goal
 
 pub overflow_mul-front : goal.overflow_mul-front
 overflow_mul-front c =
@@ -17,8 +17,8 @@ overflow_add-front c =
     let eight : c.in-Some.eight < 10 ^ 8 = c.in-Some.ensures.bound in
     search rules
 
-pub behind_by_eight-requires : goal.behind_by_eight-requires
-behind_by_eight-requires c =
+pub after_by_eight-requires : goal.after_by_eight-requires
+after_by_eight-requires c =
     let rest : length c.split_at.result.1.now + 8 ≡ length c.args.digits.now =
     omega (arith, c.split_at.ensures.back_len) in
     let room = less_room c.args.front c.in-Some.eight (length c.args.digits.now) (length c.split_at.result.1.now) rest
@@ -31,4 +31,4 @@ returns-clause-bound c =
     omega (arith, c.split_at.ensures.back_len) in
     let room = less_room c.args.front c.in-Some.eight (length c.args.digits.now) (length c.split_at.result.1.now) rest
     c.in-Some.ensures.bound in
-    some_below c.behind_by_eight.result _ _ room c.behind_by_eight.ensures.bound
+    some_below c.after_by_eight.result _ _ room c.after_by_eight.ensures.bound
