@@ -10,7 +10,8 @@ use Rattle.volume_format.specs.Forest.{TreeLevels, IsTreeIn}
 use Rattle.volume_format.specs.Grows.{IsTreeAmong}
 use Rattle.volume_format.proofs.Forests.{all_right}
 
-pub grows : (pages : List (Option Sector)) (left right : List TreeLevels) (tree : RootedTree) (entries : List Entry) → (stands : IsTreeAmong pages left right tree entries) → IsTreeOrEmpty tree.layout pages tree.root stands.levels
+pub grows : (pages : List (Option Sector)) (left right : List TreeLevels) (tree : RootedTree) (entries : List Entry)
+    → (stands : IsTreeAmong pages left right tree entries) → IsTreeOrEmpty tree.layout pages tree.root stands.levels
 grows pages left right tree entries stands =
     let one : TreeLevels = record { tree = tree; levels = stands.levels } in
     All-head (IsTreeIn pages) one right (all_right (IsTreeIn pages) left (one ∷ right) stands.forest.grow)

@@ -11,7 +11,8 @@ use Rattle.volume_format.specs.Forest.{TreeLevels}
 use Rattle.volume_format.specs.Grows.{IsTreeAmong}
 use Rattle.volume_format.proofs.Forests.{forest_moves}
 
-pub becomes_among : (before after : List (Option Sector)) (left right : List TreeLevels) (old new : RootedTree) (entries later : List Entry) → (stands : IsTreeAmong before left right old entries) → new.layout ≡ old.layout →
+pub becomes_among : (before after : List (Option Sector)) (left right : List TreeLevels) (old new : RootedTree)
+    (entries later : List Entry) → (stands : IsTreeAmong before left right old entries) → new.layout ≡ old.layout →
     Becomes old.layout before stands.levels after new.root later → IsTreeAmong after left right new later
 becomes_among before after left right old new entries later stands layout becomes =
     let one : TreeLevels = record { tree = old; levels = stands.levels } in

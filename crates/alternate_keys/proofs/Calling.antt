@@ -29,40 +29,58 @@ module _ {D : Type 0} (d : Devices D) where
   edits_nothing p a is = looks_edits ⊥ p p a a (looks_nowhere p a is)
 
   pub edits_blamed : (A B : Type 0) (p q : PageMap) (a b : D) → (B → A) → Edits d A p a q b → Edits d B p a q b
-  edits_blamed A B p q a b from edits = record { only = reads_blamed d A B a b from edits.only; committed = edits.committed; catalog = edits.catalog; agrees = edits.agrees; is_open = edits.is_open }
+  edits_blamed A B p q a b from edits = record {
+    only = reads_blamed d A B a b from edits.only;
+    committed = edits.committed;
+    catalog = edits.catalog;
+    agrees = edits.agrees;
+    is_open = edits.is_open;
+  }
 
-  pub edits_then : (A B C : Type 0) (p q r : PageMap) (a b c : D) → (C → A ⊎ B) → Edits d A p a q b → Edits d B q b r c → Edits d C p a r c
+  pub edits_then : (A B C : Type 0) (p q r : PageMap) (a b c : D) → (C → A ⊎ B) → Edits d A p a q b → Edits d B q b r c
+      → Edits d C p a r c
   edits_then A B C p q r a b c which first second = record {
     only = reads_then d A B C a b c which first.only second.only;
-    committed = record { volume = second.committed.volume ∙ first.committed.volume; spent = second.committed.spent ∙ first.committed.spent };
+    committed = record {
+      volume = second.committed.volume ∙ first.committed.volume;
+      spent = second.committed.spent ∙ first.committed.spent;
+    };
     catalog = second.catalog ∙ first.catalog;
     agrees = λ honest agrees. second.agrees (first.only.honest.0 honest) (first.agrees honest agrees);
     is_open = second.is_open;
   }
 
-  pub sectors_kept : (A : Type 0) (p q : PageMap) (a b : D) → Edits d A p a q b → sectors_of p ≤ d.sectors a → sectors_of q ≤ d.sectors b
+  pub sectors_kept : (A : Type 0) (p q : PageMap) (a b : D) → Edits d A p a q b → sectors_of p ≤ d.sectors a
+      → sectors_of q ≤ d.sectors b
   sectors_kept A p q a b edits fits =
       let same = ap (λ (v : Volume). v.root.sectors) (same_volume p q edits.committed) in
       let many = edits.only.sectors in
       omega (arith, same, many, fits)
 
   -- the last call alone is to blame
-  pub edits_last : (A B C : Type 0) (p q r : PageMap) (a b c : D) → (C → B) → Edits d A p a q b → Edits d B q b r c → Edits d C p a r c
+  pub edits_last : (A B C : Type 0) (p q r : PageMap) (a b c : D) → (C → B) → Edits d A p a q b → Edits d B q b r c
+      → Edits d C p a r c
   edits_last A B C p q r a b c from first second = edits_then A B C p q r a b c (λ is. inr (from is)) first second
 
   -- and where the root of the catalog may be another
   pub prepares_of : (A : Type 0) (p q : PageMap) (a b : D) → Edits d A p a q b → Prepares d A p a q b
-  prepares_of A p q a b edits = record { only = edits.only; committed = edits.committed; agrees = edits.agrees; is_open = edits.is_open }
+  prepares_of A p q a b edits =
+      record { only = edits.only; committed = edits.committed; agrees = edits.agrees; is_open = edits.is_open }
 
-  pub prepares_then : (A B C : Type 0) (p q r : PageMap) (a b c : D) → (C → B) → Edits d A p a q b → Prepares d B q b r c → Prepares d C p a r c
+  pub prepares_then : (A B C : Type 0) (p q r : PageMap) (a b c : D) → (C → B) → Edits d A p a q b
+      → Prepares d B q b r c → Prepares d C p a r c
   prepares_then A B C p q r a b c from first second = record {
     only = reads_then d A B C a b c (λ is. inr (from is)) first.only second.only;
-    committed = record { volume = second.committed.volume ∙ first.committed.volume; spent = second.committed.spent ∙ first.committed.spent };
+    committed = record {
+      volume = second.committed.volume ∙ first.committed.volume;
+      spent = second.committed.spent ∙ first.committed.spent;
+    };
     agrees = λ honest agrees. second.agrees (first.only.honest.0 honest) (first.agrees honest agrees);
     is_open = second.is_open;
   }
 
-  pub prepares_set : (A B : Type 0) (p q r : PageMap) (a b : D) → (B → A) → Edits d A p a q b → SameCommitted q r → ((disk : Disk) → Agrees q disk → Agrees r disk) → IsOpen r → Prepares d B p a r b
+  pub prepares_set : (A B : Type 0) (p q r : PageMap) (a b : D) → (B → A) → Edits d A p a q b → SameCommitted q r
+      → ((disk : Disk) → Agrees q disk → Agrees r disk) → IsOpen r → Prepares d B p a r b
   prepares_set A B p q r a b from edits same agrees is_open = record {
     only = reads_blamed d A B a b from edits.only;
     committed = record { volume = same.volume ∙ edits.committed.volume; spent = same.spent ∙ edits.committed.spent };

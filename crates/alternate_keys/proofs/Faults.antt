@@ -9,7 +9,8 @@ use Rattle.volume_format.specs.Faults.{fault_of}
 use Rattle.alternate_keys.specs.Faults.{IsReadFault}
 
 -- a commit never tells of damage
-pub commit_sound : (error : PagesError) → (error ≡ pages.Device) ⊎ (error ≡ pages.Full) ⊎ (error ≡ pages.Memory) ⊎ (error ≡ pages.Spent) → fault_of error ≡ Damaged → ⊥
+pub commit_sound : (error : PagesError) → (error ≡ pages.Device) ⊎ (error ≡ pages.Full) ⊎ (error ≡ pages.Memory)
+    ⊎ (error ≡ pages.Spent) → fault_of error ≡ Damaged → ⊥
 commit_sound error (inl is) told = let clash : Device ≡ Damaged = sym (ap fault_of is) ∙ told in cc
 commit_sound error (inr (inl is)) told = let clash : Full ≡ Damaged = sym (ap fault_of is) ∙ told in cc
 commit_sound error (inr (inr (inl is))) told = let clash : Memory ≡ Damaged = sym (ap fault_of is) ∙ told in cc

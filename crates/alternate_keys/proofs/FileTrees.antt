@@ -1,5 +1,6 @@
 -- The trees of a file that stand among others.
-use Rattle.std.proofs.Common.{◌≡◌, ◌<◌, ◌≤◌, ◌^◌, ◌++◌, ℕ, true, List, [], ◌∷◌, length, refl, sym, ap, subst, ◌∙◌, append_assoc, arith}
+use Rattle.std.proofs.Common.{◌≡◌, ◌<◌, ◌≤◌, ◌^◌, ◌++◌, ℕ, true, List, [], ◌∷◌, length, refl, sym, ap, subst, ◌∙◌}
+use Rattle.std.proofs.Common.{append_assoc, arith}
 use Rattle.std.specs.Prelude.{map, drop, slice_index_or, Contains, Option, Some}
 use Rattle.std.specs.List.{All}
 use Rattle.std.proofs.lemmas.List.{length-map}
@@ -31,7 +32,8 @@ use Rattle.alternate_keys.specs.Placed.{HasTrees, HasIndexes, HasAllPairs, liste
 use Rattle.alternate_keys.specs.Seen.{HasRows, HasPairs}
 use Rattle.alternate_keys.proofs.Keeping.{tree_is, root_is, rows_seen, pairs_seen, tree_under}
 
-module _ (spec : Spec) (named : NamedFile) (generation : ℕ) (pages : List (Option Sector)) (left right : List TreeLevels) (listing : List ℕ) (has : HasTrees spec named generation pages left right listing) where
+module _ (spec : Spec) (named : NamedFile) (generation : ℕ) (pages : List (Option Sector)) (left right :
+    List TreeLevels) (listing : List ℕ) (has : HasTrees spec named generation pages left right listing) where
   abbrev pub kept_in : FileTrees
   kept_in = has.placed.kept
 
@@ -45,10 +47,16 @@ module _ (spec : Spec) (named : NamedFile) (generation : ℕ) (pages : List (Opt
   the_map = record { generation = generation; catalog = 0; pages = pages }
 
   grown : All (IsTreeIn pages) (trees_of kept_in)
-  grown = all_left (IsTreeIn pages) (trees_of kept_in) right (all_right (IsTreeIn pages) left (trees_of kept_in ++ right) has.placed.forest.grow)
+  grown = all_left (IsTreeIn pages) (trees_of kept_in) right
+      (all_right (IsTreeIn pages) left (trees_of kept_in ++ right) has.placed.forest.grow)
 
   found : IsFoundFile the_map (Some kept_in.named.file) kept_in
-  found = record { there = refl; is = has.placed.is; named = subst (λ (n : NamedFile). IsNamed n) (sym has.placed.named_is) has.is_named; grow = grown }
+  found = record {
+    there = refl;
+    is = has.placed.is;
+    named = subst (λ (n : NamedFile). IsNamed n) (sym has.placed.named_is) has.is_named;
+    grow = grown;
+  }
 
   pub arrival_low : named.file.next_arrival ≤ generation
   arrival_low =
@@ -64,39 +72,55 @@ module _ (spec : Spec) (named : NamedFile) (generation : ℕ) (pages : List (Opt
       let few = arrival_few in
       let same = ap (λ (f : File). f.next_arrival) file_is in
       ap (λ (l : List ℕ). big_number 8 (drop 75 l)) has.placed.says
-      ∙ next_read (listing_of kept_in) found.named.file.spec (length-map kept_in.alternates (λ (tree : TreeLevels). tree.tree.root) ∙ has.placed.is.count) (omega (arith, few, same))
+      ∙ next_read (listing_of kept_in) found.named.file.spec (length-map kept_in.alternates
+      (λ (tree : TreeLevels). tree.tree.root) ∙ has.placed.is.count) (omega (arith, few, same))
       ∙ same
 
-  prime_same : (prime : RootedTree) → prime.layout ≡ layout_under spec Prime → prime.root ≡ root_in Prime listing → prime ≡ kept_in.prime.tree
-  prime_same prime layout root = tree_is the_map (Some kept_in.named.file) kept_in spec Prime (record { key = []; value = listing }) prime found has.small spec_here (omega arith) has.placed.says layout root
+  prime_same : (prime : RootedTree) → prime.layout ≡ layout_under spec Prime → prime.root ≡ root_in Prime listing
+      → prime ≡ kept_in.prime.tree
+  prime_same prime layout root = tree_is the_map (Some kept_in.named.file) kept_in spec Prime
+      (record { key = []; value = listing }) prime found has.small spec_here (omega arith) has.placed.says layout root
 
-  pub prime_stands : (prime : RootedTree) → prime.layout ≡ layout_under spec Prime → prime.root ≡ root_in Prime listing → IsTreeAmong pages left (kept_in.alternates ++ right) prime (map (entry_under spec Prime) named.file.rows)
+  pub prime_stands : (prime : RootedTree) → prime.layout ≡ layout_under spec Prime → prime.root ≡ root_in Prime listing
+      → IsTreeAmong pages left (kept_in.alternates ++ right) prime (map (entry_under spec Prime) named.file.rows)
   prime_stands prime layout root =
       let same = prime_same prime layout root in
       record {
         levels = kept_in.prime.levels;
-        forest = subst (λ (t : RootedTree). IsForest pages (left ++ (tree_levels t kept_in.prime.levels ∷ (kept_in.alternates ++ right)))) (sym same) has.placed.forest;
+        forest = subst (λ (t : RootedTree). IsForest pages (left
+            ++ (tree_levels t kept_in.prime.levels ∷ (kept_in.alternates ++ right)))) (sym same) has.placed.forest;
         listed = ap (λ (t : RootedTree). entries_of t.layout kept_in.prime.levels) same ∙ has.placed.is.rows
-            ∙ ap (λ (s : Spec). map (entry_under s Prime) kept_in.named.file.rows) spec_here ∙ ap (λ (f : File). map (entry_under spec Prime) f.rows) file_is;
+            ∙ ap (λ (s : Spec). map (entry_under s Prime) kept_in.named.file.rows) spec_here
+            ∙ ap (λ (f : File). map (entry_under spec Prime) f.rows) file_is;
       }
 
-  pub prime_rows : (prime : RootedTree) → prime.layout ≡ layout_under spec Prime → prime.root ≡ root_in Prime listing → HasRows spec pages named.file.rows prime
+  pub prime_rows : (prime : RootedTree) → prime.layout ≡ layout_under spec Prime → prime.root ≡ root_in Prime listing
+      → HasRows spec pages named.file.rows prime
   prime_rows prime layout root =
       let own = rows_seen the_map (Some kept_in.named.file) kept_in found has.few in
-      let here : HasRows spec pages kept_in.named.file.rows kept_in.prime.tree = subst (λ (s : Spec). HasRows s pages kept_in.named.file.rows kept_in.prime.tree) spec_here own in
-      subst (λ (t : RootedTree). HasRows spec pages named.file.rows t) (sym (prime_same prime layout root)) (subst (λ (f : File). HasRows spec pages f.rows kept_in.prime.tree) file_is here)
+      let here : HasRows spec pages kept_in.named.file.rows kept_in.prime.tree =
+      subst (λ (s : Spec). HasRows s pages kept_in.named.file.rows kept_in.prime.tree) spec_here own in
+      subst (λ (t : RootedTree). HasRows spec pages named.file.rows t) (sym (prime_same prime layout root))
+      (subst (λ (f : File). HasRows spec pages f.rows kept_in.prime.tree) file_is here)
 
   pub all_pairs : HasAllPairs spec pages named.file.rows listing
   all_pairs i low =
-      let inside : i < length kept_in.named.file.spec.alternates = subst (λ (s : Spec). i < length s.alternates) (sym spec_here) low in
-      let own = pairs_seen the_map (Some kept_in.named.file) kept_in (Alternate i) found has.few (omega (arith, inside)) in
+      let inside : i < length kept_in.named.file.spec.alternates =
+      subst (λ (s : Spec). i < length s.alternates) (sym spec_here) low in
+      let own =
+      pairs_seen the_map (Some kept_in.named.file) kept_in (Alternate i) found has.few (omega (arith, inside)) in
       let here : HasPairs spec (Alternate i) pages kept_in.named.file.rows (tree_under (Alternate i) kept_in).tree =
-      subst (λ (s : Spec). HasPairs s (Alternate i) pages kept_in.named.file.rows (tree_under (Alternate i) kept_in).tree) spec_here own in
-      let same = tree_is the_map (Some kept_in.named.file) kept_in spec (Alternate i) (record { key = []; value = listing }) (listed_tree spec i listing) found has.small spec_here (omega (arith, low)) has.placed.says refl refl in
-      subst (λ (t : RootedTree). HasPairs spec (Alternate i) pages named.file.rows t) (sym same) (subst (λ (f : File). HasPairs spec (Alternate i) pages f.rows (tree_under (Alternate i) kept_in).tree) file_is here)
+      subst (λ (s : Spec).
+      HasPairs s (Alternate i) pages kept_in.named.file.rows (tree_under (Alternate i) kept_in).tree) spec_here own in
+      let same =
+      tree_is the_map (Some kept_in.named.file) kept_in spec (Alternate i) (record { key = []; value = listing })
+      (listed_tree spec i listing) found has.small spec_here (omega (arith, low)) has.placed.says refl refl in
+      subst (λ (t : RootedTree). HasPairs spec (Alternate i) pages named.file.rows t) (sym same) (subst
+      (λ (f : File). HasPairs spec (Alternate i) pages f.rows (tree_under (Alternate i) kept_in).tree) file_is here)
 
   pub rows_under : All (IsUnder spec Prime) named.file.rows
-  rows_under = subst (λ (s : Spec). All (IsUnder s Prime) named.file.rows) has.spec_is (rows_fit named.file has.is_named.file arrival_few).0
+  rows_under = subst (λ (s : Spec). All (IsUnder s Prime) named.file.rows) has.spec_is
+      (rows_fit named.file has.is_named.file arrival_few).0
 
   pub rows_ascend : RowsAscend spec.organization named.file.rows
   rows_ascend = subst (λ (s : Spec). RowsAscend s.organization named.file.rows) has.spec_is has.is_named.file.ascend
@@ -104,37 +128,54 @@ module _ (spec : Spec) (named : NamedFile) (generation : ℕ) (pages : List (Opt
   pub is_row_of : (row : Row) → Contains named.file.rows row → IsRowOf spec row
   is_row_of row there =
       let file : File = named.file in
-      let is : IsRow file.spec file.next_arrival row = All-contains (IsRow file.spec file.next_arrival) file.rows row (All-from_recursion (IsRow file.spec file.next_arrival) file.rows has.is_named.file.rows) there in
+      let is : IsRow file.spec file.next_arrival row = All-contains (IsRow file.spec file.next_arrival) file.rows row
+      (All-from_recursion (IsRow file.spec file.next_arrival) file.rows has.is_named.file.rows) there in
       let few = arrival_few in
       record {
         long = is.long ∙ ap (λ (s : Spec). s.record_length) has.spec_is;
         count = is.arrivals ∙ ap (λ (s : Spec). length s.alternates) has.spec_is;
-        low = λ k d within. let given = (All-from_recursion (IsArrival file.next_arrival) row.arrivals is.given k d within).1 in omega (arith, given, few);
+        low = λ k d within. let given =
+            (All-from_recursion (IsArrival file.next_arrival) row.arrivals is.given k d within).1 in
+            omega (arith, given, few);
       }
 
-  pub indexes_then : (after : List (Option Sector)) (prime : RootedTree) (entries : List Entry) → (stands : IsTreeAmong after left (kept_in.alternates ++ right) prime entries) →
+  pub indexes_then : (after : List (Option Sector)) (prime : RootedTree) (entries : List Entry)
+      → (stands : IsTreeAmong after left (kept_in.alternates ++ right) prime entries) →
       HasIndexes named.file after (left ++ tree_levels prime stands.levels ∷ []) right kept_in.alternates listing
   indexes_then after prime entries stands =
       let x : TreeLevels = tree_levels prime stands.levels in
-      let fits : (i : ℕ) → i < length named.file.spec.alternates → i < length kept_in.named.file.spec.alternates = λ i low. subst (λ (f : File). i < length f.spec.alternates) (sym file_is) low in
+      let fits : (i : ℕ) → i < length named.file.spec.alternates → i < length kept_in.named.file.spec.alternates =
+      λ i low. subst (λ (f : File). i < length f.spec.alternates) (sym file_is) low in
       record {
-        forest = subst (λ (ts : List TreeLevels). IsForest after ts) (sym (append_assoc left (x ∷ []) (kept_in.alternates ++ right))) stands.forest;
+        forest = subst (λ (ts : List TreeLevels). IsForest after ts)
+            (sym (append_assoc left (x ∷ []) (kept_in.alternates ++ right))) stands.forest;
         count = has.placed.is.count ∙ ap (λ (f : File). length f.spec.alternates) file_is;
-        indexes = λ i low. subst (λ (f : File). IsIndex f i (slice_index_or kept_in.alternates i no_tree)) file_is (has.placed.is.indexes i (fits i low));
-        roots = λ i low. let inside = fits i low in sym (root_is the_map (Some kept_in.named.file) kept_in (Alternate i) found has.small (omega (arith, inside))) ∙ ap (root_in (Alternate i)) (sym has.placed.says);
+        indexes = λ i low. subst (λ (f : File). IsIndex f i (slice_index_or kept_in.alternates i no_tree)) file_is
+            (has.placed.is.indexes i (fits i low));
+        roots = λ i low. let inside = fits i low in sym
+            (root_is the_map (Some kept_in.named.file) kept_in (Alternate i) found has.small (omega (arith, inside)))
+            ∙ ap (root_in (Alternate i)) (sym has.placed.says);
       }
 
   -- its trees, as the catalog says them
-  told_tree : (key : KeyOfReference) → IsKey kept_in.named.file.spec key → (tree_under key kept_in).tree ≡ record { layout = layout_under kept_in.named.file.spec key; root = root_in key listing }
+  told_tree : (key : KeyOfReference) → IsKey kept_in.named.file.spec key → (tree_under key kept_in).tree
+      ≡ record { layout = layout_under kept_in.named.file.spec key; root = root_in key listing }
   told_tree key within =
       let own : RootedTree = record { layout = layout_under kept_in.named.file.spec key; root = root_in key listing } in
-      sym (tree_is the_map (Some kept_in.named.file) kept_in kept_in.named.file.spec key (record { key = []; value = listing }) own found has.small refl within has.placed.says refl refl)
+      sym (tree_is the_map (Some kept_in.named.file) kept_in kept_in.named.file.spec key
+      (record { key = []; value = listing }) own found has.small refl within has.placed.says refl refl)
 
-  pub prime_told : kept_in.prime.tree ≡ record { layout = layout_under kept_in.named.file.spec Prime; root = root_in Prime listing }
+  pub prime_told : kept_in.prime.tree
+      ≡ record { layout = layout_under kept_in.named.file.spec Prime; root = root_in Prime listing }
   prime_told = told_tree Prime (omega arith)
 
   pub good_spec : is_spec kept_in.named.file.spec ≡ true
   good_spec = found.named.file.spec
 
   pub all_stored : HasStored listing kept_in
-  all_stored = record { good = good_spec; says = has.placed.says; count = has.placed.is.count; trees = λ i within. told_tree (Alternate i) (omega (arith, within)) }
+  all_stored = record {
+    good = good_spec;
+    says = has.placed.says;
+    count = has.placed.is.count;
+    trees = λ i within. told_tree (Alternate i) (omega (arith, within));
+  }

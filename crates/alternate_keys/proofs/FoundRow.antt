@@ -23,7 +23,8 @@ none_of : (spec : Spec) (found : Option Row) → None ≡ option_map (entry_unde
 none_of spec None is = refl
 none_of spec (Some row) is = cc
 
-some_of : (spec : Spec) (found : Option Row) (e : Entry) → Some e ≡ option_map (entry_under spec Prime) found → (row : Row) × (found ≡ Some row) × (e ≡ entry_under spec Prime row)
+some_of : (spec : Spec) (found : Option Row) (e : Entry) → Some e ≡ option_map (entry_under spec Prime) found
+    → (row : Row) × (found ≡ Some row) × (e ≡ entry_under spec Prime row)
 some_of spec None e is = cc
 some_of spec (Some row) e is = (row, refl, cc)
 
@@ -37,8 +38,10 @@ pub record FoundRow (spec : Spec) (named : NamedFile) (pair : Pair) (entry : Ent
   pub found : entry_with (map (entry_under spec Prime) named.file.rows) (key_under spec Prime pair) ≡ Some entry
   pub row_is : IsRowOf spec old
 
-module _ (spec : Spec) (named : NamedFile) (generation : ℕ) (pages : List (Option Sector)) (left right : List TreeLevels) (listing : List ℕ) (has : HasTrees spec named generation pages left right listing)
-    (pair : Pair) (answer : Option Entry) (told : answer ≡ option_map (entry_under spec Prime) (row_at spec.organization pair named.file.rows)) where
+module _ (spec : Spec) (named : NamedFile) (generation : ℕ) (pages : List (Option Sector))
+    (left right : List TreeLevels) (listing : List ℕ) (has : HasTrees spec named generation pages left right listing)
+    (pair : Pair) (answer : Option Entry)
+    (told : answer ≡ option_map (entry_under spec Prime) (row_at spec.organization pair named.file.rows)) where
   at_here : row_at named.file.spec.organization pair named.file.rows ≡ row_at spec.organization pair named.file.rows
   at_here = ap (λ (s : Spec). row_at s.organization pair named.file.rows) has.spec_is
 
@@ -60,6 +63,7 @@ module _ (spec : Spec) (named : NamedFile) (generation : ℕ) (pages : List (Opt
         is = of.2;
         good = good;
         key = ap (λ (e : Entry). e.key) of.2 ∙ ap (key_under spec Prime) same;
-        found = row_found spec pair good named.file.rows all ∙ ap (option_map (entry_under spec Prime)) of.1 ∙ ap (λ (e : Entry). Some e) (sym of.2);
+        found = row_found spec pair good named.file.rows all ∙ ap (option_map (entry_under spec Prime)) of.1
+            ∙ ap (λ (e : Entry). Some e) (sym of.2);
         row_is = is_row_of spec named generation pages left right listing has old there.0;
       }

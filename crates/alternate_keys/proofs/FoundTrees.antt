@@ -28,12 +28,16 @@ use Rattle.alternate_keys.specs.Seen.{HasRows, HasPairs, IsSought}
 use Rattle.alternate_keys.proofs.Keeping.{rows_seen, pairs_seen, tree_is, tree_under}
 
 -- only an indexed file has alternate keys
-indexed_by : (n : ℕ) (o : Organization) (keys : List AlternateKey) (i : ℕ) → are_keys n o keys ≡ true → i < length keys → (place : KeyPlace) × (o ≡ Indexed place)
-indexed_by n Sequential keys i is within = absurd (let none : length keys ≡ 0 = eqb-true _ _ is in omega (arith, none, within))
-indexed_by n Relative keys i is within = absurd (let none : length keys ≡ 0 = eqb-true _ _ is in omega (arith, none, within))
+indexed_by : (n : ℕ) (o : Organization) (keys : List AlternateKey) (i : ℕ) → are_keys n o keys ≡ true → i < length keys
+    → (place : KeyPlace) × (o ≡ Indexed place)
+indexed_by n Sequential keys i is within =
+    absurd (let none : length keys ≡ 0 = eqb-true _ _ is in omega (arith, none, within))
+indexed_by n Relative keys i is within =
+    absurd (let none : length keys ≡ 0 = eqb-true _ _ is in omega (arith, none, within))
 indexed_by n (Indexed place) keys i is within = (place, refl)
 
-pub indexed : (spec : Spec) (key : KeyOfReference) → is_spec spec ≡ true → IsKey spec key → (i : ℕ) → key ≡ Alternate i → (place : KeyPlace) × (spec.organization ≡ Indexed place)
+pub indexed : (spec : Spec) (key : KeyOfReference) → is_spec spec ≡ true → IsKey spec key → (i : ℕ) → key ≡ Alternate i
+    → (place : KeyPlace) × (spec.organization ≡ Indexed place)
 indexed spec key is within i same =
     let own : IsKey spec (Alternate i) = subst (IsKey spec) same within in
     indexed_by spec.record_length spec.organization spec.alternates i (spec_keys spec is) own
@@ -43,26 +47,35 @@ key_by spec Sequential same is = omega arith
 key_by spec Relative same is = omega arith
 key_by spec (Indexed place) same is =
     let short = place_short spec Prime is (omega arith) in
-    let here : (prime_place spec.organization).length ≡ place.length = ap (λ (o : Organization). (prime_place o).length) same in
+    let here : (prime_place spec.organization).length ≡ place.length =
+    ap (λ (o : Organization). (prime_place o).length) same in
     omega (arith, short, here)
 
-pub layout_short : (spec : Spec) (key : KeyOfReference) → is_spec spec ≡ true → IsKey spec key → (layout_under spec key).key_length ≤ 128
+pub layout_short : (spec : Spec) (key : KeyOfReference) → is_spec spec ≡ true → IsKey spec key
+    → (layout_under spec key).key_length ≤ 128
 layout_short spec Prime is within = key_by spec spec.organization refl is
 layout_short spec (Alternate i) is within = let short = place_short spec (Alternate i) is within in omega (arith, short)
 
 -- the file that was found, under another name for it and its spec
-rows_as : (pages : List (Option Sector)) (one : File) (held : File) (spec : Spec) (own : RootedTree) (tree : RootedTree) → one ≡ held → held.spec ≡ spec → tree ≡ own → HasRows one.spec pages one.rows own → HasRows spec pages held.rows tree
+rows_as : (pages : List (Option Sector)) (one : File) (held : File) (spec : Spec) (own : RootedTree) (tree : RootedTree)
+    → one ≡ held → held.spec ≡ spec → tree ≡ own → HasRows one.spec pages one.rows own
+    → HasRows spec pages held.rows tree
 rows_as pages one held spec own tree same is there rows =
     subst (λ (t : RootedTree). HasRows spec pages held.rows t) (sym there)
-    (subst (λ (s : Spec). HasRows s pages held.rows own) is (subst (λ (f : File). HasRows f.spec pages f.rows own) same rows))
+    (subst (λ (s : Spec). HasRows s pages held.rows own) is
+    (subst (λ (f : File). HasRows f.spec pages f.rows own) same rows))
 
-pairs_as : (pages : List (Option Sector)) (one : File) (held : File) (spec : Spec) (key : KeyOfReference) (own : RootedTree) (tree : RootedTree) → one ≡ held → held.spec ≡ spec → tree ≡ own → HasPairs one.spec key pages one.rows own → HasPairs spec key pages held.rows tree
+pairs_as : (pages : List (Option Sector)) (one : File) (held : File) (spec : Spec)
+    (key : KeyOfReference) (own : RootedTree) (tree : RootedTree) → one ≡ held → held.spec ≡ spec → tree ≡ own
+    → HasPairs one.spec key pages one.rows own → HasPairs spec key pages held.rows tree
 pairs_as pages one held spec key own tree same is there pairs =
     subst (λ (t : RootedTree). HasPairs spec key pages held.rows t) (sym there)
-    (subst (λ (s : Spec). HasPairs s key pages held.rows own) is (subst (λ (f : File). HasPairs f.spec key pages f.rows own) same pairs))
+    (subst (λ (s : Spec). HasPairs s key pages held.rows own) is
+    (subst (λ (f : File). HasPairs f.spec key pages f.rows own) same pairs))
 
 -- what is known where the trees of a file are looked into
-pub record Knows (m : Map) (found : Option File) (held : File) (spec : Spec) (key : KeyOfReference) (listed : Option Entry) (entry : Entry) (prime under : RootedTree) : Type 0 where
+pub record Knows (m : Map) (found : Option File) (held : File) (spec : Spec) (key : KeyOfReference)
+    (listed : Option Entry) (entry : Entry) (prime under : RootedTree) : Type 0 where
   pub few : m.generation < 2 ^ 63
   pub small : length m.pages ≤ 921600
   pub listing : IsListed m found listed
@@ -76,8 +89,10 @@ pub record Knows (m : Map) (found : Option File) (held : File) (spec : Spec) (ke
   pub under_layout : under.layout ≡ layout_under spec key
   pub under_root : under.root ≡ root_in key entry.value
 
-pub sought_in : (m : Map) (found : Option File) (held : File) (spec : Spec) (key : KeyOfReference) (bound : RowBound) (listed : Option Entry) (entry : Entry) (prime under : RootedTree) (way : SearchStart) (at : List ℕ) →
-    Knows m found held spec key listed entry prime under → IsBound spec key bound → way ≡ aim_of spec key bound → at ≡ aim_key spec key bound → IsSought spec key bound m.pages held.rows prime under way at
+pub sought_in : (m : Map) (found : Option File) (held : File) (spec : Spec) (key : KeyOfReference) (bound : RowBound)
+    (listed : Option Entry) (entry : Entry) (prime under : RootedTree) (way : SearchStart) (at : List ℕ) →
+    Knows m found held spec key listed entry prime under → IsBound spec key bound → way ≡ aim_of spec key bound
+    → at ≡ aim_key spec key bound → IsSought spec key bound m.pages held.rows prime under way at
 sought_in m found held spec key bound listed entry prime under way at knows bounded way_is at_is =
     let there = subst (IsListed m found) knows.some knows.listing in
     let kept : FileTrees = there.0 in
@@ -89,11 +104,15 @@ sought_in m found held spec key bound listed entry prime under way at knows boun
     let small : length m.pages ≤ 2 ^ 20 = omega (arith, low) in
     let value = ap (λ (e : Entry). e.value) there.2 in
     let own : IsKey kept.named.file.spec key = subst (λ (s : Spec). IsKey s key) (sym spec_is) knows.key_is in
-    let prime_is = tree_is m found kept spec Prime entry prime is small spec_is (omega arith) value knows.prime_layout knows.prime_root in
-    let under_is = tree_is m found kept spec key entry under is small spec_is knows.key_is value knows.under_layout knows.under_root in
+    let prime_is = tree_is m found kept spec Prime entry prime is small spec_is (omega arith) value knows.prime_layout
+    knows.prime_root in
+    let under_is =
+    tree_is m found kept spec key entry under is small spec_is knows.key_is value knows.under_layout knows.under_root in
     record {
-      there = rows_as m.pages kept.named.file held spec kept.prime.tree prime same knows.spec_is prime_is (rows_seen m found kept is knows.few);
-      pairs = pairs_as m.pages kept.named.file held spec key (tree_under key kept).tree under same knows.spec_is under_is (pairs_seen m found kept key is knows.few own);
+      there = rows_as m.pages kept.named.file held spec kept.prime.tree prime same knows.spec_is prime_is
+          (rows_seen m found kept is knows.few);
+      pairs = pairs_as m.pages kept.named.file held spec key (tree_under key kept).tree under same knows.spec_is
+          under_is (pairs_seen m found kept key is knows.few own);
       bounded = bounded;
       way_is = way_is;
       at_is = at_is;

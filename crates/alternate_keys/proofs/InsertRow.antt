@@ -1,5 +1,6 @@
 -- A new row comes to the trees of its file.
-use Rattle.std.proofs.Common.{◌≡◌, ◌<◌, ◌+◌, ◌^◌, ◌++◌, ◌||◌, ℕ, Bool, true, false, not, List, [], ◌∷◌, length, refl, sym, ap, subst, ◌∙◌, arith}
+use Rattle.std.proofs.Common.{◌≡◌, ◌<◌, ◌+◌, ◌^◌, ◌++◌, ◌||◌, ℕ, Bool, true, false, not, List, [], ◌∷◌, length, refl}
+use Rattle.std.proofs.Common.{sym, ap, subst, ◌∙◌, arith}
 use Rattle.std.specs.Prelude.{map, filter, Option, Some, None, IsSome, is_some, if◌then◌else◌}
 use Rattle.std.specs.List.{All, list_any}
 use Rattle.station.specs.Disk.{Sector}
@@ -12,7 +13,8 @@ use Rattle.records.specs.declared.file_spec.AlternateKey.{AlternateKey}
 use Rattle.records.specs.declared.key.KeyOfReference.TheVariants.{Prime, Alternate}
 use Rattle.records.specs.Spec.{Spec, is_spec}
 use Rattle.records.specs.Rows.{Row, part, place_of, prime_pair, prime_place}
-use Rattle.records.specs.Changes.{FileChange, is_at, has_prime, new_row, new_number, with_row, insertion, without_change, is_taken, is_duplicate, done_outcome}
+use Rattle.records.specs.Changes.{FileChange, is_at, has_prime, new_row, new_number, with_row, insertion}
+use Rattle.records.specs.Changes.{without_change, is_taken, is_duplicate, done_outcome}
 use Rattle.records.specs.Files.{File, NamedFile, IsByte}
 use Rattle.records.specs.Stores.{IsNewNumber, is_change}
 use Rattle.volume_format.specs.Trees.{entry_under, layout_under, AreOf}
@@ -30,15 +32,18 @@ use Rattle.alternate_keys.proofs.FileTrees.{kept_in, arrival_low, arrival_few, r
 use Rattle.alternate_keys.proofs.Fresh.{new_under, key_there, not_there, arrivals_before}
 
 -- what is told of the values of a record, and whether it is a change
-pub told_by : (taken duplicate : Bool) (outcome : Outcome) (b : Bool) → outcome ≡ (if taken then Taken else done_outcome duplicate) → is_change outcome ≡ b → taken ≡ not b
+pub told_by : (taken duplicate : Bool) (outcome : Outcome) (b : Bool)
+    → outcome ≡ (if taken then Taken else done_outcome duplicate) → is_change outcome ≡ b → taken ≡ not b
 told_by true duplicate outcome b is change = ap not (let one : false ≡ b = sym (ap is_change is) ∙ change in one)
 told_by false true outcome b is change = ap not (let one : true ≡ b = sym (ap is_change is) ∙ change in one)
 told_by false false outcome b is change = ap not (let one : true ≡ b = sym (ap is_change is) ∙ change in one)
 
-pub told_free : (taken duplicate : Bool) (outcome : Outcome) → outcome ≡ (if taken then Taken else done_outcome duplicate) → taken ≡ false → outcome ≡ done_outcome duplicate
+pub told_free : (taken duplicate : Bool) (outcome : Outcome)
+    → outcome ≡ (if taken then Taken else done_outcome duplicate) → taken ≡ false → outcome ≡ done_outcome duplicate
 told_free taken duplicate outcome is free = is ∙ ap (λ (b : Bool). if b then Taken else done_outcome duplicate) free
 
-pub told_taken : (taken duplicate : Bool) (outcome : Outcome) → outcome ≡ (if taken then Taken else done_outcome duplicate) → taken ≡ true → outcome ≡ Taken
+pub told_taken : (taken duplicate : Bool) (outcome : Outcome)
+    → outcome ≡ (if taken then Taken else done_outcome duplicate) → taken ≡ true → outcome ≡ Taken
 told_taken taken duplicate outcome is full = is ∙ ap (λ (b : Bool). if b then Taken else done_outcome duplicate) full
 
 pub none_by : (entry : Option Entry) → (IsSome entry → ⊥) → entry ≡ None
@@ -53,24 +58,38 @@ all_new old bytes (key ∷ keys) = ap (λ (l : List AlternateKey). key ∷ l) (a
 -- what became of the file
 module _ (number : ℕ) (bytes : List ℕ) (file : File) where
   abbrev answer : Bool → Bool → FileChange
-  answer there taken = if there || taken then without_change Taken file else record { outcome = done_outcome (is_duplicate file.spec.alternates file.rows bytes); file = file_with (new_row file number bytes) file }
+  answer there taken = if there || taken then without_change Taken file else record {
+    outcome = done_outcome (is_duplicate file.spec.alternates file.rows bytes);
+    file = file_with (new_row file number bytes) file;
+  }
 
   taken_either : (there taken : Bool) → taken ≡ true → (there || taken) ≡ true
   taken_either true taken is = refl
   taken_either false taken is = is
 
-  pub inserted_there : has_prime file (new_row file number bytes) ≡ true → insertion number bytes file ≡ without_change Taken file
+  pub inserted_there : has_prime file (new_row file number bytes) ≡ true
+      → insertion number bytes file ≡ without_change Taken file
   inserted_there there = ap (λ (b : Bool). answer b (is_taken file.spec.alternates file.rows bytes)) there
 
-  pub inserted_taken : is_taken file.spec.alternates file.rows bytes ≡ true → insertion number bytes file ≡ without_change Taken file
-  inserted_taken taken = ap (λ (b : Bool). if b then without_change Taken file else answer false false) (taken_either (has_prime file (new_row file number bytes)) (is_taken file.spec.alternates file.rows bytes) taken)
+  pub inserted_taken : is_taken file.spec.alternates file.rows bytes ≡ true
+      → insertion number bytes file ≡ without_change Taken file
+  inserted_taken taken = ap (λ (b : Bool). if b then without_change Taken file else answer false false)
+      (taken_either (has_prime file (new_row file number bytes)) (is_taken file.spec.alternates file.rows bytes) taken)
 
-  pub inserted_done : has_prime file (new_row file number bytes) ≡ false → is_taken file.spec.alternates file.rows bytes ≡ false →
-      insertion number bytes file ≡ record { outcome = done_outcome (is_duplicate file.spec.alternates file.rows bytes); file = file_with (new_row file number bytes) file }
-  inserted_done there taken = ap (λ (b : Bool). answer b (is_taken file.spec.alternates file.rows bytes)) there ∙ ap (answer false) taken
+  pub inserted_done : has_prime file (new_row file number bytes) ≡ false
+      → is_taken file.spec.alternates file.rows bytes ≡ false →
+      insertion number bytes file ≡ record {
+        outcome = done_outcome (is_duplicate file.spec.alternates file.rows bytes);
+        file = file_with (new_row file number bytes) file;
+      }
+  inserted_done there taken =
+      ap (λ (b : Bool). answer b (is_taken file.spec.alternates file.rows bytes)) there ∙ ap (answer false) taken
 
-module _ (spec : Spec) (named : NamedFile) (generation : ℕ) (pages : List (Option Sector)) (left right : List TreeLevels) (listing : List ℕ) (has : HasTrees spec named generation pages left right listing)
-    (number arrival : ℕ) (bytes : List ℕ) (same : arrival ≡ named.file.next_arrival) (is : is_spec spec ≡ true) (long : length bytes ≡ spec.record_length) (low : All IsByte bytes) (numbered : IsNewNumber spec.organization number) where
+module _ (spec : Spec) (named : NamedFile) (generation : ℕ) (pages : List (Option Sector))
+    (left right : List TreeLevels) (listing : List ℕ) (has : HasTrees spec named generation pages left right listing)
+    (number arrival : ℕ) (bytes : List ℕ) (same : arrival ≡ named.file.next_arrival)
+    (is : is_spec spec ≡ true) (long : length bytes ≡ spec.record_length) (low : All IsByte bytes)
+    (numbered : IsNewNumber spec.organization number) where
   abbrev row : Row
   row = row_with spec (new_number spec.organization number arrival) arrival bytes
 
@@ -85,43 +104,59 @@ module _ (spec : Spec) (named : NamedFile) (generation : ℕ) (pages : List (Opt
   own_under : IsUnder spec Prime row
   own_under = new_under spec number arrival bytes is long low (let all = few in omega (arith, all)) numbered
 
-  pub prime_there : is_some (entry_with (map (entry_under spec Prime) named.file.rows) (entry_under spec Prime row).key) ≡ has_prime named.file (new_row named.file number bytes)
+  pub prime_there : is_some (entry_with (map (entry_under spec Prime) named.file.rows) (entry_under spec Prime row).key)
+      ≡ has_prime named.file (new_row named.file number bytes)
   prime_there =
       key_there spec named.file.rows row (rows_under spec named generation pages left right listing has) own_under
-      ∙ ap (λ (s : Spec). list_any (is_at s.organization (prime_pair s.organization row)) named.file.rows) (sym has.spec_is)
+      ∙ ap (λ (s : Spec). list_any (is_at s.organization (prime_pair s.organization row)) named.file.rows)
+      (sym has.spec_is)
       ∙ ap (λ (r : Row). has_prime named.file r) own_row
 
-  entry_is : (i : ℕ) → i < length named.file.spec.alternates → entry_under named.file.spec (Alternate i) row ≡ pair_entry named.file.spec i bytes arrival
+  entry_is : (i : ℕ) → i < length named.file.spec.alternates
+      → entry_under named.file.spec (Alternate i) row ≡ pair_entry named.file.spec i bytes arrival
   entry_is i within =
       let inside : i < length spec.alternates = subst (λ (s : Spec). i < length s.alternates) has.spec_is within in
-      ap (λ (a : ℕ). let e : Entry = record { key = part (place_of named.file.spec (Alternate i)) bytes ++ big_bytes 8 a; value = part (prime_place named.file.spec.organization) bytes } in e) (arrival_at spec.alternates i arrival inside)
+      ap (λ (a : ℕ). let e : Entry = record {
+        key = part (place_of named.file.spec (Alternate i)) bytes ++ big_bytes 8 a;
+        value = part (prime_place named.file.spec.organization) bytes;
+      } in e) (arrival_at spec.alternates i arrival inside)
 
   pairs_move : PairsMove Insert named.file (named_with row named).file [] bytes arrival
   pairs_move i entries within are up =
-      subst (λ (e : Entry). AreOf named.file.spec (Alternate i) (with_row named.file.spec.organization row named.file.rows) (with_new_entry entries e)) (entry_is i within)
+      subst (λ (e : Entry). AreOf named.file.spec (Alternate i)
+      (with_row named.file.spec.organization row named.file.rows) (with_new_entry entries e)) (entry_is i within)
       (pair_comes named.file.spec (Alternate i) named.file.rows entries row are)
 
   pub pairs_may : PairsMayMove Insert named.file [] bytes arrival
   pairs_may i entries within are up =
       none_by (entry_with entries (pair_entry named.file.spec i bytes arrival).key)
       (λ some.
-      let key : (entry_under named.file.spec (Alternate i) (row_with named.file.spec 0 arrival bytes)).key ≡ (pair_entry named.file.spec i bytes arrival).key =
-      ap (λ (a : ℕ). part (place_of named.file.spec (Alternate i)) bytes ++ big_bytes 8 a) (arrival_at named.file.spec.alternates i arrival within) in
-      not_there named.file.spec i 0 arrival bytes named.file.rows entries are within (let all = few in omega (arith, all))
-      (λ r there. let before = arrivals_before named.file r i has.is_named.file there within in omega (arith, before, same))
+      let key : (entry_under named.file.spec (Alternate i) (row_with named.file.spec 0 arrival bytes)).key
+      ≡ (pair_entry named.file.spec i bytes arrival).key =
+      ap (λ (a : ℕ). part (place_of named.file.spec (Alternate i)) bytes ++ big_bytes 8 a)
+      (arrival_at named.file.spec.alternates i arrival within) in
+      not_there named.file.spec i 0 arrival bytes named.file.rows entries are within (let all =
+      few in omega (arith, all))
+      (λ r there. let before =
+      arrivals_before named.file r i has.is_named.file there within in omega (arith, before, same))
       (subst (λ (k : List ℕ). IsSome (entry_with entries k)) (sym key) some))
 
   pub insert_moving : (later : List (Option Sector)) (prime : RootedTree) → prime.layout ≡ layout_under spec Prime →
-      IsTreeAmong later left ((kept_in spec named generation pages left right listing has).alternates ++ right) prime (with_new_entry (map (entry_under spec Prime) named.file.rows) (entry_under spec Prime row)) →
-      HasChangedRows Insert spec named (named_with row named) generation later left right listing prime.root [] bytes arrival (arrival + 1)
+      IsTreeAmong later left ((kept_in spec named generation pages left right listing has).alternates ++ right) prime
+      (with_new_entry (map (entry_under spec Prime) named.file.rows) (entry_under spec Prime row)) →
+      HasChangedRows Insert spec named (named_with row named) generation later left right listing prime.root [] bytes
+      arrival (arrival + 1)
   insert_moving later prime layout stands = record {
     prime = tree_levels prime stands.levels;
     trees = (kept_in spec named generation pages left right listing has).alternates;
-    indexes = indexes_then spec named generation pages left right listing has later prime (with_new_entry (map (entry_under spec Prime) named.file.rows) (entry_under spec Prime row)) stands;
+    indexes = indexes_then spec named generation pages left right listing has later prime
+        (with_new_entry (map (entry_under spec Prime) named.file.rows) (entry_under spec Prime row)) stands;
     layout = layout;
     root_is = refl;
-    rows = stands.listed ∙ row_comes spec named.file.rows row (rows_under spec named generation pages left right listing has) own_under
-        ∙ ap (λ (s : Spec). map (entry_under spec Prime) (with_row s.organization row named.file.rows)) (sym has.spec_is);
+    rows = stands.listed
+        ∙ row_comes spec named.file.rows row (rows_under spec named generation pages left right listing has) own_under
+        ∙ ap (λ (s : Spec). map (entry_under spec Prime) (with_row s.organization row named.file.rows))
+        (sym has.spec_is);
     spec_is = has.spec_is;
     spec_then = has.spec_is;
     pairs = pairs_move;
@@ -131,24 +166,31 @@ module _ (spec : Spec) (named : NamedFile) (generation : ℕ) (pages : List (Opt
 
 -- what the values of a new row tell
 module _ (spec : Spec) (file : File) (spec_is : file.spec ≡ spec) (old bytes : List ℕ) (outcome : Outcome)
-    (told : outcome ≡ (if is_taken (filter (is_new Insert old bytes) spec.alternates) file.rows bytes then Taken else done_outcome (is_duplicate (filter (is_new Insert old bytes) spec.alternates) file.rows bytes))) where
+    (told : outcome ≡ (if is_taken (filter (is_new Insert old bytes) spec.alternates) file.rows bytes then Taken
+    else done_outcome (is_duplicate (filter (is_new Insert old bytes) spec.alternates) file.rows bytes))) where
   keys_are : filter (is_new Insert old bytes) spec.alternates ≡ file.spec.alternates
   keys_are = all_new old bytes spec.alternates ∙ ap (λ (s : Spec). s.alternates) (sym spec_is)
 
-  told_here : outcome ≡ (if is_taken file.spec.alternates file.rows bytes then Taken else done_outcome (is_duplicate file.spec.alternates file.rows bytes))
-  told_here = told ∙ ap (λ (ks : List AlternateKey). if is_taken ks file.rows bytes then Taken else done_outcome (is_duplicate ks file.rows bytes)) keys_are
+  told_here : outcome ≡ (if is_taken file.spec.alternates file.rows bytes then Taken
+      else done_outcome (is_duplicate file.spec.alternates file.rows bytes))
+  told_here = told ∙ ap (λ (ks : List AlternateKey). if is_taken ks file.rows bytes then Taken
+      else done_outcome (is_duplicate ks file.rows bytes)) keys_are
 
   pub look_free : is_change outcome ≡ true → is_taken file.spec.alternates file.rows bytes ≡ false
-  look_free change = told_by (is_taken file.spec.alternates file.rows bytes) (is_duplicate file.spec.alternates file.rows bytes) outcome true told_here change
+  look_free change = told_by (is_taken file.spec.alternates file.rows bytes)
+      (is_duplicate file.spec.alternates file.rows bytes) outcome true told_here change
 
   pub look_done : is_change outcome ≡ true → outcome ≡ done_outcome (is_duplicate file.spec.alternates file.rows bytes)
-  look_done change = told_free (is_taken file.spec.alternates file.rows bytes) (is_duplicate file.spec.alternates file.rows bytes) outcome told_here (look_free change)
+  look_done change = told_free (is_taken file.spec.alternates file.rows bytes)
+      (is_duplicate file.spec.alternates file.rows bytes) outcome told_here (look_free change)
 
   pub look_full : is_change outcome ≡ false → is_taken file.spec.alternates file.rows bytes ≡ true
-  look_full change = told_by (is_taken file.spec.alternates file.rows bytes) (is_duplicate file.spec.alternates file.rows bytes) outcome false told_here change
+  look_full change = told_by (is_taken file.spec.alternates file.rows bytes)
+      (is_duplicate file.spec.alternates file.rows bytes) outcome false told_here change
 
   pub look_taken : is_change outcome ≡ false → outcome ≡ Taken
-  look_taken change = told_taken (is_taken file.spec.alternates file.rows bytes) (is_duplicate file.spec.alternates file.rows bytes) outcome told_here (look_full change)
+  look_taken change = told_taken (is_taken file.spec.alternates file.rows bytes)
+      (is_duplicate file.spec.alternates file.rows bytes) outcome told_here (look_full change)
 
 pub no_change : (outcome : Outcome) → outcome ≡ Taken → is_change outcome ≡ false
 no_change outcome is = ap is_change is

@@ -17,7 +17,9 @@ use Rattle.alternate_keys.specs.Opened.{HasMap, IsOpenRefusal, IsReadCause}
 use Rattle.alternate_keys.specs.Stands.{Represents}
 
 -- what the pages read stands for what the disk holds
-pub stands_for : (p : PageMap) (disk : Disk) (files : Files) → Agrees p disk → ((image : List Sector) → map_now p image ≡ map_of image (committed_of p)) → changed_pages_of p ≡ [] → Holds disk.present files → Represents p disk files
+pub stands_for : (p : PageMap) (disk : Disk) (files : Files) → Agrees p disk
+    → ((image : List Sector) → map_now p image ≡ map_of image (committed_of p)) → changed_pages_of p ≡ []
+    → Holds disk.present files → Represents p disk files
 stands_for p disk files agrees map rested holds =
     let m : Map = map_of disk.present (committed_of p) in
     let own : HoldsMap disk.present m = (committed_of p, agrees.committed.reads, refl) in
@@ -33,7 +35,8 @@ stands_for p disk files agrees map rested holds =
 pub map_there : (p : PageMap) (disk : Disk) → Agrees p disk → HasMap disk.present
 map_there p disk agrees = (map_of disk.present (committed_of p), (committed_of p, agrees.committed.reads, refl))
 
-pub refused_of : (image : List Sector) (error : PagesError) → RefusesImage image error → IsOpenRefusal image (fault_of error)
+pub refused_of : (image : List Sector) (error : PagesError) → RefusesImage image error
+    → IsOpenRefusal image (fault_of error)
 refused_of image pages.Device is = tt
 refused_of image pages.Full is = is
 refused_of image pages.Damaged is = λ files holds. is.none holds.0 holds.1
@@ -45,6 +48,7 @@ pub cause_of : (error : PagesError) → (error ≡ pages.Device) ⊎ (error ≡ 
 cause_of error (inl is) = inl (ap fault_of is)
 cause_of error (inr is) = inr (ap fault_of is)
 
-pub tells_of : (error : PagesError) → (error ≡ pages.ForeignMark) ⊎ (error ≡ pages.Device) ⊎ (error ≡ pages.Memory) → (fault_of error ≡ Layout) ⊎ IsReadCause (fault_of error)
+pub tells_of : (error : PagesError) → (error ≡ pages.ForeignMark) ⊎ (error ≡ pages.Device) ⊎ (error ≡ pages.Memory)
+    → (fault_of error ≡ Layout) ⊎ IsReadCause (fault_of error)
 tells_of error (inl is) = inl (ap fault_of is)
 tells_of error (inr is) = inr (cause_of error is)

@@ -1,5 +1,6 @@
 -- A file of a map before and after a change of a row.
-use Rattle.std.proofs.Common.{◌≡◌, ◌<◌, ◌≤◌, ◌+◌, ◌^◌, ◌++◌, Bool, true, ℕ, List, [], length, sym, ap, subst, ◌∙◌, arith}
+use Rattle.std.proofs.Common.{◌≡◌, ◌<◌, ◌≤◌, ◌+◌, ◌^◌, ◌++◌, Bool, true, ℕ, List, [], length, sym, ap, subst, ◌∙◌}
+use Rattle.std.proofs.Common.{arith}
 use Rattle.std.specs.Prelude.{map, Option, Some, None, IsSome, is_some, if◌then◌else◌}
 use Rattle.std.specs.List.{AllByRecursion, flat_map}
 use Rattle.station.specs.Disk.{Sector}
@@ -21,15 +22,21 @@ use Rattle.alternate_keys.specs.declared.row_verb.RowVerb.TheVariants.{Insert, R
 use Rattle.alternate_keys.specs.Listed.{catalog_at}
 use Rattle.alternate_keys.specs.Moved.{IsAsked, changed_by, named_after}
 use Rattle.alternate_keys.specs.Placed.{HasFileTrees, HasTrees}
-use Rattle.alternate_keys.proofs.Placing.{found_in, left_of, right_of, entry_of_name, trees_in, catalog_among, holds_then}
+use Rattle.alternate_keys.proofs.Placing.{found_in, left_of, right_of, entry_of_name, trees_in, catalog_among}
+use Rattle.alternate_keys.proofs.Placing.{holds_then}
 use Rattle.alternate_keys.proofs.Splits.{Found}
 
 -- the files after a change are files
-pub are_files : (verb : RowVerb) (name : List ℕ) (file : File) (files : Files) (number : ℕ) (bytes : List ℕ) → AreFiles files → file_at name files ≡ Some file → IsAsked verb file.spec number bytes → AllByRecursion IsByte bytes →
+pub are_files : (verb : RowVerb) (name : List ℕ) (file : File) (files : Files) (number : ℕ) (bytes : List ℕ)
+    → AreFiles files → file_at name files ≡ Some file → IsAsked verb file.spec number bytes
+    → AllByRecursion IsByte bytes →
     AreFiles (files_after name files (changed_by verb file.spec.organization number bytes file))
-are_files Insert name file files number bytes are there asked low = inserted_are_files name file files number bytes are there asked.0 asked.1 low
-are_files Replace name file files number bytes are there asked low = replaced_are_files name file files number bytes are there asked low
-are_files Remove name file files number bytes are there asked low = removed_are_files name file files (pair_of file.spec.organization bytes number) are there
+are_files Insert name file files number bytes are there asked low =
+    inserted_are_files name file files number bytes are there asked.0 asked.1 low
+are_files Replace name file files number bytes are there asked low =
+    replaced_are_files name file files number bytes are there asked low
+are_files Remove name file files number bytes are there asked low =
+    removed_are_files name file files (pair_of file.spec.organization bytes number) are there
 
 some_clash : (x : Option Entry) (e : Entry) → x ≡ Some e → x ≡ None → ⊥
 some_clash x e some none = cc
@@ -38,12 +45,15 @@ some_clash x e some none = cc
 abbrev pub map_with : ℕ → ℕ → List (Option Sector) → Map
 map_with generation catalog pages = record { generation = generation; catalog = catalog; pages = pages }
 
-next_map : (p q : PageMap) (image : List Sector) → SameCommitted p q → catalog_of q ≡ catalog_of p → map_with ((map_now p image).generation + 1) (map_now p image).catalog (map_now q image).pages ≡ next_generation (map_now q image)
+next_map : (p q : PageMap) (image : List Sector) → SameCommitted p q → catalog_of q ≡ catalog_of p
+    → map_with ((map_now p image).generation + 1) (map_now p image).catalog (map_now q image).pages ≡ next_generation
+    (map_now q image)
 next_map p q image same catalog =
     ap (λ v. map_with (v.generation + 1) (map_now p image).catalog (map_now q image).pages) (sym same.volume)
     ∙ ap (λ (n : ℕ). map_with ((map_now q image).generation + 1) n (map_now q image).pages) (sym catalog)
 
-module _ (m : Map) (files : Files) (holds : MapHolds m files) (name : List ℕ) (held : File) (named : is_name name ≡ true) (there : file_at name files ≡ Some held) where
+module _ (m : Map) (files : Files) (holds : MapHolds m files) (name : List ℕ) (held : File)
+    (named : is_name name ≡ true) (there : file_at name files ≡ Some held) where
   abbrev pub own : Found name holds.kept held
   own = found_in m files holds name held there
 
@@ -58,35 +68,48 @@ module _ (m : Map) (files : Files) (holds : MapHolds m files) (name : List ℕ) 
     pub never_none : answer ≡ None → ⊥
     never_none none = some_clash answer (catalog_entry own.one) entry_is none
 
-    pub trees_at : (spec : Spec) (listing : List ℕ) (entry : Entry) → held.spec ≡ spec → m.generation < 2 ^ 63 → length m.pages ≤ 921600 → answer ≡ Some entry → listing ≡ entry.value →
-        HasTrees spec named_here m.generation m.pages (left_of m files holds name held own) (right_of m files holds name held own) listing
+    pub trees_at : (spec : Spec) (listing : List ℕ) (entry : Entry) → held.spec ≡ spec → m.generation < 2 ^ 63
+        → length m.pages ≤ 921600 → answer ≡ Some entry → listing ≡ entry.value →
+        HasTrees spec named_here m.generation m.pages (left_of m files holds name held own)
+        (right_of m files holds name held own) listing
     trees_at spec listing entry spec_is few small some value =
         let joined : Some entry ≡ Some (catalog_entry own.one) = sym some ∙ entry_is in
         let same : entry ≡ catalog_entry own.one = cc in
-        trees_in m files holds name held spec listing own spec_is few (omega (arith, small)) (value ∙ ap (λ (e : Entry). e.value) same)
+        trees_in m files holds name held spec listing own spec_is few (omega (arith, small))
+        (value ∙ ap (λ (e : Entry). e.value) same)
 
   pub some_entry : IsSome (entry_with (map catalog_entry holds.kept) (padded_name name))
   some_entry = ap (λ (o : Option Entry). is_some o) (entry_of_name m files holds name held own named)
 
   module _ (changed : FileChange) (between : List (Option Sector)) (listing : List ℕ)
-      (placed : HasFileTrees (named_after named_here changed) (m.generation + 1) between (left_of m files holds name held own) (right_of m files holds name held own) listing) where
+      (placed : HasFileTrees (named_after named_here changed) (m.generation + 1) between
+      (left_of m files holds name held own) (right_of m files holds name held own) listing) where
     abbrev pub around : List TreeLevels
     around = flat_map trees_of own.split.before ++ (trees_of placed.kept ++ flat_map trees_of own.split.after)
 
-    pub catalog_stands : (catalog : ℕ) → catalog ≡ m.catalog → IsTreeAmong between [] around (catalog_at catalog) (map catalog_entry holds.kept)
+    pub catalog_stands : (catalog : ℕ) → catalog ≡ m.catalog
+        → IsTreeAmong between [] around (catalog_at catalog) (map catalog_entry holds.kept)
     catalog_stands catalog same =
         subst (λ (n : ℕ). IsTreeAmong between [] around (catalog_at n) (map catalog_entry holds.kept)) (sym same)
-        (catalog_among m files holds name held own (named_after named_here changed) (m.generation + 1) between listing placed)
+        (catalog_among m files holds name held own (named_after named_here changed) (m.generation + 1) between listing
+        placed)
 
-    pub holds_after : (pages : List (Option Sector)) (catalog : ℕ) → IsTreeAmong pages [] around (catalog_at catalog) (with_value (map catalog_entry holds.kept) (record { key = padded_name name; value = listing })) →
-        is_change changed.outcome ≡ true → AreFiles (files_after name files changed) → MapHolds (map_with (m.generation + 1) catalog pages) (files_after name files changed)
+    pub holds_after : (pages : List (Option Sector)) (catalog : ℕ) → IsTreeAmong pages [] around (catalog_at catalog)
+        (with_value (map catalog_entry holds.kept) (record { key = padded_name name; value = listing })) →
+        is_change changed.outcome ≡ true → AreFiles (files_after name files changed)
+        → MapHolds (map_with (m.generation + 1) catalog pages) (files_after name files changed)
     holds_after pages catalog stands change are =
-        let after : files_after name files changed ≡ with_file name changed.file files = ap (λ (b : Bool). if b then with_file name changed.file files else files) change in
+        let after : files_after name files changed ≡ with_file name changed.file files =
+        ap (λ (b : Bool). if b then with_file name changed.file files else files) change in
         subst (λ (l : Files). MapHolds (map_with (m.generation + 1) catalog pages) l) (sym after)
-        (holds_then m files holds name held own changed.file between pages catalog listing placed stands named (subst AreFiles after are))
+        (holds_then m files holds name held own changed.file between pages catalog listing placed stands named
+        (subst AreFiles after are))
 
-  pub will_hold : (p q : PageMap) (image : List Sector) (changed : FileChange) → map_now p image ≡ m → SameCommitted p q → catalog_of q ≡ catalog_of p → MapHolds (map_with (m.generation + 1) m.catalog (map_now q image).pages) (files_after name files changed) →
+  pub will_hold : (p q : PageMap) (image : List Sector) (changed : FileChange)
+      → map_now p image ≡ m → SameCommitted p q → catalog_of q ≡ catalog_of p
+      → MapHolds (map_with (m.generation + 1) m.catalog (map_now q image).pages) (files_after name files changed) →
       MapHolds (next_generation (map_now q image)) (files_after name files changed)
   will_hold p q image changed is same catalog holds_now =
       subst (λ (n : Map). MapHolds n (files_after name files changed)) (next_map p q image same catalog)
-      (subst (λ (n : Map). MapHolds (map_with (n.generation + 1) n.catalog (map_now q image).pages) (files_after name files changed)) (sym is) holds_now)
+      (subst (λ (n : Map). MapHolds (map_with (n.generation + 1) n.catalog (map_now q image).pages)
+      (files_after name files changed)) (sym is) holds_now)

@@ -46,35 +46,46 @@ alternates_itself (key ∷ keys) =
 
 spec_itself : (s : Spec) → same_spec s s ≡ true
 spec_itself s =
-    ap (λ b. b && (s.record_length == s.record_length) && same_alternates s.alternates s.alternates) (organization_itself s.organization)
-    ∙ ap (λ b. b && same_alternates s.alternates s.alternates) (number_itself s.record_length) ∙ alternates_itself s.alternates
+    ap (λ b. b && (s.record_length == s.record_length) && same_alternates s.alternates s.alternates)
+    (organization_itself s.organization)
+    ∙ ap (λ b. b && same_alternates s.alternates s.alternates) (number_itself s.record_length)
+    ∙ alternates_itself s.alternates
 
-pub absent : (m : Map) (found : Option File) (entry : Option Entry) (spec : Spec) → IsListed m found entry → entry ≡ None → Absent ≡ presence found spec
+pub absent : (m : Map) (found : Option File) (entry : Option Entry) (spec : Spec) → IsListed m found entry
+    → entry ≡ None → Absent ≡ presence found spec
 absent m found entry spec listed none =
     let there : found ≡ None = subst (IsListed m found) none listed in
     sym (ap (λ (f : Option File). presence f spec) there)
 
-other : (c : Bool) (s spec : Spec) → same_spec s spec ≡ c → same_bytes (spec_bytes s) (spec_bytes spec) ≡ false → Different ≡ (if c then Present else Different)
+other : (c : Bool) (s spec : Spec) → same_spec s spec ≡ c → same_bytes (spec_bytes s) (spec_bytes spec) ≡ false
+    → Different ≡ (if c then Present else Different)
 other true s spec is test =
     let same : s ≡ spec = specs_same s spec is in
-    let clash : true ≡ false = sym (same_itself (spec_bytes spec)) ∙ ap (λ (x : Spec). same_bytes (spec_bytes x) (spec_bytes spec)) (sym same) ∙ test in
+    let clash : true ≡ false = sym (same_itself (spec_bytes spec))
+    ∙ ap (λ (x : Spec). same_bytes (spec_bytes x) (spec_bytes spec)) (sym same) ∙ test in
     cc
 other false s spec is test = refl
 
-by : (b : Bool) (s spec : Spec) → is_spec s ≡ true → is_spec spec ≡ true → same_bytes (spec_bytes s) (spec_bytes spec) ≡ b → (if b then Present else Different) ≡ (if same_spec s spec then Present else Different)
+by : (b : Bool) (s spec : Spec) → is_spec s ≡ true → is_spec spec ≡ true → same_bytes (spec_bytes s)
+    (spec_bytes spec) ≡ b → (if b then Present else Different) ≡ (if same_spec s spec then Present else Different)
 by true s spec good is test =
     let same : s ≡ spec = one_spec s spec good is (bytes_same (spec_bytes s) (spec_bytes spec) test) in
-    sym (ap (λ (x : Spec). if same_spec x spec then Present else Different) same ∙ ap (λ c. if c then Present else Different) (spec_itself spec))
+    sym (ap (λ (x : Spec). if same_spec x spec then Present else Different) same
+    ∙ ap (λ c. if c then Present else Different) (spec_itself spec))
 by false s spec good is test = other (same_spec s spec) s spec refl test
 
 -- by the bytes that say what a file is
-pub present_by : (b : Bool) (m : Map) (found : Option File) (entry : Option Entry) (e : Entry) (spec : Spec) → is_spec spec ≡ true → IsListed m found entry → entry ≡ Some e → same_bytes (take 43 e.value) (spec_bytes spec) ≡ b →
+pub present_by : (b : Bool) (m : Map) (found : Option File) (entry : Option Entry) (e : Entry) (spec : Spec)
+    → is_spec spec ≡ true → IsListed m found entry → entry ≡ Some e → same_bytes (take 43 e.value) (spec_bytes spec) ≡ b
+    →
     (if b then Present else Different) ≡ presence found spec
 present_by b m found entry e spec is listed some told =
     let there = subst (IsListed m found) some listed in
     let kept : FileTrees = there.0 in
     let s : Spec = kept.named.file.spec in
     let good = there.1.named.file.spec in
-    let bytes : take 43 e.value ≡ spec_bytes s = ap (λ (x : Entry). take 43 x.value) there.2 ∙ spec_read (listing_of kept) good in
-    let test : same_bytes (spec_bytes s) (spec_bytes spec) ≡ b = ap (λ (l : List ℕ). same_bytes l (spec_bytes spec)) (sym bytes) ∙ told in
+    let bytes : take 43 e.value ≡ spec_bytes s =
+    ap (λ (x : Entry). take 43 x.value) there.2 ∙ spec_read (listing_of kept) good in
+    let test : same_bytes (spec_bytes s) (spec_bytes spec) ≡ b =
+    ap (λ (l : List ℕ). same_bytes l (spec_bytes spec)) (sym bytes) ∙ told in
     by b s spec good is test ∙ sym (ap (λ (f : Option File). presence f spec) there.1.there)

@@ -18,9 +18,12 @@ use Rattle.alternate_keys.proofs.Still.{same_volume, stands_still}
 abbrev pub opened : PageMap → Bool → OpenedVolume
 opened pages spent = record { pages = pages; spent = spent }
 
-pub reads_of : {D : Type 0} (d : Devices D) {T : Type 0} (result : Result T StoreFault) (old new : PageMap) (spent : Bool) (device device' : D) →
-    OnlyReads d (result ≡ Err Device) device device' → IsUnchanged old new → (d.is_honest device → Agrees old (d.state device).disk → Agrees new (d.state device').disk) →
-    is_spent old ≡ false → (result ≡ Err Spent → is_spent old ≡ true) → IfErr result IsReadFault → OnlyReadsFiles ghosts d result (opened old spent) device (opened new spent) device'
+pub reads_of : {D : Type 0} (d : Devices D) {T : Type 0} (result : Result T StoreFault) (old new : PageMap)
+    (spent : Bool) (device device' : D) →
+    OnlyReads d (result ≡ Err Device) device device' → IsUnchanged old new
+    → (d.is_honest device → Agrees old (d.state device).disk → Agrees new (d.state device').disk) →
+    is_spent old ≡ false → (result ≡ Err Spent → is_spent old ≡ true) → IfErr result IsReadFault
+    → OnlyReadsFiles ghosts d result (opened old spent) device (opened new spent) device'
 reads_of d result old new spent device device' only unchanged agrees unspent told cause =
     let same = same_volume old new unchanged.committed in
     record {
@@ -30,7 +33,11 @@ reads_of d result old new spent device device' only unchanged agrees unspent tol
       still_there = λ files stands.
           let still = only.state stands.honest in
           let here = subst (λ (s : State). Agrees new s.disk) still (agrees stands.honest stands.there.agrees) in
-          record { honest = only.honest.0 stands.honest; there = subst (λ (s : State). Represents new s.disk files) (sym still) (stands_still old new (d.state device).disk files unchanged here stands.there) };
+          record {
+            honest = only.honest.0 stands.honest;
+            there = subst (λ (s : State). Represents new s.disk files) (sym still)
+                (stands_still old new (d.state device).disk files unchanged here stands.there);
+          };
       spent = λ is. let clash : true ≡ false = sym (told is) ∙ unspent in cc;
       has_room = λ is. subst (λ r. IfErr r IsReadFault) is cause;
       own_layout = λ is. subst (λ r. IfErr r IsReadFault) is cause;

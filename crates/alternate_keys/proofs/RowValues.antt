@@ -1,5 +1,6 @@
 -- A row, read from its value in the tree of rows.
-use Rattle.std.proofs.Common.{◌≡◌, ◌<◌, ◌+◌, ◌*◌, ◌^◌, ◌++◌, Bool, true, false, not, ℕ, zero, suc, List, [], ◌∷◌, length, refl, sym, ap, ◌∙◌, arith}
+use Rattle.std.proofs.Common.{◌≡◌, ◌<◌, ◌+◌, ◌*◌, ◌^◌, ◌++◌, Bool, true, false, not, ℕ, zero, suc, List, [], ◌∷◌}
+use Rattle.std.proofs.Common.{length, refl, sym, ap, ◌∙◌, arith}
 use Rattle.std.specs.Prelude.{take, drop, slice_index_or, if◌then◌else◌}
 use Rattle.std.specs.List.{All, flat_map}
 use Rattle.std.proofs.lemmas.List.{take_at, drop_at, drop-drop, append-nil, append_assoc, length-append}
@@ -17,11 +18,13 @@ use Rattle.file_bytes.specs.Rows.{row_value}
 use Rattle.alternate_keys.specs.Moved.{old_key}
 
 -- the arrival at a place of the list
-arrival_there : (arrivals : List ℕ) (i : ℕ) (more : List ℕ) → i < length arrivals → All (λ (a : ℕ). a < 256 ^ 8) arrivals → big_number 8 (drop (8 * i) (flat_map (big_bytes 8) arrivals ++ more)) ≡ slice_index_or arrivals i 0
+arrival_there : (arrivals : List ℕ) (i : ℕ) (more : List ℕ) → i < length arrivals → All (λ (a : ℕ). a < 256 ^ 8)
+    arrivals → big_number 8 (drop (8 * i) (flat_map (big_bytes 8) arrivals ++ more)) ≡ slice_index_or arrivals i 0
 arrival_there [] i more within low = absurd (omega (arith, within))
 arrival_there (a ∷ arrivals) zero more within low =
     ap (big_number 8) (append_assoc (big_bytes 8 a) (flat_map (big_bytes 8) arrivals) more)
-    ∙ big_number-reads_back 8 a (flat_map (big_bytes 8) arrivals ++ more) (All-head (λ (x : ℕ). x < 256 ^ 8) a arrivals low)
+    ∙ big_number-reads_back 8 a (flat_map (big_bytes 8) arrivals ++ more)
+    (All-head (λ (x : ℕ). x < 256 ^ 8) a arrivals low)
 arrival_there (a ∷ arrivals) (suc i) more within low =
     let eight : 8 * suc i ≡ 8 + 8 * i = omega arith in
     ap (λ (n : ℕ). big_number 8 (drop n (flat_map (big_bytes 8) (a ∷ arrivals) ++ more))) eight
@@ -32,17 +35,23 @@ module _ (n : ℕ) (bytes arrivals : List ℕ) (long : length bytes ≡ n) where
   pub record_read : take n (bytes ++ flat_map (big_bytes 8) arrivals) ≡ bytes
   record_read = take_at bytes (flat_map (big_bytes 8) arrivals) n long
 
-  pub arrival_read : (i : ℕ) → i < length arrivals → All (λ (a : ℕ). a < 256 ^ 8) arrivals → big_number 8 (drop (n + 8 * i) (bytes ++ flat_map (big_bytes 8) arrivals)) ≡ slice_index_or arrivals i 0
+  pub arrival_read : (i : ℕ) → i < length arrivals → All (λ (a : ℕ). a < 256 ^ 8) arrivals
+      → big_number 8 (drop (n + 8 * i) (bytes ++ flat_map (big_bytes 8) arrivals)) ≡ slice_index_or arrivals i 0
   arrival_read i within low =
       ap (big_number 8) (sym (drop-drop (8 * i) n (bytes ++ flat_map (big_bytes 8) arrivals)))
-      ∙ ap (λ (l : List ℕ). big_number 8 (drop (8 * i) l)) (drop_at bytes (flat_map (big_bytes 8) arrivals) n long ∙ sym (append-nil (flat_map (big_bytes 8) arrivals)))
+      ∙ ap (λ (l : List ℕ). big_number 8 (drop (8 * i) l)) (drop_at bytes (flat_map (big_bytes 8) arrivals) n long
+      ∙ sym (append-nil (flat_map (big_bytes 8) arrivals)))
       ∙ arrival_there arrivals i [] within low
 
 -- the key of its pair
-pub old_key_is : (spec : Spec) (i : ℕ) (row : Row) → length row.bytes ≡ spec.record_length → i < length row.arrivals → All (λ (a : ℕ). a < 256 ^ 8) row.arrivals → old_key spec i (row_value row) ≡ (entry_under spec (Alternate i) row).key
+pub old_key_is : (spec : Spec) (i : ℕ) (row : Row)
+    → length row.bytes ≡ spec.record_length → i < length row.arrivals → All (λ (a : ℕ). a < 256 ^ 8) row.arrivals
+    → old_key spec i (row_value row) ≡ (entry_under spec (Alternate i) row).key
 old_key_is spec i row long within low =
-    ap (λ (l : List ℕ). part (place_of spec (Alternate i)) l ++ big_bytes 8 (big_number 8 (drop (spec.record_length + 8 * i) (row_value row)))) (record_read spec.record_length row.bytes row.arrivals long)
-    ∙ ap (λ (a : ℕ). part (place_of spec (Alternate i)) row.bytes ++ big_bytes 8 a) (arrival_read spec.record_length row.bytes row.arrivals long i within low)
+    ap (λ (l : List ℕ). part (place_of spec (Alternate i)) l ++ big_bytes 8 (big_number 8
+    (drop (spec.record_length + 8 * i) (row_value row)))) (record_read spec.record_length row.bytes row.arrivals long)
+    ∙ ap (λ (a : ℕ). part (place_of spec (Alternate i)) row.bytes ++ big_bytes 8 a)
+    (arrival_read spec.record_length row.bytes row.arrivals long i within low)
 
 arrivals_count : (arrivals : List ℕ) → length (flat_map (big_bytes 8) arrivals) ≡ 8 * length arrivals
 arrivals_count [] = refl
@@ -51,39 +60,51 @@ arrivals_count (a ∷ arrivals) =
     let all = length-append (big_bytes 8 a) (flat_map (big_bytes 8) arrivals) in
     omega (arith, rest, all)
 
-pub value_count : (n : ℕ) (bytes arrivals : List ℕ) → length bytes ≡ n → length (bytes ++ flat_map (big_bytes 8) arrivals) ≡ n + 8 * length arrivals
+pub value_count : (n : ℕ) (bytes arrivals : List ℕ) → length bytes ≡ n
+    → length (bytes ++ flat_map (big_bytes 8) arrivals) ≡ n + 8 * length arrivals
 value_count n bytes arrivals long =
     let rest = arrivals_count arrivals in
     let all = length-append bytes (flat_map (big_bytes 8) arrivals) in
     omega (arith, rest, all, long)
 
 -- the arrivals after another record
-pub arrivals_at : (old bytes : List ℕ) (next : ℕ) (keys : List AlternateKey) (arrivals : List ℕ) (i : ℕ) → i < length keys → length arrivals ≡ length keys →
-    slice_index_or (arrivals_after old bytes next keys arrivals) i 0 ≡ (if changes old bytes (slice_index_or keys i no_key) then next else slice_index_or arrivals i 0)
+pub arrivals_at : (old bytes : List ℕ) (next : ℕ) (keys : List AlternateKey) (arrivals : List ℕ) (i : ℕ)
+    → i < length keys → length arrivals ≡ length keys →
+    slice_index_or (arrivals_after old bytes next keys arrivals) i 0
+    ≡ (if changes old bytes (slice_index_or keys i no_key) then next else slice_index_or arrivals i 0)
 arrivals_at old bytes next [] arrivals i within count = absurd (omega (arith, within))
 arrivals_at old bytes next (key ∷ keys) [] i within count = absurd (omega (arith, count))
 arrivals_at old bytes next (key ∷ keys) (a ∷ arrivals) zero within count = refl
-arrivals_at old bytes next (key ∷ keys) (a ∷ arrivals) (suc i) within count = arrivals_at old bytes next keys arrivals i (omega (arith, within)) (omega (arith, count))
+arrivals_at old bytes next (key ∷ keys) (a ∷ arrivals) (suc i) within count =
+    arrivals_at old bytes next keys arrivals i (omega (arith, within)) (omega (arith, count))
 
-pub arrivals_then : (old bytes : List ℕ) (next : ℕ) (keys : List AlternateKey) (arrivals : List ℕ) → length arrivals ≡ length keys → length (arrivals_after old bytes next keys arrivals) ≡ length keys
+pub arrivals_then : (old bytes : List ℕ) (next : ℕ) (keys : List AlternateKey) (arrivals : List ℕ)
+    → length arrivals ≡ length keys → length (arrivals_after old bytes next keys arrivals) ≡ length keys
 arrivals_then old bytes next [] [] count = refl
 arrivals_then old bytes next [] (a ∷ arrivals) count = refl
 arrivals_then old bytes next (key ∷ keys) [] count = absurd (omega (arith, count))
-arrivals_then old bytes next (key ∷ keys) (a ∷ arrivals) count = ap (λ (n : ℕ). suc n) (arrivals_then old bytes next keys arrivals (omega (arith, count)))
+arrivals_then old bytes next (key ∷ keys) (a ∷ arrivals) count =
+    ap (λ (n : ℕ). suc n) (arrivals_then old bytes next keys arrivals (omega (arith, count)))
 
 -- a key that stays has the same value
-pub same_part : (old bytes : List ℕ) (key : AlternateKey) → changes old bytes key ≡ false → part key.place bytes ≡ part key.place old
-same_part old bytes key is = sym (bytes_same (part key.place old) (part key.place bytes) (by (same_bytes (part key.place old) (part key.place bytes)) is))
+pub same_part : (old bytes : List ℕ) (key : AlternateKey) → changes old bytes key ≡ false
+    → part key.place bytes ≡ part key.place old
+same_part old bytes key is = sym (bytes_same (part key.place old) (part key.place bytes)
+    (by (same_bytes (part key.place old) (part key.place bytes)) is))
   where
     by : (b : Bool) → not b ≡ false → b ≡ true
     by true is = refl
     by false is = absurd cc
 
 -- one more of them
-taken_one : (numbers : List ℕ) (k : ℕ) → k < length numbers → flat_map (big_bytes 8) (take (suc k) numbers) ≡ flat_map (big_bytes 8) (take k numbers) ++ big_bytes 8 (slice_index_or numbers k 0)
+taken_one : (numbers : List ℕ) (k : ℕ) → k < length numbers → flat_map (big_bytes 8) (take (suc k) numbers) ≡ flat_map
+    (big_bytes 8) (take k numbers) ++ big_bytes 8 (slice_index_or numbers k 0)
 taken_one [] k low = absurd (omega (arith, low))
 taken_one (a ∷ numbers) zero low = refl
 taken_one (a ∷ numbers) (suc k) low = ap (λ (l : List ℕ). big_bytes 8 a ++ l) (taken_one numbers k (omega (arith, low)))
 
-pub numbers_more : (numbers : List ℕ) (k : ℕ) → k < length numbers → flat_map (big_bytes 8) (take (k + 1) numbers) ≡ flat_map (big_bytes 8) (take k numbers) ++ big_bytes 8 (slice_index_or numbers k 0)
-numbers_more numbers k low = ap (λ (n : ℕ). flat_map (big_bytes 8) (take n numbers)) (let e : k + 1 ≡ suc k = omega arith in e) ∙ taken_one numbers k low
+pub numbers_more : (numbers : List ℕ) (k : ℕ) → k < length numbers → flat_map (big_bytes 8)
+    (take (k + 1) numbers) ≡ flat_map (big_bytes 8) (take k numbers) ++ big_bytes 8 (slice_index_or numbers k 0)
+numbers_more numbers k low =
+    ap (λ (n : ℕ). flat_map (big_bytes 8) (take n numbers)) (let e : k + 1 ≡ suc k = omega arith in e)
+    ∙ taken_one numbers k low

@@ -1,5 +1,6 @@
 -- What a commit of pages says of files.
-use Rattle.std.proofs.Common.{◌≡◌, ◌⊎◌, ◌<◌, ◌≤◌, ◌^◌, inl, inr, ℕ, Bool, true, false, List, ◌∷◌, length, refl, sym, ap, subst, ◌∙◌, arith}
+use Rattle.std.proofs.Common.{◌≡◌, ◌⊎◌, ◌<◌, ◌≤◌, ◌^◌, inl, inr, ℕ, Bool, true, false, List, ◌∷◌, length, refl, sym, ap}
+use Rattle.std.proofs.Common.{subst, ◌∙◌, arith}
 use Rattle.std.proofs.lemmas.Bool.{eq-eqb, eqb-true}
 use Rattle.std.proofs.Math.Dec.{eqb}
 use Rattle.std.specs.Prelude.{[]}
@@ -20,19 +21,27 @@ use Rattle.volume_format.proofs.OneFiles.{one_in_map_most}
 use Rattle.alternate_keys.specs.Stands.{Represents}
 
 -- an image of either map
-either_by : (before after : Map) (old now : Files) (image : List Sector) → MapHolds before old → MapHolds after now → BeforeOrAfter before after image → Either Holds old now image
+either_by : (before after : Map) (old now : Files) (image : List Sector) → MapHolds before old → MapHolds after now
+    → BeforeOrAfter before after image → Either Holds old now image
 either_by before after old now image first second (inl is) = inl (before, is, first)
 either_by before after old now image first second (inr is) = inr (after, is, second)
 
 -- where each moment leaves the map before or after, it leaves the files of either
-pub moments_hold : (past later : List State) (new : State) (seen : List Event) (before after : Map) (old now : Files) → MapHolds before old → MapHolds after now →
-    Through past later new (CrashLeaves seen (BeforeOrAfter before after)) → Through past later new (CrashLeaves seen (Either Holds old now))
+pub moments_hold : (past later : List State) (new : State) (seen : List Event) (before after : Map) (old now : Files)
+    → MapHolds before old → MapHolds after now →
+    Through past later new (CrashLeaves seen (BeforeOrAfter before after))
+    → Through past later new (CrashLeaves seen (Either Holds old now))
 moments_hold past later new seen before after old now first second through =
     weakens past later new (CrashLeaves seen (BeforeOrAfter before after)) (CrashLeaves seen (Either Holds old now))
-    (λ state leaves. record { events = leaves.events; images = λ image crash. either_by before after old now image first second (leaves.images image crash) }) through
+    (λ state leaves. record {
+      events = leaves.events;
+      images = λ image crash. either_by before after old now image first second (leaves.images image crash);
+    }) through
 
 -- after a commit the store stands for the files of the map that was put
-pub stands_then : (p : PageMap) (disk : Disk) (m : Map) (files : Files) → Agrees p disk → ((image : List Sector) → map_now p image ≡ map_of image (committed_of p)) → changed_pages_of p ≡ [] → map_now p disk.present ≡ m → MapHolds m files → Represents p disk files
+pub stands_then : (p : PageMap) (disk : Disk) (m : Map) (files : Files) → Agrees p disk
+    → ((image : List Sector) → map_now p image ≡ map_of image (committed_of p)) → changed_pages_of p ≡ []
+    → map_now p disk.present ≡ m → MapHolds m files → Represents p disk files
 stands_then p disk m files agrees committed rested is holds = record {
   agrees = agrees;
   still = committed disk.present;
@@ -41,26 +50,37 @@ stands_then p disk m files agrees committed rested is holds = record {
 }
 
 -- whether something was changed
-by_catalog : (b : Bool) (p : PageMap) → changed_pages_of p ≡ [] → eqb (catalog_of p) (committed_of p).root.catalog ≡ b → HasChanges p ⊎ ((changed_pages_of p ≡ []) × (catalog_of p ≡ (committed_of p).root.catalog))
+by_catalog : (b : Bool) (p : PageMap) → changed_pages_of p ≡ [] → eqb (catalog_of p) (committed_of p).root.catalog ≡ b
+    → HasChanges p ⊎ ((changed_pages_of p ≡ []) × (catalog_of p ≡ (committed_of p).root.catalog))
 by_catalog true p none is = inr (none, eqb-true (catalog_of p) (committed_of p).root.catalog is)
-by_catalog false p none is = inl (λ same. let clash : true ≡ false = sym (eq-eqb (catalog_of p) (committed_of p).root.catalog same.1) ∙ is in cc)
+by_catalog false p none is =
+    inl (λ same. let clash : true ≡ false = sym (eq-eqb (catalog_of p) (committed_of p).root.catalog same.1) ∙ is in cc)
 
-by_pages : (pages : List ℕ) (p : PageMap) → changed_pages_of p ≡ pages → HasChanges p ⊎ ((changed_pages_of p ≡ []) × (catalog_of p ≡ (committed_of p).root.catalog))
+by_pages : (pages : List ℕ) (p : PageMap) → changed_pages_of p ≡ pages
+    → HasChanges p ⊎ ((changed_pages_of p ≡ []) × (catalog_of p ≡ (committed_of p).root.catalog))
 by_pages [] p is = by_catalog (eqb (catalog_of p) (committed_of p).root.catalog) p is refl
 by_pages (page ∷ pages) p is = inl (λ same. let clash : page ∷ pages ≡ [] = sym is ∙ same.0 in cc)
 
-pub changed_or_not : (p : PageMap) → HasChanges p ⊎ ((changed_pages_of p ≡ []) × (catalog_of p ≡ (committed_of p).root.catalog))
+pub changed_or_not : (p : PageMap)
+    → HasChanges p ⊎ ((changed_pages_of p ≡ []) × (catalog_of p ≡ (committed_of p).root.catalog))
 changed_or_not p = by_pages (changed_pages_of p) p refl
 
 -- Where nothing was changed, the files before are those after, and stay.
-pub rests_then : (p q : PageMap) (old new : Disk) (before after : Files) → Agrees q new → ((image : List Sector) → map_now q image ≡ map_of image (committed_of q)) → changed_pages_of q ≡ [] → q ≡ p → new ≡ old →
-    (map_now p old.present).generation < 2 ^ 63 → length (map_now p old.present).pages ≤ 921600 → MapHolds (map_of old.present (committed_of p)) before → MapHolds (next_generation (map_now p old.present)) after → Represents q new after
+pub rests_then : (p q : PageMap) (old new : Disk) (before after : Files) → Agrees q new
+    → ((image : List Sector) → map_now q image ≡ map_of image (committed_of q)) → changed_pages_of q ≡ [] → q ≡ p
+    → new ≡ old →
+    (map_now p old.present).generation < 2 ^ 63
+    → length (map_now p old.present).pages ≤ 921600 → MapHolds (map_of old.present (committed_of p)) before
+    → MapHolds (next_generation (map_now p old.present)) after → Represents q new after
 rests_then p q old new before after agrees committed rested same still few small was will =
     let m : Map = map_now p old.present in
-    let is : m ≡ map_of old.present (committed_of p) = subst (λ (x : PageMap). map_now x old.present ≡ map_of old.present (committed_of x)) same (committed old.present) in
+    let is : m ≡ map_of old.present (committed_of p) =
+    subst (λ (x : PageMap). map_now x old.present ≡ map_of old.present (committed_of x)) same (committed old.present) in
     let here : MapHolds m before = subst (λ (x : Map). MapHolds x before) (sym is) was in
-    let files : before ≡ after = one_in_map_most (next_generation m) before after (omega (arith, few)) (omega (arith, small)) (next_holds m before here) will in
-    let map_is : map_now q new.present ≡ m = ap (λ (d : Disk). map_now q d.present) still ∙ ap (λ (x : PageMap). map_now x old.present) same in
+    let files : before ≡ after = one_in_map_most (next_generation m) before after (omega (arith, few))
+    (omega (arith, small)) (next_holds m before here) will in
+    let map_is : map_now q new.present ≡ m =
+    ap (λ (d : Disk). map_now q d.present) still ∙ ap (λ (x : PageMap). map_now x old.present) same in
     record {
       agrees = agrees;
       still = committed new.present;

@@ -18,11 +18,13 @@ use Rattle.alternate_keys.specs.declared.search_start.SearchStart.TheVariants as
 use Rattle.volume_format.specs.Trees.{entry_under, AreOf}
 use Rattle.volume_format.specs.Pairs.{IsUnder}
 use Rattle.alternate_keys.specs.Aims.{IsBound, aim_of, aim_key, accepts, found_entry}
-use Rattle.alternate_keys.proofs.Least.{IsLeast, is_least, IsHead, is_head, first_where, from_where, after_where, never_where}
+use Rattle.alternate_keys.proofs.Least.{IsLeast, is_least, IsHead, is_head, first_where, from_where, after_where}
+use Rattle.alternate_keys.proofs.Least.{never_where}
 use Rattle.volume_format.proofs.Order.{keys_in_order}
 use Rattle.alternate_keys.proofs.Aims.{aims_right}
 
-looked_where : (a : SearchStart) (entries : List Entry) (at : List ℕ) → found_entry a entries at ≡ first_where (accepts a at) entries
+looked_where : (a : SearchStart) (entries : List Entry) (at : List ℕ)
+    → found_entry a entries at ≡ first_where (accepts a at) entries
 looked_where aim.Nothing entries at = sym (never_where entries)
 looked_where aim.From entries at = from_where entries at
 looked_where aim.After entries at = after_where entries at
@@ -45,9 +47,11 @@ module _ (spec : Spec) (key : KeyOfReference) (bound : RowBound) (rows : List Ro
       aims_right spec key bound (pair_under spec key row) given.fits is.pair is.bytes
 
   -- what the two answers are
-  both : Given → (found : Option Entry) (row : Option Row) → IsHead wanted entries found → IsLeast spec key behind rows row → found ≡ option_map (entry_under spec key) row
+  both : Given → (found : Option Entry) (row : Option Row) → IsHead wanted entries found
+      → IsLeast spec key behind rows row → found ≡ option_map (entry_under spec key) row
   both given None None head least = refl
-  both given None (Some m) head least = absurd (head (entry_under spec key m) (given.are.each m least.has) (sym (same_test given m least.has) ∙ least.right))
+  both given None (Some m) head least = absurd
+      (head (entry_under spec key m) (given.are.each m least.has) (sym (same_test given m least.has) ∙ least.right))
   both given (Some e) None head least =
       let of = given.are.only e head.has in
       absurd (least of.0 of.1 (same_test given of.0 of.1 ∙ ap (λ (x : Entry). wanted x.key) of.2 ∙ head.right))
@@ -63,15 +67,21 @@ module _ (spec : Spec) (key : KeyOfReference) (bound : RowBound) (rows : List Ro
       ⊎_elim
       (λ same. ap Some (sym same))
       (λ later.
-      let high : key_cmp (entry_under spec key m).key e.key ≡ Greater = nat_list_cmp_total.antisymm (entry_under spec key m).key e.key ∙ ap ordering_reverse later in
+      let high : key_cmp (entry_under spec key m).key e.key ≡ Greater =
+      nat_list_cmp_total.antisymm (entry_under spec key m).key e.key ∙ ap ordering_reverse later in
       let clash : true ≡ false = sym (ap is_gt high) ∙ low in
       cc)
-      (head.first (entry_under spec key m) (given.are.each m least.has) (sym (same_test given m least.has) ∙ least.right))
+      (head.first (entry_under spec key m) (given.are.each m least.has)
+      (sym (same_test given m least.has) ∙ least.right))
 
-pub finds_sought : (spec : Spec) (key : KeyOfReference) (bound : RowBound) (rows : List Row) (entries : List Entry) → IsBound spec key bound →
+pub finds_sought : (spec : Spec) (key : KeyOfReference) (bound : RowBound) (rows : List Row) (entries : List Entry)
+    → IsBound spec key bound →
     Ascend (map (λ (entry : Entry). entry.key) entries) → AreOf spec key rows entries → All (IsUnder spec key) rows →
-    found_entry (aim_of spec key bound) entries (aim_key spec key bound) ≡ option_map (entry_under spec key) (sought_row spec key bound rows)
+    found_entry (aim_of spec key bound) entries (aim_key spec key bound)
+    ≡ option_map (entry_under spec key) (sought_row spec key bound rows)
 finds_sought spec key bound rows entries fits up are under =
     looked_where (aim_of spec key bound) entries (aim_key spec key bound)
-    ∙ both spec key bound rows entries (record { are = are; under = under; fits = fits }) (first_where (wanted spec key bound rows entries) entries) (sought_row spec key bound rows)
-    (is_head (wanted spec key bound rows entries) entries up) (is_least spec key (behind spec key bound rows entries) rows)
+    ∙ both spec key bound rows entries (record { are = are; under = under; fits = fits })
+    (first_where (wanted spec key bound rows entries) entries) (sought_row spec key bound rows)
+    (is_head (wanted spec key bound rows entries) entries up)
+    (is_least spec key (behind spec key bound rows entries) rows)

@@ -12,14 +12,18 @@ use Rattle.alternate_keys.specs.Stands.{Represents, LacksSpace, LacksRoom}
 pub same_volume : (old new : PageMap) → SameCommitted old new → committed_of new ≡ committed_of old
 same_volume old new same = ap volume_of same.volume
 
-pub stands_still : (old new : PageMap) (disk : Disk) (files : Files) → IsUnchanged old new → Agrees new disk → Represents old disk files → Represents new disk files
+pub stands_still : (old new : PageMap) (disk : Disk) (files : Files) → IsUnchanged old new → Agrees new disk
+    → Represents old disk files → Represents new disk files
 stands_still old new disk files unchanged agrees stands = record {
   agrees = agrees;
-  still = unchanged.map disk.present ∙ stands.still ∙ ap (map_of disk.present) (sym (same_volume old new unchanged.committed));
+  still = unchanged.map disk.present ∙ stands.still
+      ∙ ap (map_of disk.present) (sym (same_volume old new unchanged.committed));
   rested = unchanged.changed_pages ∙ stands.rested;
   holds = subst (λ (m : Map). MapHolds m files) (sym (unchanged.map disk.present)) stands.holds;
 }
 
 -- the volume of the last commit is that of the disk
-pub lacks_room : (pages : PageMap) (disk : Disk) (is_new : Bool) (name : List ℕ) (after : Files) → Agrees pages disk → LacksSpace (committed_of pages) is_new name after → LacksRoom disk.present is_new name after
-lacks_room pages disk is_new name after agrees short = record { volume = committed_of pages; reads = agrees.committed.reads; short = short }
+pub lacks_room : (pages : PageMap) (disk : Disk) (is_new : Bool) (name : List ℕ) (after : Files) → Agrees pages disk
+    → LacksSpace (committed_of pages) is_new name after → LacksRoom disk.present is_new name after
+lacks_room pages disk is_new name after agrees short =
+    record { volume = committed_of pages; reads = agrees.committed.reads; short = short }

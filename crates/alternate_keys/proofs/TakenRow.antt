@@ -10,6 +10,8 @@ done_changes true = refl
 done_changes false = refl
 
 -- where neither its prime key or number nor a value is taken, the file changes
-pub new_row_changes : (number : ℕ) (bytes : List ℕ) (file : File) → has_prime file (new_row file number bytes) ≡ false → is_taken file.spec.alternates file.rows bytes ≡ false → is_change (insertion number bytes file).outcome ≡ true
+pub new_row_changes : (number : ℕ) (bytes : List ℕ) (file : File) → has_prime file (new_row file number bytes) ≡ false
+    → is_taken file.spec.alternates file.rows bytes ≡ false → is_change (insertion number bytes file).outcome ≡ true
 new_row_changes number bytes file there taken =
-    ap (λ (ch : FileChange). is_change ch.outcome) (inserted_done number bytes file there taken) ∙ done_changes (is_duplicate file.spec.alternates file.rows bytes)
+    ap (λ (ch : FileChange). is_change ch.outcome) (inserted_done number bytes file there taken)
+    ∙ done_changes (is_duplicate file.spec.alternates file.rows bytes)

@@ -1,5 +1,6 @@
 -- A change of a file, put on the disk.
-use Rattle.std.proofs.Common.{◌≡◌, inl, inr, ⊎_elim, ◌<◌, ◌≤◌, ◌+◌, ◌*◌, ◌||◌, Bool, true, false, ℕ, List, length, refl, ap, ◌∙◌, arith}
+use Rattle.std.proofs.Common.{◌≡◌, inl, inr, ⊎_elim, ◌<◌, ◌≤◌, ◌+◌, ◌*◌, ◌||◌, Bool, true, false, ℕ, List, length, refl}
+use Rattle.std.proofs.Common.{ap, ◌∙◌, arith}
 use Rattle.std.specs.Prelude.{filter, Option, Some, None, if◌then◌else◌}
 use Rattle.std.proofs.lemmas.Bool.{cond_both}
 use Rattle.pages.specs.Image.{Volume}
@@ -12,7 +13,8 @@ use Rattle.records.specs.declared.file_spec.Organization.{Organization}
 use Rattle.records.specs.Spec.{Spec}
 use Rattle.records.specs.Rows.{Row, Pair, named_pair}
 use Rattle.records.specs.Changes as rows
-use Rattle.records.specs.Changes.{FileChange, row_at, has_prime, new_row, replaced_row, removed_row, without_change, is_taken, is_duplicate, done_outcome, changes}
+use Rattle.records.specs.Changes.{FileChange, row_at, has_prime, new_row, replaced_row, removed_row, without_change}
+use Rattle.records.specs.Changes.{is_taken, is_duplicate, done_outcome, changes}
 use Rattle.records.specs.Files.{File, Files, file_at, with_file}
 use Rattle.records.specs.Stores.{is_change, files_after, pair_of}
 use Rattle.records.proofs.Maps.{found_again}
@@ -25,21 +27,29 @@ use Rattle.alternate_keys.proofs.ReplaceRow.{file_changed}
 use Rattle.alternate_keys.proofs.Still.{same_volume}
 
 -- a change of a row leaves what the file is
-replaced_spec : (pair : Pair) (bytes : List ℕ) (file : File) (found : Option Row) → (replaced_row pair bytes file found).file.spec ≡ file.spec
+replaced_spec : (pair : Pair) (bytes : List ℕ) (file : File) (found : Option Row)
+    → (replaced_row pair bytes file found).file.spec ≡ file.spec
 replaced_spec pair bytes file None = refl
 replaced_spec pair bytes file (Some row) =
     let keys : List AlternateKey = filter (changes row.bytes bytes) file.spec.alternates in
     let others : List Row = rows.without_pair file.spec.organization pair file.rows in
-    cond_both (is_taken keys others bytes) (without_change Taken file) (record { outcome = done_outcome (is_duplicate keys others bytes); file = file_changed pair bytes row file }) (λ (c : FileChange). c.file.spec ≡ file.spec) (λ _. refl) (λ _. refl)
+    cond_both (is_taken keys others bytes) (without_change Taken file)
+    (record { outcome = done_outcome (is_duplicate keys others bytes); file = file_changed pair bytes row file })
+    (λ (c : FileChange). c.file.spec ≡ file.spec) (λ _. refl) (λ _. refl)
 
 removed_spec : (pair : Pair) (file : File) (found : Option Row) → (removed_row pair file found).file.spec ≡ file.spec
 removed_spec pair file None = refl
 removed_spec pair file (Some row) = refl
 
-pub changed_spec : (verb : RowVerb) (o : Organization) (number : ℕ) (bytes : List ℕ) (file : File) → (changed_by verb o number bytes file).file.spec ≡ file.spec
+pub changed_spec : (verb : RowVerb) (o : Organization) (number : ℕ) (bytes : List ℕ) (file : File)
+    → (changed_by verb o number bytes file).file.spec ≡ file.spec
 changed_spec Insert o number bytes file =
-    cond_both (has_prime file (new_row file number bytes) || is_taken file.spec.alternates file.rows bytes) (without_change Taken file)
-    (record { outcome = done_outcome (is_duplicate file.spec.alternates file.rows bytes); file = file_with (new_row file number bytes) file }) (λ (c : FileChange). c.file.spec ≡ file.spec) (λ _. refl) (λ _. refl)
+    cond_both (has_prime file (new_row file number bytes) || is_taken file.spec.alternates file.rows bytes)
+    (without_change Taken file)
+    (record {
+      outcome = done_outcome (is_duplicate file.spec.alternates file.rows bytes);
+      file = file_with (new_row file number bytes) file;
+    }) (λ (c : FileChange). c.file.spec ≡ file.spec) (λ _. refl) (λ _. refl)
 changed_spec Replace o number bytes file =
     let pair : Pair = named_pair file.spec.organization number bytes in
     replaced_spec pair bytes file (row_at file.spec.organization pair file.rows)
@@ -48,18 +58,27 @@ changed_spec Remove o number bytes file =
     removed_spec pair file (row_at file.spec.organization pair file.rows)
 
 -- so it has as many alternate keys as before
-keys_by : (b : Bool) (name : List ℕ) (files : Files) (held file : File) (n : ℕ) → file_at name files ≡ Some held → length held.spec.alternates ≡ n → file.spec ≡ held.spec → keys_of (file_at name (if b then with_file name file files else files)) ≡ n
-keys_by true name files held file n there count spec = ap keys_of (found_again name file files) ∙ ap (λ (s : Spec). length s.alternates) spec ∙ count
+keys_by : (b : Bool) (name : List ℕ) (files : Files) (held file : File) (n : ℕ)
+    → file_at name files ≡ Some held → length held.spec.alternates ≡ n → file.spec ≡ held.spec
+    → keys_of (file_at name (if b then with_file name file files else files)) ≡ n
+keys_by true name files held file n there count spec =
+    ap keys_of (found_again name file files) ∙ ap (λ (s : Spec). length s.alternates) spec ∙ count
 keys_by false name files held file n there count spec = ap keys_of there ∙ count
 
-pub keys_then : (name : List ℕ) (files : Files) (held : File) (changed : FileChange) (spec : Spec) → file_at name files ≡ Some held → held.spec ≡ spec → changed.file.spec ≡ held.spec → keys_of (file_at name (files_after name files changed)) ≡ length spec.alternates
-keys_then name files held changed spec there is same = keys_by (is_change changed.outcome) name files held changed.file (length spec.alternates) there (ap (λ (s : Spec). length s.alternates) is) same
+pub keys_then : (name : List ℕ) (files : Files) (held : File) (changed : FileChange) (spec : Spec)
+    → file_at name files ≡ Some held → held.spec ≡ spec → changed.file.spec ≡ held.spec
+    → keys_of (file_at name (files_after name files changed)) ≡ length spec.alternates
+keys_then name files held changed spec there is same = keys_by (is_change changed.outcome) name files held changed.file
+    (length spec.alternates) there (ap (λ (s : Spec). length s.alternates) is) same
 
 -- where room is wanting
-pub lacks_before : (volume : Volume) (name : List ℕ) (after : Files) (n : ℕ) → keys_of (file_at name after) ≡ n → free_count volume < 84 * n + 43 → LacksSpace volume false name after
+pub lacks_before : (volume : Volume) (name : List ℕ) (after : Files) (n : ℕ) → keys_of (file_at name after) ≡ n
+    → free_count volume < 84 * n + 43 → LacksSpace volume false name after
 lacks_before volume name after n keys low = inl (omega (arith, keys, low))
 
-pub lacks_then : (p q : PageMap) (name : List ℕ) (after : Files) (n : ℕ) → keys_of (file_at name after) ≡ n → SameCommitted p q → needed_of q ≤ 2 * length (changed_pages_of q) → length (changed_pages_of q) ≤ 84 * n + 43 → IsFull q → LacksSpace (committed_of p) false name after
+pub lacks_then : (p q : PageMap) (name : List ℕ) (after : Files) (n : ℕ) → keys_of (file_at name after) ≡ n
+    → SameCommitted p q → needed_of q ≤ 2 * length (changed_pages_of q) → length (changed_pages_of q) ≤ 84 * n + 43
+    → IsFull q → LacksSpace (committed_of p) false name after
 lacks_then p q name after n keys same needs few full =
     let volume = same_volume p q same in
     ⊎_elim (λ short. let free = ap free_count volume in inl (omega (arith, keys, needs, few, short, free)))

@@ -1,5 +1,6 @@
 -- Going through the alternate keys of a file.
-use Rattle.std.proofs.Common.{◌≡◌, ◌<◌, ◌+◌, ◌&&◌, ◌||◌, Bool, true, false, not, ℕ, zero, suc, List, [], ◌∷◌, ◌++◌, length, take, refl, sym, ap, ◌∙◌, arith}
+use Rattle.std.proofs.Common.{◌≡◌, ◌<◌, ◌+◌, ◌&&◌, ◌||◌, Bool, true, false, not, ℕ, zero, suc, List, [], ◌∷◌, ◌++◌}
+use Rattle.std.proofs.Common.{length, take, refl, sym, ap, ◌∙◌, arith}
 use Rattle.std.specs.Prelude.{filter, slice_index_or, if◌then◌else◌}
 use Rattle.std.specs.List.{list_any}
 
@@ -11,15 +12,18 @@ any_append f (x ∷ xs) ys = ap (λ b. f x || b) (any_append f xs ys) ∙ or_thr
     or_three true b c = refl
     or_three false b c = refl
 
-taken_one : {X : Type 0} (xs : List X) (k : ℕ) (d : X) → k < length xs → take (suc k) xs ≡ take k xs ++ slice_index_or xs k d ∷ []
+taken_one : {X : Type 0} (xs : List X) (k : ℕ) (d : X) → k < length xs
+    → take (suc k) xs ≡ take k xs ++ slice_index_or xs k d ∷ []
 taken_one [] k d low = absurd (omega (arith, low))
 taken_one (x ∷ xs) zero d low = refl
 taken_one (x ∷ xs) (suc k) d low = ap (λ l. x ∷ l) (taken_one xs k d (omega (arith, low)))
 
 -- whether one of the first so many has it, and of one more
-pub any_more : {X : Type 0} (f : X → Bool) (xs : List X) (k : ℕ) (d : X) → k < length xs → list_any f (take (k + 1) xs) ≡ (list_any f (take k xs) || f (slice_index_or xs k d))
+pub any_more : {X : Type 0} (f : X → Bool) (xs : List X) (k : ℕ) (d : X) → k < length xs
+    → list_any f (take (k + 1) xs) ≡ (list_any f (take k xs) || f (slice_index_or xs k d))
 any_more f xs k d low =
-    ap (λ n. list_any f (take n xs)) (let e : k + 1 ≡ suc k = omega arith in e) ∙ ap (list_any f) (taken_one xs k d low) ∙ any_append f (take k xs) (slice_index_or xs k d ∷ [])
+    ap (λ n. list_any f (take n xs)) (let e : k + 1 ≡ suc k = omega arith in e) ∙ ap (list_any f) (taken_one xs k d low)
+    ∙ any_append f (take k xs) (slice_index_or xs k d ∷ [])
     ∙ ap (λ b. list_any f (take k xs) || b) (or_none (f (slice_index_or xs k d)))
   where
     or_none : (a : Bool) → (a || false) ≡ a
@@ -41,7 +45,8 @@ or_second : (a b : Bool) → b ≡ true → (a || b) ≡ true
 or_second true b is = refl
 or_second false b is = is
 
-pub any_at : {X : Type 0} (f : X → Bool) (xs : List X) (k : ℕ) (d : X) → k < length xs → f (slice_index_or xs k d) ≡ true → list_any f xs ≡ true
+pub any_at : {X : Type 0} (f : X → Bool) (xs : List X) (k : ℕ) (d : X) → k < length xs
+    → f (slice_index_or xs k d) ≡ true → list_any f xs ≡ true
 any_at f [] k d low is = absurd (omega (arith, low))
 any_at f (x ∷ xs) zero d low is = or_first (f x) (list_any f xs) is
 any_at f (x ∷ xs) (suc k) d low is = or_second (f x) (list_any f xs) (any_at f xs k d (omega (arith, low)) is)
@@ -52,12 +57,17 @@ allowed true repeated is = refl
 allowed false repeated is = sym is
 
 -- those that a filter leaves, among all
-pub any_filtered : {X : Type 0} (n a r : X → Bool) (xs : List X) → list_any (λ x. a x && r x) (filter n xs) ≡ list_any (λ x. a x && (n x && r x)) xs
+pub any_filtered : {X : Type 0} (n a r : X → Bool) (xs : List X)
+    → list_any (λ x. a x && r x) (filter n xs) ≡ list_any (λ x. a x && (n x && r x)) xs
 any_filtered n a r [] = refl
 any_filtered n a r (x ∷ xs) = by (n x) (a x) (r x) refl refl refl (any_filtered n a r xs)
   where
-    by : (b c d : Bool) → n x ≡ b → a x ≡ c → r x ≡ d → list_any (λ y. a y && r y) (filter n xs) ≡ list_any (λ y. a y && (n y && r y)) xs →
-        list_any (λ y. a y && r y) (if b then x ∷ filter n xs else filter n xs) ≡ ((a x && (b && r x)) || list_any (λ y. a y && (n y && r y)) xs)
+    by : (b c d : Bool) → n x ≡ b → a x ≡ c → r x ≡ d
+        → list_any (λ y. a y && r y) (filter n xs) ≡ list_any (λ y. a y && (n y && r y)) xs →
+        list_any (λ y. a y && r y) (if b then x ∷ filter n xs else filter n xs)
+        ≡ ((a x && (b && r x)) || list_any (λ y. a y && (n y && r y)) xs)
     by true c d is first second rest = ap (λ (e : Bool). (a x && r x) || e) rest
-    by false true d is first second rest = rest ∙ sym (ap (λ (e : Bool). (e && false) || list_any (λ y. a y && (n y && r y)) xs) first)
-    by false false d is first second rest = rest ∙ sym (ap (λ (e : Bool). (e && false) || list_any (λ y. a y && (n y && r y)) xs) first)
+    by false true d is first second rest =
+        rest ∙ sym (ap (λ (e : Bool). (e && false) || list_any (λ y. a y && (n y && r y)) xs) first)
+    by false false d is first second rest =
+        rest ∙ sym (ap (λ (e : Bool). (e && false) || list_any (λ y. a y && (n y && r y)) xs) first)

@@ -13,8 +13,10 @@ use Rattle.alternate_keys.specs.Turned.{HasChangedFiles}
 use Rattle.alternate_keys.specs.contracts.store_calls.PagedStoreKeeps.TheImpl.{ghosts}
 use Rattle.alternate_keys.proofs.ReadCalls.{opened}
 
-pub changes_of : {D : Type 0} (d : Devices D) {T : Type 0} (result : Result T StoreFault) (old new : PageMap) (spent spent' : Bool) (device device' : D) →
-    OnlyWrites d (result ≡ Err Device) device device' → sectors_of new ≡ sectors_of old → OnOk result (spent' ≡ spent) → (result ≡ Err Spent → spent ≡ true) → IfErr result IsWriteFault →
+pub changes_of : {D : Type 0} (d : Devices D) {T : Type 0} (result : Result T StoreFault) (old new : PageMap)
+    (spent spent' : Bool) (device device' : D) →
+    OnlyWrites d (result ≡ Err Device) device device' → sectors_of new ≡ sectors_of old → OnOk result (spent' ≡ spent)
+    → (result ≡ Err Spent → spent ≡ true) → IfErr result IsWriteFault →
     (result ≡ Err Full → d.is_honest device → d.state device' ≡ d.state device) →
     Changes ghosts d result (opened old spent) device (opened new spent') device'
 changes_of d result old new spent spent' device device' only sectors same told cause unwritten = record {
@@ -30,8 +32,10 @@ ok_then : {T E : Type 0} (A B : Type 0) (result : Result T E) → (A → B) → 
 ok_then A B (Ok x) from is = from is
 ok_then A B (Err e) from is = is
 
-pub turns_of : {D : Type 0} (d : Devices D) {T : Type 0} (result : Result T StoreFault) (is_new : Bool) (name : List ℕ) (before after : Files) (old new : PageMap) (spent spent' : Bool) (device device' : D) →
-    d.is_honest device' → HasChangedFiles d result is_new name before after old device new device' → ChangesFiles ghosts d result is_new name before after (opened old spent) device (opened new spent') device'
+pub turns_of : {D : Type 0} (d : Devices D) {T : Type 0} (result : Result T StoreFault) (is_new : Bool) (name : List ℕ)
+    (before after : Files) (old new : PageMap) (spent spent' : Bool) (device device' : D) →
+    d.is_honest device' → HasChangedFiles d result is_new name before after old device new device'
+    → ChangesFiles ghosts d result is_new name before after (opened old spent) device (opened new spent') device'
 turns_of d result is_new name before after old new spent spent' device device' honest turned = record {
   there = ok_then _ _ result (λ stands. record { honest = honest; there = stands }) turned.stands;
   moments = turned.moments;

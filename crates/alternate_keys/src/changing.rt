@@ -37,13 +37,22 @@ pub(crate) fn change_in<D: Device>(
     requires sectors { sectors_of pages.old ≤ D.sectors device.old }
     requires asked { IsAsked verb (spec_of file.now) number bytes.now }
     ensures only { OnlyWrites D.Device (result ≡ Err StoreFault.Device) device.old device.new }
-    ensures outcome { OnFile D.Device file.now pages.old device.old (λ files held. IfOk result (λ outcome. outcome ≡ (changed_by verb file.now.organization number bytes.now held).outcome)) }
-    ensures turned { D.is_honest device.old → (files : Files) (held : File) → Represents pages.old (D.state device.old).disk files → Has files file.now held →
-        HasChangedFiles D.Device result false file.now.name.items files (files_after file.now.name.items files (changed_by verb file.now.organization number bytes.now held)) pages.old device.old pages.new device.new }
-    ensures idle { D.is_honest device.old → IfOk result (λ outcome. is_change outcome ≡ false → D.state device.new ≡ D.state device.old) }
-    ensures full { D.is_honest device.old → (files : Files) (held : File) → Represents pages.old (D.state device.old).disk files → Has files file.now held →
-        result ≡ Err StoreFault.Full → is_change (changed_by verb file.now.organization number bytes.now held).outcome ≡ true }
-    ensures unwritten { result ≡ Err StoreFault.Full → D.is_honest device.old → D.state device.new ≡ D.state device.old }
+    ensures outcome { OnFile D.Device
+        file.now pages.old device.old (λ files held. IfOk result (λ outcome. outcome
+        ≡ (changed_by verb file.now.organization number bytes.now held).outcome)) }
+    ensures turned { D.is_honest device.old → (files : Files) (held : File)
+        → Represents pages.old (D.state device.old).disk files → Has files file.now held →
+        HasChangedFiles D.Device result false file.now.name.items files (files_after
+        file.now.name.items files (changed_by verb file.now.organization number bytes.now held))
+        pages.old device.old pages.new device.new }
+    ensures idle { D.is_honest device.old → IfOk result (λ outcome. is_change outcome ≡ false
+        → D.state device.new ≡ D.state device.old) }
+    ensures full { D.is_honest device.old → (files : Files) (held : File)
+        → Represents pages.old (D.state device.old).disk files → Has files file.now held →
+        result ≡ Err StoreFault.Full → is_change
+        (changed_by verb file.now.organization number bytes.now held).outcome ≡ true }
+    ensures unwritten { result ≡ Err StoreFault.Full → D.is_honest device.old
+        → D.state device.new ≡ D.state device.old }
     ensures unspent { OnOk result (is_spent pages.new ≡ false) }
     ensures open { IsOpen pages.new }
     ensures same_sectors { sectors_of pages.new ≡ sectors_of pages.old }
@@ -70,17 +79,29 @@ fn prepare<D: Device>(
     requires unspent { is_spent pages.old ≡ false }
     requires sectors { sectors_of pages.old ≤ D.sectors device.old }
     requires asked { IsAsked verb (spec_of file.now) number bytes.now }
-    ensures edits { Edits D.Device (result ≡ Err StoreFault.Device) pages.old device.old pages.new device.new }
-    ensures outcome { OnFile D.Device file.now pages.old device.old (λ files held. IfOk result (λ outcome. outcome ≡ (changed_by verb file.now.organization number bytes.now held).outcome)) }
-    ensures will { OnFile D.Device file.now pages.old device.old (λ files held. IfOk result (λ outcome. is_change outcome ≡ true →
-        MapHolds (next_generation (map_now pages.new (D.state device.old).disk.present)) (files_after file.now.name.items files (changed_by verb file.now.organization number bytes.now held)))) }
-    ensures few { OnFile D.Device file.now pages.old device.old (λ files held. OnOk result (FewChanged (84 * length file.now.alternates.items + 43) pages.old pages.new)) }
-    ensures room { OnFile D.Device file.now pages.old device.old (λ files held. result ≡ Err StoreFault.Full →
-        free_count (committed_of pages.old) < length (changed_pages_of pages.old) + (84 * length file.now.alternates.items + 43)) }
-    ensures full { OnFile D.Device file.now pages.old device.old (λ files held. result ≡ Err StoreFault.Full →
+    ensures edits { Edits D.Device (result ≡ Err StoreFault.Device) pages.old device.old pages.new
+        device.new }
+    ensures outcome { OnFile D.Device
+        file.now pages.old device.old (λ files held. IfOk result (λ outcome. outcome
+        ≡ (changed_by verb file.now.organization number bytes.now held).outcome)) }
+    ensures will { OnFile D.Device file.now pages.old device.old
+        (λ files held. IfOk result (λ outcome. is_change outcome ≡ true →
+        MapHolds (next_generation (map_now pages.new (D.state device.old).disk.present))
+        (files_after file.now.name.items files
+        (changed_by verb file.now.organization number bytes.now held)))) }
+    ensures few { OnFile D.Device file.now pages.old device.old (λ files held.
+        OnOk result (FewChanged (84 * length file.now.alternates.items + 43) pages.old pages.new)) }
+    ensures room { OnFile D.Device file.now pages.old device.old
+        (λ files held. result ≡ Err StoreFault.Full →
+        free_count (committed_of pages.old)
+        < length (changed_pages_of pages.old) + (84 * length file.now.alternates.items + 43)) }
+    ensures full { OnFile D.Device file.now pages.old device.old
+        (λ files held. result ≡ Err StoreFault.Full →
         is_change (changed_by verb file.now.organization number bytes.now held).outcome ≡ true) }
-    ensures damaged { OnFile D.Device file.now pages.old device.old (λ files held. result ≡ Err StoreFault.Damaged → ⊥) }
-    ensures same { IfOk result (λ outcome. is_change outcome ≡ false → IsUnchanged pages.old pages.new) }
+    ensures damaged { OnFile D.Device file.now pages.old device.old
+        (λ files held. result ≡ Err StoreFault.Damaged → ⊥) }
+    ensures same { IfOk result (λ outcome. is_change outcome ≡ false
+        → IsUnchanged pages.old pages.new) }
     ensures spent { result ≡ Err StoreFault.Spent → is_spent pages.old ≡ true }
     ensures cause { IfErr result IsWriteFault }
 {

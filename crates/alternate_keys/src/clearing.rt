@@ -26,9 +26,12 @@ pub(crate) fn clear_trees<D: Device>(
     requires open { IsOpen pages.old }
     requires sectors { sectors_of pages.old ≤ D.sectors device.old }
     requires value { length value.now ≡ 83 }
-    ensures edits { Edits D.Device (result ≡ Err StoreFault.Device) pages.old device.old pages.new device.new }
-    ensures cleared { OnListed D.Device pages.old device.old value.now (λ left right. OnOk result (IsForest (pages_on D.Device pages.new device.old) (left ++ right))) }
-    ensures damaged { OnListed D.Device pages.old device.old value.now (λ left right. result ≡ Err StoreFault.Damaged → ⊥) }
+    ensures edits { Edits D.Device (result ≡ Err StoreFault.Device) pages.old device.old pages.new
+        device.new }
+    ensures cleared { OnListed D.Device pages.old device.old value.now (λ left right.
+        OnOk result (IsForest (pages_on D.Device pages.new device.old) (left ++ right))) }
+    ensures damaged { OnListed D.Device pages.old device.old value.now
+        (λ left right. result ≡ Err StoreFault.Damaged → ⊥) }
     ensures filled { filled_of pages.new ≤ filled_of pages.old }
     ensures spent { result ≡ Err StoreFault.Spent → is_spent pages.old ≡ true }
     ensures cause { IfErr result IsReadFault }
@@ -45,9 +48,12 @@ fn clear_among<D: Device>(
 ) -> Result<(), StoreFault>
     requires open { IsOpen pages.old }
     requires sectors { sectors_of pages.old ≤ D.sectors device.old }
-    ensures edits { Edits D.Device (result ≡ Err StoreFault.Device) pages.old device.old pages.new device.new }
-    ensures cleared { OnForest D.Device tree.old pages.old device.old (λ left right. OnOk result (IsForest (pages_on D.Device pages.new device.old) (left ++ right))) }
-    ensures damaged { OnForest D.Device tree.old pages.old device.old (λ left right. result ≡ Err StoreFault.Damaged → ⊥) }
+    ensures edits { Edits D.Device (result ≡ Err StoreFault.Device) pages.old device.old pages.new
+        device.new }
+    ensures cleared { OnForest D.Device tree.old pages.old device.old (λ left right.
+        OnOk result (IsForest (pages_on D.Device pages.new device.old) (left ++ right))) }
+    ensures damaged { OnForest D.Device tree.old pages.old device.old
+        (λ left right. result ≡ Err StoreFault.Damaged → ⊥) }
     ensures filled { filled_of pages.new ≤ filled_of pages.old }
     ensures spent { result ≡ Err StoreFault.Spent → is_spent pages.old ≡ true }
     ensures cause { IfErr result IsReadFault }
@@ -70,9 +76,12 @@ fn clear_tree<D: Device>(
     requires sectors { sectors_of pages.old ≤ D.sectors device.old }
     requires value { length value.now ≡ 83 }
     requires key { key_count key ≤ 7 }
-    ensures edits { Edits D.Device (result ≡ Err StoreFault.Device) pages.old device.old pages.new device.new }
-    ensures cleared { OnStored D.Device value.now key pages.old device.old (λ left right. OnOk result (IsForest (pages_on D.Device pages.new device.old) (left ++ right))) }
-    ensures damaged { OnStored D.Device value.now key pages.old device.old (λ left right. result ≡ Err StoreFault.Damaged → ⊥) }
+    ensures edits { Edits D.Device (result ≡ Err StoreFault.Device) pages.old device.old pages.new
+        device.new }
+    ensures cleared { OnStored D.Device value.now key pages.old device.old (λ left right.
+        OnOk result (IsForest (pages_on D.Device pages.new device.old) (left ++ right))) }
+    ensures damaged { OnStored D.Device value.now key pages.old device.old
+        (λ left right. result ≡ Err StoreFault.Damaged → ⊥) }
     ensures filled { filled_of pages.new ≤ filled_of pages.old }
     ensures spent { result ≡ Err StoreFault.Spent → is_spent pages.old ≡ true }
     ensures cause { IfErr result IsReadFault }
@@ -91,9 +100,12 @@ fn clear_alternates<D: Device>(
     requires open { IsOpen pages.old }
     requires sectors { sectors_of pages.old ≤ D.sectors device.old }
     requires value { length value.now ≡ 83 }
-    ensures edits { Edits D.Device (result ≡ Err StoreFault.Device) pages.old device.old pages.new device.new }
-    ensures cleared { OnAlternates D.Device pages.old device.old value.now (λ left right. OnOk result (IsForest (pages_on D.Device pages.new device.old) (left ++ right))) }
-    ensures damaged { OnAlternates D.Device pages.old device.old value.now (λ left right. result ≡ Err StoreFault.Damaged → ⊥) }
+    ensures edits { Edits D.Device (result ≡ Err StoreFault.Device) pages.old device.old pages.new
+        device.new }
+    ensures cleared { OnAlternates D.Device pages.old device.old value.now (λ left right.
+        OnOk result (IsForest (pages_on D.Device pages.new device.old) (left ++ right))) }
+    ensures damaged { OnAlternates D.Device pages.old device.old value.now
+        (λ left right. result ≡ Err StoreFault.Damaged → ⊥) }
     ensures filled { filled_of pages.new ≤ filled_of pages.old }
     ensures spent { result ≡ Err StoreFault.Spent → is_spent pages.old ≡ true }
     ensures cause { IfErr result IsReadFault }

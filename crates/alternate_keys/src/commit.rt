@@ -19,8 +19,10 @@ pub(crate) fn commit_pages<D: Device>(pages: &mut PageMap, device: &mut D) -> Re
     requires unspent { is_spent pages.old ≡ false }
     requires sectors { sectors_of pages.old ≤ D.sectors device.old }
     ensures only { OnlyWrites D.Device (result ≡ Err StoreFault.Device) device.old device.new }
-    ensures settles { (before after : Files) → IsChanged D.Device pages.old device.old before after → CommitsFiles D.Device result before after pages.old device.old pages.new device.new }
-    ensures unwritten { result ≡ Err StoreFault.Full → D.is_honest device.old → D.state device.new ≡ D.state device.old }
+    ensures settles { (before after : Files) → IsChanged D.Device pages.old device.old before after
+        → CommitsFiles D.Device result before after pages.old device.old pages.new device.new }
+    ensures unwritten { result ≡ Err StoreFault.Full → D.is_honest device.old
+        → D.state device.new ≡ D.state device.old }
     ensures unspent { OnOk result (is_spent pages.new ≡ false) }
     ensures open { IsOpen pages.new }
     ensures same_sectors { sectors_of pages.new ≡ sectors_of pages.old }
@@ -57,11 +59,15 @@ pub(crate) fn finish<D: Device>(
     requires sectors { sectors_of pages.old ≤ D.sectors device.old }
     ensures only { OnlyWrites D.Device (result ≡ Err StoreFault.Device) device.old device.new }
     ensures outcome { IfOk result (λ told. told ≡ outcome) }
-    ensures settles { (before after : Files) → (is_change outcome ≡ true → IsChanged D.Device pages.old device.old before after) →
-        (is_change outcome ≡ false → Represents pages.old (D.state device.old).disk after) → CommitsFiles D.Device result before after pages.old device.old pages.new device.new }
-    ensures idle { is_change outcome ≡ false → D.is_honest device.old → D.state device.new ≡ D.state device.old }
+    ensures settles { (before after : Files)
+        → (is_change outcome ≡ true → IsChanged D.Device pages.old device.old before after) →
+        (is_change outcome ≡ false → Represents pages.old (D.state device.old).disk after)
+        → CommitsFiles D.Device result before after pages.old device.old pages.new device.new }
+    ensures idle { is_change outcome ≡ false → D.is_honest device.old
+        → D.state device.new ≡ D.state device.old }
     ensures changes { result ≡ Err StoreFault.Full → is_change outcome ≡ true }
-    ensures unwritten { result ≡ Err StoreFault.Full → D.is_honest device.old → D.state device.new ≡ D.state device.old }
+    ensures unwritten { result ≡ Err StoreFault.Full → D.is_honest device.old
+        → D.state device.new ≡ D.state device.old }
     ensures unspent { OnOk result (is_spent pages.new ≡ false) }
     ensures open { IsOpen pages.new }
     ensures same_sectors { sectors_of pages.new ≡ sectors_of pages.old }

@@ -26,10 +26,14 @@ pub(crate) fn is_full<D: Device>(
 ) -> Result<bool, StoreFault>
     requires open { IsOpen pages.old }
     requires sectors { sectors_of pages.old ≤ D.sectors device.old }
-    ensures looks { LooksAt D.Device (result ≡ Err StoreFault.Device) pages.old device.old pages.new device.new }
-    ensures full { OnFiles D.Device pages.old device.old (λ files holds. IfOk result (λ full. full ≡ true → 255 ≤ length files)) }
-    ensures room { OnFiles D.Device pages.old device.old (λ files holds. IfOk result (λ full. full ≡ false → length files < 255)) }
-    ensures damaged { OnFiles D.Device pages.old device.old (λ files holds. result ≡ Err StoreFault.Damaged → ⊥) }
+    ensures looks { LooksAt D.Device (result ≡ Err StoreFault.Device) pages.old device.old pages.new
+        device.new }
+    ensures full { OnFiles D.Device pages.old device.old
+        (λ files holds. IfOk result (λ full. full ≡ true → 255 ≤ length files)) }
+    ensures room { OnFiles D.Device pages.old device.old
+        (λ files holds. IfOk result (λ full. full ≡ false → length files < 255)) }
+    ensures damaged { OnFiles D.Device pages.old device.old
+        (λ files holds. result ≡ Err StoreFault.Damaged → ⊥) }
     ensures spent { result ≡ Err StoreFault.Spent → is_spent pages.old ≡ true }
     ensures cause { IfErr result IsReadFault }
 {
@@ -53,10 +57,15 @@ fn first_in<D: Device>(
     requires open { IsOpen pages.old }
     requires sectors { sectors_of pages.old ≤ D.sectors device.old }
     requires short { tree.now.layout.key_length ≤ 128 }
-    ensures looks { LooksAt D.Device (result ≡ Err StoreFault.Device) pages.old device.old pages.new device.new }
-    ensures entry { IfAgrees D.Device pages.old device.old ((levels : List (List TreeNode)) → IsTreeOrEmpty tree.now.layout (pages_on D.Device pages.old device.old) tree.now.root levels →
+    ensures looks { LooksAt D.Device (result ≡ Err StoreFault.Device) pages.old device.old pages.new
+        device.new }
+    ensures entry { IfAgrees D.Device pages.old device.old ((levels : List (List TreeNode))
+        → IsTreeOrEmpty tree.now.layout (pages_on D.Device pages.old device.old) tree.now.root
+        levels →
         IfOk result (λ entry. entry ≡ first_entry (entries_of tree.now.layout levels))) }
-    ensures damaged { IfAgrees D.Device pages.old device.old ((levels : List (List TreeNode)) → IsTreeOrEmpty tree.now.layout (pages_on D.Device pages.old device.old) tree.now.root levels → result ≡ Err StoreFault.Damaged → ⊥) }
+    ensures damaged { IfAgrees D.Device pages.old device.old ((levels : List (List TreeNode))
+        → IsTreeOrEmpty tree.now.layout (pages_on D.Device pages.old device.old) tree.now.root
+        levels → result ≡ Err StoreFault.Damaged → ⊥) }
     ensures spent { result ≡ Err StoreFault.Spent → is_spent pages.old ≡ true }
     ensures cause { IfErr result IsReadFault }
 {
@@ -76,10 +85,16 @@ fn next_in<D: Device>(
     requires open { IsOpen pages.old }
     requires sectors { sectors_of pages.old ≤ D.sectors device.old }
     requires short { tree.now.layout.key_length ≤ 128 }
-    ensures looks { LooksAt D.Device (result ≡ Err StoreFault.Device) pages.old device.old pages.new device.new }
-    ensures entry { IfAgrees D.Device pages.old device.old ((levels : List (List TreeNode)) → IsTreeOrEmpty tree.now.layout (pages_on D.Device pages.old device.old) tree.now.root levels →
-        IfOk result (λ next. next ≡ first_entry_after (entries_of tree.now.layout levels) entry.now.key)) }
-    ensures damaged { IfAgrees D.Device pages.old device.old ((levels : List (List TreeNode)) → IsTreeOrEmpty tree.now.layout (pages_on D.Device pages.old device.old) tree.now.root levels → result ≡ Err StoreFault.Damaged → ⊥) }
+    ensures looks { LooksAt D.Device (result ≡ Err StoreFault.Device) pages.old device.old pages.new
+        device.new }
+    ensures entry { IfAgrees D.Device pages.old device.old ((levels : List (List TreeNode))
+        → IsTreeOrEmpty tree.now.layout (pages_on D.Device pages.old device.old) tree.now.root
+        levels →
+        IfOk result
+        (λ next. next ≡ first_entry_after (entries_of tree.now.layout levels) entry.now.key)) }
+    ensures damaged { IfAgrees D.Device pages.old device.old ((levels : List (List TreeNode))
+        → IsTreeOrEmpty tree.now.layout (pages_on D.Device pages.old device.old) tree.now.root
+        levels → result ≡ Err StoreFault.Damaged → ⊥) }
     ensures spent { result ≡ Err StoreFault.Spent → is_spent pages.old ≡ true }
     ensures cause { IfErr result IsReadFault }
 {

@@ -43,9 +43,13 @@ pub(crate) fn create_in<D: Device>(
     requires unspent { is_spent pages.old ≡ false }
     requires sectors { sectors_of pages.old ≤ D.sectors device.old }
     ensures only { OnlyWrites D.Device (result ≡ Err StoreFault.Device) device.old device.new }
-    ensures turned { D.is_honest device.old → (files : Files) → Represents pages.old (D.state device.old).disk files →
-        HasChangedFiles D.Device result true file.now.name.items files (with_file file.now.name.items (empty_file (spec_of file.now)) files) pages.old device.old pages.new device.new }
-    ensures unwritten { result ≡ Err StoreFault.Full → D.is_honest device.old → D.state device.new ≡ D.state device.old }
+    ensures turned { D.is_honest device.old → (files : Files)
+        → Represents pages.old (D.state device.old).disk files →
+        HasChangedFiles D.Device result true file.now.name.items files
+        (with_file file.now.name.items (empty_file (spec_of file.now)) files) pages.old
+        device.old pages.new device.new }
+    ensures unwritten { result ≡ Err StoreFault.Full → D.is_honest device.old
+        → D.state device.new ≡ D.state device.old }
     ensures unspent { OnOk result (is_spent pages.new ≡ false) }
     ensures open { IsOpen pages.new }
     ensures same_sectors { sectors_of pages.new ≡ sectors_of pages.old }
@@ -58,7 +62,12 @@ pub(crate) fn create_in<D: Device>(
 
 /// What the catalog says of a file without rows.
 fn empty_listing(alloc: Global, file: &FileSpec) -> Result<Vec<u8>, StoreFault>
-    ensures bytes { IfOk result (λ bytes. bytes.items ≡ listing_bytes (record { spec = spec_of file.now; prime = 0; alternates = replicate (length file.now.alternates.items) 0; next_arrival = 1 })) }
+    ensures bytes { IfOk result (λ bytes. bytes.items ≡ listing_bytes (record {
+      spec = spec_of file.now;
+      prime = 0;
+      alternates = replicate (length file.now.alternates.items) 0;
+      next_arrival = 1;
+    })) }
     ensures long { IfOk result (λ bytes. length bytes.items ≡ 83) }
     ensures memory { IsOkUnless result StoreFault.Memory }
 {
@@ -80,14 +89,23 @@ fn add_listing<D: Device>(
     requires sectors { sectors_of pages.old ≤ D.sectors device.old }
     requires name { length name.now ≤ 30 }
     requires listing { length listing.now ≡ 83 }
-    ensures prepares { Prepares D.Device (result ≡ Err StoreFault.Device) pages.old device.old pages.new device.new }
+    ensures prepares { Prepares D.Device (result ≡ Err StoreFault.Device) pages.old device.old
+        pages.new device.new }
     ensures added { OnFiles D.Device pages.old device.old (λ files holds. OnOk result
-        (IsTreeAmong (pages_on D.Device pages.new device.old) [] (flat_map trees_of holds.kept) (catalog_at (catalog_of pages.new)) (with_new_entry (map catalog_entry holds.kept) (record { key = padded_name name.now; value = listing.now })))) }
-    ensures few_files { OnFiles D.Device pages.old device.old (λ files holds. OnOk result (length files < 255)) }
-    ensures few { OnFiles D.Device pages.old device.old (λ files holds. OnOk result (FewChanged 42 pages.old pages.new)) }
-    ensures room { OnFiles D.Device pages.old device.old (λ files holds. result ≡ Err StoreFault.Full →
-        (free_count (committed_of pages.old) < length (changed_pages_of pages.old) + 42) ⊎ (255 ≤ length files)) }
-    ensures damaged { OnFiles D.Device pages.old device.old (λ files holds. entry_with (map catalog_entry holds.kept) (padded_name name.now) ≡ None → result ≡ Err StoreFault.Damaged → ⊥) }
+        (IsTreeAmong (pages_on D.Device pages.new device.old) [] (flat_map trees_of holds.kept)
+        (catalog_at (catalog_of pages.new)) (with_new_entry (map catalog_entry holds.kept)
+        (record { key = padded_name name.now; value = listing.now })))) }
+    ensures few_files { OnFiles D.Device pages.old device.old
+        (λ files holds. OnOk result (length files < 255)) }
+    ensures few { OnFiles D.Device pages.old device.old
+        (λ files holds. OnOk result (FewChanged 42 pages.old pages.new)) }
+    ensures room { OnFiles D.Device pages.old device.old
+        (λ files holds. result ≡ Err StoreFault.Full →
+        (free_count (committed_of pages.old) < length (changed_pages_of pages.old) + 42)
+        ⊎ (255 ≤ length files)) }
+    ensures damaged { OnFiles D.Device pages.old device.old
+        (λ files holds. entry_with (map catalog_entry holds.kept) (padded_name name.now) ≡ None
+        → result ≡ Err StoreFault.Damaged → ⊥) }
     ensures spent { result ≡ Err StoreFault.Spent → is_spent pages.old ≡ true }
     ensures cause { IfErr result IsWriteFault }
 {
@@ -112,14 +130,21 @@ fn prepare_file<D: Device>(
     requires open { IsOpen pages.old }
     requires unspent { is_spent pages.old ≡ false }
     requires sectors { sectors_of pages.old ≤ D.sectors device.old }
-    ensures prepares { Prepares D.Device (result ≡ Err StoreFault.Device) pages.old device.old pages.new device.new }
+    ensures prepares { Prepares D.Device (result ≡ Err StoreFault.Device) pages.old device.old
+        pages.new device.new }
     ensures will { OnFiles D.Device pages.old device.old (λ files holds. OnOk result
-        (MapHolds (next_generation (map_now pages.new (D.state device.old).disk.present)) (with_file file.now.name.items (empty_file (spec_of file.now)) files))) }
-    ensures full { OnFiles D.Device pages.old device.old (λ files holds. changed_pages_of pages.old ≡ [] → OnOk result (IsFull pages.new →
-        LacksSpace (committed_of pages.old) true file.now.name.items (with_file file.now.name.items (empty_file (spec_of file.now)) files))) }
-    ensures room { OnFiles D.Device pages.old device.old (λ files holds. changed_pages_of pages.old ≡ [] → result ≡ Err StoreFault.Full →
-        LacksSpace (committed_of pages.old) true file.now.name.items (with_file file.now.name.items (empty_file (spec_of file.now)) files)) }
-    ensures damaged { OnFiles D.Device pages.old device.old (λ files holds. result ≡ Err StoreFault.Damaged → ⊥) }
+        (MapHolds (next_generation (map_now pages.new (D.state device.old).disk.present))
+        (with_file file.now.name.items (empty_file (spec_of file.now)) files))) }
+    ensures full { OnFiles D.Device pages.old device.old
+        (λ files holds. changed_pages_of pages.old ≡ [] → OnOk result (IsFull pages.new →
+        LacksSpace (committed_of pages.old) true file.now.name.items
+        (with_file file.now.name.items (empty_file (spec_of file.now)) files))) }
+    ensures room { OnFiles D.Device pages.old device.old
+        (λ files holds. changed_pages_of pages.old ≡ [] → result ≡ Err StoreFault.Full →
+        LacksSpace (committed_of pages.old) true file.now.name.items
+        (with_file file.now.name.items (empty_file (spec_of file.now)) files)) }
+    ensures damaged { OnFiles D.Device pages.old device.old
+        (λ files holds. result ≡ Err StoreFault.Damaged → ⊥) }
     ensures spent { result ≡ Err StoreFault.Spent → is_spent pages.old ≡ true }
     ensures cause { IfErr result IsWriteFault }
 {

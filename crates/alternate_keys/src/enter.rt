@@ -29,17 +29,26 @@ pub(crate) fn insert_among<D: Device>(
     requires key { length key.now ≡ tree.old.layout.key_length }
     requires value { length value.now ≡ tree.old.layout.value_length }
     ensures only { OnlyReads D.Device (result ≡ Err StoreFault.Device) device.old device.new }
-    ensures inserted { OnAmong D.Device tree.old pages.old device.old (λ left right entries. result ≡ Ok true →
-        (entry_with entries key.now ≡ None) × IsTreeAmong (pages_on D.Device pages.new device.old) left right tree.new (with_new_entry entries (record { key = key.now; value = value.now }))) }
-    ensures there { OnAmong D.Device tree.old pages.old device.old (λ left right entries. result ≡ Ok false → IsSome (entry_with entries key.now)) }
+    ensures inserted { OnAmong D.Device tree.old pages.old device.old
+        (λ left right entries. result ≡ Ok true →
+        (entry_with entries key.now ≡ None)
+        × IsTreeAmong (pages_on D.Device pages.new device.old) left right tree.new
+        (with_new_entry entries (record { key = key.now; value = value.now }))) }
+    ensures there { OnAmong D.Device tree.old pages.old device.old
+        (λ left right entries. result ≡ Ok false → IsSome (entry_with entries key.now)) }
     ensures same { result ≡ Ok false → IsUnchanged pages.old pages.new }
-    ensures damaged { OnAmong D.Device tree.old pages.old device.old (λ left right entries. result ≡ Err StoreFault.Damaged → ⊥) }
-    ensures changed_pages { OnAmong D.Device tree.old pages.old device.old (λ left right entries. FewChanged 42 pages.old pages.new) }
-    ensures room { OnAmong D.Device tree.old pages.old device.old (λ left right entries. result ≡ Err StoreFault.Full → free_count (committed_of pages.old) < length (changed_pages_of pages.old) + 42) }
+    ensures damaged { OnAmong D.Device tree.old pages.old device.old
+        (λ left right entries. result ≡ Err StoreFault.Damaged → ⊥) }
+    ensures changed_pages { OnAmong D.Device tree.old pages.old device.old
+        (λ left right entries. FewChanged 42 pages.old pages.new) }
+    ensures room { OnAmong
+        D.Device tree.old pages.old device.old (λ left right entries. result ≡ Err StoreFault.Full
+        → free_count (committed_of pages.old) < length (changed_pages_of pages.old) + 42) }
     ensures layout { tree.new.layout ≡ tree.old.layout }
     ensures committed { SameCommitted pages.old pages.new }
     ensures catalog { catalog_of pages.new ≡ catalog_of pages.old }
-    ensures agrees { IfAgrees D.Device pages.old device.old (Agrees pages.new (D.state device.new).disk) }
+    ensures agrees { IfAgrees D.Device pages.old device.old
+        (Agrees pages.new (D.state device.new).disk) }
     ensures open { IsOpen pages.new }
     ensures spent { result ≡ Err StoreFault.Spent → is_spent pages.old ≡ true }
     ensures cause { IfErr result IsWriteFault }

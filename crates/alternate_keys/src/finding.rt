@@ -27,11 +27,16 @@ pub(crate) fn find_in<D: Device>(
     requires sectors { sectors_of pages.old ≤ D.sectors device.old }
     ensures only { OnlyReads D.Device (result ≡ Err StoreFault.Device) device.old device.new }
     ensures unchanged { IsUnchanged pages.old pages.new }
-    ensures agrees { IfAgrees D.Device pages.old device.old (Agrees pages.new (D.state device.new).disk) }
+    ensures agrees { IfAgrees D.Device pages.old device.old
+        (Agrees pages.new (D.state device.new).disk) }
     ensures open { IsOpen pages.new }
-    ensures presence { IfAgrees D.Device pages.old device.old ((files : Files) → MapHolds (map_now pages.old (D.state device.old).disk.present) files →
-        IfOk result (λ answer. answer ≡ presence (file_at file.now.name.items files) (spec_of file.now))) }
-    ensures damaged { IfAgrees D.Device pages.old device.old ((files : Files) → MapHolds (map_now pages.old (D.state device.old).disk.present) files → result ≡ Err StoreFault.Damaged → ⊥) }
+    ensures presence { IfAgrees D.Device pages.old device.old
+        ((files : Files) → MapHolds (map_now pages.old (D.state device.old).disk.present) files →
+        IfOk result
+        (λ answer. answer ≡ presence (file_at file.now.name.items files) (spec_of file.now))) }
+    ensures damaged { IfAgrees D.Device pages.old device.old
+        ((files : Files) → MapHolds (map_now pages.old (D.state device.old).disk.present) files
+        → result ≡ Err StoreFault.Damaged → ⊥) }
     ensures spent { result ≡ Err StoreFault.Spent → is_spent pages.old ≡ true }
     ensures cause { IfErr result IsReadFault }
 {

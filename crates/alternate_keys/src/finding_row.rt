@@ -40,10 +40,16 @@ pub(crate) fn find_row<D: Device>(
     requires sectors { sectors_of pages.old ≤ D.sectors device.old }
     requires layout { prime.now.layout ≡ layout_under (spec_of file.now) KeyOfReference.Prime }
     requires value { length value.now ≡ key_length (spec_of file.now) KeyOfReference.Prime }
-    ensures looks { LooksAt D.Device (result ≡ Err StoreFault.Device) pages.old device.old pages.new device.new }
-    ensures found { IfAgrees D.Device pages.old device.old ((rows : List Row) → HasRows (spec_of file.now) (pages_on D.Device pages.old device.old) rows prime.now →
-        IfOk result (λ entry. entry ≡ option_map (entry_under (spec_of file.now) KeyOfReference.Prime) (row_at file.now.organization (pair_of file.now.organization value.now number) rows))) }
-    ensures damaged { IfAgrees D.Device pages.old device.old ((rows : List Row) → HasRows (spec_of file.now) (pages_on D.Device pages.old device.old) rows prime.now → result ≡ Err StoreFault.Damaged → ⊥) }
+    ensures looks { LooksAt D.Device (result ≡ Err StoreFault.Device) pages.old device.old pages.new
+        device.new }
+    ensures found { IfAgrees D.Device pages.old device.old ((rows : List Row)
+        → HasRows (spec_of file.now) (pages_on D.Device pages.old device.old) rows prime.now →
+        IfOk result
+        (λ entry. entry ≡ option_map (entry_under (spec_of file.now) KeyOfReference.Prime)
+        (row_at file.now.organization (pair_of file.now.organization value.now number) rows))) }
+    ensures damaged { IfAgrees D.Device pages.old device.old ((rows : List Row)
+        → HasRows (spec_of file.now) (pages_on D.Device pages.old device.old) rows prime.now
+        → result ≡ Err StoreFault.Damaged → ⊥) }
     ensures lengths { IfOk result (λ entry. IfSome entry (HasLengths prime.now.layout)) }
     ensures spent { result ≡ Err StoreFault.Spent → is_spent pages.old ≡ true }
     ensures cause { IfErr result IsReadFault }
@@ -76,7 +82,8 @@ fn find_key(
     number: u64,
     value: &[u8],
 ) -> Result<Vec<u8>, StoreFault>
-    ensures key { IfOk result (λ key. key.items ≡ prime_key organization (pair_of organization value.now number)) }
+    ensures key { IfOk result
+        (λ key. key.items ≡ prime_key organization (pair_of organization value.now number)) }
     ensures memory { IsOkUnless result StoreFault.Memory }
 {
     match organization {

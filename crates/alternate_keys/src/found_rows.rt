@@ -29,10 +29,16 @@ pub(crate) fn read_prime_row(
     entry: &Entry,
     bytes: &mut [u8],
 ) -> Result<Found, PagesError>
-    ensures found { (spec : Spec) (row : Row) (rows : List Row) → spec.organization ≡ organization → entry.now ≡ entry_under spec KeyOfReference.Prime row →
-        IsUnder spec KeyOfReference.Prime row → IfOk result (λ told. told ≡ found_row spec KeyOfReference.Prime rows row) }
-    ensures bytes { (spec : Spec) (row : Row) → entry.now ≡ entry_under spec KeyOfReference.Prime row → length row.bytes ≡ length bytes.old → OnOk result (bytes.new ≡ row.bytes) }
-    ensures damaged { (spec : Spec) (row : Row) → spec.organization ≡ organization → entry.now ≡ entry_under spec KeyOfReference.Prime row → IsUnder spec KeyOfReference.Prime row → length row.bytes ≡ length bytes.old → IfErr result (λ error. ⊥) }
+    ensures found { (spec : Spec) (row : Row) (rows : List Row) → spec.organization ≡ organization
+        → entry.now ≡ entry_under spec KeyOfReference.Prime row →
+        IsUnder spec KeyOfReference.Prime row
+        → IfOk result (λ told. told ≡ found_row spec KeyOfReference.Prime rows row) }
+    ensures bytes { (spec : Spec) (row : Row) → entry.now ≡ entry_under spec KeyOfReference.Prime
+        row → length row.bytes ≡ length bytes.old → OnOk result (bytes.new ≡ row.bytes) }
+    ensures damaged { (spec : Spec) (row : Row)
+        → spec.organization ≡ organization → entry.now ≡ entry_under spec KeyOfReference.Prime row
+        → IsUnder spec KeyOfReference.Prime row → length row.bytes ≡ length bytes.old
+        → IfErr result (λ error. ⊥) }
     ensures kept { OnErr result (bytes.new ≡ bytes.old) }
     ensures cause { IfErr result (λ error. error ≡ PagesError.Damaged) }
 {
@@ -74,16 +80,23 @@ pub(crate) fn read_alternate_row<D: Device>(
     requires short { (prime.now.layout.key_length ≤ 128) × (under.now.layout.key_length ≤ 128) }
     ensures only { OnlyReads D.Device (result ≡ Err PagesError.Device) device.old device.new }
     ensures unchanged { IsUnchanged pages.old pages.new }
-    ensures agrees { D.is_honest device.old → Agrees pages.old (D.state device.old).disk → Agrees pages.new (D.state device.new).disk }
+    ensures agrees { D.is_honest device.old → Agrees pages.old (D.state device.old).disk
+        → Agrees pages.new (D.state device.new).disk }
     ensures open { IsOpen pages.new }
-    ensures found { D.is_honest device.old → Agrees pages.old (D.state device.old).disk → (spec : Spec) (i : ℕ) (rows : List Row) (row : Row) →
-        IsPairEntry spec i (map_now pages.old (D.state device.old).disk.present).pages rows prime.now under.now value_length entry.now row →
+    ensures found { D.is_honest device.old → Agrees pages.old (D.state device.old).disk
+        → (spec : Spec) (i : ℕ) (rows : List Row) (row : Row) →
+        IsPairEntry spec i (map_now pages.old (D.state device.old).disk.present).pages rows
+        prime.now under.now value_length entry.now row →
         IfOk result (λ told. told ≡ found_row spec (KeyOfReference.Alternate i) rows row) }
-    ensures bytes { D.is_honest device.old → Agrees pages.old (D.state device.old).disk → (spec : Spec) (i : ℕ) (rows : List Row) (row : Row) →
-        IsPairEntry spec i (map_now pages.old (D.state device.old).disk.present).pages rows prime.now under.now value_length entry.now row →
+    ensures bytes { D.is_honest device.old → Agrees pages.old (D.state device.old).disk
+        → (spec : Spec) (i : ℕ) (rows : List Row) (row : Row) →
+        IsPairEntry spec i (map_now pages.old (D.state device.old).disk.present).pages rows
+        prime.now under.now value_length entry.now row →
         length bytes.old ≡ spec.record_length → OnOk result (bytes.new ≡ row.bytes) }
-    ensures damaged { D.is_honest device.old → Agrees pages.old (D.state device.old).disk → result ≡ Err PagesError.Damaged → (spec : Spec) (i : ℕ) (rows : List Row) (row : Row) →
-        IsPairEntry spec i (map_now pages.old (D.state device.old).disk.present).pages rows prime.now under.now value_length entry.now row →
+    ensures damaged { D.is_honest device.old → Agrees pages.old (D.state device.old).disk
+        → result ≡ Err PagesError.Damaged → (spec : Spec) (i : ℕ) (rows : List Row) (row : Row) →
+        IsPairEntry spec i (map_now pages.old (D.state device.old).disk.present).pages rows
+        prime.now under.now value_length entry.now row →
         length bytes.old ≡ spec.record_length → ⊥ }
     ensures spent { result ≡ Err PagesError.Spent → is_spent pages.old ≡ true }
     ensures kept { OnErr result (bytes.new ≡ bytes.old) }
@@ -102,7 +115,8 @@ pub(crate) fn read_alternate_row<D: Device>(
 /// The number that a key of the tree of rows has: 0 in an indexed file.
 fn number_of(organization: Organization, key: &[u8]) -> Result<u64, PagesError>
     ensures ok { IfOk result (λ number. number ≡ number_in organization key.now) }
-    ensures err { IfErr result (λ error. (error ≡ PagesError.Damaged) × (length key.now < prime_key_length organization)) }
+    ensures err { IfErr result
+        (λ error. (error ≡ PagesError.Damaged) × (length key.now < prime_key_length organization)) }
 {
     match organization {
         Organization::Sequential => {
@@ -126,7 +140,8 @@ fn arrival_in(key: &[u8], value_length: usize) -> Result<u64, PagesError>
     requires { value_length < 65536 }
     ensures ok { IfOk result (λ number. number ≡ big_number 8 (drop value_length key.now)) }
     ensures long { OnOk result (value_length + 8 ≤ length key.now) }
-    ensures err { IfErr result (λ error. (error ≡ PagesError.Damaged) × (length key.now < value_length + 8)) }
+    ensures err { IfErr result
+        (λ error. (error ≡ PagesError.Damaged) × (length key.now < value_length + 8)) }
 {
     if key.len() < value_length + 8 {
         return Err(PagesError::Damaged);
@@ -148,13 +163,19 @@ fn is_repeated<D: Device>(
     requires few { under.now.layout.key_length ≤ 128 }
     ensures only { OnlyReads D.Device (result ≡ Err PagesError.Device) device.old device.new }
     ensures unchanged { IsUnchanged pages.old pages.new }
-    ensures agrees { D.is_honest device.old → Agrees pages.old (D.state device.old).disk → Agrees pages.new (D.state device.new).disk }
+    ensures agrees { D.is_honest device.old → Agrees pages.old (D.state device.old).disk
+        → Agrees pages.new (D.state device.new).disk }
     ensures open { IsOpen pages.new }
-    ensures repeated { D.is_honest device.old → Agrees pages.old (D.state device.old).disk → (levels : List (List TreeNode)) →
-        IsTreeOrEmpty under.now.layout (map_now pages.old (D.state device.old).disk.present).pages under.now.root levels →
-        IfOk result (λ repeated. repeated ≡ begins_with_value (take value_length entry.now.key) (found_entry SearchStart.After (entries_of under.now.layout levels) entry.now.key)) }
-    ensures damaged { D.is_honest device.old → Agrees pages.old (D.state device.old).disk → result ≡ Err PagesError.Damaged →
-        (levels : List (List TreeNode)) → IsTreeOrEmpty under.now.layout (map_now pages.old (D.state device.old).disk.present).pages under.now.root levels → ⊥ }
+    ensures repeated { D.is_honest device.old → Agrees pages.old (D.state device.old).disk
+        → (levels : List (List TreeNode)) →
+        IsTreeOrEmpty under.now.layout (map_now pages.old (D.state device.old).disk.present).pages
+        under.now.root levels →
+        IfOk result (λ repeated. repeated ≡ begins_with_value (take value_length entry.now.key)
+        (found_entry SearchStart.After (entries_of under.now.layout levels) entry.now.key)) }
+    ensures damaged { D.is_honest device.old → Agrees pages.old (D.state device.old).disk
+        → result ≡ Err PagesError.Damaged →
+        (levels : List (List TreeNode)) → IsTreeOrEmpty under.now.layout
+        (map_now pages.old (D.state device.old).disk.present).pages under.now.root levels → ⊥ }
     ensures cause { IfErr result IsReadRefusal }
     ensures spent { result ≡ Err PagesError.Spent → is_spent pages.old ≡ true }
 {

@@ -24,11 +24,15 @@ pub(crate) fn remove_among<D: Device>(
 ) -> Result<(), StoreFault>
     requires open { IsOpen pages.old }
     requires sectors { sectors_of pages.old ≤ D.sectors device.old }
-    ensures edits { Edits D.Device (result ≡ Err StoreFault.Device) pages.old device.old pages.new device.new }
+    ensures edits { Edits D.Device (result ≡ Err StoreFault.Device) pages.old device.old pages.new
+        device.new }
     ensures removed { OnAmong D.Device tree.old pages.old device.old (λ left right entries.
-        OnOk result (IsTreeAmong (pages_on D.Device pages.new device.old) left right tree.new (without_entry entries key.now))) }
-    ensures damaged { OnAmong D.Device tree.old pages.old device.old (λ left right entries. IsSome (entry_with entries key.now) → result ≡ Err StoreFault.Damaged → ⊥) }
-    ensures few { OnAmong D.Device tree.old pages.old device.old (λ left right entries. OnOk result (FewChanged 42 pages.old pages.new)) }
+        OnOk result (IsTreeAmong (pages_on D.Device pages.new device.old) left right tree.new
+        (without_entry entries key.now))) }
+    ensures damaged { OnAmong D.Device tree.old pages.old device.old (λ left right entries.
+        IsSome (entry_with entries key.now) → result ≡ Err StoreFault.Damaged → ⊥) }
+    ensures few { OnAmong D.Device tree.old pages.old device.old
+        (λ left right entries. OnOk result (FewChanged 42 pages.old pages.new)) }
     ensures layout { tree.new.layout ≡ tree.old.layout }
     ensures spent { result ≡ Err StoreFault.Spent → is_spent pages.old ≡ true }
     ensures cause { IfErr result IsReadFault }
@@ -51,10 +55,13 @@ pub(crate) fn replace_among<D: Device>(
     requires open { IsOpen pages.old }
     requires sectors { sectors_of pages.old ≤ D.sectors device.old }
     requires value { length value.now ≡ tree.old.layout.value_length }
-    ensures edits { Edits D.Device (result ≡ Err StoreFault.Device) pages.old device.old pages.new device.new }
+    ensures edits { Edits D.Device (result ≡ Err StoreFault.Device) pages.old device.old pages.new
+        device.new }
     ensures replaced { OnAmong D.Device tree.old pages.old device.old (λ left right entries.
-        OnOk result (IsTreeAmong (pages_on D.Device pages.new device.old) left right tree.new (with_value entries (record { key = key.now; value = value.now })))) }
-    ensures damaged { OnAmong D.Device tree.old pages.old device.old (λ left right entries. IsSome (entry_with entries key.now) → result ≡ Err StoreFault.Damaged → ⊥) }
+        OnOk result (IsTreeAmong (pages_on D.Device pages.new device.old) left right tree.new
+        (with_value entries (record { key = key.now; value = value.now })))) }
+    ensures damaged { OnAmong D.Device tree.old pages.old device.old (λ left right entries.
+        IsSome (entry_with entries key.now) → result ≡ Err StoreFault.Damaged → ⊥) }
     ensures few { FewChanged 42 pages.old pages.new }
     ensures tree { tree.new ≡ tree.old }
     ensures spent { result ≡ Err StoreFault.Spent → is_spent pages.old ≡ true }

@@ -37,13 +37,20 @@ pub(crate) fn find_listing<D: Device>(
     requires name { is_name name.now ≡ true }
     ensures only { OnlyReads D.Device (result ≡ Err StoreFault.Device) device.old device.new }
     ensures unchanged { IsUnchanged pages.old pages.new }
-    ensures agrees { IfAgrees D.Device pages.old device.old (Agrees pages.new (D.state device.new).disk) }
+    ensures agrees { IfAgrees D.Device pages.old device.old
+        (Agrees pages.new (D.state device.new).disk) }
     ensures open { IsOpen pages.new }
-    ensures listed { IfAgrees D.Device pages.old device.old ((files : Files) → MapHolds (map_now pages.old (D.state device.old).disk.present) files →
-        IfOk result (IsListed (map_now pages.old (D.state device.old).disk.present) (file_at name.now files))) }
-    ensures entry { IfAgrees D.Device pages.old device.old ((files : Files) → (holds : MapHolds (map_now pages.old (D.state device.old).disk.present) files) →
-        IfOk result (λ entry. entry ≡ entry_with (map catalog_entry holds.kept) (padded_name name.now))) }
-    ensures damaged { IfAgrees D.Device pages.old device.old ((files : Files) → MapHolds (map_now pages.old (D.state device.old).disk.present) files → result ≡ Err StoreFault.Damaged → ⊥) }
+    ensures listed { IfAgrees D.Device pages.old device.old
+        ((files : Files) → MapHolds (map_now pages.old (D.state device.old).disk.present) files →
+        IfOk result (IsListed (map_now pages.old (D.state device.old).disk.present)
+        (file_at name.now files))) }
+    ensures entry { IfAgrees D.Device pages.old device.old ((files : Files)
+        → (holds : MapHolds (map_now pages.old (D.state device.old).disk.present) files) →
+        IfOk result
+        (λ entry. entry ≡ entry_with (map catalog_entry holds.kept) (padded_name name.now))) }
+    ensures damaged { IfAgrees D.Device pages.old device.old
+        ((files : Files) → MapHolds (map_now pages.old (D.state device.old).disk.present) files
+        → result ≡ Err StoreFault.Damaged → ⊥) }
     ensures spent { result ≡ Err StoreFault.Spent → is_spent pages.old ≡ true }
     ensures long { IfOk result (λ entry. IfSome entry (λ e. length e.value ≡ 83)) }
     ensures cause { IfErr result IsReadFault }
@@ -67,10 +74,16 @@ pub(crate) fn replace_listing<D: Device>(
     requires sectors { sectors_of pages.old ≤ D.sectors device.old }
     requires name { length name.now ≤ 30 }
     requires listing { length listing.now ≡ 83 }
-    ensures edits { Edits D.Device (result ≡ Err StoreFault.Device) pages.old device.old pages.new device.new }
-    ensures replaced { OnAmong D.Device (catalog_at (catalog_of pages.old)) pages.old device.old (λ left right entries.
-        OnOk result (IsTreeAmong (pages_on D.Device pages.new device.old) left right (catalog_at (catalog_of pages.old)) (with_value entries (record { key = padded_name name.now; value = listing.now })))) }
-    ensures damaged { OnAmong D.Device (catalog_at (catalog_of pages.old)) pages.old device.old (λ left right entries. IsSome (entry_with entries (padded_name name.now)) → result ≡ Err StoreFault.Damaged → ⊥) }
+    ensures edits { Edits D.Device (result ≡ Err StoreFault.Device) pages.old device.old pages.new
+        device.new }
+    ensures replaced { OnAmong D.Device (catalog_at (catalog_of pages.old)) pages.old device.old
+        (λ left right entries.
+        OnOk result (IsTreeAmong (pages_on D.Device pages.new device.old)
+        left right (catalog_at (catalog_of pages.old))
+        (with_value entries (record { key = padded_name name.now; value = listing.now })))) }
+    ensures damaged { OnAmong D.Device (catalog_at (catalog_of pages.old)) pages.old
+        device.old (λ left right entries. IsSome (entry_with entries (padded_name name.now))
+        → result ≡ Err StoreFault.Damaged → ⊥) }
     ensures few { FewChanged 1 pages.old pages.new }
     ensures filled { FewFilled 1 pages.old pages.new }
     ensures spent { result ≡ Err StoreFault.Spent → is_spent pages.old ≡ true }

@@ -25,13 +25,18 @@ pub(crate) fn look<D: Device>(
     requires short { tree.now.layout.key_length ≤ 128 }
     ensures only { OnlyReads D.Device (result ≡ Err PagesError.Device) device.old device.new }
     ensures unchanged { IsUnchanged pages.old pages.new }
-    ensures agrees { D.is_honest device.old → Agrees pages.old (D.state device.old).disk → Agrees pages.new (D.state device.new).disk }
+    ensures agrees { D.is_honest device.old → Agrees pages.old (D.state device.old).disk
+        → Agrees pages.new (D.state device.new).disk }
     ensures open { IsOpen pages.new }
-    ensures entry { D.is_honest device.old → Agrees pages.old (D.state device.old).disk → (levels : List (List TreeNode)) →
-        IsTreeOrEmpty tree.now.layout (map_now pages.old (D.state device.old).disk.present).pages tree.now.root levels →
+    ensures entry { D.is_honest device.old → Agrees pages.old (D.state device.old).disk
+        → (levels : List (List TreeNode)) →
+        IsTreeOrEmpty tree.now.layout (map_now pages.old (D.state device.old).disk.present).pages
+        tree.now.root levels →
         IfOk result (λ entry. entry ≡ found_entry aim (entries_of tree.now.layout levels) key.now) }
-    ensures damaged { D.is_honest device.old → Agrees pages.old (D.state device.old).disk → result ≡ Err PagesError.Damaged →
-        (levels : List (List TreeNode)) → IsTreeOrEmpty tree.now.layout (map_now pages.old (D.state device.old).disk.present).pages tree.now.root levels → ⊥ }
+    ensures damaged { D.is_honest device.old → Agrees pages.old (D.state device.old).disk
+        → result ≡ Err PagesError.Damaged →
+        (levels : List (List TreeNode)) → IsTreeOrEmpty tree.now.layout
+        (map_now pages.old (D.state device.old).disk.present).pages tree.now.root levels → ⊥ }
     ensures spent { result ≡ Err PagesError.Spent → is_spent pages.old ≡ true }
     ensures cause { IfErr result IsReadRefusal }
 {
@@ -46,7 +51,8 @@ pub(crate) fn look<D: Device>(
 pub(crate) fn copy_record(entry: &Entry, bytes: &mut [u8]) -> Result<(), PagesError>
     ensures ok { OnOk result (bytes.new ≡ take (length bytes.old) entry.now.value) }
     ensures kept { OnErr result (bytes.new ≡ bytes.old) }
-    ensures err { IfErr result (λ error. (error ≡ PagesError.Damaged) × (length entry.now.value < length bytes.old)) }
+    ensures err { IfErr result
+        (λ error. (error ≡ PagesError.Damaged) × (length entry.now.value < length bytes.old)) }
 {
     let value = entry.value();
     if value.len() < bytes.len() {

@@ -44,14 +44,25 @@ pub(crate) fn move_pairs<D: Device>(
     requires sectors { sectors_of pages.old ≤ D.sectors device.old }
     requires listing { length listing.now ≡ 83 }
     requires values { HasValues verb (spec_of file.now) old.now bytes.now }
-    ensures edits { Edits D.Device (result ≡ Err StoreFault.Device) pages.old device.old pages.new device.new }
-    ensures came { OnIndexes D.Device (spec_of file.now) pages.old device.old listing.now (λ held left right trees. (after : File) → after.spec ≡ held.spec → PairsMove verb held after old.now bytes.now arrival →
-        IfOk result (λ roots. HaveBecome after (pages_on D.Device pages.new device.old) left right trees (length trees) roots.items)) }
-    ensures few { OnIndexes D.Device (spec_of file.now) pages.old device.old listing.now (λ held left right trees. (after : File) → after.spec ≡ held.spec → PairsMove verb held after old.now bytes.now arrival →
+    ensures edits { Edits D.Device (result ≡ Err StoreFault.Device) pages.old device.old pages.new
+        device.new }
+    ensures came { OnIndexes D.Device (spec_of file.now) pages.old device.old
+        listing.now (λ held left right trees. (after : File) → after.spec ≡ held.spec
+        → PairsMove verb held after old.now bytes.now arrival →
+        IfOk result (λ roots. HaveBecome after (pages_on D.Device pages.new device.old) left right
+        trees (length trees) roots.items)) }
+    ensures few { OnIndexes D.Device (spec_of file.now) pages.old
+        device.old listing.now (λ held left right trees. (after : File) → after.spec ≡ held.spec
+        → PairsMove verb held after old.now bytes.now arrival →
         OnOk result (FewChanged (84 * length file.now.alternates.items) pages.old pages.new)) }
-    ensures room { OnIndexes D.Device (spec_of file.now) pages.old device.old listing.now (λ held left right trees. (after : File) → after.spec ≡ held.spec → PairsMove verb held after old.now bytes.now arrival →
-        result ≡ Err StoreFault.Full → free_count (committed_of pages.old) < length (changed_pages_of pages.old) + 84 * length file.now.alternates.items) }
-    ensures damaged { OnIndexes D.Device (spec_of file.now) pages.old device.old listing.now (λ held left right trees. (after : File) → after.spec ≡ held.spec → PairsMove verb held after old.now bytes.now arrival →
+    ensures room { OnIndexes D.Device (spec_of file.now) pages.old device.old
+        listing.now (λ held left right trees. (after : File) → after.spec ≡ held.spec
+        → PairsMove verb held after old.now bytes.now arrival →
+        result ≡ Err StoreFault.Full → free_count (committed_of pages.old) < length
+        (changed_pages_of pages.old) + 84 * length file.now.alternates.items) }
+    ensures damaged { OnIndexes D.Device (spec_of file.now) pages.old
+        device.old listing.now (λ held left right trees. (after : File) → after.spec ≡ held.spec
+        → PairsMove verb held after old.now bytes.now arrival →
         PairsMayMove verb held old.now bytes.now arrival → result ≡ Err StoreFault.Damaged → ⊥) }
     ensures count { IfOk result (λ roots. length roots.items ≡ length file.now.alternates.items) }
     ensures spent { result ≡ Err StoreFault.Spent → is_spent pages.old ≡ true }
@@ -83,11 +94,16 @@ fn take_pair<D: Device>(
     requires sectors { sectors_of pages.old ≤ D.sectors device.old }
     requires key { IsKey (spec_of file.now) (KeyOfReference.Alternate key) }
     requires old { length old.now ≡ file.now.record_length + 8 * length file.now.alternates.items }
-    ensures edits { Edits D.Device (result ≡ Err StoreFault.Device) pages.old device.old pages.new device.new }
+    ensures edits { Edits D.Device (result ≡ Err StoreFault.Device) pages.old device.old pages.new
+        device.new }
     ensures taken { OnAmong D.Device tree.old pages.old device.old (λ left right entries.
-        OnOk result (IsTreeAmong (pages_on D.Device pages.new device.old) left right tree.new (without_entry entries (old_key (spec_of file.now) key old.now)))) }
-    ensures damaged { OnAmong D.Device tree.old pages.old device.old (λ left right entries. IsSome (entry_with entries (old_key (spec_of file.now) key old.now)) → result ≡ Err StoreFault.Damaged → ⊥) }
-    ensures few { OnAmong D.Device tree.old pages.old device.old (λ left right entries. OnOk result (FewChanged 42 pages.old pages.new)) }
+        OnOk result (IsTreeAmong (pages_on D.Device pages.new device.old) left right tree.new
+        (without_entry entries (old_key (spec_of file.now) key old.now)))) }
+    ensures damaged { OnAmong D.Device tree.old pages.old device.old
+        (λ left right entries. IsSome (entry_with entries (old_key (spec_of file.now) key old.now))
+        → result ≡ Err StoreFault.Damaged → ⊥) }
+    ensures few { OnAmong D.Device tree.old pages.old device.old
+        (λ left right entries. OnOk result (FewChanged 42 pages.old pages.new)) }
     ensures layout { tree.new.layout ≡ tree.old.layout }
     ensures spent { result ≡ Err StoreFault.Spent → is_spent pages.old ≡ true }
     ensures cause { IfErr result IsReadFault }
@@ -111,15 +127,22 @@ fn give_pair<D: Device>(
     requires open { IsOpen pages.old }
     requires sectors { sectors_of pages.old ≤ D.sectors device.old }
     requires key { IsKey (spec_of file.now) (KeyOfReference.Alternate key) }
-    requires layout { tree.old.layout ≡ layout_under (spec_of file.now) (KeyOfReference.Alternate key) }
+    requires layout { tree.old.layout
+        ≡ layout_under (spec_of file.now) (KeyOfReference.Alternate key) }
     requires bytes { length bytes.now ≡ file.now.record_length }
-    ensures edits { Edits D.Device (result ≡ Err StoreFault.Device) pages.old device.old pages.new device.new }
+    ensures edits { Edits D.Device (result ≡ Err StoreFault.Device) pages.old device.old pages.new
+        device.new }
     ensures given { OnAmong D.Device tree.old pages.old device.old (λ left right entries.
-        OnOk result (IsTreeAmong (pages_on D.Device pages.new device.old) left right tree.new (with_new_entry entries (pair_entry (spec_of file.now) key bytes.now arrival)))) }
+        OnOk result (IsTreeAmong (pages_on D.Device pages.new device.old) left right tree.new
+        (with_new_entry entries (pair_entry (spec_of file.now) key bytes.now arrival)))) }
     ensures damaged { OnAmong D.Device tree.old pages.old device.old (λ left right entries.
-        entry_with entries (pair_entry (spec_of file.now) key bytes.now arrival).key ≡ None → result ≡ Err StoreFault.Damaged → ⊥) }
-    ensures few { OnAmong D.Device tree.old pages.old device.old (λ left right entries. FewChanged 42 pages.old pages.new) }
-    ensures room { OnAmong D.Device tree.old pages.old device.old (λ left right entries. result ≡ Err StoreFault.Full → free_count (committed_of pages.old) < length (changed_pages_of pages.old) + 42) }
+        entry_with entries (pair_entry (spec_of file.now) key bytes.now arrival).key ≡ None
+        → result ≡ Err StoreFault.Damaged → ⊥) }
+    ensures few { OnAmong D.Device tree.old pages.old device.old
+        (λ left right entries. FewChanged 42 pages.old pages.new) }
+    ensures room { OnAmong
+        D.Device tree.old pages.old device.old (λ left right entries. result ≡ Err StoreFault.Full
+        → free_count (committed_of pages.old) < length (changed_pages_of pages.old) + 42) }
     ensures layout { tree.new.layout ≡ tree.old.layout }
     ensures spent { result ≡ Err StoreFault.Spent → is_spent pages.old ≡ true }
     ensures cause { IfErr result IsWriteFault }
@@ -151,14 +174,22 @@ fn move_pair<D: Device>(
     requires open { IsOpen pages.old }
     requires sectors { sectors_of pages.old ≤ D.sectors device.old }
     requires key { IsKey (spec_of file.now) (KeyOfReference.Alternate key) }
-    requires layout { tree.old.layout ≡ layout_under (spec_of file.now) (KeyOfReference.Alternate key) }
+    requires layout { tree.old.layout
+        ≡ layout_under (spec_of file.now) (KeyOfReference.Alternate key) }
     requires values { HasValues verb (spec_of file.now) old.now bytes.now }
-    ensures edits { Edits D.Device (result ≡ Err StoreFault.Device) pages.old device.old pages.new device.new }
+    ensures edits { Edits D.Device (result ≡ Err StoreFault.Device) pages.old device.old pages.new
+        device.new }
     ensures moved { OnAmong D.Device tree.old pages.old device.old (λ left right entries.
-        OnOk result (IsTreeAmong (pages_on D.Device pages.new device.old) left right tree.new (entries_after verb (spec_of file.now) key old.now bytes.now arrival entries))) }
-    ensures damaged { OnAmong D.Device tree.old pages.old device.old (λ left right entries. MayMove verb (spec_of file.now) key old.now bytes.now arrival entries → result ≡ Err StoreFault.Damaged → ⊥) }
-    ensures few { OnAmong D.Device tree.old pages.old device.old (λ left right entries. OnOk result (FewChanged 84 pages.old pages.new)) }
-    ensures room { OnAmong D.Device tree.old pages.old device.old (λ left right entries. result ≡ Err StoreFault.Full → free_count (committed_of pages.old) < length (changed_pages_of pages.old) + 84) }
+        OnOk result (IsTreeAmong (pages_on D.Device pages.new device.old) left right tree.new
+        (entries_after verb (spec_of file.now) key old.now bytes.now arrival entries))) }
+    ensures damaged { OnAmong D.Device tree.old pages.old device.old
+        (λ left right entries. MayMove verb (spec_of file.now) key old.now bytes.now arrival entries
+        → result ≡ Err StoreFault.Damaged → ⊥) }
+    ensures few { OnAmong D.Device tree.old pages.old device.old
+        (λ left right entries. OnOk result (FewChanged 84 pages.old pages.new)) }
+    ensures room { OnAmong
+        D.Device tree.old pages.old device.old (λ left right entries. result ≡ Err StoreFault.Full
+        → free_count (committed_of pages.old) < length (changed_pages_of pages.old) + 84) }
     ensures layout { tree.new.layout ≡ tree.old.layout }
     ensures spent { result ≡ Err StoreFault.Spent → is_spent pages.old ≡ true }
     ensures cause { IfErr result IsWriteFault }

@@ -39,19 +39,30 @@ pub(crate) fn insert_row<D: Device>(
     requires layout { prime.old.layout ≡ layout_under (spec_of file.now) KeyOfReference.Prime }
     requires bytes { length bytes.now ≡ file.now.record_length }
     ensures only { OnlyReads D.Device (result ≡ Err StoreFault.Device) device.old device.new }
-    ensures inserted { OnAmong D.Device prime.old pages.old device.old (λ left right entries. result ≡ Ok true →
-        (entry_with entries (entry_under (spec_of file.now) KeyOfReference.Prime (row_with (spec_of file.now) number arrival bytes.now)).key ≡ None)
-        × IsTreeAmong (pages_on D.Device pages.new device.old) left right prime.new (with_new_entry entries (entry_under (spec_of file.now) KeyOfReference.Prime (row_with (spec_of file.now) number arrival bytes.now)))) }
-    ensures there { OnAmong D.Device prime.old pages.old device.old (λ left right entries. result ≡ Ok false →
-        IsSome (entry_with entries (entry_under (spec_of file.now) KeyOfReference.Prime (row_with (spec_of file.now) number arrival bytes.now)).key)) }
+    ensures inserted { OnAmong D.Device prime.old pages.old device.old
+        (λ left right entries. result ≡ Ok true →
+        (entry_with entries (entry_under (spec_of file.now) KeyOfReference.Prime
+        (row_with (spec_of file.now) number arrival bytes.now)).key ≡ None)
+        × IsTreeAmong (pages_on D.Device pages.new device.old) left
+        right prime.new (with_new_entry entries (entry_under (spec_of file.now) KeyOfReference.Prime
+        (row_with (spec_of file.now) number arrival bytes.now)))) }
+    ensures there { OnAmong D.Device prime.old pages.old device.old
+        (λ left right entries. result ≡ Ok false →
+        IsSome (entry_with entries (entry_under (spec_of file.now) KeyOfReference.Prime
+        (row_with (spec_of file.now) number arrival bytes.now)).key)) }
     ensures same { result ≡ Ok false → IsUnchanged pages.old pages.new }
-    ensures damaged { OnAmong D.Device prime.old pages.old device.old (λ left right entries. result ≡ Err StoreFault.Damaged → ⊥) }
-    ensures changed_pages { OnAmong D.Device prime.old pages.old device.old (λ left right entries. FewChanged 42 pages.old pages.new) }
-    ensures room { OnAmong D.Device prime.old pages.old device.old (λ left right entries. result ≡ Err StoreFault.Full → free_count (committed_of pages.old) < length (changed_pages_of pages.old) + 42) }
+    ensures damaged { OnAmong D.Device prime.old pages.old device.old
+        (λ left right entries. result ≡ Err StoreFault.Damaged → ⊥) }
+    ensures changed_pages { OnAmong D.Device prime.old pages.old device.old
+        (λ left right entries. FewChanged 42 pages.old pages.new) }
+    ensures room { OnAmong
+        D.Device prime.old pages.old device.old (λ left right entries. result ≡ Err StoreFault.Full
+        → free_count (committed_of pages.old) < length (changed_pages_of pages.old) + 42) }
     ensures layout { prime.new.layout ≡ prime.old.layout }
     ensures committed { SameCommitted pages.old pages.new }
     ensures catalog { catalog_of pages.new ≡ catalog_of pages.old }
-    ensures agrees { IfAgrees D.Device pages.old device.old (Agrees pages.new (D.state device.new).disk) }
+    ensures agrees { IfAgrees D.Device pages.old device.old
+        (Agrees pages.new (D.state device.new).disk) }
     ensures open { IsOpen pages.new }
     ensures spent { result ≡ Err StoreFault.Spent → is_spent pages.old ≡ true }
     ensures cause { IfErr result IsWriteFault }

@@ -71,7 +71,8 @@ pub(crate) fn is_changed(file: &FileSpec, key: u8, old: &[u8], bytes: &[u8]) -> 
 fn is_any_changed(file: &FileSpec, old: &[u8], bytes: &[u8]) -> bool
     requires old { file.now.record_length ≤ length old.now }
     requires bytes { length bytes.now ≡ file.now.record_length }
-    ensures { result ≡ list_any (changes (take file.now.record_length old.now) bytes.now) file.now.alternates.items }
+    ensures { result ≡ list_any (changes (take file.now.record_length old.now) bytes.now)
+        file.now.alternates.items }
 {
     let count = file.alternates.len() as u8;
     for key in 0..count {
@@ -87,7 +88,8 @@ fn arrival_after(file: &FileSpec, key: u8, old: &[u8], bytes: &[u8], arrival: u6
     requires key { IsKey (spec_of file.now) (KeyOfReference.Alternate key) }
     requires old { length old.now ≡ file.now.record_length + 8 * length file.now.alternates.items }
     requires bytes { length bytes.now ≡ file.now.record_length }
-    ensures { result ≡ (if changes_at (spec_of file.now) key old.now bytes.now then arrival else big_number 8 (drop (file.now.record_length + 8 * key) old.now)) }
+    ensures { result ≡ (if changes_at (spec_of file.now) key old.now bytes.now then arrival
+        else big_number 8 (drop (file.now.record_length + 8 * key) old.now)) }
 {
     if is_changed(file, key, old, bytes) {
         arrival
@@ -107,8 +109,10 @@ pub(crate) fn value_after(
     requires old { length old.now ≡ file.now.record_length + 8 * length file.now.alternates.items }
     requires bytes { length bytes.now ≡ file.now.record_length }
     ensures value { (row : Row) → IsRowOf (spec_of file.now) row → old.now ≡ row_value row →
-        IfOk result (λ value. value.items ≡ bytes.now ++ flat_map (big_bytes 8) (arrivals_after row.bytes bytes.now arrival file.now.alternates.items row.arrivals)) }
-    ensures long { IfOk result (λ value. length value.items ≡ file.now.record_length + 8 * length file.now.alternates.items) }
+        IfOk result (λ value. value.items ≡ bytes.now ++ flat_map (big_bytes 8)
+        (arrivals_after row.bytes bytes.now arrival file.now.alternates.items row.arrivals)) }
+    ensures long { IfOk result (λ value. length value.items
+        ≡ file.now.record_length + 8 * length file.now.alternates.items) }
     ensures memory { IsOkUnless result StoreFault.Memory }
 {
     let mut out = copy_of(alloc, bytes)?;
@@ -125,7 +129,8 @@ pub(crate) fn arrival_next(file: &FileSpec, old: &[u8], bytes: &[u8], arrival: u
     requires old { file.now.record_length ≤ length old.now }
     requires bytes { length bytes.now ≡ file.now.record_length }
     requires arrival { arrival + 1 < 2 ^ 64 }
-    ensures { result ≡ (if list_any (changes (take file.now.record_length old.now) bytes.now) file.now.alternates.items then arrival + 1 else arrival) }
+    ensures { result ≡ (if list_any (changes (take file.now.record_length old.now) bytes.now)
+        file.now.alternates.items then arrival + 1 else arrival) }
 {
     if is_any_changed(file, old, bytes) {
         arrival + 1

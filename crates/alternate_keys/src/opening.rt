@@ -28,7 +28,8 @@ pub fn format<D: Device>(device: &mut D) -> Result<(), DeviceError>
     ensures failures { CountsFailure result (D.failures device.old) (D.failures device.new) }
 
     // After `Ok` a crash leaves no files.
-    ensures empty { D.is_honest device.old → OnOk result (EachImage (λ image. Holds image []) (D.state device.new)) }
+    ensures empty { D.is_honest device.old
+        → OnOk result (EachImage (λ image. Holds image []) (D.state device.new)) }
 {
     empty_holds();
     pages::format(device)
@@ -46,24 +47,35 @@ impl PagedStore {
         requires most { capacity ≤ 4096 }
         ensures honest { D.is_honest device.old ↔ D.is_honest device.new }
         ensures sectors { D.sectors device.new ≡ D.sectors device.old }
-        ensures failures { Blames (result ≡ Err StoreFault.Device) (D.failures device.old) (D.failures device.new) }
+        ensures failures { Blames (result ≡ Err StoreFault.Device) (D.failures device.old)
+            (D.failures device.new) }
 
         // Until it has succeeded, a crash leaves what was possible before.
-        ensures moments { D.is_honest device.old → Through (D.history device.old) (D.history device.new) (D.state device.new) (IsOpening (D.state device.old)) }
-        ensures state { D.is_honest device.old → OnOk result (D.state device.new ≡ state_after_sync (D.state device.old)) }
-        ensures unwritten { D.is_honest device.old → OnErr result ((D.state device.new ≡ D.state device.old) ⊎ (D.state device.new ≡ state_after_sync (D.state device.old))) }
+        ensures moments { D.is_honest device.old → Through (D.history device.old)
+            (D.history device.new) (D.state device.new) (IsOpening (D.state device.old)) }
+        ensures state { D.is_honest device.old
+            → OnOk result (D.state device.new ≡ state_after_sync (D.state device.old)) }
+        ensures unwritten { D.is_honest device.old
+            → OnErr result ((D.state device.new ≡ D.state device.old)
+            ⊎ (D.state device.new ≡ state_after_sync (D.state device.old))) }
 
         // The store stands for the files that the disk holds, where it holds some.
-        ensures stands { D.is_honest device.old → (files : Files) → Holds (D.state device.old).disk.present files →
+        ensures stands { D.is_honest device.old → (files : Files)
+            → Holds (D.state device.old).disk.present files →
             IfOk result (λ store. Represents store.pages (D.state device.new).disk files) }
-        ensures ready { IfOk result (λ store. (store.spent ≡ false) × (sectors_of store.pages ≤ D.sectors device.old)) }
+        ensures ready { IfOk result
+            (λ store. (store.spent ≡ false) × (sectors_of store.pages ≤ D.sectors device.old)) }
 
         // Only a disk that holds a map is opened. Where it holds files, the device and memory alone refuse. `Layout` comes exactly where the
         // newest root is the other store's, and `Damaged` only where the disk holds no files.
-        ensures map { D.is_honest device.old → OnOk result (HasMap (D.state device.old).disk.present) }
-        ensures refused { D.is_honest device.old → IfErr result (IsOpenRefusal (D.state device.old).disk.present) }
-        ensures opens { D.is_honest device.old → (files : Files) → Holds (D.state device.old).disk.present files → IfErr result IsReadCause }
-        ensures foreign { D.is_honest device.old → IsForeign (D.state device.old).disk.present → FailsWith StoreFault.Layout result }
+        ensures map { D.is_honest device.old
+            → OnOk result (HasMap (D.state device.old).disk.present) }
+        ensures refused { D.is_honest device.old
+            → IfErr result (IsOpenRefusal (D.state device.old).disk.present) }
+        ensures opens { D.is_honest device.old → (files : Files)
+            → Holds (D.state device.old).disk.present files → IfErr result IsReadCause }
+        ensures foreign { D.is_honest device.old → IsForeign (D.state device.old).disk.present
+            → FailsWith StoreFault.Layout result }
     {
         match PageMap::open(alloc, device, capacity) {
             Ok(pages) => Ok(PagedStore {

@@ -36,11 +36,19 @@ pub(crate) fn is_value_there<D: Device>(
     requires short { tree.now.layout.key_length ≤ 128 }
     ensures only { OnlyReads D.Device (result ≡ Err StoreFault.Device) device.old device.new }
     ensures unchanged { IsUnchanged pages.old pages.new }
-    ensures agrees { IfAgrees D.Device pages.old device.old (Agrees pages.new (D.state device.new).disk) }
+    ensures agrees { IfAgrees D.Device pages.old device.old
+        (Agrees pages.new (D.state device.new).disk) }
     ensures open { IsOpen pages.new }
-    ensures there { IfAgrees D.Device pages.old device.old ((spec : Spec) (i : ℕ) (rows : List Row) → HasPairs spec (KeyOfReference.Alternate i) (pages_on D.Device pages.old device.old) rows tree.now →
-        length value.now ≡ key_length spec (KeyOfReference.Alternate i) → IfOk result (λ there. there ≡ list_any (λ row. same_bytes (part (place_of spec (KeyOfReference.Alternate i)) row.bytes) value.now) rows)) }
-    ensures damaged { IfAgrees D.Device pages.old device.old ((spec : Spec) (i : ℕ) (rows : List Row) → HasPairs spec (KeyOfReference.Alternate i) (pages_on D.Device pages.old device.old) rows tree.now → result ≡ Err StoreFault.Damaged → ⊥) }
+    ensures there { IfAgrees D.Device pages.old device.old ((spec : Spec) (i : ℕ) (rows : List Row)
+        → HasPairs spec (KeyOfReference.Alternate i) (pages_on D.Device pages.old device.old) rows
+        tree.now →
+        length value.now ≡ key_length spec (KeyOfReference.Alternate i)
+        → IfOk result (λ there. there ≡ list_any (λ row. same_bytes
+        (part (place_of spec (KeyOfReference.Alternate i)) row.bytes) value.now) rows)) }
+    ensures damaged { IfAgrees D.Device pages.old device.old
+        ((spec : Spec) (i : ℕ) (rows : List Row) → HasPairs spec (KeyOfReference.Alternate i)
+        (pages_on D.Device pages.old device.old) rows tree.now → result ≡ Err StoreFault.Damaged
+        → ⊥) }
     ensures spent { result ≡ Err StoreFault.Spent → is_spent pages.old ≡ true }
     ensures cause { IfErr result IsReadFault }
 {

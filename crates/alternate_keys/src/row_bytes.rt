@@ -19,7 +19,8 @@ pub(crate) fn copy_of(alloc: Global, bytes: &[u8]) -> Result<Vec<u8>, StoreFault
 
 /// An arrival, for each of these keys.
 fn push_arrivals(out: &mut Vec<u8>, keys: &[AlternateKey], arrival: u64) -> Result<(), StoreFault>
-    ensures bytes { OnOk result (out.new.items ≡ out.old.items ++ flat_map (big_bytes 8) (map (λ key. arrival) keys.now)) }
+    ensures bytes { OnOk result
+        (out.new.items ≡ out.old.items ++ flat_map (big_bytes 8) (map (λ key. arrival) keys.now)) }
     ensures memory { IsOkUnless result StoreFault.Memory }
 {
     for key in keys {
@@ -35,7 +36,8 @@ pub(crate) fn new_value(
     arrival: u64,
     bytes: &[u8],
 ) -> Result<Vec<u8>, StoreFault>
-    ensures value { IfOk result (λ value. value.items ≡ bytes.now ++ flat_map (big_bytes 8) (map (λ key. arrival) file.now.alternates.items)) }
+    ensures value { IfOk result (λ value. value.items
+        ≡ bytes.now ++ flat_map (big_bytes 8) (map (λ key. arrival) file.now.alternates.items)) }
     ensures memory { IsOkUnless result StoreFault.Memory }
 {
     let arrivals = ARRIVAL_BYTES.saturating_mul(file.alternates.len());

@@ -24,15 +24,27 @@ impl PagedStore {
     ) -> Result<Outcome, StoreFault>
         requires device { ⟦<PagedStore as Keeps>⟧.needs self.old ≤ D.sectors device.old }
         requires asked { IsAsked verb (spec_of file.now) number bytes.now }
-        ensures changes { Changes ⟦<PagedStore as Keeps>⟧ D.Device result self.old device.old self.new device.new }
+        ensures changes { Changes ⟦<PagedStore as Keeps>⟧ D.Device result self.old device.old
+            self.new device.new }
         ensures spends { Spends ⟦<PagedStore as Keeps>⟧ result self.old self.new }
-        ensures outcome { (files : Files) (held : File) → Represents ⟦<PagedStore as Keeps>⟧ D.Device self.old device.old files → Has files file.now held →
-            IfOk result (λ outcome. outcome ≡ (changed_by verb file.now.organization number bytes.now held).outcome) }
-        ensures turns { (files : Files) (held : File) → Represents ⟦<PagedStore as Keeps>⟧ D.Device self.old device.old files → Has files file.now held →
-            ChangesFiles ⟦<PagedStore as Keeps>⟧ D.Device result false file.now.name.items files (files_after file.now.name.items files (changed_by verb file.now.organization number bytes.now held)) self.old device.old self.new device.new }
-        ensures full { (files : Files) (held : File) → Represents ⟦<PagedStore as Keeps>⟧ D.Device self.old device.old files → Has files file.now held →
-            result ≡ Err StoreFault.Full → is_change (changed_by verb file.now.organization number bytes.now held).outcome ≡ true }
-        ensures idle { D.is_honest device.old → IfOk result (λ outcome. is_change outcome ≡ false → D.state device.new ≡ D.state device.old) }
+        ensures outcome { (files : Files) (held : File)
+            → Represents ⟦<PagedStore as Keeps>⟧ D.Device self.old device.old files
+            → Has files file.now held →
+            IfOk result (λ outcome. outcome
+            ≡ (changed_by verb file.now.organization number bytes.now held).outcome) }
+        ensures turns { (files : Files) (held : File)
+            → Represents ⟦<PagedStore as Keeps>⟧ D.Device self.old device.old files
+            → Has files file.now held →
+            ChangesFiles ⟦<PagedStore as Keeps>⟧ D.Device result false file.now.name.items files
+            (files_after file.now.name.items files (changed_by verb file.now.organization number
+            bytes.now held)) self.old device.old self.new device.new }
+        ensures full { (files : Files) (held : File)
+            → Represents ⟦<PagedStore as Keeps>⟧ D.Device self.old device.old files
+            → Has files file.now held →
+            result ≡ Err StoreFault.Full → is_change
+            (changed_by verb file.now.organization number bytes.now held).outcome ≡ true }
+        ensures idle { D.is_honest device.old → IfOk result (λ outcome. is_change outcome ≡ false
+            → D.state device.new ≡ D.state device.old) }
     {
         if self.spent {
             return Err(StoreFault::Spent);

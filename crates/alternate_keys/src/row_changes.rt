@@ -44,18 +44,33 @@ pub(crate) fn change_trees<D: Device>(
     requires sectors { sectors_of pages.old ≤ D.sectors device.old }
     requires listing { length listing.now ≡ 83 }
     requires asked { IsAsked verb (spec_of file.now) number bytes.now }
-    ensures edits { Edits D.Device (result ≡ Err StoreFault.Device) pages.old device.old pages.new device.new }
-    ensures outcome { OnTrees D.Device (spec_of file.now) pages.old device.old listing.now (λ named generation left right. IfOk result (λ turn. turn.outcome ≡ (changed_by verb file.now.organization number bytes.now named.file).outcome)) }
-    ensures placed { OnTrees D.Device (spec_of file.now) pages.old device.old listing.now (λ named generation left right. IfOk result (λ turn. is_change turn.outcome ≡ true →
-        HasFileTrees (named_after named (changed_by verb file.now.organization number bytes.now named.file)) (generation + 1) (pages_on D.Device pages.new device.old) left right turn.listing.items)) }
-    ensures few { OnTrees D.Device (spec_of file.now) pages.old device.old listing.now (λ named generation left right. OnOk result (FewChanged (84 * length file.now.alternates.items + 42) pages.old pages.new)) }
-    ensures room { OnTrees D.Device (spec_of file.now) pages.old device.old listing.now (λ named generation left right. result ≡ Err StoreFault.Full →
-        free_count (committed_of pages.old) < length (changed_pages_of pages.old) + (84 * length file.now.alternates.items + 42)) }
-    ensures full { is_spent pages.old ≡ false → OnTrees D.Device (spec_of file.now) pages.old device.old listing.now (λ named generation left right. result ≡ Err StoreFault.Full →
-        is_change (changed_by verb file.now.organization number bytes.now named.file).outcome ≡ true) }
-    ensures damaged { OnTrees D.Device (spec_of file.now) pages.old device.old listing.now (λ named generation left right. result ≡ Err StoreFault.Damaged → ⊥) }
-    ensures same { IfOk result (λ turn. is_change turn.outcome ≡ false → IsUnchanged pages.old pages.new) }
-    ensures long { IfOk result (λ turn. is_change turn.outcome ≡ true → length turn.listing.items ≡ 83) }
+    ensures edits { Edits D.Device (result ≡ Err StoreFault.Device) pages.old device.old pages.new
+        device.new }
+    ensures outcome { OnTrees D.Device (spec_of file.now) pages.old
+        device.old listing.now (λ named generation left right. IfOk result (λ turn. turn.outcome
+        ≡ (changed_by verb file.now.organization number bytes.now named.file).outcome)) }
+    ensures placed { OnTrees D.Device (spec_of file.now) pages.old device.old listing.now
+        (λ named generation left right. IfOk result (λ turn. is_change turn.outcome ≡ true →
+        HasFileTrees (named_after named
+        (changed_by verb file.now.organization number bytes.now named.file)) (generation + 1)
+        (pages_on D.Device pages.new device.old) left right turn.listing.items)) }
+    ensures few { OnTrees D.Device
+        (spec_of file.now) pages.old device.old listing.now (λ named generation left right.
+        OnOk result (FewChanged (84 * length file.now.alternates.items + 42) pages.old pages.new)) }
+    ensures room { OnTrees D.Device (spec_of file.now) pages.old device.old listing.now
+        (λ named generation left right. result ≡ Err StoreFault.Full →
+        free_count (committed_of pages.old)
+        < length (changed_pages_of pages.old) + (84 * length file.now.alternates.items + 42)) }
+    ensures full { is_spent pages.old ≡ false → OnTrees D.Device (spec_of file.now) pages.old
+        device.old listing.now (λ named generation left right. result ≡ Err StoreFault.Full →
+        is_change (changed_by verb file.now.organization number bytes.now named.file).outcome
+        ≡ true) }
+    ensures damaged { OnTrees D.Device (spec_of file.now) pages.old device.old listing.now
+        (λ named generation left right. result ≡ Err StoreFault.Damaged → ⊥) }
+    ensures same { IfOk result (λ turn. is_change turn.outcome ≡ false
+        → IsUnchanged pages.old pages.new) }
+    ensures long { IfOk result (λ turn. is_change turn.outcome ≡ true
+        → length turn.listing.items ≡ 83) }
     ensures spent { result ≡ Err StoreFault.Spent → is_spent pages.old ≡ true }
     ensures cause { IfErr result IsWriteFault }
 {
@@ -81,18 +96,31 @@ fn insert_trees<D: Device>(
     requires listing { length listing.now ≡ 83 }
     requires number { IsNewNumber file.now.organization number }
     requires bytes { length bytes.now ≡ file.now.record_length }
-    ensures edits { Edits D.Device (result ≡ Err StoreFault.Device) pages.old device.old pages.new device.new }
-    ensures outcome { OnTrees D.Device (spec_of file.now) pages.old device.old listing.now (λ named generation left right. IfOk result (λ turn. turn.outcome ≡ (insertion number bytes.now named.file).outcome)) }
-    ensures placed { OnTrees D.Device (spec_of file.now) pages.old device.old listing.now (λ named generation left right. IfOk result (λ turn. is_change turn.outcome ≡ true →
-        HasFileTrees (named_after named (insertion number bytes.now named.file)) (generation + 1) (pages_on D.Device pages.new device.old) left right turn.listing.items)) }
-    ensures few { OnTrees D.Device (spec_of file.now) pages.old device.old listing.now (λ named generation left right. OnOk result (FewChanged (84 * length file.now.alternates.items + 42) pages.old pages.new)) }
-    ensures room { OnTrees D.Device (spec_of file.now) pages.old device.old listing.now (λ named generation left right. result ≡ Err StoreFault.Full →
-        free_count (committed_of pages.old) < length (changed_pages_of pages.old) + (84 * length file.now.alternates.items + 42)) }
-    ensures full { is_spent pages.old ≡ false → OnTrees D.Device (spec_of file.now) pages.old device.old listing.now (λ named generation left right. result ≡ Err StoreFault.Full →
+    ensures edits { Edits D.Device (result ≡ Err StoreFault.Device) pages.old device.old pages.new
+        device.new }
+    ensures outcome { OnTrees D.Device
+        (spec_of file.now) pages.old device.old listing.now (λ named generation left right.
+        IfOk result (λ turn. turn.outcome ≡ (insertion number bytes.now named.file).outcome)) }
+    ensures placed { OnTrees D.Device (spec_of file.now) pages.old device.old listing.now
+        (λ named generation left right. IfOk result (λ turn. is_change turn.outcome ≡ true →
+        HasFileTrees (named_after named (insertion number bytes.now named.file)) (generation + 1)
+        (pages_on D.Device pages.new device.old) left right turn.listing.items)) }
+    ensures few { OnTrees D.Device
+        (spec_of file.now) pages.old device.old listing.now (λ named generation left right.
+        OnOk result (FewChanged (84 * length file.now.alternates.items + 42) pages.old pages.new)) }
+    ensures room { OnTrees D.Device (spec_of file.now) pages.old device.old listing.now
+        (λ named generation left right. result ≡ Err StoreFault.Full →
+        free_count (committed_of pages.old)
+        < length (changed_pages_of pages.old) + (84 * length file.now.alternates.items + 42)) }
+    ensures full { is_spent pages.old ≡ false → OnTrees D.Device (spec_of file.now) pages.old
+        device.old listing.now (λ named generation left right. result ≡ Err StoreFault.Full →
         is_change (insertion number bytes.now named.file).outcome ≡ true) }
-    ensures damaged { OnTrees D.Device (spec_of file.now) pages.old device.old listing.now (λ named generation left right. result ≡ Err StoreFault.Damaged → ⊥) }
-    ensures same { IfOk result (λ turn. is_change turn.outcome ≡ false → IsUnchanged pages.old pages.new) }
-    ensures long { IfOk result (λ turn. is_change turn.outcome ≡ true → length turn.listing.items ≡ 83) }
+    ensures damaged { OnTrees D.Device (spec_of file.now) pages.old device.old listing.now
+        (λ named generation left right. result ≡ Err StoreFault.Damaged → ⊥) }
+    ensures same { IfOk result (λ turn. is_change turn.outcome ≡ false
+        → IsUnchanged pages.old pages.new) }
+    ensures long { IfOk result (λ turn. is_change turn.outcome ≡ true
+        → length turn.listing.items ≡ 83) }
     ensures spent { result ≡ Err StoreFault.Spent → is_spent pages.old ≡ true }
     ensures cause { IfErr result IsWriteFault }
 {
@@ -140,18 +168,31 @@ fn replace_trees<D: Device>(
     requires sectors { sectors_of pages.old ≤ D.sectors device.old }
     requires listing { length listing.now ≡ 83 }
     requires bytes { length bytes.now ≡ file.now.record_length }
-    ensures edits { Edits D.Device (result ≡ Err StoreFault.Device) pages.old device.old pages.new device.new }
-    ensures outcome { OnTrees D.Device (spec_of file.now) pages.old device.old listing.now (λ named generation left right. IfOk result (λ turn. turn.outcome ≡ (replacement number bytes.now named.file).outcome)) }
-    ensures placed { OnTrees D.Device (spec_of file.now) pages.old device.old listing.now (λ named generation left right. IfOk result (λ turn. is_change turn.outcome ≡ true →
-        HasFileTrees (named_after named (replacement number bytes.now named.file)) (generation + 1) (pages_on D.Device pages.new device.old) left right turn.listing.items)) }
-    ensures few { OnTrees D.Device (spec_of file.now) pages.old device.old listing.now (λ named generation left right. OnOk result (FewChanged (84 * length file.now.alternates.items + 42) pages.old pages.new)) }
-    ensures room { OnTrees D.Device (spec_of file.now) pages.old device.old listing.now (λ named generation left right. result ≡ Err StoreFault.Full →
-        free_count (committed_of pages.old) < length (changed_pages_of pages.old) + (84 * length file.now.alternates.items + 42)) }
-    ensures full { OnTrees D.Device (spec_of file.now) pages.old device.old listing.now (λ named generation left right. result ≡ Err StoreFault.Full →
+    ensures edits { Edits D.Device (result ≡ Err StoreFault.Device) pages.old device.old pages.new
+        device.new }
+    ensures outcome { OnTrees D.Device
+        (spec_of file.now) pages.old device.old listing.now (λ named generation left right.
+        IfOk result (λ turn. turn.outcome ≡ (replacement number bytes.now named.file).outcome)) }
+    ensures placed { OnTrees D.Device (spec_of file.now) pages.old device.old listing.now
+        (λ named generation left right. IfOk result (λ turn. is_change turn.outcome ≡ true →
+        HasFileTrees (named_after named (replacement number bytes.now named.file)) (generation + 1)
+        (pages_on D.Device pages.new device.old) left right turn.listing.items)) }
+    ensures few { OnTrees D.Device
+        (spec_of file.now) pages.old device.old listing.now (λ named generation left right.
+        OnOk result (FewChanged (84 * length file.now.alternates.items + 42) pages.old pages.new)) }
+    ensures room { OnTrees D.Device (spec_of file.now) pages.old device.old listing.now
+        (λ named generation left right. result ≡ Err StoreFault.Full →
+        free_count (committed_of pages.old)
+        < length (changed_pages_of pages.old) + (84 * length file.now.alternates.items + 42)) }
+    ensures full { OnTrees D.Device (spec_of file.now) pages.old device.old listing.now
+        (λ named generation left right. result ≡ Err StoreFault.Full →
         is_change (replacement number bytes.now named.file).outcome ≡ true) }
-    ensures damaged { OnTrees D.Device (spec_of file.now) pages.old device.old listing.now (λ named generation left right. result ≡ Err StoreFault.Damaged → ⊥) }
-    ensures same { IfOk result (λ turn. is_change turn.outcome ≡ false → IsUnchanged pages.old pages.new) }
-    ensures long { IfOk result (λ turn. is_change turn.outcome ≡ true → length turn.listing.items ≡ 83) }
+    ensures damaged { OnTrees D.Device (spec_of file.now) pages.old device.old listing.now
+        (λ named generation left right. result ≡ Err StoreFault.Damaged → ⊥) }
+    ensures same { IfOk result (λ turn. is_change turn.outcome ≡ false
+        → IsUnchanged pages.old pages.new) }
+    ensures long { IfOk result (λ turn. is_change turn.outcome ≡ true
+        → length turn.listing.items ≡ 83) }
     ensures spent { result ≡ Err StoreFault.Spent → is_spent pages.old ≡ true }
     ensures cause { IfErr result IsWriteFault }
 {
@@ -221,18 +262,33 @@ fn remove_trees<D: Device>(
     requires sectors { sectors_of pages.old ≤ D.sectors device.old }
     requires listing { length listing.now ≡ 83 }
     requires key { length key.now ≡ key_length (spec_of file.now) KeyOfReference.Prime }
-    ensures edits { Edits D.Device (result ≡ Err StoreFault.Device) pages.old device.old pages.new device.new }
-    ensures outcome { OnTrees D.Device (spec_of file.now) pages.old device.old listing.now (λ named generation left right. IfOk result (λ turn. turn.outcome ≡ (removal (pair_of file.now.organization key.now number) named.file).outcome)) }
-    ensures placed { OnTrees D.Device (spec_of file.now) pages.old device.old listing.now (λ named generation left right. IfOk result (λ turn. is_change turn.outcome ≡ true →
-        HasFileTrees (named_after named (removal (pair_of file.now.organization key.now number) named.file)) (generation + 1) (pages_on D.Device pages.new device.old) left right turn.listing.items)) }
-    ensures few { OnTrees D.Device (spec_of file.now) pages.old device.old listing.now (λ named generation left right. OnOk result (FewChanged (84 * length file.now.alternates.items + 42) pages.old pages.new)) }
-    ensures room { OnTrees D.Device (spec_of file.now) pages.old device.old listing.now (λ named generation left right. result ≡ Err StoreFault.Full →
-        free_count (committed_of pages.old) < length (changed_pages_of pages.old) + (84 * length file.now.alternates.items + 42)) }
-    ensures full { OnTrees D.Device (spec_of file.now) pages.old device.old listing.now (λ named generation left right. result ≡ Err StoreFault.Full →
-        is_change (removal (pair_of file.now.organization key.now number) named.file).outcome ≡ true) }
-    ensures damaged { OnTrees D.Device (spec_of file.now) pages.old device.old listing.now (λ named generation left right. result ≡ Err StoreFault.Damaged → ⊥) }
-    ensures same { IfOk result (λ turn. is_change turn.outcome ≡ false → IsUnchanged pages.old pages.new) }
-    ensures long { IfOk result (λ turn. is_change turn.outcome ≡ true → length turn.listing.items ≡ 83) }
+    ensures edits { Edits D.Device (result ≡ Err StoreFault.Device) pages.old device.old pages.new
+        device.new }
+    ensures outcome { OnTrees D.Device (spec_of file.now) pages.old
+        device.old listing.now (λ named generation left right. IfOk result (λ turn. turn.outcome
+        ≡ (removal (pair_of file.now.organization key.now number) named.file).outcome)) }
+    ensures placed { OnTrees D.Device (spec_of file.now) pages.old device.old listing.now
+        (λ named generation left right. IfOk result (λ turn. is_change turn.outcome ≡ true →
+        HasFileTrees (named_after named
+        (removal (pair_of file.now.organization key.now number) named.file)) (generation + 1)
+        (pages_on D.Device pages.new device.old) left right turn.listing.items)) }
+    ensures few { OnTrees D.Device
+        (spec_of file.now) pages.old device.old listing.now (λ named generation left right.
+        OnOk result (FewChanged (84 * length file.now.alternates.items + 42) pages.old pages.new)) }
+    ensures room { OnTrees D.Device (spec_of file.now) pages.old device.old listing.now
+        (λ named generation left right. result ≡ Err StoreFault.Full →
+        free_count (committed_of pages.old)
+        < length (changed_pages_of pages.old) + (84 * length file.now.alternates.items + 42)) }
+    ensures full { OnTrees D.Device (spec_of file.now) pages.old device.old listing.now
+        (λ named generation left right. result ≡ Err StoreFault.Full →
+        is_change (removal (pair_of file.now.organization key.now number) named.file).outcome
+        ≡ true) }
+    ensures damaged { OnTrees D.Device (spec_of file.now) pages.old device.old listing.now
+        (λ named generation left right. result ≡ Err StoreFault.Damaged → ⊥) }
+    ensures same { IfOk result (λ turn. is_change turn.outcome ≡ false
+        → IsUnchanged pages.old pages.new) }
+    ensures long { IfOk result (λ turn. is_change turn.outcome ≡ true
+        → length turn.listing.items ≡ 83) }
     ensures spent { result ≡ Err StoreFault.Spent → is_spent pages.old ≡ true }
     ensures cause { IfErr result IsWriteFault }
 {

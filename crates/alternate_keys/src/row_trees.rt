@@ -36,15 +36,23 @@ pub(crate) fn move_row<D: Device>(
     requires sectors { sectors_of pages.old ≤ D.sectors device.old }
     requires listing { length listing.now ≡ 83 }
     requires values { HasValues verb (spec_of file.now) old.now bytes.now }
-    ensures edits { Edits D.Device (result ≡ Err StoreFault.Device) pages.old device.old pages.new device.new }
-    ensures placed { OnMoving D.Device verb (spec_of file.now) pages.old device.old listing.now root old.now bytes.now arrival next (λ held after generation left right.
-        IfOk result (λ new. HasFileTrees after (generation + 1) (pages_on D.Device pages.new device.old) left right new.items)) }
-    ensures few { OnMoving D.Device verb (spec_of file.now) pages.old device.old listing.now root old.now bytes.now arrival next (λ held after generation left right.
+    ensures edits { Edits D.Device (result ≡ Err StoreFault.Device) pages.old device.old pages.new
+        device.new }
+    ensures placed { OnMoving D.Device verb (spec_of file.now) pages.old device.old listing.now root
+        old.now bytes.now arrival next (λ held after generation left right.
+        IfOk result (λ new. HasFileTrees after (generation + 1)
+        (pages_on D.Device pages.new device.old) left right new.items)) }
+    ensures few { OnMoving D.Device verb (spec_of file.now) pages.old device.old listing.now root
+        old.now bytes.now arrival next (λ held after generation left right.
         OnOk result (FewChanged (84 * length file.now.alternates.items) pages.old pages.new)) }
-    ensures room { OnMoving D.Device verb (spec_of file.now) pages.old device.old listing.now root old.now bytes.now arrival next (λ held after generation left right.
-        result ≡ Err StoreFault.Full → free_count (committed_of pages.old) < length (changed_pages_of pages.old) + 84 * length file.now.alternates.items) }
-    ensures damaged { OnMoving D.Device verb (spec_of file.now) pages.old device.old listing.now root old.now bytes.now arrival next (λ held after generation left right.
-        PairsMayMove verb held.file old.now bytes.now arrival → result ≡ Err StoreFault.Damaged → ⊥) }
+    ensures room { OnMoving D.Device verb (spec_of file.now) pages.old device.old listing.now root
+        old.now bytes.now arrival next (λ held after generation left right.
+        result ≡ Err StoreFault.Full → free_count (committed_of pages.old) < length
+        (changed_pages_of pages.old) + 84 * length file.now.alternates.items) }
+    ensures damaged { OnMoving D.Device verb (spec_of file.now) pages.old device.old listing.now
+        root old.now bytes.now arrival next (λ held after generation left right.
+        PairsMayMove verb held.file old.now bytes.now arrival → result ≡ Err StoreFault.Damaged
+        → ⊥) }
     ensures long { IfOk result (λ new. length new.items ≡ 83) }
     ensures spent { result ≡ Err StoreFault.Spent → is_spent pages.old ≡ true }
     ensures cause { IfErr result IsWriteFault }

@@ -86,7 +86,8 @@ pub(crate) fn key_for(
 ) -> Result<Vec<u8>, StoreFault>
     requires key { IsKey (spec_of file.now) key }
     requires value { length value.now ≤ key_length (spec_of file.now) key }
-    ensures bytes { IfOk result (λ bytes. bytes.items ≡ aim_key (spec_of file.now) key (bound_at side value.now number)) }
+    ensures bytes { IfOk result
+        (λ bytes. bytes.items ≡ aim_key (spec_of file.now) key (bound_at side value.now number)) }
     ensures memory { IsOkUnless result StoreFault.Memory }
 {
     let count = file.key_place(key).length as usize;
@@ -191,7 +192,8 @@ fn whole_key(
 ) -> Result<Vec<u8>, StoreFault>
     requires count { count ≤ 200 }
     requires fits { length value.now ≤ count }
-    ensures bytes { IfOk result (λ bytes. bytes.items ≡ pair_aim_key count side (record { value = value.now; number = number })) }
+    ensures bytes { IfOk result (λ bytes. bytes.items
+        ≡ pair_aim_key count side (record { value = value.now; number = number })) }
     ensures memory { IsOkUnless result StoreFault.Memory }
 {
     match side {

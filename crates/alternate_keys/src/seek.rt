@@ -36,16 +36,25 @@ pub fn seek_row<D: Device>(
     requires short { (prime.now.layout.key_length ≤ 128) × (under.now.layout.key_length ≤ 128) }
     ensures only { OnlyReads D.Device (result ≡ Err PagesError.Device) device.old device.new }
     ensures unchanged { IsUnchanged pages.old pages.new }
-    ensures agrees { D.is_honest device.old → Agrees pages.old (D.state device.old).disk → Agrees pages.new (D.state device.new).disk }
+    ensures agrees { D.is_honest device.old → Agrees pages.old (D.state device.old).disk
+        → Agrees pages.new (D.state device.new).disk }
     ensures open { IsOpen pages.new }
-    ensures found { D.is_honest device.old → Agrees pages.old (D.state device.old).disk → (bound : RowBound) (rows : List Row) →
-        IsSought (spec_of file.now) key bound (map_now pages.old (D.state device.old).disk.present).pages rows prime.now under.now aim at.now →
-        IfOk result (λ answer. answer ≡ option_map (found_row (spec_of file.now) key rows) (sought_row (spec_of file.now) key bound rows)) }
-    ensures bytes { D.is_honest device.old → Agrees pages.old (D.state device.old).disk → (bound : RowBound) (rows : List Row) →
-        IsSought (spec_of file.now) key bound (map_now pages.old (D.state device.old).disk.present).pages rows prime.now under.now aim at.now →
-        length bytes.old ≡ file.now.record_length → OnOk result (bytes.new ≡ record_of bytes.old (sought_row (spec_of file.now) key bound rows)) }
-    ensures damaged { D.is_honest device.old → Agrees pages.old (D.state device.old).disk → result ≡ Err PagesError.Damaged → (bound : RowBound) (rows : List Row) →
-        IsSought (spec_of file.now) key bound (map_now pages.old (D.state device.old).disk.present).pages rows prime.now under.now aim at.now →
+    ensures found { D.is_honest device.old → Agrees pages.old (D.state device.old).disk
+        → (bound : RowBound) (rows : List Row) →
+        IsSought (spec_of file.now) key bound (map_now pages.old
+        (D.state device.old).disk.present).pages rows prime.now under.now aim at.now →
+        IfOk result (λ answer. answer ≡ option_map (found_row (spec_of file.now) key rows)
+        (sought_row (spec_of file.now) key bound rows)) }
+    ensures bytes { D.is_honest device.old → Agrees pages.old (D.state device.old).disk
+        → (bound : RowBound) (rows : List Row) →
+        IsSought (spec_of file.now) key bound (map_now pages.old
+        (D.state device.old).disk.present).pages rows prime.now under.now aim at.now →
+        length bytes.old ≡ file.now.record_length → OnOk result
+        (bytes.new ≡ record_of bytes.old (sought_row (spec_of file.now) key bound rows)) }
+    ensures damaged { D.is_honest device.old → Agrees pages.old (D.state device.old).disk
+        → result ≡ Err PagesError.Damaged → (bound : RowBound) (rows : List Row) →
+        IsSought (spec_of file.now) key bound (map_now pages.old
+        (D.state device.old).disk.present).pages rows prime.now under.now aim at.now →
         length bytes.old ≡ file.now.record_length → ⊥ }
     ensures spent { result ≡ Err PagesError.Spent → is_spent pages.old ≡ true }
     ensures kept { OnErr result (bytes.new ≡ bytes.old) }

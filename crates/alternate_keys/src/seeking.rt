@@ -41,14 +41,21 @@ pub(crate) fn seek_in<D: Device>(
     requires bytes { length bytes.old ≡ file.now.record_length }
     ensures only { OnlyReads D.Device (result ≡ Err StoreFault.Device) device.old device.new }
     ensures unchanged { IsUnchanged pages.old pages.new }
-    ensures agrees { IfAgrees D.Device pages.old device.old (Agrees pages.new (D.state device.new).disk) }
+    ensures agrees { IfAgrees D.Device pages.old device.old
+        (Agrees pages.new (D.state device.new).disk) }
     ensures open { IsOpen pages.new }
-    ensures found { IfAgrees D.Device pages.old device.old ((files : Files) (held : File) → MapHolds (map_now pages.old (D.state device.old).disk.present) files → Has files file.now held →
-        IfOk result (λ answer. answer ≡ option_map (found_row (spec_of file.now) key held.rows) (sought_row (spec_of file.now) key (bound_at side value.now number) held.rows))) }
-    ensures bytes { IfAgrees D.Device pages.old device.old ((files : Files) (held : File) → MapHolds (map_now pages.old (D.state device.old).disk.present) files → Has files file.now held →
-        OnOk result (bytes.new ≡ record_of bytes.old (sought_row (spec_of file.now) key (bound_at side value.now number) held.rows))) }
+    ensures found { IfAgrees D.Device pages.old device.old ((files : Files) (held : File) → MapHolds
+        (map_now pages.old (D.state device.old).disk.present) files → Has files file.now held →
+        IfOk result (λ answer. answer ≡ option_map (found_row (spec_of file.now) key held.rows)
+        (sought_row (spec_of file.now) key (bound_at side value.now number) held.rows))) }
+    ensures bytes { IfAgrees D.Device pages.old device.old ((files : Files) (held : File) → MapHolds
+        (map_now pages.old (D.state device.old).disk.present) files → Has files file.now held →
+        OnOk result (bytes.new ≡ record_of bytes.old
+        (sought_row (spec_of file.now) key (bound_at side value.now number) held.rows))) }
     ensures kept { OnErr result (bytes.new ≡ bytes.old) }
-    ensures damaged { IfAgrees D.Device pages.old device.old ((files : Files) (held : File) → MapHolds (map_now pages.old (D.state device.old).disk.present) files → Has files file.now held → result ≡ Err StoreFault.Damaged → ⊥) }
+    ensures damaged { IfAgrees D.Device pages.old device.old ((files : Files) (held : File)
+        → MapHolds (map_now pages.old (D.state device.old).disk.present) files
+        → Has files file.now held → result ≡ Err StoreFault.Damaged → ⊥) }
     ensures spent { result ≡ Err StoreFault.Spent → is_spent pages.old ≡ true }
     ensures cause { IfErr result IsReadFault }
 {

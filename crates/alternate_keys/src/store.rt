@@ -25,5 +25,6 @@ impl Model for PagedStore {
 
     ghost view = { λ store. record { pages = store.pages; spent = store.spent } };
 
-    ghost invariant = { λ store. IsOpen store.pages × (store.spent ≡ false → is_spent store.pages ≡ false) };
+    ghost invariant = { λ store. IsOpen store.pages
+        × (store.spent ≡ false → is_spent store.pages ≡ false) };
 }

@@ -25,7 +25,8 @@ impl Keeps for PagedStore {
 }
 
 impl Store for PagedStore {
-    ghost held = { λ store disk image files stands crash. held_law store.pages disk image files stands crash };
+    ghost held = { λ store disk image files stands crash.
+        held_law store.pages disk image files stands crash };
 
     fn find<D: Device>(&mut self, device: &mut D, file: &FileSpec) -> Result<Presence, StoreFault> {
         if self.spent {

@@ -31,7 +31,8 @@ const ARRIVAL_BYTES: usize = 8;
 /// How many alternate keys the file has, at most seven.
 pub(crate) fn stored_count(value: &[u8]) -> u8
     requires { length value.now ≡ 83 }
-    ensures count { (l : Listing) → is_spec l.spec ≡ true → value.now ≡ listing_bytes l → result ≡ length l.spec.alternates }
+    ensures count { (l : Listing) → is_spec l.spec ≡ true → value.now ≡ listing_bytes l
+        → result ≡ length l.spec.alternates }
     ensures few { result ≤ 7 }
 {
     let count = value[COUNT_AT];
@@ -63,7 +64,8 @@ fn key_bytes(organization: u8, prime: usize) -> usize
 fn stored_layout(value: &[u8], key: KeyOfReference) -> RowLayout
     requires value { length value.now ≡ 83 }
     requires key { key_count key ≤ 7 }
-    ensures { (l : Listing) → is_spec l.spec ≡ true → value.now ≡ listing_bytes l → IsKey l.spec key → result ≡ layout_under l.spec key }
+    ensures { (l : Listing) → is_spec l.spec ≡ true → value.now ≡ listing_bytes l → IsKey l.spec key
+        → result ≡ layout_under l.spec key }
 {
     let prime = number_at(value, PRIME_AT);
     match key {
@@ -93,9 +95,12 @@ pub(crate) fn stored_tree(
 ) -> Result<Tree, StoreFault>
     requires value { length value.now ≡ 83 }
     requires key { key_count key ≤ 7 }
-    ensures tree { (l : Listing) → is_spec l.spec ≡ true → value.now ≡ listing_bytes l → IsKey l.spec key →
-        IfOk result (λ tree. (tree.layout ≡ layout_under l.spec key) × (tree.root ≡ root_in key value.now)) }
-    ensures damaged { (l : Listing) → is_spec l.spec ≡ true → value.now ≡ listing_bytes l → IsKey l.spec key → result ≡ Err StoreFault.Damaged → ⊥ }
+    ensures tree { (l : Listing) → is_spec l.spec ≡ true → value.now ≡ listing_bytes l
+        → IsKey l.spec key →
+        IfOk result (λ tree. (tree.layout ≡ layout_under l.spec key)
+        × (tree.root ≡ root_in key value.now)) }
+    ensures damaged { (l : Listing) → is_spec l.spec ≡ true → value.now ≡ listing_bytes l
+        → IsKey l.spec key → result ≡ Err StoreFault.Damaged → ⊥ }
     ensures cause { IfErr result (λ fault. fault ≡ StoreFault.Damaged) }
 {
     let layout = stored_layout(value, key);

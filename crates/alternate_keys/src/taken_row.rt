@@ -46,15 +46,24 @@ pub(crate) fn look_at_new_row<D: Device>(
     requires listing { length listing.now ≡ 83 }
     requires number { IsNewNumber file.now.organization number }
     requires bytes { length bytes.now ≡ file.now.record_length }
-    ensures looks { LooksAt D.Device (result ≡ Err StoreFault.Device) pages.old device.old pages.new device.new }
-    ensures told { OnTrees D.Device (spec_of file.now) pages.old device.old listing.now (λ named generation left right. IfOk result (λ outcome. is_change outcome ≡ true →
-        outcome ≡ (if is_taken (filter (is_new RowVerb.Insert [] bytes.now) (spec_of file.now).alternates) named.file.rows bytes.now then Outcome.Taken else
-        done_outcome (is_duplicate (filter (is_new RowVerb.Insert [] bytes.now) (spec_of file.now).alternates) named.file.rows bytes.now)))) }
-    ensures taken { OnTrees D.Device (spec_of file.now) pages.old device.old listing.now (λ named generation left right. IfOk result (λ outcome. is_change outcome ≡ false →
+    ensures looks { LooksAt D.Device (result ≡ Err StoreFault.Device) pages.old device.old pages.new
+        device.new }
+    ensures told { OnTrees D.Device (spec_of file.now) pages.old device.old listing.now
+        (λ named generation left right. IfOk result (λ outcome. is_change outcome ≡ true →
+        outcome ≡ (if is_taken (filter (is_new RowVerb.Insert [] bytes.now)
+        (spec_of file.now).alternates) named.file.rows bytes.now then Outcome.Taken else
+        done_outcome (is_duplicate (filter (is_new RowVerb.Insert [] bytes.now)
+        (spec_of file.now).alternates) named.file.rows bytes.now)))) }
+    ensures taken { OnTrees D.Device (spec_of file.now) pages.old device.old listing.now
+        (λ named generation left right. IfOk result (λ outcome. is_change outcome ≡ false →
         outcome ≡ (insertion number bytes.now named.file).outcome)) }
-    ensures free { is_spent pages.old ≡ false → OnTrees D.Device (spec_of file.now) pages.old device.old listing.now (λ named generation left right. IfOk result (λ outcome. is_change outcome ≡ true →
-        free_count (committed_of pages.old) < length (changed_pages_of pages.old) + 42 → is_change (insertion number bytes.now named.file).outcome ≡ true)) }
-    ensures damaged { OnTrees D.Device (spec_of file.now) pages.old device.old listing.now (λ named generation left right. result ≡ Err StoreFault.Damaged → ⊥) }
+    ensures free { is_spent pages.old ≡ false
+        → OnTrees D.Device (spec_of file.now) pages.old device.old listing.now
+        (λ named generation left right. IfOk result (λ outcome. is_change outcome ≡ true →
+        free_count (committed_of pages.old) < length (changed_pages_of pages.old) + 42
+        → is_change (insertion number bytes.now named.file).outcome ≡ true)) }
+    ensures damaged { OnTrees D.Device (spec_of file.now) pages.old device.old listing.now
+        (λ named generation left right. result ≡ Err StoreFault.Damaged → ⊥) }
     ensures spent { result ≡ Err StoreFault.Spent → is_spent pages.old ≡ true }
     ensures cause { IfErr result IsReadFault }
 {
@@ -85,7 +94,9 @@ pub(crate) fn look_at_new_row<D: Device>(
 /// Whether a new entry may find no page for it.
 fn is_scarce(pages: &PageMap) -> bool
     requires { IsOpen pages.now }
-    ensures { is_spent pages.now ≡ false → free_count (committed_of pages.now) < length (changed_pages_of pages.now) + 42 → result ≡ true }
+    ensures { is_spent pages.now ≡ false
+        → free_count (committed_of pages.now) < length (changed_pages_of pages.now) + 42
+        → result ≡ true }
 {
     let free = pages.free_sectors() as usize;
     let changed = pages.changed_pages();
@@ -108,10 +119,16 @@ fn is_row_there<D: Device>(
     requires open { IsOpen pages.old }
     requires sectors { sectors_of pages.old ≤ D.sectors device.old }
     requires bytes { length bytes.now ≡ file.now.record_length }
-    ensures looks { LooksAt D.Device (result ≡ Err StoreFault.Device) pages.old device.old pages.new device.new }
-    ensures there { IfAgrees D.Device pages.old device.old ((rows : List Row) → HasRows (spec_of file.now) (pages_on D.Device pages.old device.old) rows prime.now →
-        IfOk result (λ there. there ≡ is_some (entry_with (map (entry_under (spec_of file.now) KeyOfReference.Prime) rows) (prime_key file.now.organization (named_pair file.now.organization number bytes.now))))) }
-    ensures damaged { IfAgrees D.Device pages.old device.old ((rows : List Row) → HasRows (spec_of file.now) (pages_on D.Device pages.old device.old) rows prime.now → result ≡ Err StoreFault.Damaged → ⊥) }
+    ensures looks { LooksAt D.Device (result ≡ Err StoreFault.Device) pages.old device.old pages.new
+        device.new }
+    ensures there { IfAgrees D.Device pages.old device.old ((rows : List Row)
+        → HasRows (spec_of file.now) (pages_on D.Device pages.old device.old) rows prime.now →
+        IfOk result (λ there. there ≡ is_some
+        (entry_with (map (entry_under (spec_of file.now) KeyOfReference.Prime) rows) (prime_key
+        file.now.organization (named_pair file.now.organization number bytes.now))))) }
+    ensures damaged { IfAgrees D.Device pages.old device.old ((rows : List Row)
+        → HasRows (spec_of file.now) (pages_on D.Device pages.old device.old) rows prime.now
+        → result ≡ Err StoreFault.Damaged → ⊥) }
     ensures spent { result ≡ Err StoreFault.Spent → is_spent pages.old ≡ true }
     ensures cause { IfErr result IsReadFault }
 {

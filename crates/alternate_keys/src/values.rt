@@ -39,10 +39,17 @@ pub(crate) fn is_repeated<D: Device>(
     requires listing { length listing.now ≡ 83 }
     requires values { HasValues verb (spec_of file.now) old.now bytes.now }
     requires bytes { length bytes.now ≡ file.now.record_length }
-    ensures looks { LooksAt D.Device (result ≡ Err StoreFault.Device) pages.old device.old pages.new device.new }
-    ensures repeated { IfAgrees D.Device pages.old device.old ((rows : List Row) → HasPairs (spec_of file.now) (KeyOfReference.Alternate key) (pages_on D.Device pages.old device.old) rows (listed_tree (spec_of file.now) key listing.now) →
-        IfOk result (λ repeated. repeated ≡ (is_new verb (take file.now.record_length old.now) bytes.now (slice_index_or (spec_of file.now).alternates key no_key) && repeats rows bytes.now (slice_index_or (spec_of file.now).alternates key no_key)))) }
-    ensures damaged { IfAgrees D.Device pages.old device.old ((rows : List Row) → HasPairs (spec_of file.now) (KeyOfReference.Alternate key) (pages_on D.Device pages.old device.old) rows (listed_tree (spec_of file.now) key listing.now) →
+    ensures looks { LooksAt D.Device (result ≡ Err StoreFault.Device) pages.old device.old pages.new
+        device.new }
+    ensures repeated { IfAgrees D.Device pages.old device.old ((rows : List Row) → HasPairs
+        (spec_of file.now) (KeyOfReference.Alternate key) (pages_on D.Device pages.old device.old)
+        rows (listed_tree (spec_of file.now) key listing.now) →
+        IfOk result (λ repeated. repeated ≡ (is_new verb (take file.now.record_length old.now)
+        bytes.now (slice_index_or (spec_of file.now).alternates key no_key)
+        && repeats rows bytes.now (slice_index_or (spec_of file.now).alternates key no_key)))) }
+    ensures damaged { IfAgrees D.Device pages.old device.old ((rows : List Row) → HasPairs
+        (spec_of file.now) (KeyOfReference.Alternate key) (pages_on D.Device pages.old device.old)
+        rows (listed_tree (spec_of file.now) key listing.now) →
         result ≡ Err StoreFault.Damaged → ⊥) }
     ensures spent { result ≡ Err StoreFault.Spent → is_spent pages.old ≡ true }
     ensures cause { IfErr result IsReadFault }
@@ -72,11 +79,18 @@ pub(crate) fn find_duplicate_key<D: Device>(
     requires listing { length listing.now ≡ 83 }
     requires values { HasValues verb (spec_of file.now) old.now bytes.now }
     requires bytes { length bytes.now ≡ file.now.record_length }
-    ensures looks { LooksAt D.Device (result ≡ Err StoreFault.Device) pages.old device.old pages.new device.new }
-    ensures told { IfAgrees D.Device pages.old device.old ((rows : List Row) → HasAllPairs (spec_of file.now) (pages_on D.Device pages.old device.old) rows listing.now →
-        IfOk result (λ outcome. outcome ≡ (if is_taken (filter (is_new verb (take file.now.record_length old.now) bytes.now) (spec_of file.now).alternates) rows bytes.now then Outcome.Taken else
-        done_outcome (is_duplicate (filter (is_new verb (take file.now.record_length old.now) bytes.now) (spec_of file.now).alternates) rows bytes.now)))) }
-    ensures damaged { IfAgrees D.Device pages.old device.old ((rows : List Row) → HasAllPairs (spec_of file.now) (pages_on D.Device pages.old device.old) rows listing.now → result ≡ Err StoreFault.Damaged → ⊥) }
+    ensures looks { LooksAt D.Device (result ≡ Err StoreFault.Device) pages.old device.old pages.new
+        device.new }
+    ensures told { IfAgrees D.Device pages.old device.old ((rows : List Row)
+        → HasAllPairs (spec_of file.now) (pages_on D.Device pages.old device.old) rows listing.now →
+        IfOk result (λ outcome. outcome
+        ≡ (if is_taken (filter (is_new verb (take file.now.record_length old.now) bytes.now)
+        (spec_of file.now).alternates) rows bytes.now then Outcome.Taken else
+        done_outcome (is_duplicate (filter (is_new verb (take file.now.record_length old.now)
+        bytes.now) (spec_of file.now).alternates) rows bytes.now)))) }
+    ensures damaged { IfAgrees D.Device pages.old device.old ((rows : List Row)
+        → HasAllPairs (spec_of file.now) (pages_on D.Device pages.old device.old) rows listing.now
+        → result ≡ Err StoreFault.Damaged → ⊥) }
     ensures spent { result ≡ Err StoreFault.Spent → is_spent pages.old ≡ true }
     ensures cause { IfErr result IsReadFault }
 {
@@ -99,7 +113,8 @@ pub(crate) fn find_duplicate_key<D: Device>(
 fn is_new_value(verb: RowVerb, file: &FileSpec, key: u8, old: &[u8], bytes: &[u8]) -> bool
     requires key { IsKey (spec_of file.now) (KeyOfReference.Alternate key) }
     requires values { HasValues verb (spec_of file.now) old.now bytes.now }
-    ensures { result ≡ is_new verb (take file.now.record_length old.now) bytes.now (slice_index_or (spec_of file.now).alternates key no_key) }
+    ensures { result ≡ is_new verb (take file.now.record_length old.now) bytes.now
+        (slice_index_or (spec_of file.now).alternates key no_key) }
 {
     match verb {
         RowVerb::Insert => true,

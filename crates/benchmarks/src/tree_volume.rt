@@ -63,7 +63,9 @@ impl Model for TreeVolume {
 
     ghost view = { λ volume. sectors_of volume.pages };
 
-    ghost invariant = { λ volume. IsOpen volume.pages × (length volume.key.items ≡ volume.tree.layout.key_length) × (length volume.value.items ≡ volume.tree.layout.value_length) };
+    ghost invariant = { λ volume. IsOpen volume.pages
+        × (length volume.key.items ≡ volume.tree.layout.key_length)
+        × (length volume.value.items ≡ volume.tree.layout.value_length) };
 }
 
 /// Writes a number at the end of bytes, if there is room.

@@ -1,5 +1,6 @@
 -- What PERFORMs perform, as it is collected.
-use Rattle.std.proofs.Common.{◌≡◌, ℕ, ◌<◌, ◌≤◌, ◌+◌, List, [], ◌∷◌, ◌++◌, length, get_or, take, refl, sym, ap, ◌∙◌, subst, append_assoc, arith}
+use Rattle.std.proofs.Common.{◌≡◌, ℕ, ◌<◌, ◌≤◌, ◌+◌, List, [], ◌∷◌, ◌++◌, length, get_or, take, refl, sym, ap, ◌∙◌}
+use Rattle.std.proofs.Common.{subst, append_assoc, arith}
 use Rattle.std.specs.Prelude.{map, ◌⊎◌, Option, None, Some, Result, OnOk}
 use Rattle.std.proofs.lemmas.Result.{on_ok_weaker}
 use Rattle.std.proofs.Common.{inl, inr}
@@ -15,7 +16,8 @@ use Rattle.source_tree.specs.declared.statement.Statement.{Statement, out-Statem
 use Rattle.source_tree.specs.declared.program.Paragraph.{Paragraph}
 use Rattle.source_tree.specs.declared.program.Section.{Section}
 use Rattle.source_tree.specs.Procedures.{Procedure, paragraphs_or_one, paragraphs_in}
-use Rattle.source_tree.specs.Recursion.{Performance, by_paragraph, each_performs, phrase_performs, verb_performs, statement_performs, paragraph_performs, performs_from}
+use Rattle.source_tree.specs.Recursion.{Performance, by_paragraph, each_performs, phrase_performs, verb_performs}
+use Rattle.source_tree.specs.Recursion.{statement_performs, paragraph_performs, performs_from}
 use Rattle.check_rules.specs.declared.performs.Performs.{Performs}
 use Rattle.check_rules.specs.Performs.{AppendsPerforms, AddsPhrase, in_paragraph}
 use Rattle.declarations.proofs.PerformLayers.{statement_is}
@@ -26,83 +28,112 @@ adds_nothing all = record { places = sym (append-nil all.places.items); ranges =
 behind : {A : Type 0} (f : Place × PerformedRange → A) (old now new : List A) (xs ys : List (Place × PerformedRange))
     → now ≡ old ++ map f xs → new ≡ now ++ map f ys → new ≡ old ++ map f (xs ++ ys)
 behind f old now new xs ys first next =
-    next ∙ ap (λ l. l ++ map f ys) first ∙ append_assoc old (map f xs) (map f ys) ∙ ap (λ l. old ++ l) (sym (map-append f xs ys))
+    next ∙ ap (λ l. l ++ map f ys) first ∙ append_assoc old (map f xs) (map f ys)
+    ∙ ap (λ l. old ++ l) (sym (map-append f xs ys))
 
-pub adds_both : {old now new : Performs} (xs ys : List (Place × PerformedRange)) → AppendsPerforms old now xs → AppendsPerforms now new ys → AppendsPerforms old new (xs ++ ys)
+pub adds_both : {old now new : Performs} (xs ys : List (Place × PerformedRange)) → AppendsPerforms old now xs
+    → AppendsPerforms now new ys → AppendsPerforms old new (xs ++ ys)
 adds_both {old} {now} {new} xs ys first next = record {
-  places = behind (λ (one : Place × PerformedRange). one.0) old.places.items now.places.items new.places.items xs ys first.places next.places;
-  ranges = behind (λ (one : Place × PerformedRange). one.1) old.ranges.items now.ranges.items new.ranges.items xs ys first.ranges next.ranges;
+  places = behind (λ (one : Place × PerformedRange). one.0) old.places.items now.places.items new.places.items xs ys
+      first.places next.places;
+  ranges = behind (λ (one : Place × PerformedRange). one.1) old.ranges.items now.ranges.items new.ranges.items xs ys
+      first.ranges next.ranges;
 }
 
 -- in one paragraph
 pub adds_within : {old now new : Performs} (number : ℕ) (xs ys : List Performance)
-    → AppendsPerforms old now (in_paragraph number xs) → AppendsPerforms now new (in_paragraph number ys) → AppendsPerforms old new (in_paragraph number (xs ++ ys))
+    → AppendsPerforms old now (in_paragraph number xs) → AppendsPerforms now new (in_paragraph number ys)
+    → AppendsPerforms old new (in_paragraph number (xs ++ ys))
 adds_within {old} {now} {new} number xs ys first next =
-    subst (AppendsPerforms old new) (sym (map-append (by_paragraph number) xs ys)) (adds_both (in_paragraph number xs) (in_paragraph number ys) first next)
+    subst (AppendsPerforms old new) (sym (map-append (by_paragraph number) xs ys))
+    (adds_both (in_paragraph number xs) (in_paragraph number ys) first next)
 
 -- ---- one after another
 
 module _ {A : Type 0} (performs : A → List Performance) where
-  each_both : (xs ys : List A) → each_performs performs (xs ++ ys) ≡ each_performs performs xs ++ each_performs performs ys
+  each_both : (xs ys : List A)
+      → each_performs performs (xs ++ ys) ≡ each_performs performs xs ++ each_performs performs ys
   each_both [] ys = refl
   each_both (one ∷ more) ys =
-      ap (λ l. performs one ++ l) (each_both more ys) ∙ sym (append_assoc (performs one) (each_performs performs more) (each_performs performs ys))
+      ap (λ l. performs one ++ l) (each_both more ys)
+      ∙ sym (append_assoc (performs one) (each_performs performs more) (each_performs performs ys))
 
   each_more : (all : List A) (i : ℕ) (one : A) → i < length all → one ≡ get_or all i one
       → each_performs performs (take (i + 1) all) ≡ each_performs performs (take i all) ++ performs one
   each_more all i one lt is =
       ap (each_performs performs) (take_more all i one lt)
       ∙ each_both (take i all) (get_or all i one ∷ [])
-      ∙ ap (λ l. each_performs performs (take i all) ++ l) (append-nil (performs (get_or all i one)) ∙ ap performs (sym is))
+      ∙ ap (λ l. each_performs performs (take i all) ++ l) (append-nil (performs (get_or all i one))
+      ∙ ap performs (sym is))
 
-  pub adds_next : {old now new : Performs} (number : ℕ) (all : List A) (i : ℕ) (one : A) → i < length all → one ≡ get_or all i one
-      → AppendsPerforms old now (in_paragraph number (each_performs performs (take i all))) → AppendsPerforms now new (in_paragraph number (performs one))
+  pub adds_next : {old now new : Performs} (number : ℕ) (all : List A) (i : ℕ) (one : A) → i < length all
+      → one ≡ get_or all i one
+      → AppendsPerforms old now (in_paragraph number (each_performs performs (take i all)))
+      → AppendsPerforms now new (in_paragraph number (performs one))
       → AppendsPerforms old new (in_paragraph number (each_performs performs (take (i + 1) all)))
   adds_next {old} {now} {new} number all i one lt is first next =
-      subst (λ (l : List Performance). AppendsPerforms old new (in_paragraph number l)) (sym (each_more all i one lt is))
+      subst (λ (l : List Performance). AppendsPerforms old new (in_paragraph number l))
+      (sym (each_more all i one lt is))
       (adds_within number (each_performs performs (take i all)) (performs one) first next)
 
   pub adds_all : {old new : Performs} (number : ℕ) (all : List A) (i : ℕ) → length all ≤ i
-      → AppendsPerforms old new (in_paragraph number (each_performs performs (take i all))) → AppendsPerforms old new (in_paragraph number (each_performs performs all))
-  adds_all {old} {new} number all i past h = subst (λ (l : List A). AppendsPerforms old new (in_paragraph number (each_performs performs l))) (take_all i all past) h
+      → AppendsPerforms old new (in_paragraph number (each_performs performs (take i all)))
+      → AppendsPerforms old new (in_paragraph number (each_performs performs all))
+  adds_all {old} {new} number all i past h = subst
+      (λ (l : List A). AppendsPerforms old new (in_paragraph number (each_performs performs l))) (take_all i all past) h
 
 -- ---- paragraphs
 
 module _ (procedures : List Procedure) where
-  from_both : (number : ℕ) (xs ys : List Paragraph) → performs_from procedures number (xs ++ ys) ≡ performs_from procedures number xs ++ performs_from procedures (number + length xs) ys
-  from_both number [] ys = let same : number ≡ number + length {A = Paragraph} [] = omega arith in ap (λ (n : ℕ). performs_from procedures n ys) same
+  from_both : (number : ℕ) (xs ys : List Paragraph) → performs_from procedures number (xs ++ ys) ≡ performs_from
+      procedures number xs ++ performs_from procedures (number + length xs) ys
+  from_both number [] ys = let same : number ≡ number + length {A = Paragraph} [] =
+      omega arith in ap (λ (n : ℕ). performs_from procedures n ys) same
   from_both number (one ∷ more) ys =
       let here = in_paragraph number (paragraph_performs procedures one) in
       let same : number + 1 + length more ≡ number + length (one ∷ more) = omega arith in
-      ap (λ l. here ++ l) (from_both (number + 1) more ys ∙ ap (λ (n : ℕ). performs_from procedures (number + 1) more ++ performs_from procedures n ys) same)
-      ∙ sym (append_assoc here (performs_from procedures (number + 1) more) (performs_from procedures (number + length (one ∷ more)) ys))
+      ap (λ l. here ++ l) (from_both (number + 1) more ys
+      ∙ ap (λ (n : ℕ). performs_from procedures (number + 1) more ++ performs_from procedures n ys) same)
+      ∙ sym (append_assoc here (performs_from procedures (number + 1) more)
+      (performs_from procedures (number + length (one ∷ more)) ys))
 
   from_more : (first : ℕ) (all : List Paragraph) (i : ℕ) (one : Paragraph) → i < length all → one ≡ get_or all i one
-      → performs_from procedures first (take (i + 1) all) ≡ performs_from procedures first (take i all) ++ in_paragraph (first + i) (paragraph_performs procedures one)
+      → performs_from procedures first (take (i + 1) all)
+      ≡ performs_from procedures first (take i all) ++ in_paragraph (first + i) (paragraph_performs procedures one)
   from_more first all i one lt is =
       let long : length (take i all) ≡ i = length-take-le i all (omega arith) in
-      ap (performs_from procedures first) (take_more all i one lt ∙ ap (λ (x : Paragraph). take i all ++ x ∷ []) (sym is))
+      ap (performs_from procedures first)
+      (take_more all i one lt ∙ ap (λ (x : Paragraph). take i all ++ x ∷ []) (sym is))
       ∙ from_both first (take i all) (one ∷ [])
       ∙ ap (λ l. performs_from procedures first (take i all) ++ l)
-      (ap (λ (n : ℕ). performs_from procedures (first + n) (one ∷ [])) long ∙ append-nil (in_paragraph (first + i) (paragraph_performs procedures one)))
+      (ap (λ (n : ℕ). performs_from procedures (first + n) (one ∷ [])) long
+      ∙ append-nil (in_paragraph (first + i) (paragraph_performs procedures one)))
 
-  pub paragraph_next : {old now new : Performs} (first : ℕ) (all : List Paragraph) (i : ℕ) (one : Paragraph) → i < length all → one ≡ get_or all i one
-      → AppendsPerforms old now (performs_from procedures first (take i all)) → AppendsPerforms now new (in_paragraph (first + i) (paragraph_performs procedures one))
+  pub paragraph_next : {old now new : Performs} (first : ℕ) (all : List Paragraph) (i : ℕ) (one : Paragraph)
+      → i < length all → one ≡ get_or all i one
+      → AppendsPerforms old now (performs_from procedures first (take i all))
+      → AppendsPerforms now new (in_paragraph (first + i) (paragraph_performs procedures one))
       → AppendsPerforms old new (performs_from procedures first (take (i + 1) all))
   paragraph_next {old} {now} {new} first all i one lt is before next =
       subst (AppendsPerforms old new) (sym (from_more first all i one lt is))
-      (adds_both (performs_from procedures first (take i all)) (in_paragraph (first + i) (paragraph_performs procedures one)) before next)
+      (adds_both (performs_from procedures first (take i all))
+      (in_paragraph (first + i) (paragraph_performs procedures one)) before next)
 
   pub paragraphs_all : {old new : Performs} (first : ℕ) (all : List Paragraph) (i : ℕ) → length all ≤ i
-      → AppendsPerforms old new (performs_from procedures first (take i all)) → AppendsPerforms old new (performs_from procedures first all)
-  paragraphs_all {old} {new} first all i past h = subst (λ (l : List Paragraph). AppendsPerforms old new (performs_from procedures first l)) (take_all i all past) h
+      → AppendsPerforms old new (performs_from procedures first (take i all))
+      → AppendsPerforms old new (performs_from procedures first all)
+  paragraphs_all {old} {new} first all i past h =
+      subst (λ (l : List Paragraph). AppendsPerforms old new (performs_from procedures first l)) (take_all i all past) h
 
   -- A section without paragraphs performs nothing.
   pub section_adds : {old new : Performs} (first : ℕ) (paragraphs given : List Paragraph) → given ≡ paragraphs
-      → AppendsPerforms old new (performs_from procedures first given) → AppendsPerforms old new (performs_from procedures first (paragraphs_or_one paragraphs))
-  section_adds {old} {new} first paragraphs given is h = or_one paragraphs (subst (λ (l : List Paragraph). AppendsPerforms old new (performs_from procedures first l)) is h)
+      → AppendsPerforms old new (performs_from procedures first given)
+      → AppendsPerforms old new (performs_from procedures first (paragraphs_or_one paragraphs))
+  section_adds {old} {new} first paragraphs given is h = or_one paragraphs
+      (subst (λ (l : List Paragraph). AppendsPerforms old new (performs_from procedures first l)) is h)
     where
-      or_one : (all : List Paragraph) → AppendsPerforms old new (performs_from procedures first all) → AppendsPerforms old new (performs_from procedures first (paragraphs_or_one all))
+      or_one : (all : List Paragraph) → AppendsPerforms old new (performs_from procedures first all)
+          → AppendsPerforms old new (performs_from procedures first (paragraphs_or_one all))
       or_one [] k = k
       or_one (one ∷ more) k = k
 
@@ -111,7 +142,8 @@ module _ (procedures : List Procedure) where
   in_both : (xs ys : List Section) → paragraphs_in (xs ++ ys) ≡ paragraphs_in xs ++ paragraphs_in ys
   in_both [] ys = refl
   in_both (one ∷ more) ys =
-      ap (λ l. paragraphs_or_one one.paragraphs ++ l) (in_both more ys) ∙ sym (append_assoc (paragraphs_or_one one.paragraphs) (paragraphs_in more) (paragraphs_in ys))
+      ap (λ l. paragraphs_or_one one.paragraphs ++ l) (in_both more ys)
+      ∙ sym (append_assoc (paragraphs_or_one one.paragraphs) (paragraphs_in more) (paragraphs_in ys))
 
   in_more : (all : List Section) (i : ℕ) (one : Section) → i < length all → one ≡ get_or all i one
       → paragraphs_in (take (i + 1) all) ≡ paragraphs_in (take i all) ++ paragraphs_or_one one.paragraphs
@@ -128,9 +160,11 @@ module _ (procedures : List Procedure) where
   pub walked_none : (all : Performs) → AreWalked all all [] 0
   walked_none all = record { count = refl; added = adds_nothing all }
 
-  pub section_next : {old now new : Performs} (all : List Section) (i number next : ℕ) (one : Section) → i < length all → one ≡ get_or all i one
+  pub section_next : {old now new : Performs} (all : List Section) (i number next : ℕ) (one : Section) → i < length all
+      → one ≡ get_or all i one
       → AreWalked old now (take i all) number → next ≡ number + length (paragraphs_or_one one.paragraphs)
-      → AppendsPerforms now new (performs_from procedures number (paragraphs_or_one one.paragraphs)) → AreWalked old new (take (i + 1) all) next
+      → AppendsPerforms now new (performs_from procedures number (paragraphs_or_one one.paragraphs))
+      → AreWalked old new (take (i + 1) all) next
   section_next {old} {now} {new} all i number next one lt is before counted more =
       let front = paragraphs_in (take i all) in
       let back = paragraphs_or_one one.paragraphs in
@@ -142,64 +176,94 @@ module _ (procedures : List Procedure) where
         count = omega (arith, sum, long, count, counted);
         added = subst (λ (l : List Paragraph). AppendsPerforms old new (performs_from procedures 0 l)) (sym same)
             (subst (AppendsPerforms old new) (sym (from_both 0 front back))
-            (adds_both (performs_from procedures 0 front) (performs_from procedures (0 + length front) back) before.added
-            (let at : number ≡ 0 + length front = omega (arith, count) in subst (λ (n : ℕ). AppendsPerforms now new (performs_from procedures n back)) at more)));
+            (adds_both (performs_from procedures 0 front) (performs_from procedures (0 + length front) back)
+            before.added
+            (let at : number ≡ 0 + length front = omega (arith, count) in
+            subst (λ (n : ℕ). AppendsPerforms now new (performs_from procedures n back)) at more)));
       }
 
-  pub walked_all : {old new : Performs} (all : List Section) (i number : ℕ) → length all ≤ i → AreWalked old new (take i all) number → AreWalked old new all number
-  walked_all {old} {new} all i number past h = subst (λ (l : List Section). AreWalked old new l number) (take_all i all past) h
+  pub walked_all : {old new : Performs} (all : List Section) (i number : ℕ) → length all ≤ i
+      → AreWalked old new (take i all) number → AreWalked old new all number
+  walked_all {old} {new} all i number past h =
+      subst (λ (l : List Section). AreWalked old new l number) (take_all i all past) h
 
 -- ---- a statement, by its verb
 
-pub adds_verb : {old new : Performs} (procedures : List Procedure) (number : ℕ) (one : Statement) (does : Verb Statement) → (out-Statement one).verb ≡ does
-    → AppendsPerforms old new (in_paragraph number (verb_performs procedures (statement_performs procedures) does)) → AppendsPerforms old new (in_paragraph number (statement_performs procedures one))
+pub adds_verb : {old new : Performs} (procedures : List Procedure) (number : ℕ) (one : Statement)
+    (does : Verb Statement) → (out-Statement one).verb ≡ does
+    → AppendsPerforms old new (in_paragraph number (verb_performs procedures (statement_performs procedures) does))
+    → AppendsPerforms old new (in_paragraph number (statement_performs procedures one))
 adds_verb {old} {new} procedures number one does is h =
     let same = statement_is procedures one ∙ ap (verb_performs procedures (statement_performs procedures)) is in
     subst (λ (l : List Performance). AppendsPerforms old new (in_paragraph number l)) (sym same) h
 
 -- A statement of another family performs nothing.
 pub nothing_performed : (procedures : List Procedure) (number : ℕ) (one : Statement) (all : Performs)
-    → ((x : DataStatement) × ((out-Statement one).verb ≡ verb.DataStatement x)) ⊎ (((x : TextStatement) × ((out-Statement one).verb ≡ verb.TextStatement x)) ⊎ ((x : ControlStatement) × ((out-Statement one).verb ≡ verb.ControlStatement x)))
+    → ((x : DataStatement) × ((out-Statement one).verb ≡ verb.DataStatement x))
+    ⊎ (((x : TextStatement) × ((out-Statement one).verb ≡ verb.TextStatement x))
+    ⊎ ((x : ControlStatement) × ((out-Statement one).verb ≡ verb.ControlStatement x)))
     → AppendsPerforms all all (in_paragraph number (statement_performs procedures one))
-nothing_performed procedures number one all (inl h) = adds_verb procedures number one (verb.DataStatement h.0) h.1 (adds_nothing all)
-nothing_performed procedures number one all (inr (inl h)) = adds_verb procedures number one (verb.TextStatement h.0) h.1 (adds_nothing all)
-nothing_performed procedures number one all (inr (inr h)) = adds_verb procedures number one (verb.ControlStatement h.0) h.1 (adds_nothing all)
+nothing_performed procedures number one all (inl h) =
+    adds_verb procedures number one (verb.DataStatement h.0) h.1 (adds_nothing all)
+nothing_performed procedures number one all (inr (inl h)) =
+    adds_verb procedures number one (verb.TextStatement h.0) h.1 (adds_nothing all)
+nothing_performed procedures number one all (inr (inr h)) =
+    adds_verb procedures number one (verb.ControlStatement h.0) h.1 (adds_nothing all)
 
 -- ---- a statement with phrases; `rest` is what the last call answered
 
-module _ {T E : Type 0} (old now new : Performs) (procedures : List Procedure) (number : ℕ) (one : Statement) (rest : Result T E) (second : Option (List Statement)) where
-  pub adds_ways : (first : List Statement) → AppendsPerforms old now (in_paragraph number (each_performs (statement_performs procedures) first)) → OnOk rest (AddsPhrase procedures number now new second)
-      → statement_performs procedures one ≡ each_performs (statement_performs procedures) first ++ phrase_performs (statement_performs procedures) second
+module _ {T E : Type 0} (old now new : Performs) (procedures : List Procedure) (number : ℕ) (one : Statement)
+    (rest : Result T E) (second : Option (List Statement)) where
+  pub adds_ways : (first : List Statement)
+      → AppendsPerforms old now (in_paragraph number (each_performs (statement_performs procedures) first))
+      → OnOk rest (AddsPhrase procedures number now new second)
+      → statement_performs procedures one
+      ≡ each_performs (statement_performs procedures) first ++ phrase_performs (statement_performs procedures) second
       → OnOk rest (AppendsPerforms old new (in_paragraph number (statement_performs procedures one)))
   adds_ways first before after same =
       on_ok_weaker rest
-      (λ (more : AddsPhrase procedures number now new second). subst (λ (l : List Performance). AppendsPerforms old new (in_paragraph number l)) (sym same)
-      (adds_within number (each_performs (statement_performs procedures) first) (phrase_performs (statement_performs procedures) second) before more.added)) after
+      (λ (more : AddsPhrase procedures number now new second).
+      subst (λ (l : List Performance). AppendsPerforms old new (in_paragraph number l)) (sym same)
+      (adds_within number (each_performs (statement_performs procedures) first)
+      (phrase_performs (statement_performs procedures) second) before more.added)) after
 
-  pub adds_phrases : (first : Option (List Statement)) → AddsPhrase procedures number old now first → OnOk rest (AddsPhrase procedures number now new second)
-      → statement_performs procedures one ≡ phrase_performs (statement_performs procedures) first ++ phrase_performs (statement_performs procedures) second
+  pub adds_phrases : (first : Option (List Statement)) → AddsPhrase procedures number old now first
+      → OnOk rest (AddsPhrase procedures number now new second)
+      → statement_performs procedures one
+      ≡ phrase_performs (statement_performs procedures) first ++ phrase_performs (statement_performs procedures) second
       → OnOk rest (AppendsPerforms old new (in_paragraph number (statement_performs procedures one)))
   adds_phrases first before after same =
       on_ok_weaker rest
-      (λ (more : AddsPhrase procedures number now new second). subst (λ (l : List Performance). AppendsPerforms old new (in_paragraph number l)) (sym same)
-      (adds_within number (phrase_performs (statement_performs procedures) first) (phrase_performs (statement_performs procedures) second) before.added more.added)) after
+      (λ (more : AddsPhrase procedures number now new second).
+      subst (λ (l : List Performance). AppendsPerforms old new (in_paragraph number l)) (sym same)
+      (adds_within number (phrase_performs (statement_performs procedures) first)
+      (phrase_performs (statement_performs procedures) second) before.added more.added)) after
 
 -- a phrase behind others
-pub adds_behind : {T E : Type 0} (old now new : Performs) (procedures : List Procedure) (number : ℕ) (rest : Result T E) (first : List Performance) (second : Option (List Statement))
+pub adds_behind : {T E : Type 0} (old now new : Performs) (procedures : List Procedure) (number : ℕ) (rest : Result T E)
+    (first : List Performance) (second : Option (List Statement))
     → AppendsPerforms old now (in_paragraph number first) → OnOk rest (AddsPhrase procedures number now new second)
-    → OnOk rest (AppendsPerforms old new (in_paragraph number (first ++ phrase_performs (statement_performs procedures) second)))
+    → OnOk rest
+    (AppendsPerforms old new (in_paragraph number (first ++ phrase_performs (statement_performs procedures) second)))
 adds_behind old now new procedures number rest first second before after =
     on_ok_weaker rest
-    (λ (more : AddsPhrase procedures number now new second). adds_within number first (phrase_performs (statement_performs procedures) second) before more.added) after
+    (λ (more : AddsPhrase procedures number now new second).
+    adds_within number first (phrase_performs (statement_performs procedures) second) before more.added) after
 
 -- a phrase that is absent, or its statements
-pub phrase_none : (procedures : List Procedure) (number : ℕ) (all : Performs) (phrase : Option (List Statement)) → phrase ≡ None → AddsPhrase procedures number all all phrase
-phrase_none procedures number all phrase is = subst (AddsPhrase procedures number all all) (sym is) (record { added = adds_nothing all })
+pub phrase_none : (procedures : List Procedure) (number : ℕ) (all : Performs) (phrase : Option (List Statement))
+    → phrase ≡ None → AddsPhrase procedures number all all phrase
+phrase_none procedures number all phrase is =
+    subst (AddsPhrase procedures number all all) (sym is) (record { added = adds_nothing all })
 
-pub phrase_some : {T E : Type 0} (procedures : List Procedure) (number : ℕ) (old new : Performs) (rest : Result T E) (phrase : Option (List Statement)) (statements : List Statement)
-    → phrase ≡ Some statements → OnOk rest (AppendsPerforms old new (in_paragraph number (each_performs (statement_performs procedures) statements)))
+pub phrase_some : {T E : Type 0} (procedures : List Procedure) (number : ℕ) (old new : Performs) (rest : Result T E)
+    (phrase : Option (List Statement)) (statements : List Statement)
+    → phrase ≡ Some statements → OnOk rest
+    (AppendsPerforms old new (in_paragraph number (each_performs (statement_performs procedures) statements)))
     → OnOk rest (AddsPhrase procedures number old new phrase)
 phrase_some procedures number old new rest phrase statements is added =
     on_ok_weaker rest
-    (λ (more : AppendsPerforms old new (in_paragraph number (each_performs (statement_performs procedures) statements))).
-    subst (AddsPhrase procedures number old new) (sym is) (let here : AddsPhrase procedures number old new (Some statements) = record { added = more } in here)) added
+    (λ (more :
+    AppendsPerforms old new (in_paragraph number (each_performs (statement_performs procedures) statements))).
+    subst (AddsPhrase procedures number old new) (sym is)
+    (let here : AddsPhrase procedures number old new (Some statements) = record { added = more } in here)) added

@@ -1,5 +1,6 @@
 -- Statements as they are counted.
-use Rattle.std.proofs.Common.{◌≡◌, ℕ, zero, suc, ◌+◌, ◌-◌, ◌<◌, ◌≤◌, false, List, [], ◌∷◌, ◌++◌, None, Some, length, drop, get_or, refl, sym, ap, ◌∙◌, inl, inr, append_assoc, add-one, drop-cons, arith}
+use Rattle.std.proofs.Common.{◌≡◌, ℕ, zero, suc, ◌+◌, ◌-◌, ◌<◌, ◌≤◌, false, List, [], ◌∷◌, ◌++◌, None, Some, length}
+use Rattle.std.proofs.Common.{drop, get_or, refl, sym, ap, ◌∙◌, inl, inr, append_assoc, add-one, drop-cons, arith}
 use Rattle.std.specs.Prelude.{◌==◌, ◌⊎◌, map, slice_get, Option}
 use Rattle.std.specs.Option.{option_map}
 use Rattle.std.proofs.lemmas.List.{map-append, drop_all}
@@ -25,7 +26,8 @@ use Rattle.source_tree.specs.declared.statement.Verb.TheVariants as verb
 use Rattle.source_tree.specs.declared.statement.Statement.{Statement, out-Statement}
 use Rattle.source_tree.specs.declared.statement.Statement.TheFolds.{map-Statement, fold_out-Statement}
 use Rattle.source_tree.specs.Filing.{phrases_of}
-use Rattle.source_tree.specs.StatementCount.{in_phrase, in_file_phrases, in_selected, inside, each_place, places_layer, statement_places}
+use Rattle.source_tree.specs.StatementCount.{in_phrase, in_file_phrases, in_selected, inside, each_place, places_layer}
+use Rattle.source_tree.specs.StatementCount.{statement_places}
 use Rattle.check_rules.specs.declared.statement_count.Room.{Room}
 use Rattle.check_rules.specs.Counting.{room_for, after_one, room_after}
 use Rattle.declarations.proofs.FilingLayers.{mapped_phrases, filing_mapped, phrases_mapped}
@@ -33,17 +35,22 @@ use Rattle.declarations.proofs.FilingLayers.{mapped_phrases, filing_mapped, phra
 -- ---- the statements in a statement, where they are mapped
 
 module _ {A B : Type 0} (f : A → B) where
-  pair_mapped : (arose did_not : Option (List A)) → in_phrase (option_map (map f) arose) ++ in_phrase (option_map (map f) did_not) ≡ map f (in_phrase arose ++ in_phrase did_not)
+  pair_mapped : (arose did_not : Option (List A)) → in_phrase (option_map (map f) arose) ++ in_phrase
+      (option_map (map f) did_not) ≡ map f (in_phrase arose ++ in_phrase did_not)
   pair_mapped None None = refl
   pair_mapped (Some some) None = sym (map-append f some [])
   pair_mapped None (Some other) = refl
   pair_mapped (Some some) (Some other) = sym (map-append f some other)
 
-  selected_mapped : (all : List (Selected A)) → in_selected (map (λ (one : Selected A). record { whens = one.whens; statements = map f one.statements }) all) ≡ map f (in_selected all)
+  selected_mapped : (all : List (Selected A))
+      → in_selected (map (λ (one : Selected A). record { whens = one.whens; statements = map f one.statements }) all)
+      ≡ map f (in_selected all)
   selected_mapped [] = refl
-  selected_mapped (one ∷ more) = ap (λ l. map f one.statements ++ l) (selected_mapped more) ∙ sym (map-append f one.statements (in_selected more))
+  selected_mapped (one ∷ more) =
+      ap (λ l. map f one.statements ++ l) (selected_mapped more) ∙ sym (map-append f one.statements (in_selected more))
 
-  file_phrases_mapped : (phrases : FilePhrases A) → in_file_phrases (mapped_phrases f phrases) ≡ map f (in_file_phrases phrases)
+  file_phrases_mapped : (phrases : FilePhrases A)
+      → in_file_phrases (mapped_phrases f phrases) ≡ map f (in_file_phrases phrases)
   file_phrases_mapped Absent = refl
   file_phrases_mapped (AtEnd one) = pair_mapped one.arose one.did_not
   file_phrases_mapped (InvalidKey one) = pair_mapped one.arose one.did_not
@@ -52,52 +59,70 @@ module _ {A B : Type 0} (f : A → B) where
   IsMapped place one = inside (map-Statement A B f (record { place = place; verb = one })).verb ≡ map f (inside one)
 
   phrases_inside : (place : Place) (operation : Operation) (arose did_not : Option (List A))
-      → IsMapped place (verb.Arithmetic (record { operation = operation; phrases = record { arose = arose; did_not = did_not } }))
+      → IsMapped place
+      (verb.Arithmetic (record { operation = operation; phrases = record { arose = arose; did_not = did_not } }))
   phrases_inside place operation None None = refl
   phrases_inside place operation (Some some) None = sym (map-append f some [])
   phrases_inside place operation None (Some other) = refl
   phrases_inside place operation (Some some) (Some other) = sym (map-append f some other)
 
-  strung_inside : (place : Place) (sendings : List Sending) (receiver : Reference) (pointer : Option Reference) (arose did_not : Option (List A))
-      → IsMapped place (verb.StringStatement (record { sendings = sendings; receiver = receiver; pointer = pointer; phrases = record { arose = arose; did_not = did_not } }))
+  strung_inside : (place : Place) (sendings : List Sending) (receiver : Reference) (pointer : Option Reference)
+      (arose did_not : Option (List A))
+      → IsMapped place (verb.StringStatement (record {
+        sendings = sendings;
+        receiver = receiver;
+        pointer = pointer;
+        phrases = record { arose = arose; did_not = did_not };
+      }))
   strung_inside place sendings receiver pointer None None = refl
   strung_inside place sendings receiver pointer (Some some) None = sym (map-append f some [])
   strung_inside place sendings receiver pointer None (Some other) = refl
   strung_inside place sendings receiver pointer (Some some) (Some other) = sym (map-append f some other)
 
-  if_inside : (place : Place) (condition : Condition) (statements : List A) (otherwise : Option (List A)) → IsMapped place (verb.ConditionalStatement (If condition statements otherwise))
+  if_inside : (place : Place) (condition : Condition) (statements : List A) (otherwise : Option (List A))
+      → IsMapped place (verb.ConditionalStatement (If condition statements otherwise))
   if_inside place condition statements None = sym (map-append f statements [])
   if_inside place condition statements (Some other) = sym (map-append f statements other)
 
   evaluate_inside : (place : Place) (subjects : List Subject) (selected : List (Selected A)) (other : Option (List A))
-      → IsMapped place (verb.ConditionalStatement (Evaluate (record { subjects = subjects; selected = selected; other = other })))
-  evaluate_inside place subjects selected None = ap (λ l. l ++ []) (selected_mapped selected) ∙ sym (map-append f (in_selected selected) [])
-  evaluate_inside place subjects selected (Some some) = ap (λ l. l ++ map f some) (selected_mapped selected) ∙ sym (map-append f (in_selected selected) some)
+      → IsMapped place
+      (verb.ConditionalStatement (Evaluate (record { subjects = subjects; selected = selected; other = other })))
+  evaluate_inside place subjects selected None =
+      ap (λ l. l ++ []) (selected_mapped selected) ∙ sym (map-append f (in_selected selected) [])
+  evaluate_inside place subjects selected (Some some) =
+      ap (λ l. l ++ map f some) (selected_mapped selected) ∙ sym (map-append f (in_selected selected) some)
 
-  performed_inside : (place : Place) (often : Repetition) (what : Performed A) → IsMapped place (verb.PerformStatement (record { performed = what; turns = often }))
+  performed_inside : (place : Place) (often : Repetition) (what : Performed A)
+      → IsMapped place (verb.PerformStatement (record { performed = what; turns = often }))
   performed_inside place often (Procedures first last) = refl
   performed_inside place often (Statements some) = refl
 
   filed_inside : (place : Place) (one : FileStatement A) → IsMapped place (verb.FileStatement one)
-  filed_inside place one = ap inside (filing_mapped f place one) ∙ ap in_file_phrases (phrases_mapped f one) ∙ file_phrases_mapped (phrases_of one)
+  filed_inside place one = ap inside (filing_mapped f place one) ∙ ap in_file_phrases (phrases_mapped f one)
+      ∙ file_phrases_mapped (phrases_of one)
 
   inside_mapped : (place : Place) (one : Verb A) → IsMapped place one
   inside_mapped place (verb.DataStatement one) = refl
   inside_mapped place (verb.Arithmetic one) = phrases_inside place one.operation one.phrases.arose one.phrases.did_not
-  inside_mapped place (verb.ConditionalStatement (If condition statements otherwise)) = if_inside place condition statements otherwise
-  inside_mapped place (verb.ConditionalStatement (Evaluate one)) = evaluate_inside place one.subjects one.selected one.other
+  inside_mapped place (verb.ConditionalStatement (If condition statements otherwise)) =
+      if_inside place condition statements otherwise
+  inside_mapped place (verb.ConditionalStatement (Evaluate one)) =
+      evaluate_inside place one.subjects one.selected one.other
   inside_mapped place (verb.PerformStatement one) = performed_inside place one.turns one.performed
   inside_mapped place (verb.TextStatement one) = refl
-  inside_mapped place (verb.StringStatement one) = strung_inside place one.sendings one.receiver one.pointer one.phrases.arose one.phrases.did_not
+  inside_mapped place (verb.StringStatement one) =
+      strung_inside place one.sendings one.receiver one.pointer one.phrases.arose one.phrases.did_not
   inside_mapped place (verb.FileStatement one) = filed_inside place one
   inside_mapped place (verb.ControlStatement one) = refl
 
-  places_mapped : (places : B → List Place) (all : List A) → each_place places (map f all) ≡ each_place (λ a. places (f a)) all
+  places_mapped : (places : B → List Place) (all : List A)
+      → each_place places (map f all) ≡ each_place (λ a. places (f a)) all
   places_mapped places [] = refl
   places_mapped places (one ∷ more) = ap (λ l. places (f one) ++ l) (places_mapped places more)
 
 -- one layer of where a statement and those in it stand
-pub statement_is : (one : Statement) → statement_places one ≡ (out-Statement one).place ∷ each_place statement_places (inside (out-Statement one).verb)
+pub statement_is : (one : Statement)
+    → statement_places one ≡ (out-Statement one).place ∷ each_place statement_places (inside (out-Statement one).verb)
 unfolding statement_places
 statement_is one =
     let at = (out-Statement one).place in
@@ -112,12 +137,15 @@ pub after_append : (a b : List Place) (room : Room) → room_after room (a ++ b)
 after_append [] b room = refl
 after_append (one ∷ more) b room = after_append more b (after_one room one)
 
-pub places_append : {A : Type 0} (places : A → List Place) (xs ys : List A) → each_place places (xs ++ ys) ≡ each_place places xs ++ each_place places ys
+pub places_append : {A : Type 0} (places : A → List Place) (xs ys : List A)
+    → each_place places (xs ++ ys) ≡ each_place places xs ++ each_place places ys
 places_append places [] ys = refl
-places_append places (x ∷ xs) ys = ap (λ l. places x ++ l) (places_append places xs ys) ∙ sym (append_assoc (places x) (each_place places xs) (each_place places ys))
+places_append places (x ∷ xs) ys = ap (λ l. places x ++ l) (places_append places xs ys)
+    ∙ sym (append_assoc (places x) (each_place places xs) (each_place places ys))
 
 -- some statements, and then others
-pub after_both : (room middle new : Room) (xs ys : List Statement) → middle ≡ room_after room (each_place statement_places xs) → new ≡ room_after middle (each_place statement_places ys)
+pub after_both : (room middle new : Room) (xs ys : List Statement) → middle ≡ room_after room
+    (each_place statement_places xs) → new ≡ room_after middle (each_place statement_places ys)
     → new ≡ room_after room (each_place statement_places (xs ++ ys))
 after_both room middle new xs ys first second =
     second ∙ ap (λ r. room_after r (each_place statement_places ys)) first
@@ -125,27 +153,35 @@ after_both room middle new xs ys first second =
     ∙ sym (ap (room_after room) (places_append statement_places xs ys))
 
 -- a statement, and those in it
-pub after_inside : (one : Statement) (what : Verb Statement) (room first new : Room) → (out-Statement one).verb ≡ what → first ≡ after_one room (out-Statement one).place
+pub after_inside : (one : Statement) (what : Verb Statement) (room first new : Room) → (out-Statement one).verb ≡ what
+    → first ≡ after_one room (out-Statement one).place
     → new ≡ room_after first (each_place statement_places (inside what)) → new ≡ room_after room (statement_places one)
 after_inside one what room first new is before h =
     h
     ∙ ap (λ (r : Room). room_after r (each_place statement_places (inside what))) before
-    ∙ ap (λ (v : Verb Statement). room_after (after_one room (out-Statement one).place) (each_place statement_places (inside v))) (sym is)
+    ∙ ap (λ (v : Verb Statement).
+    room_after (after_one room (out-Statement one).place) (each_place statement_places (inside v))) (sym is)
     ∙ sym (ap (room_after room) (statement_is one))
 
 -- one without others in it
 pub after_alone : (one : Statement) (room first : Room)
-    → ((x : DataStatement) × ((out-Statement one).verb ≡ verb.DataStatement x)) ⊎ (((x : TextStatement) × ((out-Statement one).verb ≡ verb.TextStatement x)) ⊎ ((x : ControlStatement) × ((out-Statement one).verb ≡ verb.ControlStatement x)))
+    → ((x : DataStatement) × ((out-Statement one).verb ≡ verb.DataStatement x))
+    ⊎ (((x : TextStatement) × ((out-Statement one).verb ≡ verb.TextStatement x))
+    ⊎ ((x : ControlStatement) × ((out-Statement one).verb ≡ verb.ControlStatement x)))
     → first ≡ after_one room (out-Statement one).place → first ≡ room_after room (statement_places one)
 after_alone one room first (inl h) before = after_inside one (verb.DataStatement h.0) room first first h.1 before refl
-after_alone one room first (inr (inl h)) before = after_inside one (verb.TextStatement h.0) room first first h.1 before refl
-after_alone one room first (inr (inr h)) before = after_inside one (verb.ControlStatement h.0) room first first h.1 before refl
+after_alone one room first (inr (inl h)) before =
+    after_inside one (verb.TextStatement h.0) room first first h.1 before refl
+after_alone one room first (inr (inr h)) before =
+    after_inside one (verb.ControlStatement h.0) room first first h.1 before refl
 
 -- ---- one after another, by the places of each
 
-module _ {A : Type 0} (all_places : List A → List Place) (places : A → List Place) (step : (x : A) (xs : List A) → all_places (x ∷ xs) ≡ places x ++ all_places xs) where
+module _ {A : Type 0} (all_places : List A → List Place) (places : A → List Place)
+    (step : (x : A) (xs : List A) → all_places (x ∷ xs) ≡ places x ++ all_places xs) where
   pub after_next : (all : List A) (i : ℕ) (one : A) (room so_far new : Room) → i < length all → one ≡ get_or all i one
-      → room_after room (all_places all) ≡ room_after so_far (all_places (drop i all)) → new ≡ room_after so_far (places one) → room_after room (all_places all) ≡ room_after new (all_places (drop (i + 1) all))
+      → room_after room (all_places all) ≡ room_after so_far (all_places (drop i all)) → new ≡ room_after so_far
+      (places one) → room_after room (all_places all) ≡ room_after new (all_places (drop (i + 1) all))
   after_next all i one room so_far new lt is before here =
       let rest = drop (suc i) all in
       before
@@ -156,8 +192,10 @@ module _ {A : Type 0} (all_places : List A → List Place) (places : A → List 
       ∙ ap (λ k. room_after new (all_places (drop k all))) (sym (add-one i))
 
   pub after_all : (all : List A) (i : ℕ) (room so_far : Room) → all_places [] ≡ [] → length all ≤ i
-      → room_after room (all_places all) ≡ room_after so_far (all_places (drop i all)) → so_far ≡ room_after room (all_places all)
-  after_all all i room so_far none past before = sym (before ∙ ap (λ l. room_after so_far (all_places l)) (drop_all i all past) ∙ ap (room_after so_far) none)
+      → room_after room (all_places all) ≡ room_after so_far (all_places (drop i all))
+      → so_far ≡ room_after room (all_places all)
+  after_all all i room so_far none past before =
+      sym (before ∙ ap (λ l. room_after so_far (all_places l)) (drop_all i all past) ∙ ap (room_after so_far) none)
 
 abbrev pub selected_places : List (Selected Statement) → List Place
 selected_places all = each_place statement_places (in_selected all)
@@ -165,12 +203,14 @@ selected_places all = each_place statement_places (in_selected all)
 abbrev pub own_places : Selected Statement → List Place
 own_places one = each_place statement_places one.statements
 
-pub selected_step : (one : Selected Statement) (more : List (Selected Statement)) → selected_places (one ∷ more) ≡ own_places one ++ selected_places more
+pub selected_step : (one : Selected Statement) (more : List (Selected Statement))
+    → selected_places (one ∷ more) ≡ own_places one ++ selected_places more
 selected_step one more = places_append statement_places one.statements (in_selected more)
 
 -- ---- the first that may not come
 
-full : (left : ℕ) (first : Place) (places : List Place) → (room_after (record { left = left; excess = Some first }) places).excess ≡ Some first
+full : (left : ℕ) (first : Place) (places : List Place)
+    → (room_after (record { left = left; excess = Some first }) places).excess ≡ Some first
 full left first [] = refl
 full left first (one ∷ more) = full left first more
 

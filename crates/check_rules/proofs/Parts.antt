@@ -18,19 +18,26 @@ asks_receives None = refl
 asks_receives (Some from) = refl
 
 -- What doesn't name one item sends nothing.
-pub sends_nothing : (place : Place) (found : List LocatedItem) (broken : RuleBreach) → ((rules : LocatedItem → List RuleBreach) → first (unique_name_rules place rules found) ≡ Some broken) → only_item found ≡ None
+pub sends_nothing : (place : Place) (found : List LocatedItem) (broken : RuleBreach)
+    → ((rules : LocatedItem → List RuleBreach) → first (unique_name_rules place rules found) ≡ Some broken)
+    → only_item found ≡ None
 sends_nothing place [] broken h = refl
-sends_nothing place (one ∷ []) broken h = let no : ◌≡◌ {A = Option RuleBreach} None (Some broken) = h (λ found. []) in cc
+sends_nothing place (one ∷ []) broken h = let no : ◌≡◌ {A = Option RuleBreach} None (Some broken) =
+    h (λ found. []) in cc
 sends_nothing place (one ∷ other ∷ more) broken h = refl
 
 -- What doesn't name one item has no bytes.
-pub no_length : (place : Place) (found : List LocatedItem) (broken : RuleBreach) → ((rules : LocatedItem → List RuleBreach) → first (unique_name_rules place rules found) ≡ Some broken) → only_length found ≡ 0
+pub no_length : (place : Place) (found : List LocatedItem) (broken : RuleBreach)
+    → ((rules : LocatedItem → List RuleBreach) → first (unique_name_rules place rules found) ≡ Some broken)
+    → only_length found ≡ 0
 no_length place [] broken h = refl
 no_length place (one ∷ []) broken h = let no : ◌≡◌ {A = Option RuleBreach} None (Some broken) = h (λ found. []) in cc
 no_length place (one ∷ other ∷ more) broken h = refl
 
 -- What doesn't name one item has no size.
-pub no_size : (place : Place) (found : List LocatedItem) (broken : RuleBreach) → ((rules : LocatedItem → List RuleBreach) → first (unique_name_rules place rules found) ≡ Some broken) → only_size found ≡ None
+pub no_size : (place : Place) (found : List LocatedItem) (broken : RuleBreach)
+    → ((rules : LocatedItem → List RuleBreach) → first (unique_name_rules place rules found) ≡ Some broken)
+    → only_size found ≡ None
 no_size place [] broken h = refl
 no_size place (one ∷ []) broken h = let no : ◌≡◌ {A = Option RuleBreach} None (Some broken) = h (λ found. []) in cc
 no_size place (one ∷ other ∷ more) broken h = refl

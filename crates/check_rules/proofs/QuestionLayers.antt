@@ -28,7 +28,8 @@ module _ (items : List LocatedItem) where
   constant_is false = any_is items []
 
   -- a condition, or its opposite
-  pub told_is : (truth : Bool) (one : Condition) → condition_rules items (condition_or_opposite truth one) ≡ condition_rules items one
+  pub told_is : (truth : Bool) (one : Condition)
+      → condition_rules items (condition_or_opposite truth one) ≡ condition_rules items one
   told_is true one = refl
   told_is false one = not_is items one
 
@@ -36,25 +37,32 @@ module _ (items : List LocatedItem) where
   truths_is one other = told_is one (constant other) ∙ constant_is other
 
   -- a condition name, with NOT or without
-  pub name_told_is : (truth : Bool) (one : Reference) → condition_rules items (condition_or_opposite truth (Name one)) ≡ condition_name_rules items one
+  pub name_told_is : (truth : Bool) (one : Reference)
+      → condition_rules items (condition_or_opposite truth (Name one)) ≡ condition_name_rules items one
   name_told_is truth one = told_is truth (Name one) ∙ name_is items one
 
   -- two conditions
-  both_are : (one other : Condition) → condition_rules items (All (one ∷ other ∷ [])) ≡ condition_rules items one ++ condition_rules items other
-  both_are one other = all_is items (one ∷ other ∷ []) ∙ ap (λ l. condition_rules items one ++ l) (append-nil (condition_rules items other))
+  both_are : (one other : Condition)
+      → condition_rules items (All (one ∷ other ∷ [])) ≡ condition_rules items one ++ condition_rules items other
+  both_are one other = all_is items (one ∷ other ∷ [])
+      ∙ ap (λ l. condition_rules items one ++ l) (append-nil (condition_rules items other))
 
-  pub one_is : (value wanted : Side) → condition_rules items (value_within value wanted None) ≡ relation_rules items value wanted
+  pub one_is : (value wanted : Side)
+      → condition_rules items (value_within value wanted None) ≡ relation_rules items value wanted
   one_is value wanted = relation_is items value Equal wanted
 
-  pub range_is : (value from last : Side) → condition_rules items (value_within value from (Some last)) ≡ relation_rules items value from ++ relation_rules items value last
+  pub range_is : (value from last : Side) → condition_rules items (value_within value from (Some last)) ≡ relation_rules
+      items value from ++ relation_rules items value last
   range_is value from last =
       both_are (Relation value GreaterOrEqual from) (Relation value LessOrEqual last)
-      ∙ ap (λ l. l ++ condition_rules items (Relation value LessOrEqual last)) (relation_is items value GreaterOrEqual from)
+      ∙ ap (λ l. l ++ condition_rules items (Relation value LessOrEqual last))
+      (relation_is items value GreaterOrEqual from)
       ∙ ap (λ l. relation_rules items value from ++ l) (relation_is items value LessOrEqual last)
 
   -- Both stand twice.
   pub alike_is : (one other : Condition)
-      → condition_rules items (alike one other) ≡ (condition_rules items one ++ condition_rules items other) ++ (condition_rules items one ++ condition_rules items other)
+      → condition_rules items (alike one other) ≡ (condition_rules items one ++ condition_rules items other)
+      ++ (condition_rules items one ++ condition_rules items other)
   alike_is one other =
       let both = condition_rules items one ++ condition_rules items other in
       let none : condition_rules items (All (Not one ∷ Not other ∷ [])) ≡ both =
@@ -62,7 +70,8 @@ module _ (items : List LocatedItem) where
       ∙ ap (λ l. l ++ condition_rules items (Not other)) (not_is items one)
       ∙ ap (λ l. condition_rules items one ++ l) (not_is items other) in
       any_is items (All (one ∷ other ∷ []) ∷ All (Not one ∷ Not other ∷ []) ∷ [])
-      ∙ ap (λ l. condition_rules items (All (one ∷ other ∷ [])) ++ l) (append-nil (condition_rules items (All (Not one ∷ Not other ∷ []))))
+      ∙ ap (λ l. condition_rules items (All (one ∷ other ∷ [])) ++ l)
+      (append-nil (condition_rules items (All (Not one ∷ Not other ∷ []))))
       ∙ ap (λ l. l ++ condition_rules items (All (Not one ∷ Not other ∷ []))) (both_are one other)
       ∙ ap (λ l. both ++ l) none
 
@@ -72,7 +81,8 @@ none_left items [] = refl
 none_left items (one ∷ more) = refl
 
 -- What twice the same rules tell is what they tell once.
-pub finds_twice : {A : Type 0} (found : Result A BrokenRule) (rules : List RuleBreach) → IsFirstBreach found rules → IsFirstBreach found (rules ++ rules)
+pub finds_twice : {A : Type 0} (found : Result A BrokenRule) (rules : List RuleBreach) → IsFirstBreach found rules
+    → IsFirstBreach found (rules ++ rules)
 finds_twice (Ok value) rules h = ap (λ l. l ++ rules) h ∙ h
 finds_twice (Err one) [] h = absurd cc
 finds_twice (Err one) (broken ∷ more) h = h
@@ -80,12 +90,14 @@ finds_twice (Err one) (broken ∷ more) h = h
 -- ---- a comparison is told at its object
 
 module _ (place : Place) where
-  first_map : (rules : List RuleBreach) → first (map (at_object place) rules) ≡ option_map (at_object place) (first rules)
+  first_map : (rules : List RuleBreach)
+      → first (map (at_object place) rules) ≡ option_map (at_object place) (first rules)
   first_map [] = refl
   first_map (one ∷ more) = refl
 
   pub finds_at : {A B : Type 0} (found : Result A BrokenRule) (told : Result B BrokenRule) (rules : List RuleBreach)
-      → broken_in told ≡ option_map (at_object place) (broken_in found) → IsFirstBreach found rules → IsFirstBreach told (map (at_object place) rules)
+      → broken_in told ≡ option_map (at_object place) (broken_in found) → IsFirstBreach found rules
+      → IsFirstBreach told (map (at_object place) rules)
   finds_at (Ok value) (Ok other) rules e h = ap (map (at_object place)) h
   finds_at (Ok value) (Err other) rules e h = absurd cc
   finds_at (Err one) (Ok other) rules e h = absurd cc

@@ -17,7 +17,8 @@ use Rattle.source_tree.specs.ConditionRules.{Either, compared_only, operand_plac
 
 -- ---- where it begins
 
-place_rolled : (one : Expression-F Expression) → expression_place (roll-Expression one) ≡ place_layer (map-Expression Expression Place expression_place one)
+place_rolled : (one : Expression-F Expression)
+    → expression_place (roll-Expression one) ≡ place_layer (map-Expression Expression Place expression_place one)
 unfolding expression_place
 place_rolled one = fold-roll-Expression Place place_layer one
 
@@ -27,14 +28,17 @@ place_of_operand one = ap expression_place (sym (rolls-Operand one)) ∙ place_r
 pub place_of_negated : (inner : Expression) → expression_place (expression.Negated inner) ≡ expression_place inner
 place_of_negated inner = ap expression_place (sym (rolls-Negated inner)) ∙ place_rolled (Expression-F.Negated inner)
 
-pub place_of_chain : (one : Expression) (more : List (Operator × Expression)) → expression_place (expression.Chain one more) ≡ expression_place one
+pub place_of_chain : (one : Expression) (more : List (Operator × Expression))
+    → expression_place (expression.Chain one more) ≡ expression_place one
 place_of_chain one more = ap expression_place (sym (rolls-Chain one more)) ∙ place_rolled (Expression-F.Chain one more)
 
 -- ---- what it is beside another
 
 -- What doesn't name one item is either.
-pub either_unnamed : (place : Place) (found : List LocatedItem) (broken : RuleBreach) → ((rules : LocatedItem → List RuleBreach) → first (unique_name_rules place rules found) ≡ Some broken)
+pub either_unnamed : (place : Place) (found : List LocatedItem) (broken : RuleBreach)
+    → ((rules : LocatedItem → List RuleBreach) → first (unique_name_rules place rules found) ≡ Some broken)
     → compared_only found ≡ Either
 either_unnamed place [] broken h = refl
-either_unnamed place (one ∷ []) broken h = let no : ◌≡◌ {A = Option RuleBreach} None (Some broken) = h (λ found. []) in cc
+either_unnamed place (one ∷ []) broken h = let no : ◌≡◌ {A = Option RuleBreach} None (Some broken) =
+    h (λ found. []) in cc
 either_unnamed place (one ∷ other ∷ more) broken h = refl

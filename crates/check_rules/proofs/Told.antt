@@ -10,16 +10,20 @@ use Rattle.declarations.specs.Declaring.{declaration_rules}
 use Rattle.declarations.proofs.Firsts.{both_none}
 use Rattle.check_rules.specs.Refusals.{IsFirstFault, IsBack}
 
-pub told_first : (program : Program) (fault : Option RuleBreach) → IsFirst fault (program_rules program) → IsFirstFault program fault
+pub told_first : (program : Program) (fault : Option RuleBreach) → IsFirst fault (program_rules program)
+    → IsFirstFault program fault
 told_first program None h = tt
 told_first program (Some one) h = inl h
 
-pub told_back : (program : Program) (fault : Option RuleBreach) → program_rules program ≡ [] → IsBack program fault → IsFirstFault program fault
+pub told_back : (program : Program) (fault : Option RuleBreach) → program_rules program ≡ [] → IsBack program fault
+    → IsFirstFault program fault
 told_back program None kept h = tt
 told_back program (Some one) kept h = inr (record { kept = kept; rule = h.0; back = h.1 })
 
-pub program_none : (program : Program) → declaration_rules program ≡ [] → sections_rules (scope program) all_permitted program.sections ≡ []
+pub program_none : (program : Program) → declaration_rules program ≡ []
+    → sections_rules (scope program) all_permitted program.sections ≡ []
     → procedure_rules program ≡ [] → program_rules program ≡ []
 program_none program e f g =
-    both_none (declaration_rules program ++ sections_rules (scope program) all_permitted program.sections) (procedure_rules program)
+    both_none (declaration_rules program ++ sections_rules (scope program) all_permitted program.sections)
+    (procedure_rules program)
     (both_none (declaration_rules program) (sections_rules (scope program) all_permitted program.sections) e f) g

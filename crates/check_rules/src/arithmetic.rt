@@ -16,7 +16,8 @@ impl<'a> Checker<'a> {
     /// Receivers, of which the same is asked, in order.
     fn results_rules(&self, asked: Asked, all: &[Receiver]) -> Result<(), BrokenRule>
         requires { IsDeclared self.now.declarations.now }
-        ensures { IsFirstBreach result (each (receiver_rules (items_in self.now.declarations.now) asked) all.now) }
+        ensures { IsFirstBreach result
+            (each (receiver_rules (items_in self.now.declarations.now) asked) all.now) }
     {
         for one in all {
             self.item_rules(asked, &one.item)?;
@@ -27,7 +28,8 @@ impl<'a> Checker<'a> {
     /// Receivers whose own number has a part in the result.
     fn updated_rules(&self, receivers: &[Receiver]) -> Result<(), BrokenRule>
         requires { IsDeclared self.now.declarations.now }
-        ensures { IsFirstBreach result (spec.updated_rules (items_in self.now.declarations.now) receivers.now) }
+        ensures { IsFirstBreach result
+            (spec.updated_rules (items_in self.now.declarations.now) receivers.now) }
     {
         self.results_rules(Asked::Numeric, receivers)
     }
@@ -35,7 +37,8 @@ impl<'a> Checker<'a> {
     /// Receivers behind GIVING and COMPUTE.
     fn given_rules(&self, receivers: &[Receiver]) -> Result<(), BrokenRule>
         requires { IsDeclared self.now.declarations.now }
-        ensures { IsFirstBreach result (spec.given_rules (items_in self.now.declarations.now) receivers.now) }
+        ensures { IsFirstBreach result
+            (spec.given_rules (items_in self.now.declarations.now) receivers.now) }
     {
         self.results_rules(Asked::StoresNumber, receivers)
     }
@@ -43,7 +46,8 @@ impl<'a> Checker<'a> {
     /// Two operands that are numbers.
     fn pair_rules(&self, first: &Operand, second: &Operand) -> Result<(), BrokenRule>
         requires { IsDeclared self.now.declarations.now }
-        ensures { IsFirstBreach result (spec.number_rules (items_in self.now.declarations.now) first.now ++ spec.number_rules (items_in self.now.declarations.now) second.now) }
+        ensures { IsFirstBreach result (spec.number_rules (items_in self.now.declarations.now)
+            first.now ++ spec.number_rules (items_in self.now.declarations.now) second.now) }
     {
         self.number_rules(first)?;
         self.number_rules(second)
@@ -52,7 +56,8 @@ impl<'a> Checker<'a> {
     /// The operands in front of the receivers; those of COMPUTE stand behind them.
     fn operands_rules(&self, one: &Operation) -> Result<(), BrokenRule>
         requires { IsDeclared self.now.declarations.now }
-        ensures { IsFirstBreach result (operands_rules (items_in self.now.declarations.now) one.now) }
+        ensures { IsFirstBreach result
+            (operands_rules (items_in self.now.declarations.now) one.now) }
     {
         match one {
             Operation::Add { operands, .. } => self.numbers_rules(operands.as_slice()),
@@ -78,7 +83,8 @@ impl<'a> Checker<'a> {
     /// The receivers, and of COMPUTE the expression behind them.
     fn receivers_of_rules(&self, one: &Operation) -> Result<(), BrokenRule>
         requires { IsDeclared self.now.declarations.now }
-        ensures { IsFirstBreach result (receivers_rules (items_in self.now.declarations.now) one.now) }
+        ensures { IsFirstBreach result
+            (receivers_rules (items_in self.now.declarations.now) one.now) }
     {
         match one {
             Operation::Add { receivers, .. } => self.updated_rules(receivers.as_slice()),
@@ -108,7 +114,8 @@ impl<'a> Checker<'a> {
     #[tactic(auto, using(crate::proofs::Operations::operation_parts))]
     pub fn operation_rules(&self, one: &Operation) -> Result<(), BrokenRule>
         requires { IsDeclared self.now.declarations.now }
-        ensures { IsFirstBreach result (spec.operation_rules (items_in self.now.declarations.now) one.now) }
+        ensures { IsFirstBreach result
+            (spec.operation_rules (items_in self.now.declarations.now) one.now) }
     {
         self.operands_rules(one)?;
         self.receivers_of_rules(one)

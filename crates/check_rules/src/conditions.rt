@@ -17,7 +17,8 @@ impl<'a> Checker<'a> {
     /// The name of a condition, which has as many subscripts as its item has dimensions.
     pub(crate) fn condition_named_rules(&self, one: &Reference) -> Result<(), BrokenRule>
         requires { IsDeclared self.now.declarations.now }
-        ensures { IsFirstBreach result (condition_named_rules (items_in self.now.declarations.now) one.now) }
+        ensures { IsFirstBreach result
+            (condition_named_rules (items_in self.now.declarations.now) one.now) }
     {
         let place = one.item.name.place;
         let found = self.declarations.condition_named(&one.item)?;
@@ -28,7 +29,8 @@ impl<'a> Checker<'a> {
     /// A condition name, with its subscripts.
     pub(crate) fn condition_name_rules(&self, one: &Reference) -> Result<(), BrokenRule>
         requires { IsDeclared self.now.declarations.now }
-        ensures { IsFirstBreach result (spec.condition_name_rules (items_in self.now.declarations.now) one.now) }
+        ensures { IsFirstBreach result
+            (spec.condition_name_rules (items_in self.now.declarations.now) one.now) }
     {
         self.condition_named_rules(one)?;
         self.subscripts_rules(one.subscripts.as_slice())
@@ -39,7 +41,8 @@ impl<'a> Checker<'a> {
     #[tactic(auto, using(crate::proofs::ConditionLayers::forms))]
     pub fn condition_rules(&self, one: &Condition) -> Result<(), BrokenRule>
         requires { IsDeclared self.now.declarations.now }
-        ensures { IsFirstBreach result (spec.condition_rules (items_in self.now.declarations.now) one.now) }
+        ensures { IsFirstBreach result
+            (spec.condition_rules (items_in self.now.declarations.now) one.now) }
     {
         match one {
             Condition::Name(reference) => self.condition_name_rules(reference),
@@ -56,7 +59,8 @@ impl<'a> Checker<'a> {
     #[cycle(condition)]
     fn conditions_rules(&self, all: &[Condition]) -> Result<(), BrokenRule>
         requires { IsDeclared self.now.declarations.now }
-        ensures { IsFirstBreach result (each (spec.condition_rules (items_in self.now.declarations.now)) all.now) }
+        ensures { IsFirstBreach result
+            (each (spec.condition_rules (items_in self.now.declarations.now)) all.now) }
     {
         for one in all {
             self.condition_rules(one)?;

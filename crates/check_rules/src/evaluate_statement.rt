@@ -12,7 +12,7 @@ ghost use Rattle.declarations.specs.Named.{IsDeclared, items_in};
 ghost use Rattle.declarations.specs.Resolved.{condition_meant, question_meant, is_fit, broken_in};
 
 use crate::checker::Checker;
-use declarations::{AskedCondition, ResolvedSubject, Question};
+use declarations::{AskedCondition, Question, ResolvedSubject};
 use entry_rules::{BrokenRule, Rule};
 use source_tree::{Object, Place, Side, Subject, When};
 
@@ -21,7 +21,8 @@ impl<'a> Checker<'a> {
     #[tactic(auto, using(crate::proofs::QuestionLayers::name_told_is))]
     fn asked_condition_rules(&self, one: AskedCondition<'_>) -> Result<(), BrokenRule>
         requires { IsDeclared self.now.declarations.now }
-        ensures { IsFirstBreach result (condition_rules (items_in self.now.declarations.now) (condition_meant one.entry)) }
+        ensures { IsFirstBreach result
+            (condition_rules (items_in self.now.declarations.now) (condition_meant one.entry)) }
     {
         match one {
             AskedCondition::Name { reference, .. } => self.condition_name_rules(reference),
@@ -38,7 +39,8 @@ impl<'a> Checker<'a> {
         last: &Option<Side>,
     ) -> Result<(), BrokenRule>
         requires { IsDeclared self.now.declarations.now }
-        ensures { IsFirstBreach result (condition_rules (items_in self.now.declarations.now) (value_within value.now first.now last.now)) }
+        ensures { IsFirstBreach result (condition_rules (items_in self.now.declarations.now)
+            (value_within value.now first.now last.now)) }
     {
         self.relation_rules(value, first)?;
         match last {
@@ -51,7 +53,8 @@ impl<'a> Checker<'a> {
     #[tactic(auto, using(crate::proofs::QuestionLayers::forms))]
     fn question_rules(&self, one: Question<'_>) -> Result<(), BrokenRule>
         requires { IsDeclared self.now.declarations.now }
-        ensures { IsFirstBreach result (condition_rules (items_in self.now.declarations.now) (question_meant one.entry)) }
+        ensures { IsFirstBreach result
+            (condition_rules (items_in self.now.declarations.now) (question_meant one.entry)) }
     {
         match one {
             Question::Within { value, wanted } => {
@@ -71,7 +74,8 @@ impl<'a> Checker<'a> {
     /// An object and its subject.
     fn object_rules(&self, subject: &Subject, object: &Object) -> Result<(), BrokenRule>
         requires { IsDeclared self.now.declarations.now }
-        ensures { IsFirstBreach result (spec.object_rules (items_in self.now.declarations.now) subject.now object.now) }
+        ensures { IsFirstBreach result
+            (spec.object_rules (items_in self.now.declarations.now) subject.now object.now) }
     {
         let question = self.declarations.question(subject, &object.choice);
         Rule::Object.broken_if(is_unfit(question), object.place)?;
@@ -82,7 +86,8 @@ impl<'a> Checker<'a> {
     #[tactic(auto, using(crate::proofs::QuestionLayers::none_left))]
     fn objects_rules(&self, subjects: &[Subject], objects: &[Object]) -> Result<(), BrokenRule>
         requires { IsDeclared self.now.declarations.now }
-        ensures { IsFirstBreach result (spec.objects_rules (items_in self.now.declarations.now) subjects.now objects.now) }
+        ensures { IsFirstBreach result
+            (spec.objects_rules (items_in self.now.declarations.now) subjects.now objects.now) }
     {
         let mut asking = subjects;
         let mut rest = objects;
@@ -100,7 +105,8 @@ impl<'a> Checker<'a> {
     /// A WHEN: it has as many objects as there are subjects.
     fn when_rules(&self, subjects: &[Subject], one: &When) -> Result<(), BrokenRule>
         requires { IsDeclared self.now.declarations.now }
-        ensures { IsFirstBreach result (spec.when_rules (items_in self.now.declarations.now) subjects.now one.now) }
+        ensures { IsFirstBreach result
+            (spec.when_rules (items_in self.now.declarations.now) subjects.now one.now) }
     {
         let objects = one.objects.as_slice();
         Rule::Object.broken_if(objects.len() != subjects.len(), one.place)?;
@@ -110,7 +116,8 @@ impl<'a> Checker<'a> {
     /// WHENs, in order.
     pub(crate) fn whens_rules(&self, subjects: &[Subject], all: &[When]) -> Result<(), BrokenRule>
         requires { IsDeclared self.now.declarations.now }
-        ensures { IsFirstBreach result (each (spec.when_rules (items_in self.now.declarations.now) subjects.now) all.now) }
+        ensures { IsFirstBreach result
+            (each (spec.when_rules (items_in self.now.declarations.now) subjects.now) all.now) }
     {
         for one in all {
             self.when_rules(subjects, one)?;
@@ -121,7 +128,8 @@ impl<'a> Checker<'a> {
     /// A subject: a value by itself, or a condition.
     fn subject_rules(&self, one: &Subject) -> Result<(), BrokenRule>
         requires { IsDeclared self.now.declarations.now }
-        ensures { IsFirstBreach result (spec.subject_rules (items_in self.now.declarations.now) one.now) }
+        ensures { IsFirstBreach result
+            (spec.subject_rules (items_in self.now.declarations.now) one.now) }
     {
         match self.declarations.looked_subject(one) {
             ResolvedSubject::Value(side) => self.side_rules(side),
@@ -133,7 +141,8 @@ impl<'a> Checker<'a> {
     /// Subjects, in order.
     pub(crate) fn subjects_rules(&self, all: &[Subject]) -> Result<(), BrokenRule>
         requires { IsDeclared self.now.declarations.now }
-        ensures { IsFirstBreach result (each (spec.subject_rules (items_in self.now.declarations.now)) all.now) }
+        ensures { IsFirstBreach result
+            (each (spec.subject_rules (items_in self.now.declarations.now)) all.now) }
     {
         for one in all {
             self.subject_rules(one)?;

@@ -18,7 +18,8 @@ impl<'a> Checker<'a> {
     /// An operand that is a number: a numeric item, a numeric literal or ZERO.
     pub fn number_rules(&self, one: &Operand) -> Result<(), BrokenRule>
         requires { IsDeclared self.now.declarations.now }
-        ensures { IsFirstBreach result (spec.number_rules (items_in self.now.declarations.now) one.now) }
+        ensures { IsFirstBreach result
+            (spec.number_rules (items_in self.now.declarations.now) one.now) }
     {
         match one {
             Operand::Item(reference) => self.item_rules(Asked::Numeric, reference),
@@ -32,7 +33,8 @@ impl<'a> Checker<'a> {
     /// Operands that are numbers, in order.
     pub(crate) fn numbers_rules(&self, all: &[Operand]) -> Result<(), BrokenRule>
         requires { IsDeclared self.now.declarations.now }
-        ensures { IsFirstBreach result (each (spec.number_rules (items_in self.now.declarations.now)) all.now) }
+        ensures { IsFirstBreach result
+            (each (spec.number_rules (items_in self.now.declarations.now)) all.now) }
     {
         for one in all {
             self.number_rules(one)?;
@@ -45,7 +47,8 @@ impl<'a> Checker<'a> {
     #[tactic(auto, using(declarations::proofs::Layers::operand_is, declarations::proofs::Layers::negated_is, declarations::proofs::Layers::chain_is))]
     pub fn expression_rules(&self, one: &Expression) -> Result<(), BrokenRule>
         requires { IsDeclared self.now.declarations.now }
-        ensures { IsFirstBreach result (spec.expression_rules (items_in self.now.declarations.now) one.now) }
+        ensures { IsFirstBreach result
+            (spec.expression_rules (items_in self.now.declarations.now) one.now) }
     {
         match one {
             Expression::Operand(operand) => self.number_rules(operand),
@@ -61,7 +64,8 @@ impl<'a> Checker<'a> {
     #[cycle(expression)]
     fn further_rules(&self, all: &[(Operator, Expression)]) -> Result<(), BrokenRule>
         requires { IsDeclared self.now.declarations.now }
-        ensures { IsFirstBreach result (each (further_rules (items_in self.now.declarations.now)) all.now) }
+        ensures { IsFirstBreach result
+            (each (further_rules (items_in self.now.declarations.now)) all.now) }
     {
         for (_, one) in all {
             self.expression_rules(one)?;

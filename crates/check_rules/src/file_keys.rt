@@ -24,7 +24,8 @@ pub(crate) fn is_key_item(
     one: &PlacedItem,
     number: usize,
 ) -> bool
-    ensures { result ≡ filed.is_key_item file.now reference.now one.now (slice_get (calls_in names.now) number) }
+    ensures { result
+        ≡ filed.is_key_item file.now reference.now one.now (slice_get (calls_in names.now) number) }
 {
     is_plain(reference, one) && names_key(names, file.select, number)
 }
@@ -37,7 +38,8 @@ pub(crate) fn is_start_item(
     one: &PlacedItem,
     number: usize,
 ) -> bool
-    ensures { result ≡ filed.is_start_item file.now reference.now one.now (slice_get (calls_in names.now) number) }
+    ensures { result ≡ filed.is_start_item file.now reference.now one.now
+        (slice_get (calls_in names.now) number) }
 {
     is_key_item(names, file, reference, one, number)
         || begins_key_item(file, reference, one)
@@ -56,7 +58,8 @@ fn clause_names(names: &NameTable<'_>, clause: &Option<Reference>, number: usize
 
 /// One of the clauses names the item of that number.
 fn alternates_name(names: &NameTable<'_>, clauses: &[AlternateKeyClause], number: usize) -> bool
-    ensures { result ≡ list_any (keys.alternate_names (slice_get (calls_in names.now) number)) clauses.now }
+    ensures { result
+        ≡ list_any (keys.alternate_names (slice_get (calls_in names.now) number)) clauses.now }
 {
     for clause in clauses {
         if names.is_named(&clause.key.item, number) {
@@ -82,7 +85,8 @@ fn begins_key(key: KeyPlace, one: &PlacedItem) -> bool
 }
 
 fn begins_alternate_key(alternates: &[AlternateKey], one: &PlacedItem) -> bool
-    ensures { result ≡ list_any (spec.begins_key (keys.place_of one.now)) (map keys.key_place_of alternates.now) }
+    ensures { result ≡ list_any (spec.begins_key (keys.place_of one.now))
+        (map keys.key_place_of alternates.now) }
 {
     for key in alternates {
         if begins_key(key.place, one) {
@@ -94,7 +98,8 @@ fn begins_alternate_key(alternates: &[AlternateKey], one: &PlacedItem) -> bool
 
 /// The item begins a key of the file.
 fn begins_key_of(file: &ProgramFile<'_>, one: &PlacedItem) -> bool
-    ensures { result ≡ list_any (spec.begins_key (keys.place_of one.now)) (spec.keys_by file.now.organization file.now.alternates.items) }
+    ensures { result ≡ list_any (spec.begins_key (keys.place_of one.now))
+        (spec.keys_by file.now.organization file.now.alternates.items) }
 {
     match file.organization {
         Organization::Indexed(prime) => {
@@ -133,7 +138,8 @@ fn is_relative_key(
     one: &PlacedItem,
     number: usize,
 ) -> bool
-    ensures { result ≡ filed.is_relative_key file.now reference.now one.now (slice_get (calls_in names.now) number) }
+    ensures { result ≡ filed.is_relative_key file.now reference.now one.now
+        (slice_get (calls_in names.now) number) }
 {
     is_relative(file.organization)
         && is_plain(reference, one)

@@ -32,7 +32,8 @@ impl<'a> Checker<'a> {
     /// The item of RELATIVE KEY.
     fn relative_key(&self, file: &ProgramFile<'_>) -> Option<&PlacedItem>
         requires { IsDeclared self.now.declarations.now }
-        ensures { filed.IsPlaced (place_at (items_in self.now.declarations.now) file.now.relative_key) result }
+        ensures { filed.IsPlaced
+            (place_at (items_in self.now.declarations.now) file.now.relative_key) result }
     {
         let number = file.relative_key?;
         self.declarations.layout.items.as_slice().get(number)
@@ -41,7 +42,8 @@ impl<'a> Checker<'a> {
     /// A file of OPEN: only sequential files are extended.
     fn opening_rules(&self, one: &Opening) -> Result<(), BrokenRule>
         requires { IsDeclared self.now.declarations.now }
-        ensures { IsFirstBreach result (spec.open_rules (items_in self.now.declarations.now) (files_in self.now.declarations.now) one.now) }
+        ensures { IsFirstBreach result (spec.open_rules (items_in self.now.declarations.now)
+            (files_in self.now.declarations.now) one.now) }
     {
         let file = self.declarations.file_named(&one.file)?;
         let is_extended = matches!(one.mode, OpenMode::Extend) && !is_sequential(file.organization);
@@ -50,7 +52,8 @@ impl<'a> Checker<'a> {
 
     fn openings_rules(&self, all: &[Opening]) -> Result<(), BrokenRule>
         requires { IsDeclared self.now.declarations.now }
-        ensures { IsFirstBreach result (each (spec.open_rules (items_in self.now.declarations.now) (files_in self.now.declarations.now)) all.now) }
+        ensures { IsFirstBreach result (each (spec.open_rules (items_in self.now.declarations.now)
+            (files_in self.now.declarations.now)) all.now) }
     {
         for one in all {
             self.opening_rules(one)?;
@@ -60,7 +63,8 @@ impl<'a> Checker<'a> {
 
     fn closing_rules(&self, one: &Name) -> Result<(), BrokenRule>
         requires { IsDeclared self.now.declarations.now }
-        ensures { IsFirstBreach result (spec.close_rules (items_in self.now.declarations.now) (files_in self.now.declarations.now) one.now) }
+        ensures { IsFirstBreach result (spec.close_rules (items_in self.now.declarations.now)
+            (files_in self.now.declarations.now) one.now) }
     {
         self.declarations.file_named(one)?;
         Ok(())
@@ -68,7 +72,8 @@ impl<'a> Checker<'a> {
 
     fn closings_rules(&self, all: &[Name]) -> Result<(), BrokenRule>
         requires { IsDeclared self.now.declarations.now }
-        ensures { IsFirstBreach result (each (spec.close_rules (items_in self.now.declarations.now) (files_in self.now.declarations.now)) all.now) }
+        ensures { IsFirstBreach result (each (spec.close_rules (items_in self.now.declarations.now)
+            (files_in self.now.declarations.now)) all.now) }
     {
         for one in all {
             self.closing_rules(one)?;
@@ -79,7 +84,8 @@ impl<'a> Checker<'a> {
     /// The item of KEY of READ, which is a key of the file.
     fn read_key_item_rules(&self, file: &ProgramFile<'_>, key: &Reference) -> Result<(), BrokenRule>
         requires { IsDeclared self.now.declarations.now }
-        ensures { IsFirstBreach result (clause_item (items_in self.now.declarations.now) (spec.read_key_item (file_in (items_in self.now.declarations.now) file.now)) key.now) }
+        ensures { IsFirstBreach result (clause_item (items_in self.now.declarations.now)
+            (spec.read_key_item (file_in (items_in self.now.declarations.now) file.now)) key.now) }
     {
         let (number, found) = self.declarations.numbered_item(&key.item)?;
         let is_key = is_key_item(&self.declarations.names, file, key, found, number);
@@ -94,7 +100,9 @@ impl<'a> Checker<'a> {
         key: &Option<Reference>,
     ) -> Result<(), BrokenRule>
         requires { IsDeclared self.now.declarations.now }
-        ensures { IsFirstBreach result (spec.read_key_rules (items_in self.now.declarations.now) (files_in self.now.declarations.now) in_sequence (file_in (items_in self.now.declarations.now) file.now) key.now) }
+        ensures { IsFirstBreach result (spec.read_key_rules
+            (items_in self.now.declarations.now) (files_in self.now.declarations.now) in_sequence
+            (file_in (items_in self.now.declarations.now) file.now) key.now) }
     {
         let Some(one) = key else {
             return Ok(());
@@ -106,7 +114,9 @@ impl<'a> Checker<'a> {
     /// INTO, to which what the file sends may be moved.
     fn into_rules(&self, file: &ProgramFile<'_>, into: &Option<Reference>) -> Result<(), BrokenRule>
         requires { IsDeclared self.now.declarations.now }
-        ensures { IsFirstBreach result (spec.into_rules (items_in self.now.declarations.now) (files_in self.now.declarations.now) (file_in (items_in self.now.declarations.now) file.now) into.now) }
+        ensures { IsFirstBreach result (spec.into_rules
+            (items_in self.now.declarations.now) (files_in self.now.declarations.now)
+            (file_in (items_in self.now.declarations.now) file.now) into.now) }
     {
         match into {
             None => Ok(()),
@@ -123,7 +133,8 @@ impl<'a> Checker<'a> {
         phrases: &FilePhrases<Statement>,
     ) -> Result<(), BrokenRule>
         requires { IsDeclared self.now.declarations.now }
-        ensures { IsFirstBreach result (filed.read_file_rules place next phrases.now (file_in (items_in self.now.declarations.now) file.now)) }
+        ensures { IsFirstBreach result (filed.read_file_rules place next phrases.now
+            (file_in (items_in self.now.declarations.now) file.now)) }
     {
         let access = file.select.access;
         Rule::FilePhrase.broken_if(next && is_random(access), place)?;
@@ -141,7 +152,9 @@ impl<'a> Checker<'a> {
         phrases: &FilePhrases<Statement>,
     ) -> Result<(), BrokenRule>
         requires { IsDeclared self.now.declarations.now }
-        ensures { IsFirstBreach result (spec.read_rules (items_in self.now.declarations.now) (files_in self.now.declarations.now) place next into.now key.now phrases.now (file_in (items_in self.now.declarations.now) file.now)) }
+        ensures { IsFirstBreach result (spec.read_rules (items_in self.now.declarations.now)
+            (files_in self.now.declarations.now) place next into.now key.now phrases.now
+            (file_in (items_in self.now.declarations.now) file.now)) }
     {
         self.read_file_rules(next, file, place, phrases)?;
         self.read_key_rules(is_in_sequence(file.select.access, next), file, key)?;
@@ -157,7 +170,10 @@ impl<'a> Checker<'a> {
         phrases: &FilePhrases<Statement>,
     ) -> Result<(), BrokenRule>
         requires { IsDeclared self.now.declarations.now }
-        ensures { IsFirstBreach result (spec.file_named_rules (items_in self.now.declarations.now) (files_in self.now.declarations.now) name.now (spec.read_rules (items_in self.now.declarations.now) (files_in self.now.declarations.now) name.now.place next into.now key.now phrases.now)) }
+        ensures { IsFirstBreach result (spec.file_named_rules (items_in self.now.declarations.now)
+            (files_in self.now.declarations.now) name.now (spec.read_rules
+            (items_in self.now.declarations.now) (files_in self.now.declarations.now) name.now.place
+            next into.now key.now phrases.now)) }
     {
         let file = self.declarations.file_named(name)?;
         self.read_found_rules(file, name.place, next, into, key, phrases)
@@ -170,7 +186,9 @@ impl<'a> Checker<'a> {
         phrases: &FilePhrases<Statement>,
     ) -> Result<(), BrokenRule>
         requires { IsDeclared self.now.declarations.now }
-        ensures { IsFirstBreach result (named_rules (items_in self.now.declarations.now) (spec.record_item (items_in self.now.declarations.now) (files_in self.now.declarations.now) phrases.now) one.now) }
+        ensures { IsFirstBreach result (named_rules (items_in self.now.declarations.now)
+            (spec.record_item (items_in self.now.declarations.now)
+            (files_in self.now.declarations.now) phrases.now) one.now) }
     {
         let place = one.item.name.place;
         let (number, found) = self.declarations.numbered_item(&one.item)?;
@@ -184,7 +202,8 @@ impl<'a> Checker<'a> {
     /// FROM, which is moved to the record.
     fn from_rules(&self, to: &Reference, from: &Option<Reference>) -> Result<(), BrokenRule>
         requires { IsDeclared self.now.declarations.now }
-        ensures { IsFirstBreach result (spec.from_rules (items_in self.now.declarations.now) (files_in self.now.declarations.now) to.now from.now) }
+        ensures { IsFirstBreach result (spec.from_rules (items_in self.now.declarations.now)
+            (files_in self.now.declarations.now) to.now from.now) }
     {
         match from {
             None => Ok(()),
@@ -199,7 +218,8 @@ impl<'a> Checker<'a> {
         phrases: &FilePhrases<Statement>,
     ) -> Result<(), BrokenRule>
         requires { IsDeclared self.now.declarations.now }
-        ensures { IsFirstBreach result (spec.record_rules (items_in self.now.declarations.now) (files_in self.now.declarations.now) one.now from.now phrases.now) }
+        ensures { IsFirstBreach result (spec.record_rules (items_in self.now.declarations.now)
+            (files_in self.now.declarations.now) one.now from.now phrases.now) }
     {
         self.record_named_rules(one, phrases)?;
         self.subscripts_rules(one.subscripts.as_slice())?;
@@ -208,7 +228,10 @@ impl<'a> Checker<'a> {
 
     fn delete_rules(&self, name: &Name, phrases: &FilePhrases<Statement>) -> Result<(), BrokenRule>
         requires { IsDeclared self.now.declarations.now }
-        ensures { IsFirstBreach result (spec.file_named_rules (items_in self.now.declarations.now) (files_in self.now.declarations.now) name.now (spec.delete_rules (items_in self.now.declarations.now) (files_in self.now.declarations.now) name.now.place phrases.now)) }
+        ensures { IsFirstBreach result (spec.file_named_rules
+            (items_in self.now.declarations.now) (files_in self.now.declarations.now)
+            name.now (spec.delete_rules (items_in self.now.declarations.now)
+            (files_in self.now.declarations.now) name.now.place phrases.now)) }
     {
         let file = self.declarations.file_named(name)?;
         Rule::FileStatement.broken_if(is_sequential(file.organization), name.place)?;
@@ -218,7 +241,8 @@ impl<'a> Checker<'a> {
     /// The item of KEY of START.
     fn start_item_rules(&self, file: &ProgramFile<'_>, key: &Reference) -> Result<(), BrokenRule>
         requires { IsDeclared self.now.declarations.now }
-        ensures { IsFirstBreach result (clause_item (items_in self.now.declarations.now) (spec.start_key_item (file_in (items_in self.now.declarations.now) file.now)) key.now) }
+        ensures { IsFirstBreach result (clause_item (items_in self.now.declarations.now)
+            (spec.start_key_item (file_in (items_in self.now.declarations.now) file.now)) key.now) }
     {
         let (number, found) = self.declarations.numbered_item(&key.item)?;
         let is_start = is_start_item(&self.declarations.names, file, key, found, number);
@@ -231,7 +255,9 @@ impl<'a> Checker<'a> {
         key: &Option<StartKey>,
     ) -> Result<(), BrokenRule>
         requires { IsDeclared self.now.declarations.now }
-        ensures { IsFirstBreach result (spec.start_key_rules (items_in self.now.declarations.now) (files_in self.now.declarations.now) (file_in (items_in self.now.declarations.now) file.now) key.now) }
+        ensures { IsFirstBreach result (spec.start_key_rules
+            (items_in self.now.declarations.now) (files_in self.now.declarations.now)
+            (file_in (items_in self.now.declarations.now) file.now) key.now) }
     {
         let Some(one) = key else {
             return Ok(());
@@ -243,7 +269,8 @@ impl<'a> Checker<'a> {
     /// START stands not on sequential files, not with random access, and on relative files with RELATIVE KEY alone.
     fn start_file_rules(&self, file: &ProgramFile<'_>, place: Place) -> Result<(), BrokenRule>
         requires { IsDeclared self.now.declarations.now }
-        ensures { IsFirstBreach result (filed.start_file_rules place (file_in (items_in self.now.declarations.now) file.now)) }
+        ensures { IsFirstBreach result
+            (filed.start_file_rules place (file_in (items_in self.now.declarations.now) file.now)) }
     {
         let is_unordered = is_sequential(file.organization) || is_random(file.select.access);
         Rule::FileStatement.broken_if(is_unordered, place)?;
@@ -260,7 +287,9 @@ impl<'a> Checker<'a> {
         phrases: &FilePhrases<Statement>,
     ) -> Result<(), BrokenRule>
         requires { IsDeclared self.now.declarations.now }
-        ensures { IsFirstBreach result (spec.start_rules (items_in self.now.declarations.now) (files_in self.now.declarations.now) place key.now phrases.now (file_in (items_in self.now.declarations.now) file.now)) }
+        ensures { IsFirstBreach result (spec.start_rules (items_in self.now.declarations.now)
+            (files_in self.now.declarations.now) place key.now phrases.now
+            (file_in (items_in self.now.declarations.now) file.now)) }
     {
         self.start_file_rules(file, place)?;
         self.start_key_rules(file, key)?;
@@ -274,7 +303,10 @@ impl<'a> Checker<'a> {
         phrases: &FilePhrases<Statement>,
     ) -> Result<(), BrokenRule>
         requires { IsDeclared self.now.declarations.now }
-        ensures { IsFirstBreach result (spec.file_named_rules (items_in self.now.declarations.now) (files_in self.now.declarations.now) name.now (spec.start_rules (items_in self.now.declarations.now) (files_in self.now.declarations.now) name.now.place key.now phrases.now)) }
+        ensures { IsFirstBreach result (spec.file_named_rules
+            (items_in self.now.declarations.now) (files_in self.now.declarations.now)
+            name.now (spec.start_rules (items_in self.now.declarations.now)
+            (files_in self.now.declarations.now) name.now.place key.now phrases.now)) }
     {
         let file = self.declarations.file_named(name)?;
         self.start_found_rules(file, name.place, key, phrases)
@@ -283,7 +315,8 @@ impl<'a> Checker<'a> {
     /// A file statement without those in its phrases.
     pub fn filing_rules(&self, one: &FileStatement<Statement>) -> Result<(), BrokenRule>
         requires { IsDeclared self.now.declarations.now }
-        ensures { IsFirstBreach result (spec.filing_rules (items_in self.now.declarations.now) (files_in self.now.declarations.now) one.now) }
+        ensures { IsFirstBreach result (spec.filing_rules (items_in self.now.declarations.now)
+            (files_in self.now.declarations.now) one.now) }
     {
         match one {
             FileStatement::Open { files } => self.openings_rules(files.as_slice()),

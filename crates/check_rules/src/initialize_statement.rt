@@ -13,7 +13,8 @@ impl<'a> Checker<'a> {
     /// INITIALIZE of items, of which nothing is asked.
     pub fn initialize_rules(&self, receivers: &[Reference]) -> Result<(), BrokenRule>
         requires { IsDeclared self.now.declarations.now }
-        ensures { IsFirstBreach result (spec.initialize_rules (items_in self.now.declarations.now) receivers.now) }
+        ensures { IsFirstBreach result
+            (spec.initialize_rules (items_in self.now.declarations.now) receivers.now) }
     {
         self.receivers_rules(Asked::Nothing, receivers)
     }

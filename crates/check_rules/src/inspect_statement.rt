@@ -23,7 +23,8 @@ impl<'a> Checker<'a> {
     /// A text.
     fn inspected_rules(&self, one: &Operand) -> Result<(), BrokenRule>
         requires { IsDeclared self.now.declarations.now }
-        ensures { IsFirstBreach result (spec.inspected_rules (items_in self.now.declarations.now) one.now) }
+        ensures { IsFirstBreach result
+            (spec.inspected_rules (items_in self.now.declarations.now) one.now) }
     {
         match one {
             Operand::Item(reference) => self.item_rules(Asked::Inspected, reference),
@@ -34,7 +35,8 @@ impl<'a> Checker<'a> {
     /// The bytes of the item that a name names, where it names one.
     fn size_named(&self, name: &QualifiedName) -> Option<usize>
         requires { IsDeclared self.now.declarations.now }
-        ensures { result ≡ spec.only_size (items_named (items_in self.now.declarations.now) name.now) }
+        ensures { result
+            ≡ spec.only_size (items_named (items_in self.now.declarations.now) name.now) }
     {
         match self.declarations.item_named(name) {
             Ok(found) => Some(found.item.length as usize),
@@ -45,7 +47,8 @@ impl<'a> Checker<'a> {
     /// The characters of a text.
     fn size_of(&self, one: &Operand) -> Option<usize>
         requires { IsDeclared self.now.declarations.now }
-        ensures { spec.inspected_rules (items_in self.now.declarations.now) one.now ≡ [] → result ≡ spec.size_of (items_in self.now.declarations.now) one.now }
+        ensures { spec.inspected_rules (items_in self.now.declarations.now) one.now ≡ []
+            → result ≡ spec.size_of (items_in self.now.declarations.now) one.now }
     {
         match one {
             Operand::Item(reference) => self.size_named(&reference.item),
@@ -56,7 +59,8 @@ impl<'a> Checker<'a> {
     /// The characters of a replacing text.
     fn replacing_size(&self, one: &Operand) -> Option<usize>
         requires { IsDeclared self.now.declarations.now }
-        ensures { spec.inspected_rules (items_in self.now.declarations.now) one.now ≡ [] → result ≡ spec.replacing_size (items_in self.now.declarations.now) one.now }
+        ensures { spec.inspected_rules (items_in self.now.declarations.now) one.now ≡ []
+            → result ≡ spec.replacing_size (items_in self.now.declarations.now) one.now }
     {
         match one {
             Operand::Item(reference) => self.size_named(&reference.item),
@@ -67,7 +71,8 @@ impl<'a> Checker<'a> {
     /// What replaces a text of so many characters.
     fn by_rules(&self, size: Option<usize>, by: &Operand) -> Result<(), BrokenRule>
         requires { IsDeclared self.now.declarations.now }
-        ensures { IsFirstBreach result (spec.by_rules (items_in self.now.declarations.now) size by.now) }
+        ensures { IsFirstBreach result
+            (spec.by_rules (items_in self.now.declarations.now) size by.now) }
     {
         self.inspected_rules(by)?;
         let fits = same_size(size, self.replacing_size(by));
@@ -76,7 +81,8 @@ impl<'a> Checker<'a> {
 
     fn limit_rules(&self, one: &Option<Operand>) -> Result<(), BrokenRule>
         requires { IsDeclared self.now.declarations.now }
-        ensures { IsFirstBreach result (spec.limit_rules (items_in self.now.declarations.now) one.now) }
+        ensures { IsFirstBreach result
+            (spec.limit_rules (items_in self.now.declarations.now) one.now) }
     {
         match one {
             None => Ok(()),
@@ -90,7 +96,8 @@ impl<'a> Checker<'a> {
         second: &Option<Operand>,
     ) -> Result<(), BrokenRule>
         requires { IsDeclared self.now.declarations.now }
-        ensures { IsFirstBreach result (spec.two_limits (items_in self.now.declarations.now) first.now second.now) }
+        ensures { IsFirstBreach result
+            (spec.two_limits (items_in self.now.declarations.now) first.now second.now) }
     {
         self.limit_rules(first)?;
         self.limit_rules(second)
@@ -99,7 +106,8 @@ impl<'a> Checker<'a> {
     /// BEFORE and AFTER, as they stand.
     fn limits_rules(&self, one: &Limits) -> Result<(), BrokenRule>
         requires { IsDeclared self.now.declarations.now }
-        ensures { IsFirstBreach result (spec.limits_rules (items_in self.now.declarations.now) one.now) }
+        ensures { IsFirstBreach result
+            (spec.limits_rules (items_in self.now.declarations.now) one.now) }
     {
         if one.after_first {
             self.two_limits(&one.after, &one.before)
@@ -110,7 +118,8 @@ impl<'a> Checker<'a> {
 
     fn tallied_text_rules(&self, one: &TalliedText) -> Result<(), BrokenRule>
         requires { IsDeclared self.now.declarations.now }
-        ensures { IsFirstBreach result (spec.tallied_text_rules (items_in self.now.declarations.now) one.now) }
+        ensures { IsFirstBreach result
+            (spec.tallied_text_rules (items_in self.now.declarations.now) one.now) }
     {
         self.inspected_rules(&one.text)?;
         self.limits_rules(&one.limits)
@@ -118,7 +127,8 @@ impl<'a> Checker<'a> {
 
     fn tallied_texts_rules(&self, all: &[TalliedText]) -> Result<(), BrokenRule>
         requires { IsDeclared self.now.declarations.now }
-        ensures { IsFirstBreach result (each (spec.tallied_text_rules (items_in self.now.declarations.now)) all.now) }
+        ensures { IsFirstBreach result
+            (each (spec.tallied_text_rules (items_in self.now.declarations.now)) all.now) }
     {
         for one in all {
             self.tallied_text_rules(one)?;
@@ -128,7 +138,8 @@ impl<'a> Checker<'a> {
 
     fn tallied_rules(&self, one: &Tallied) -> Result<(), BrokenRule>
         requires { IsDeclared self.now.declarations.now }
-        ensures { IsFirstBreach result (spec.tallied_rules (items_in self.now.declarations.now) one.now) }
+        ensures { IsFirstBreach result
+            (spec.tallied_rules (items_in self.now.declarations.now) one.now) }
     {
         match one {
             Tallied::Characters { limits } => self.limits_rules(limits),
@@ -138,7 +149,8 @@ impl<'a> Checker<'a> {
 
     fn all_tallied_rules(&self, all: &[Tallied]) -> Result<(), BrokenRule>
         requires { IsDeclared self.now.declarations.now }
-        ensures { IsFirstBreach result (each (spec.tallied_rules (items_in self.now.declarations.now)) all.now) }
+        ensures { IsFirstBreach result
+            (each (spec.tallied_rules (items_in self.now.declarations.now)) all.now) }
     {
         for one in all {
             self.tallied_rules(one)?;
@@ -149,7 +161,8 @@ impl<'a> Checker<'a> {
     /// A counter, and what it counts.
     fn tallying_rules(&self, one: &Tallying) -> Result<(), BrokenRule>
         requires { IsDeclared self.now.declarations.now }
-        ensures { IsFirstBreach result (spec.tallying_rules (items_in self.now.declarations.now) one.now) }
+        ensures { IsFirstBreach result
+            (spec.tallying_rules (items_in self.now.declarations.now) one.now) }
     {
         self.item_rules(Asked::Counts, &one.counter)?;
         self.all_tallied_rules(one.tallied.as_slice())
@@ -157,7 +170,8 @@ impl<'a> Checker<'a> {
 
     fn counters_rules(&self, all: &[Tallying]) -> Result<(), BrokenRule>
         requires { IsDeclared self.now.declarations.now }
-        ensures { IsFirstBreach result (each (spec.tallying_rules (items_in self.now.declarations.now)) all.now) }
+        ensures { IsFirstBreach result
+            (each (spec.tallying_rules (items_in self.now.declarations.now)) all.now) }
     {
         for one in all {
             self.tallying_rules(one)?;
@@ -167,7 +181,8 @@ impl<'a> Checker<'a> {
 
     fn replaced_text_rules(&self, one: &ReplacedText) -> Result<(), BrokenRule>
         requires { IsDeclared self.now.declarations.now }
-        ensures { IsFirstBreach result (spec.replaced_text_rules (items_in self.now.declarations.now) one.now) }
+        ensures { IsFirstBreach result
+            (spec.replaced_text_rules (items_in self.now.declarations.now) one.now) }
     {
         self.inspected_rules(&one.text)?;
         self.by_rules(self.size_of(&one.text), &one.by)?;
@@ -176,7 +191,8 @@ impl<'a> Checker<'a> {
 
     fn replaced_texts_rules(&self, all: &[ReplacedText]) -> Result<(), BrokenRule>
         requires { IsDeclared self.now.declarations.now }
-        ensures { IsFirstBreach result (each (spec.replaced_text_rules (items_in self.now.declarations.now)) all.now) }
+        ensures { IsFirstBreach result
+            (each (spec.replaced_text_rules (items_in self.now.declarations.now)) all.now) }
     {
         for one in all {
             self.replaced_text_rules(one)?;
@@ -186,7 +202,8 @@ impl<'a> Checker<'a> {
 
     fn replacing_rules(&self, one: &Replacing) -> Result<(), BrokenRule>
         requires { IsDeclared self.now.declarations.now }
-        ensures { IsFirstBreach result (spec.replacing_rules (items_in self.now.declarations.now) one.now) }
+        ensures { IsFirstBreach result
+            (spec.replacing_rules (items_in self.now.declarations.now) one.now) }
     {
         match one {
             Replacing::Characters { by, limits } => {
@@ -199,7 +216,8 @@ impl<'a> Checker<'a> {
 
     fn all_replacing_rules(&self, all: &[Replacing]) -> Result<(), BrokenRule>
         requires { IsDeclared self.now.declarations.now }
-        ensures { IsFirstBreach result (each (spec.replacing_rules (items_in self.now.declarations.now)) all.now) }
+        ensures { IsFirstBreach result
+            (each (spec.replacing_rules (items_in self.now.declarations.now)) all.now) }
     {
         for one in all {
             self.replacing_rules(one)?;
@@ -210,7 +228,8 @@ impl<'a> Checker<'a> {
     /// INSPECT: its subject, its counters with what they count, and what is replaced.
     pub fn inspect_rules(&self, one: &InspectStatement) -> Result<(), BrokenRule>
         requires { IsDeclared self.now.declarations.now }
-        ensures { IsFirstBreach result (spec.inspect_rules (items_in self.now.declarations.now) one.now) }
+        ensures { IsFirstBreach result
+            (spec.inspect_rules (items_in self.now.declarations.now) one.now) }
     {
         self.item_rules(Asked::Inspected, &one.subject)?;
         self.counters_rules(one.tallying.as_slice())?;
@@ -233,7 +252,8 @@ fn inspected_literal(one: &Literal) -> Result<(), BrokenRule>
 
 /// The characters of a literal that is a text; a number is none.
 fn literal_size(one: &Literal) -> Option<usize>
-    ensures { spec.inspected_literal one.now one.now.value ≡ [] → result ≡ Some (length (shown_literal one.now.value)) }
+    ensures { spec.inspected_literal one.now one.now.value ≡ []
+        → result ≡ Some (length (shown_literal one.now.value)) }
 {
     match &one.value {
         LiteralValue::Numeric(_) => None,
@@ -245,7 +265,8 @@ fn literal_size(one: &Literal) -> Option<usize>
 
 /// The characters of a literal that is a replacing text. A figurative constant has any number.
 fn replacing_literal_size(one: &Literal) -> Option<usize>
-    ensures { spec.inspected_literal one.now one.now.value ≡ [] → result ≡ spec.literal_size one.now.value }
+    ensures { spec.inspected_literal one.now one.now.value ≡ []
+        → result ≡ spec.literal_size one.now.value }
 {
     match &one.value {
         LiteralValue::Figurative(_) => None,

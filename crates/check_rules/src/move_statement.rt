@@ -20,7 +20,8 @@ impl<'a> Checker<'a> {
     /// An operand: a reference, of whose item nothing is asked, or a literal that has its form.
     pub fn operand_rules(&self, one: &Operand) -> Result<(), BrokenRule>
         requires { IsDeclared self.now.declarations.now }
-        ensures { IsFirstBreach result (names.operand_rules (items_in self.now.declarations.now) one.now) }
+        ensures { IsFirstBreach result
+            (names.operand_rules (items_in self.now.declarations.now) one.now) }
     {
         match one {
             Operand::Item(reference) => self.item_rules(Asked::Nothing, reference),
@@ -31,7 +32,8 @@ impl<'a> Checker<'a> {
     /// What an item asks of receivers; nothing where its name doesn't name one item.
     fn asked_by_item(&self, sender: &Reference) -> Asked
         requires { IsDeclared self.now.declarations.now }
-        ensures { result ≡ asked_by (spec.sent_by (items_in self.now.declarations.now) (Item sender.now)) }
+        ensures { result
+            ≡ asked_by (spec.sent_by (items_in self.now.declarations.now) (Item sender.now)) }
     {
         match self.declarations.item_named(&sender.item) {
             Ok(found) => Asked::Receives(Sent::by_item(found.item)),
@@ -53,7 +55,8 @@ impl<'a> Checker<'a> {
     /// Receivers, of which the same is asked, in order.
     pub(crate) fn receivers_rules(&self, asked: Asked, all: &[Reference]) -> Result<(), BrokenRule>
         requires { IsDeclared self.now.declarations.now }
-        ensures { IsFirstBreach result (each (names.reference_rules (items_in self.now.declarations.now) (asks asked)) all.now) }
+        ensures { IsFirstBreach result (each
+            (names.reference_rules (items_in self.now.declarations.now) (asks asked)) all.now) }
     {
         for one in all {
             self.item_rules(asked, one)?;
@@ -68,7 +71,8 @@ impl<'a> Checker<'a> {
         receivers: &[Reference],
     ) -> Result<(), BrokenRule>
         requires { IsDeclared self.now.declarations.now }
-        ensures { IsFirstBreach result (spec.move_rules (items_in self.now.declarations.now) (Item sender.now) receivers.now) }
+        ensures { IsFirstBreach result
+            (spec.move_rules (items_in self.now.declarations.now) (Item sender.now) receivers.now) }
     {
         self.item_rules(Asked::Nothing, sender)?;
         self.receivers_rules(self.asked_by_item(sender), receivers)
@@ -77,7 +81,8 @@ impl<'a> Checker<'a> {
     /// MOVE of a sender to receivers.
     pub fn move_rules(&self, sender: &Operand, receivers: &[Reference]) -> Result<(), BrokenRule>
         requires { IsDeclared self.now.declarations.now }
-        ensures { IsFirstBreach result (spec.move_rules (items_in self.now.declarations.now) sender.now receivers.now) }
+        ensures { IsFirstBreach result
+            (spec.move_rules (items_in self.now.declarations.now) sender.now receivers.now) }
     {
         self.operand_rules(sender)?;
         self.receivers_rules(self.asked_by(sender), receivers)

@@ -56,7 +56,9 @@ impl<'a> Checker<'a> {
         all: &mut Performs,
     ) -> Result<(), AllocError>
         requires { IsDeclared self.now.declarations.now }
-        ensures { OnOk result (AppendsPerforms all.old all.new (in_paragraph number (spec.range_performs first.now.place (range_of (procedures_in self.now.declarations.now) first.now last.now)))) }
+        ensures { OnOk result (AppendsPerforms all.old
+            all.new (in_paragraph number (spec.range_performs first.now.place
+            (range_of (procedures_in self.now.declarations.now) first.now last.now)))) }
     {
         let Some(range) = self.declarations.procedures.range_of(first, last) else {
             return Ok(());
@@ -79,7 +81,8 @@ impl<'a> Checker<'a> {
         all: &mut Performs,
     ) -> Result<(), AllocError>
         requires { IsDeclared self.now.declarations.now }
-        ensures { OnOk result (AppendsPerforms all.old all.new (in_paragraph number (spec.statement_performs (procedures_in self.now.declarations.now) one.now))) }
+        ensures { OnOk result (AppendsPerforms all.old all.new (in_paragraph number
+            (spec.statement_performs (procedures_in self.now.declarations.now) one.now))) }
     {
         match &one.verb {
             Verb::Arithmetic(
@@ -129,7 +132,8 @@ impl<'a> Checker<'a> {
         all: &mut Performs,
     ) -> Result<(), AllocError>
         requires { IsDeclared self.now.declarations.now }
-        ensures { OnOk result (AppendsPerforms all.old all.new (in_paragraph number (each_performs (spec.statement_performs (procedures_in self.now.declarations.now)) statements.now))) }
+        ensures { OnOk result (AppendsPerforms all.old all.new (in_paragraph number (each_performs
+            (spec.statement_performs (procedures_in self.now.declarations.now)) statements.now))) }
     {
         for one in statements {
             self.statement_performs(number, one, all)?;
@@ -146,7 +150,8 @@ impl<'a> Checker<'a> {
         all: &mut Performs,
     ) -> Result<(), AllocError>
         requires { IsDeclared self.now.declarations.now }
-        ensures { OnOk result (AddsPhrase (procedures_in self.now.declarations.now) number all.old all.new phrase.now) }
+        ensures { OnOk result (AddsPhrase (procedures_in self.now.declarations.now) number all.old
+            all.new phrase.now) }
     {
         match phrase {
             None => Ok(()),
@@ -163,7 +168,9 @@ impl<'a> Checker<'a> {
         all: &mut Performs,
     ) -> Result<(), AllocError>
         requires { IsDeclared self.now.declarations.now }
-        ensures { OnOk result (AppendsPerforms all.old all.new (in_paragraph number (phrases_performs (spec.statement_performs (procedures_in self.now.declarations.now)) pair.now))) }
+        ensures { OnOk
+            result (AppendsPerforms all.old all.new (in_paragraph number (phrases_performs
+            (spec.statement_performs (procedures_in self.now.declarations.now)) pair.now))) }
     {
         self.phrase_performs(number, &pair.arose, all)?;
         self.phrase_performs(number, &pair.did_not, all)
@@ -178,7 +185,9 @@ impl<'a> Checker<'a> {
         all: &mut Performs,
     ) -> Result<(), AllocError>
         requires { IsDeclared self.now.declarations.now }
-        ensures { OnOk result (AppendsPerforms all.old all.new (in_paragraph number (file_phrases_performs (spec.statement_performs (procedures_in self.now.declarations.now)) phrases.now))) }
+        ensures { OnOk result
+            (AppendsPerforms all.old all.new (in_paragraph number (file_phrases_performs
+            (spec.statement_performs (procedures_in self.now.declarations.now)) phrases.now))) }
     {
         match phrases {
             FilePhrases::Absent => Ok(()),
@@ -196,7 +205,9 @@ impl<'a> Checker<'a> {
         all: &mut Performs,
     ) -> Result<(), AllocError>
         requires { IsDeclared self.now.declarations.now }
-        ensures { OnOk result (AppendsPerforms all.old all.new (in_paragraph number (file_phrases_performs (spec.statement_performs (procedures_in self.now.declarations.now)) (phrases_of one.now)))) }
+        ensures { OnOk result (AppendsPerforms all.old
+            all.new (in_paragraph number (file_phrases_performs (spec.statement_performs
+            (procedures_in self.now.declarations.now)) (phrases_of one.now)))) }
     {
         match one {
             FileStatement::Open { .. } => Ok(()),
@@ -226,7 +237,9 @@ impl<'a> Checker<'a> {
         all: &mut Performs,
     ) -> Result<(), AllocError>
         requires { IsDeclared self.now.declarations.now }
-        ensures { OnOk result (AppendsPerforms all.old all.new (in_paragraph number (spec.performed_performs (procedures_in self.now.declarations.now) (spec.statement_performs (procedures_in self.now.declarations.now)) performed.now))) }
+        ensures { OnOk result (AppendsPerforms all.old all.new
+            (in_paragraph number (spec.performed_performs (procedures_in self.now.declarations.now)
+            (spec.statement_performs (procedures_in self.now.declarations.now)) performed.now))) }
     {
         match performed {
             Performed::Procedures { first, last } => self.range_performs(number, first, last, all),
@@ -245,7 +258,9 @@ impl<'a> Checker<'a> {
         all: &mut Performs,
     ) -> Result<(), AllocError>
         requires { IsDeclared self.now.declarations.now }
-        ensures { OnOk result (AppendsPerforms all.old all.new (in_paragraph number (each_performs (selected_performs (spec.statement_performs (procedures_in self.now.declarations.now))) selections.now))) }
+        ensures { OnOk result
+            (AppendsPerforms all.old all.new (in_paragraph number (each_performs (selected_performs
+            (spec.statement_performs (procedures_in self.now.declarations.now))) selections.now))) }
     {
         for one in selections {
             self.statements_performs(number, one.statements.as_slice(), all)?;
@@ -262,7 +277,9 @@ impl<'a> Checker<'a> {
         all: &mut Performs,
     ) -> Result<(), AllocError>
         requires { IsDeclared self.now.declarations.now }
-        ensures { OnOk result (AppendsPerforms all.old all.new (in_paragraph number (spec.evaluate_performs (spec.statement_performs (procedures_in self.now.declarations.now)) one.now))) }
+        ensures { OnOk result
+            (AppendsPerforms all.old all.new (in_paragraph number (spec.evaluate_performs
+            (spec.statement_performs (procedures_in self.now.declarations.now)) one.now))) }
     {
         self.selections_performs(number, one.selected.as_slice(), all)?;
         self.phrase_performs(number, &one.other, all)
@@ -276,7 +293,8 @@ impl<'a> Checker<'a> {
         all: &mut Performs,
     ) -> Result<(), AllocError>
         requires { IsDeclared self.now.declarations.now }
-        ensures { OnOk result (AppendsPerforms all.old all.new (in_paragraph number (each_performs (spec.sentence_performs (procedures_in self.now.declarations.now)) sentences.now))) }
+        ensures { OnOk result (AppendsPerforms all.old all.new (in_paragraph number (each_performs
+            (spec.sentence_performs (procedures_in self.now.declarations.now)) sentences.now))) }
     {
         for one in sentences {
             self.statements_performs(number, one.statements.as_slice(), all)?;
@@ -293,7 +311,8 @@ impl<'a> Checker<'a> {
     ) -> Result<(), AllocError>
         requires declared { IsDeclared self.now.declarations.now }
         requires numbers { first + length paragraphs.now < 2 ^ 64 }
-        ensures { OnOk result (AppendsPerforms all.old all.new (performs_from (procedures_in self.now.declarations.now) first paragraphs.now)) }
+        ensures { OnOk result (AppendsPerforms all.old all.new
+            (performs_from (procedures_in self.now.declarations.now) first paragraphs.now)) }
     {
         for (i, one) in paragraphs.iter().enumerate() {
             self.paragraph_performs(first + i, one.sentences.as_slice(), all)?;
@@ -309,8 +328,10 @@ impl<'a> Checker<'a> {
         all: &mut Performs,
     ) -> Result<usize, AllocError>
         requires { IsDeclared self.now.declarations.now }
-        ensures next { IfOk result (λ next. next ≡ first + length (paragraphs_or_one one.now.paragraphs)) }
-        ensures added { OnOk result (AppendsPerforms all.old all.new (performs_from (procedures_in self.now.declarations.now) first (paragraphs_or_one one.now.paragraphs))) }
+        ensures next { IfOk result
+            (λ next. next ≡ first + length (paragraphs_or_one one.now.paragraphs)) }
+        ensures added { OnOk result (AppendsPerforms all.old all.new (performs_from (procedures_in
+            self.now.declarations.now) first (paragraphs_or_one one.now.paragraphs))) }
     {
         let paragraphs = one.paragraphs.as_slice();
         let Some(next) = first.checked_add(paragraphs.len().max(1)) else {
@@ -328,7 +349,8 @@ impl<'a> Checker<'a> {
     ) -> Result<usize, AllocError>
         requires { IsDeclared self.now.declarations.now }
         ensures count { IfOk result (λ count. count ≡ length (paragraphs_in sections.now)) }
-        ensures added { OnOk result (AppendsPerforms all.old all.new (performs_from (procedures_in self.now.declarations.now) 0 (paragraphs_in sections.now))) }
+        ensures added { OnOk result (AppendsPerforms all.old all.new (performs_from
+            (procedures_in self.now.declarations.now) 0 (paragraphs_in sections.now))) }
     {
         let mut number = 0;
         for one in sections {

@@ -14,7 +14,8 @@ impl<'a> Checker<'a> {
     /// What is performed from one procedure to the end of another, or of the same: rule 55 where that is backwards.
     pub(crate) fn range_rules(&self, first: &Name, last: &Option<Name>) -> Result<(), BrokenRule>
         requires { IsDeclared self.now.declarations.now }
-        ensures { IsFirstBreach result (spec.range_rules all_permitted (procedures_in self.now.declarations.now) first.now last.now) }
+        ensures { IsFirstBreach result (spec.range_rules all_permitted
+            (procedures_in self.now.declarations.now) first.now last.now) }
     {
         let from = self.declarations.procedure_named(first)?;
         let (to, place) = match last {

@@ -22,7 +22,8 @@ impl<'a> Checker<'a> {
     pub(crate) fn recursion_rules(&self, alloc: Global, program: &Program) -> Result<(), CheckError>
         requires declared { IsDeclared self.now.declarations.now }
         requires program { Declares program.now self.now.declarations.now }
-        requires kept { sections_rules (scope_in self.now.declarations.now) all_permitted program.now.sections ≡ [] }
+        requires kept { sections_rules (scope_in self.now.declarations.now) all_permitted
+            program.now.sections ≡ [] }
         ensures order { OnOk result (HasOrder program.now) }
         ensures back { IfErr result (λ e. IsBack program.now (fault_of e)) }
     {
@@ -54,7 +55,8 @@ fn is_marked(marked: &[bool], paragraph: usize) -> bool
 /// A PERFORM stands in a marked paragraph, and performs one.
 fn leads_back(marked: &[bool], one: PerformedRange) -> bool
     requires { HasNext one }
-    ensures { MatchBool result (PerformsWithin (marks marked.now) one) (PerformsWithin (marks marked.now) one → ⊥) }
+    ensures { MatchBool result (PerformsWithin (marks marked.now) one)
+        (PerformsWithin (marks marked.now) one → ⊥) }
 {
     if !is_marked(marked, one.performer) {
         return false;
@@ -70,7 +72,8 @@ fn leads_back(marked: &[bool], one: PerformedRange) -> bool
 /// The first PERFORM that does.
 fn first_back(marked: &[bool], ranges: &[PerformedRange]) -> Option<usize>
     requires { All HasNext ranges.now }
-    ensures { MatchOption result (All (λ one. PerformsWithin (marks marked.now) one → ⊥) ranges.now) (IsFirstWithin (marks marked.now) ranges.now) }
+    ensures { MatchOption result (All (λ one. PerformsWithin (marks marked.now) one → ⊥) ranges.now)
+        (IsFirstWithin (marks marked.now) ranges.now) }
 {
     for (i, one) in ranges.iter().enumerate() {
         if leads_back(marked, *one) {

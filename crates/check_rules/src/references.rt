@@ -18,7 +18,8 @@ impl<'a> Checker<'a> {
     /// The item of a subscript is an integer, and has no subscripts.
     fn subscript_item_rules(&self, item: &QualifiedName) -> Result<(), BrokenRule>
         requires { IsDeclared self.now.declarations.now }
-        ensures { IsFirstBreach result (parts.subscript_rules_of (items_in self.now.declarations.now) item.now) }
+        ensures { IsFirstBreach result
+            (parts.subscript_rules_of (items_in self.now.declarations.now) item.now) }
     {
         let place = item.name.place;
         let found = self.declarations.item_named(item)?;
@@ -29,7 +30,8 @@ impl<'a> Checker<'a> {
     /// A subscript.
     fn subscript_rules(&self, one: &Subscript) -> Result<(), BrokenRule>
         requires { IsDeclared self.now.declarations.now }
-        ensures { IsFirstBreach result (spec.subscript_rules (items_in self.now.declarations.now) one.now) }
+        ensures { IsFirstBreach result
+            (spec.subscript_rules (items_in self.now.declarations.now) one.now) }
     {
         match one {
             Subscript::Literal(integer) => integer_rules(integer),
@@ -43,7 +45,8 @@ impl<'a> Checker<'a> {
     /// Subscripts, in order.
     pub(crate) fn subscripts_rules(&self, all: &[Subscript]) -> Result<(), BrokenRule>
         requires { IsDeclared self.now.declarations.now }
-        ensures { IsFirstBreach result (each (spec.subscript_rules (items_in self.now.declarations.now)) all.now) }
+        ensures { IsFirstBreach result
+            (each (spec.subscript_rules (items_in self.now.declarations.now)) all.now) }
     {
         for one in all {
             self.subscript_rules(one)?;
@@ -54,7 +57,8 @@ impl<'a> Checker<'a> {
     /// The item of a reference, its number of subscripts, and what is asked of it.
     fn named_rules(&self, asked: Asked, one: &Reference) -> Result<(), BrokenRule>
         requires { IsDeclared self.now.declarations.now }
-        ensures { IsFirstBreach result (parts.named_rules (items_in self.now.declarations.now) (asks asked) one.now) }
+        ensures { IsFirstBreach result
+            (parts.named_rules (items_in self.now.declarations.now) (asks asked) one.now) }
     {
         let place = one.item.name.place;
         let found = self.declarations.item_named(&one.item)?;
@@ -66,7 +70,8 @@ impl<'a> Checker<'a> {
     /// A reference, and what is asked of its item.
     pub(crate) fn item_rules(&self, asked: Asked, one: &Reference) -> Result<(), BrokenRule>
         requires { IsDeclared self.now.declarations.now }
-        ensures { IsFirstBreach result (spec.reference_rules (items_in self.now.declarations.now) (asks asked) one.now) }
+        ensures { IsFirstBreach result
+            (spec.reference_rules (items_in self.now.declarations.now) (asks asked) one.now) }
     {
         self.named_rules(asked, one)?;
         self.subscripts_rules(one.subscripts.as_slice())

@@ -15,7 +15,8 @@ impl<'a> Checker<'a> {
     /// What a name breaks that no condition name has: 68 where items have it, else 40.
     fn no_condition(&self, name: &QualifiedName) -> BrokenRule
         requires { IsDeclared self.now.declarations.now }
-        ensures { spec.no_condition name.now.name.place (items_named (items_in self.now.declarations.now) name.now) ≡ broken_of result ∷ [] }
+        ensures { spec.no_condition name.now.name.place
+            (items_named (items_in self.now.declarations.now) name.now) ≡ broken_of result ∷ [] }
     {
         name_table::items_named();
         let rule = match self.declarations.names.look_up(name) {
@@ -29,7 +30,9 @@ impl<'a> Checker<'a> {
     /// The name of a condition, which has as many subscripts as its item has dimensions.
     fn set_name_rules(&self, one: &Reference) -> Result<(), BrokenRule>
         requires { IsDeclared self.now.declarations.now }
-        ensures { IsFirstBreach result (spec.set_name one.now.item.name.place one.now (items_named (items_in self.now.declarations.now) one.now.item) (conditions_named (items_in self.now.declarations.now) one.now.item)) }
+        ensures { IsFirstBreach result (spec.set_name one.now.item.name.place
+            one.now (items_named (items_in self.now.declarations.now) one.now.item)
+            (conditions_named (items_in self.now.declarations.now) one.now.item)) }
     {
         name_table::conditions_named();
         match self.declarations.conditions.names.look_up(&one.item) {
@@ -50,7 +53,8 @@ impl<'a> Checker<'a> {
     /// SET of condition names TO TRUE.
     pub fn set_rules(&self, conditions: &[Reference]) -> Result<(), BrokenRule>
         requires { IsDeclared self.now.declarations.now }
-        ensures { IsFirstBreach result (spec.set_rules (items_in self.now.declarations.now) conditions.now) }
+        ensures { IsFirstBreach result
+            (spec.set_rules (items_in self.now.declarations.now) conditions.now) }
     {
         for one in conditions {
             self.set_one_rules(one)?;

@@ -60,7 +60,8 @@ impl<'a> Checker<'a> {
     /// A side by itself: an operand alone of any kind, or numbers.
     pub(crate) fn side_rules(&self, one: &Side) -> Result<(), BrokenRule>
         requires { IsDeclared self.now.declarations.now }
-        ensures { IsFirstBreach result (spec.side_rules (items_in self.now.declarations.now) one.now) }
+        ensures { IsFirstBreach result
+            (spec.side_rules (items_in self.now.declarations.now) one.now) }
     {
         match one {
             Side::Expression(expression) => match operand_alone(expression) {
@@ -74,7 +75,8 @@ impl<'a> Checker<'a> {
     /// What an operand is beside another.
     fn operand_compared(&self, one: &Operand) -> SideKind
         requires { IsDeclared self.now.declarations.now }
-        ensures { side_kind_of result ≡ spec.compared_alone (items_in self.now.declarations.now) (Some one.now) }
+        ensures { side_kind_of result
+            ≡ spec.compared_alone (items_in self.now.declarations.now) (Some one.now) }
     {
         match one {
             Operand::Item(reference) => match self.declarations.item_named(&reference.item) {
@@ -88,7 +90,8 @@ impl<'a> Checker<'a> {
     /// What a side is beside another.
     fn side_compared(&self, one: &Side) -> SideKind
         requires { IsDeclared self.now.declarations.now }
-        ensures { side_kind_of result ≡ spec.compared_alone (items_in self.now.declarations.now) (tree.alone_side one.now) }
+        ensures { side_kind_of result
+            ≡ spec.compared_alone (items_in self.now.declarations.now) (tree.alone_side one.now) }
     {
         match one {
             Side::Expression(expression) => match operand_alone(expression) {
@@ -102,7 +105,8 @@ impl<'a> Checker<'a> {
     /// Two sides, which can be compared: not two literals, not a number with decimals or in another usage beside characters.
     pub fn relation_rules(&self, left: &Side, right: &Side) -> Result<(), BrokenRule>
         requires { IsDeclared self.now.declarations.now }
-        ensures { IsFirstBreach result (spec.relation_rules (items_in self.now.declarations.now) left.now right.now) }
+        ensures { IsFirstBreach result
+            (spec.relation_rules (items_in self.now.declarations.now) left.now right.now) }
     {
         self.side_rules(left)?;
         self.side_rules(right)?;

@@ -114,7 +114,8 @@ fn after_phrases(room: Room, pair: &Phrases<Statement>) -> Room
 /// After those of the phrases of a file statement.
 #[cycle(count)]
 fn after_file_phrases(room: Room, phrases: &FilePhrases<Statement>) -> Room
-    ensures { result ≡ room_after room (each_place statement_places (spec.in_file_phrases phrases.now)) }
+    ensures { result
+        ≡ room_after room (each_place statement_places (spec.in_file_phrases phrases.now)) }
 {
     match phrases {
         FilePhrases::Absent => room,
@@ -126,7 +127,8 @@ fn after_file_phrases(room: Room, phrases: &FilePhrases<Statement>) -> Room
 /// After those in a file statement.
 #[cycle(count)]
 fn after_filing(room: Room, one: &FileStatement<Statement>) -> Room
-    ensures { result ≡ room_after room (each_place statement_places (spec.in_file_phrases (phrases_of one.now))) }
+    ensures { result ≡ room_after room
+        (each_place statement_places (spec.in_file_phrases (phrases_of one.now))) }
 {
     match one {
         FileStatement::Open { .. } => room,
@@ -142,7 +144,8 @@ fn after_filing(room: Room, one: &FileStatement<Statement>) -> Room
 /// After those that a PERFORM has in it.
 #[cycle(count)]
 fn after_performed(room: Room, performed: &Performed<Statement>) -> Room
-    ensures { result ≡ room_after room (each_place statement_places (spec.in_performed performed.now)) }
+    ensures { result
+        ≡ room_after room (each_place statement_places (spec.in_performed performed.now)) }
 {
     match performed {
         Performed::Procedures { .. } => room,

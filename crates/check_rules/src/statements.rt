@@ -22,7 +22,8 @@ use sqlite_items::Items;
 impl<'a> Checker<'a> {
     fn moving_rules(&self, one: &DataStatement) -> Result<(), BrokenRule>
         requires { IsDeclared self.now.declarations.now }
-        ensures { IsFirstBreach result (spec.moving_rules (items_in self.now.declarations.now) one.now) }
+        ensures { IsFirstBreach result
+            (spec.moving_rules (items_in self.now.declarations.now) one.now) }
     {
         match one {
             DataStatement::Move { sender, receivers } => self.move_rules(
@@ -36,7 +37,8 @@ impl<'a> Checker<'a> {
 
     fn text_rules(&self, one: &TextStatement) -> Result<(), BrokenRule>
         requires { IsDeclared self.now.declarations.now }
-        ensures { IsFirstBreach result (spec.text_rules (items_in self.now.declarations.now) one.now) }
+        ensures { IsFirstBreach result
+            (spec.text_rules (items_in self.now.declarations.now) one.now) }
     {
         match one {
             TextStatement::Display { operands, .. } => self.display_rules(operands.as_slice()),
@@ -51,7 +53,8 @@ impl<'a> Checker<'a> {
     #[tactic(auto, using(declarations::proofs::RuleLayers::statement_is))]
     pub fn statement_rules(&self, one: &Statement) -> Result<(), BrokenRule>
         requires { IsDeclared self.now.declarations.now }
-        ensures { IsFirstBreach result (spec.statement_rules (scope_in self.now.declarations.now) all_permitted one.now) }
+        ensures { IsFirstBreach result
+            (spec.statement_rules (scope_in self.now.declarations.now) all_permitted one.now) }
     {
         match &one.verb {
             Verb::DataStatement(moving) => self.moving_rules(moving),
@@ -101,7 +104,8 @@ impl<'a> Checker<'a> {
     #[cycle(statement)]
     fn statements_rules(&self, all: &[Statement]) -> Result<(), BrokenRule>
         requires { IsDeclared self.now.declarations.now }
-        ensures { IsFirstBreach result (each (spec.statement_rules (scope_in self.now.declarations.now) all_permitted) all.now) }
+        ensures { IsFirstBreach result (each
+            (spec.statement_rules (scope_in self.now.declarations.now) all_permitted) all.now) }
     {
         for one in all {
             self.statement_rules(one)?;
@@ -113,7 +117,8 @@ impl<'a> Checker<'a> {
     #[cycle(statement)]
     fn phrase_rules(&self, phrase: &Option<Items<Statement>>) -> Result<(), BrokenRule>
         requires { IsDeclared self.now.declarations.now }
-        ensures { IsFirstBreach result (spec.phrase_rules (spec.statement_rules (scope_in self.now.declarations.now) all_permitted) phrase.now) }
+        ensures { IsFirstBreach result (spec.phrase_rules
+            (spec.statement_rules (scope_in self.now.declarations.now) all_permitted) phrase.now) }
     {
         match phrase {
             None => Ok(()),
@@ -125,7 +130,8 @@ impl<'a> Checker<'a> {
     #[cycle(statement)]
     fn opposite_rules(&self, pair: &Phrases<Statement>) -> Result<(), BrokenRule>
         requires { IsDeclared self.now.declarations.now }
-        ensures { IsFirstBreach result (spec.phrases_rules (spec.statement_rules (scope_in self.now.declarations.now) all_permitted) pair.now) }
+        ensures { IsFirstBreach result (spec.phrases_rules
+            (spec.statement_rules (scope_in self.now.declarations.now) all_permitted) pair.now) }
     {
         self.phrase_rules(&pair.arose)?;
         self.phrase_rules(&pair.did_not)
@@ -135,7 +141,8 @@ impl<'a> Checker<'a> {
     #[cycle(statement)]
     fn file_phrases_rules(&self, phrases: &FilePhrases<Statement>) -> Result<(), BrokenRule>
         requires { IsDeclared self.now.declarations.now }
-        ensures { IsFirstBreach result (spec.file_phrases_rules (spec.statement_rules (scope_in self.now.declarations.now) all_permitted) phrases.now) }
+        ensures { IsFirstBreach result (spec.file_phrases_rules
+            (spec.statement_rules (scope_in self.now.declarations.now) all_permitted) phrases.now) }
     {
         match phrases {
             FilePhrases::Absent => Ok(()),
@@ -148,7 +155,8 @@ impl<'a> Checker<'a> {
     #[cycle(statement)]
     fn filed_rules(&self, one: &FileStatement<Statement>) -> Result<(), BrokenRule>
         requires { IsDeclared self.now.declarations.now }
-        ensures { IsFirstBreach result (spec.file_phrases_rules (spec.statement_rules (scope_in self.now.declarations.now) all_permitted) (phrases_of one.now)) }
+        ensures { IsFirstBreach result (spec.file_phrases_rules (spec.statement_rules
+            (scope_in self.now.declarations.now) all_permitted) (phrases_of one.now)) }
     {
         match one {
             FileStatement::Open { .. } => Ok(()),
@@ -165,7 +173,9 @@ impl<'a> Checker<'a> {
     #[cycle(statement)]
     fn file_statement_rules(&self, one: &FileStatement<Statement>) -> Result<(), BrokenRule>
         requires { IsDeclared self.now.declarations.now }
-        ensures { IsFirstBreach result (filing_rules (items_in self.now.declarations.now) (files_in self.now.declarations.now) one.now ++ spec.file_phrases_rules (spec.statement_rules (scope_in self.now.declarations.now) all_permitted) (phrases_of one.now)) }
+        ensures { IsFirstBreach result (filing_rules (items_in self.now.declarations.now) (files_in
+            self.now.declarations.now) one.now ++ spec.file_phrases_rules (spec.statement_rules
+            (scope_in self.now.declarations.now) all_permitted) (phrases_of one.now)) }
     {
         self.filing_rules(one)?;
         self.filed_rules(one)
@@ -179,7 +189,9 @@ impl<'a> Checker<'a> {
         one: &Selected<Statement>,
     ) -> Result<(), BrokenRule>
         requires { IsDeclared self.now.declarations.now }
-        ensures { IsFirstBreach result (selected_rules (items_in self.now.declarations.now) (spec.statement_rules (scope_in self.now.declarations.now) all_permitted) subjects.now one.now) }
+        ensures { IsFirstBreach result (selected_rules (items_in self.now.declarations.now)
+            (spec.statement_rules (scope_in self.now.declarations.now) all_permitted) subjects.now
+            one.now) }
     {
         self.whens_rules(subjects, one.whens.as_slice())?;
         self.statements_rules(one.statements.as_slice())
@@ -193,7 +205,9 @@ impl<'a> Checker<'a> {
         all: &[Selected<Statement>],
     ) -> Result<(), BrokenRule>
         requires { IsDeclared self.now.declarations.now }
-        ensures { IsFirstBreach result (each (selected_rules (items_in self.now.declarations.now) (spec.statement_rules (scope_in self.now.declarations.now) all_permitted) subjects.now) all.now) }
+        ensures { IsFirstBreach result (each (selected_rules (items_in self.now.declarations.now)
+            (spec.statement_rules (scope_in self.now.declarations.now) all_permitted) subjects.now)
+            all.now) }
     {
         for one in all {
             self.selected_rules(subjects, one)?;
@@ -205,7 +219,8 @@ impl<'a> Checker<'a> {
     #[cycle(statement)]
     fn evaluate_rules(&self, one: &Evaluate<Statement>) -> Result<(), BrokenRule>
         requires { IsDeclared self.now.declarations.now }
-        ensures { IsFirstBreach result (spec.evaluate_rules (items_in self.now.declarations.now) (spec.statement_rules (scope_in self.now.declarations.now) all_permitted) one.now) }
+        ensures { IsFirstBreach result (spec.evaluate_rules (items_in self.now.declarations.now)
+            (spec.statement_rules (scope_in self.now.declarations.now) all_permitted) one.now) }
     {
         let subjects = one.subjects.as_slice();
         self.subjects_rules(subjects)?;
@@ -215,14 +230,16 @@ impl<'a> Checker<'a> {
 
     fn sentence_rules(&self, one: &Sentence) -> Result<(), BrokenRule>
         requires { IsDeclared self.now.declarations.now }
-        ensures { IsFirstBreach result (spec.sentence_rules (scope_in self.now.declarations.now) all_permitted one.now) }
+        ensures { IsFirstBreach result
+            (spec.sentence_rules (scope_in self.now.declarations.now) all_permitted one.now) }
     {
         self.statements_rules(one.statements.as_slice())
     }
 
     fn sentences_rules(&self, all: &[Sentence]) -> Result<(), BrokenRule>
         requires { IsDeclared self.now.declarations.now }
-        ensures { IsFirstBreach result (each (spec.sentence_rules (scope_in self.now.declarations.now) all_permitted) all.now) }
+        ensures { IsFirstBreach result (each
+            (spec.sentence_rules (scope_in self.now.declarations.now) all_permitted) all.now) }
     {
         for one in all {
             self.sentence_rules(one)?;
@@ -232,14 +249,16 @@ impl<'a> Checker<'a> {
 
     fn paragraph_rules(&self, one: &Paragraph) -> Result<(), BrokenRule>
         requires { IsDeclared self.now.declarations.now }
-        ensures { IsFirstBreach result (spec.paragraph_rules (scope_in self.now.declarations.now) all_permitted one.now) }
+        ensures { IsFirstBreach result
+            (spec.paragraph_rules (scope_in self.now.declarations.now) all_permitted one.now) }
     {
         self.sentences_rules(one.sentences.as_slice())
     }
 
     fn paragraphs_rules(&self, all: &[Paragraph]) -> Result<(), BrokenRule>
         requires { IsDeclared self.now.declarations.now }
-        ensures { IsFirstBreach result (each (spec.paragraph_rules (scope_in self.now.declarations.now) all_permitted) all.now) }
+        ensures { IsFirstBreach result (each
+            (spec.paragraph_rules (scope_in self.now.declarations.now) all_permitted) all.now) }
     {
         for one in all {
             self.paragraph_rules(one)?;
@@ -249,7 +268,8 @@ impl<'a> Checker<'a> {
 
     fn section_rules(&self, one: &Section) -> Result<(), BrokenRule>
         requires { IsDeclared self.now.declarations.now }
-        ensures { IsFirstBreach result (spec.section_rules (scope_in self.now.declarations.now) all_permitted one.now) }
+        ensures { IsFirstBreach result
+            (spec.section_rules (scope_in self.now.declarations.now) all_permitted one.now) }
     {
         self.paragraphs_rules(one.paragraphs.as_slice())
     }
@@ -257,7 +277,8 @@ impl<'a> Checker<'a> {
     /// The statements of sections, in order.
     pub fn sections_rules(&self, all: &[Section]) -> Result<(), BrokenRule>
         requires { IsDeclared self.now.declarations.now }
-        ensures { IsFirstBreach result (spec.sections_rules (scope_in self.now.declarations.now) all_permitted all.now) }
+        ensures { IsFirstBreach result
+            (spec.sections_rules (scope_in self.now.declarations.now) all_permitted all.now) }
     {
         for one in all {
             self.section_rules(one)?;

@@ -19,7 +19,8 @@ impl<'a> Checker<'a> {
     /// A sender or a delimiter.
     fn sent_rules(&self, one: &Operand) -> Result<(), BrokenRule>
         requires { IsDeclared self.now.declarations.now }
-        ensures { IsFirstBreach result (spec.sent_rules (items_in self.now.declarations.now) one.now) }
+        ensures { IsFirstBreach result
+            (spec.sent_rules (items_in self.now.declarations.now) one.now) }
     {
         match one {
             Operand::Item(reference) => self.item_rules(Asked::SendsText, reference),
@@ -30,7 +31,8 @@ impl<'a> Checker<'a> {
     /// Senders, in order.
     fn senders_rules(&self, all: &[Operand]) -> Result<(), BrokenRule>
         requires { IsDeclared self.now.declarations.now }
-        ensures { IsFirstBreach result (each (spec.sent_rules (items_in self.now.declarations.now)) all.now) }
+        ensures { IsFirstBreach result
+            (each (spec.sent_rules (items_in self.now.declarations.now)) all.now) }
     {
         for one in all {
             self.sent_rules(one)?;
@@ -40,7 +42,8 @@ impl<'a> Checker<'a> {
 
     fn delimiter_rules(&self, delimiter: &Option<Operand>) -> Result<(), BrokenRule>
         requires { IsDeclared self.now.declarations.now }
-        ensures { IsFirstBreach result (spec.delimiter_rules (items_in self.now.declarations.now) delimiter.now) }
+        ensures { IsFirstBreach result
+            (spec.delimiter_rules (items_in self.now.declarations.now) delimiter.now) }
     {
         match delimiter {
             None => Ok(()),
@@ -51,7 +54,8 @@ impl<'a> Checker<'a> {
     /// Senders, and the delimiter behind them.
     fn sending_rules(&self, one: &Sending) -> Result<(), BrokenRule>
         requires { IsDeclared self.now.declarations.now }
-        ensures { IsFirstBreach result (spec.sending_rules (items_in self.now.declarations.now) one.now) }
+        ensures { IsFirstBreach result
+            (spec.sending_rules (items_in self.now.declarations.now) one.now) }
     {
         self.senders_rules(one.senders.as_slice())?;
         self.delimiter_rules(&one.delimiter)
@@ -59,7 +63,8 @@ impl<'a> Checker<'a> {
 
     fn sendings_rules(&self, all: &[Sending]) -> Result<(), BrokenRule>
         requires { IsDeclared self.now.declarations.now }
-        ensures { IsFirstBreach result (each (spec.sending_rules (items_in self.now.declarations.now)) all.now) }
+        ensures { IsFirstBreach result
+            (each (spec.sending_rules (items_in self.now.declarations.now)) all.now) }
     {
         for one in all {
             self.sending_rules(one)?;
@@ -70,7 +75,8 @@ impl<'a> Checker<'a> {
     /// The bytes of the item that a name names; 0 where it doesn't name one.
     fn length_named(&self, name: &QualifiedName) -> u32
         requires { IsDeclared self.now.declarations.now }
-        ensures { result ≡ spec.only_length (items_named (items_in self.now.declarations.now) name.now) }
+        ensures { result
+            ≡ spec.only_length (items_named (items_in self.now.declarations.now) name.now) }
     {
         match self.declarations.item_named(name) {
             Ok(found) => found.item.length,
@@ -81,7 +87,8 @@ impl<'a> Checker<'a> {
     /// A pointer for a receiver of so many bytes.
     fn pointer_rules(&self, size: u32, pointer: &Option<Reference>) -> Result<(), BrokenRule>
         requires { IsDeclared self.now.declarations.now }
-        ensures { IsFirstBreach result (spec.pointer_rules (items_in self.now.declarations.now) size pointer.now) }
+        ensures { IsFirstBreach result
+            (spec.pointer_rules (items_in self.now.declarations.now) size pointer.now) }
     {
         match pointer {
             None => Ok(()),
@@ -92,7 +99,8 @@ impl<'a> Checker<'a> {
     /// STRING without its phrases.
     pub fn string_rules(&self, one: &StringStatement<Statement>) -> Result<(), BrokenRule>
         requires { IsDeclared self.now.declarations.now }
-        ensures { IsFirstBreach result (spec.string_rules (items_in self.now.declarations.now) one.now) }
+        ensures { IsFirstBreach result
+            (spec.string_rules (items_in self.now.declarations.now) one.now) }
     {
         self.sendings_rules(one.sendings.as_slice())?;
         self.item_rules(Asked::ReceivesText, &one.receiver)?;

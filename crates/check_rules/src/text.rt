@@ -15,7 +15,8 @@ impl<'a> Checker<'a> {
     /// An operand that is shown: ALL with a literal isn't.
     fn shown_rules(&self, one: &Operand) -> Result<(), BrokenRule>
         requires { IsDeclared self.now.declarations.now }
-        ensures { IsFirstBreach result (spec.shown_rules (items_in self.now.declarations.now) one.now) }
+        ensures { IsFirstBreach result
+            (spec.shown_rules (items_in self.now.declarations.now) one.now) }
     {
         match one {
             Operand::Item(reference) => self.item_rules(Asked::Nothing, reference),
@@ -29,7 +30,8 @@ impl<'a> Checker<'a> {
     /// DISPLAY of operands.
     pub fn display_rules(&self, operands: &[Operand]) -> Result<(), BrokenRule>
         requires { IsDeclared self.now.declarations.now }
-        ensures { IsFirstBreach result (spec.display_rules (items_in self.now.declarations.now) operands.now) }
+        ensures { IsFirstBreach result
+            (spec.display_rules (items_in self.now.declarations.now) operands.now) }
     {
         for one in operands {
             self.shown_rules(one)?;
@@ -40,7 +42,8 @@ impl<'a> Checker<'a> {
     /// ACCEPT of a console line.
     pub fn accept_line_rules(&self, receiver: &Reference) -> Result<(), BrokenRule>
         requires { IsDeclared self.now.declarations.now }
-        ensures { IsFirstBreach result (spec.accept_line_rules (items_in self.now.declarations.now) receiver.now) }
+        ensures { IsFirstBreach result
+            (spec.accept_line_rules (items_in self.now.declarations.now) receiver.now) }
     {
         self.item_rules(Asked::Nothing, receiver)
     }
@@ -48,7 +51,8 @@ impl<'a> Checker<'a> {
     /// ACCEPT FROM DATE: a MOVE of six digits.
     pub fn accept_date_rules(&self, receiver: &Reference) -> Result<(), BrokenRule>
         requires { IsDeclared self.now.declarations.now }
-        ensures { IsFirstBreach result (spec.accept_date_rules (items_in self.now.declarations.now) receiver.now) }
+        ensures { IsFirstBreach result
+            (spec.accept_date_rules (items_in self.now.declarations.now) receiver.now) }
     {
         self.item_rules(Asked::Receives(Sent::date()), receiver)
     }

@@ -17,7 +17,8 @@ impl<'a> Checker<'a> {
     /// VARYING: FROM is a number that is moved, and BY one that is added.
     fn varying_rules(&self, one: &Varying) -> Result<(), BrokenRule>
         requires { IsDeclared self.now.declarations.now }
-        ensures { IsFirstBreach result (spec.varying_rules (items_in self.now.declarations.now) (Some one.now)) }
+        ensures { IsFirstBreach result
+            (spec.varying_rules (items_in self.now.declarations.now) (Some one.now)) }
     {
         self.move_rules(&one.from, slice::from_ref(&one.item))?;
         self.number_rules(&one.from)?;
@@ -28,7 +29,8 @@ impl<'a> Checker<'a> {
     /// UNTIL, with VARYING or without.
     pub fn until_rules(&self, one: &Until) -> Result<(), BrokenRule>
         requires { IsDeclared self.now.declarations.now }
-        ensures { IsFirstBreach result (spec.until_rules (items_in self.now.declarations.now) one.now) }
+        ensures { IsFirstBreach result
+            (spec.until_rules (items_in self.now.declarations.now) one.now) }
     {
         if let Some(varying) = &one.varying {
             self.varying_rules(varying)?;
@@ -39,7 +41,8 @@ impl<'a> Checker<'a> {
     /// How often a PERFORM turns.
     pub(crate) fn turns_rules(&self, one: &Repetition) -> Result<(), BrokenRule>
         requires { IsDeclared self.now.declarations.now }
-        ensures { IsFirstBreach result (rules.turns_rules (items_in self.now.declarations.now) one.now) }
+        ensures { IsFirstBreach result
+            (rules.turns_rules (items_in self.now.declarations.now) one.now) }
     {
         match one {
             Repetition::Once => Ok(()),

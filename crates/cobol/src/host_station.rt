@@ -107,7 +107,8 @@ impl<C: BufRead + Drop, O: Write + Drop, D: Device + Drop> Device for HostStatio
         ensures failures { CountsFailure result self.old.failures self.new.failures }
         ensures shown { OnOk result (writer_buffer self.new.out ≡ []) }
         ensures wrote { D.is_honest self.old.volume →
-            OnOk result (D.state self.new.volume ≡ wrote (D.state self.old.volume) sector bytes.now) }
+            OnOk result
+            (D.state self.new.volume ≡ wrote (D.state self.old.volume) sector bytes.now) }
     {
         self.flush()?;
         let done = self.volume.write(sector, bytes);

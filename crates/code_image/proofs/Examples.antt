@@ -1,6 +1,7 @@
--- Worked examples: the code of a program that shows HELLO and stops, two loops, code that works on data, ways on, a way back, code
--- paragraphs, console lines, and images.
-use Rattle.std.proofs.Common.{◌≡◌, ◌≤◌, ℕ, ◌+◌, true, false, List, [], ◌∷◌, ◌++◌, zero, suc, length, take, Option, Some, None, Ok, Err, map, refl, sym, subst, inl, inr, ℤ, pos, negsuc, arith}
+-- Worked examples: the code of a program that shows HELLO and stops, two loops, code that works on data, ways on, a way
+-- back, code paragraphs, console lines, and images.
+use Rattle.std.proofs.Common.{◌≡◌, ◌≤◌, ℕ, ◌+◌, true, false, List, [], ◌∷◌, ◌++◌, zero, suc, length, take, Option, Some}
+use Rattle.std.proofs.Common.{None, Ok, Err, map, refl, sym, subst, inl, inr, ℤ, pos, negsuc, arith}
 use Rattle.std.specs.Prelude.{◌<◌, All, codes, slice_get, slice_index, slice_index_or}
 use Rattle.std.proofs.lemmas.List.Elements.{All-nil, All-cons}
 use Rattle.items.specs.declared.item.Kind.TheVariants as kind
@@ -30,7 +31,8 @@ use Rattle.data_instructions.specs.declared.test.Test.TheVariants as t
 use Rattle.data_instructions.specs.Shapes.{empty}
 use Rattle.data_image.specs.declared.fault.ImageFault.TheVariants as faults
 use Rattle.data_image.specs.Spelling.{count_bytes, short_bytes, small_bytes}
-use Rattle.data_image.specs.Reading.{byte_at, told_at, flag_of, count_at, short_at, small_at, entries_at, table_at, text_at}
+use Rattle.data_image.specs.Reading.{byte_at, told_at, flag_of, count_at, short_at, small_at, entries_at, table_at}
+use Rattle.data_image.specs.Reading.{text_at}
 use Rattle.data_image.specs.Items as items
 use Rattle.data_image.specs.Items.{kind_at, plain_kind_of}
 use Rattle.data_image.specs.Tables.{data_item_at, tables_at}
@@ -46,11 +48,14 @@ use Rattle.code_image.specs.declared.code.Code.{Code}
 use Rattle.code_image.specs.declared.counter.CounterIndex.{CounterIndex}
 use Rattle.code_image.specs.declared.paragraph.ParagraphIndex.{ParagraphIndex}
 use Rattle.code_image.specs.declared.instruction.Instruction.{Instruction}
-use Rattle.code_image.specs.declared.instruction.Instruction.TheVariants.{Tick, Show, Stop, Count, CountNumber, Turn, Accept, Date, Branch, Jump, Join, Perform, Back, File, TestStatus, Unheard, Data}
+use Rattle.code_image.specs.declared.instruction.Instruction.TheVariants.{Tick, Show, Stop, Count, CountNumber, Turn}
+use Rattle.code_image.specs.declared.instruction.Instruction.TheVariants.{Accept, Date, Branch, Jump, Join, Perform}
+use Rattle.code_image.specs.declared.instruction.Instruction.TheVariants.{Back, File, TestStatus, Unheard, Data}
 use Rattle.code_image.specs.Spelling.{mark, instruction_bytes, code_bytes}
 use Rattle.code_image.specs.Reading.{after_mark, instruction_at, code_at}
 use Rattle.code_image.specs.Known.{known_along}
-use Rattle.code_image.specs.Demands.{NamesData, NamesCounter, NamesParagraph, NamesFile, SuitsFile, HasValidTargets, AllLead, StartsAt, AllStart, HasOrder, HasFiles, IsVerified}
+use Rattle.code_image.specs.Demands.{NamesData, NamesCounter, NamesParagraph, NamesFile, SuitsFile, HasValidTargets}
+use Rattle.code_image.specs.Demands.{AllLead, StartsAt, AllStart, HasOrder, HasFiles, IsVerified}
 use Rattle.code_image.specs.Points.{Point, first_point}
 use Rattle.code_image.specs.Table.{Next, act, exec_code}
 
@@ -82,18 +87,22 @@ code = record {
 
 -- at the first instruction, on some day, with these console lines
 abbrev with_lines : Code → ℕ → List (List ℕ) → Point
-with_lines code budget lines = first_point code (record { budget = budget; day = codes "620730"; lines = lines; files = [] })
+with_lines code budget lines =
+    first_point code (record { budget = budget; day = codes "620730"; lines = lines; files = [] })
 
 abbrev with_budget : Code → ℕ → Point
 with_budget code budget = with_lines code budget []
 
-budget_2 : exec_code code 5 (with_budget code 2) ≡ Some (record { events = map Shown hello; end = Stopped; lines = []; files = [] ∷ [] })
+budget_2 : exec_code code 5 (with_budget code 2)
+    ≡ Some (record { events = map Shown hello; end = Stopped; lines = []; files = [] ∷ [] })
 budget_2 = refl
 
-budget_1 : exec_code code 4 (with_budget code 1) ≡ Some (record { events = map Shown hello; end = Budget; lines = []; files = [] ∷ [] })
+budget_1 : exec_code code 4 (with_budget code 1)
+    ≡ Some (record { events = map Shown hello; end = Budget; lines = []; files = [] ∷ [] })
 budget_1 = refl
 
-budget_0 : exec_code code 1 (with_budget code 0) ≡ Some (record { events = []; end = Budget; lines = []; files = [] ∷ [] })
+budget_0 : exec_code code 1 (with_budget code 0)
+    ≡ Some (record { events = []; end = Budget; lines = []; files = [] ∷ [] })
 budget_0 = refl
 
 -- four instructions aren't enough for the whole run
@@ -101,19 +110,23 @@ not_over : exec_code code 4 (with_budget code 2) ≡ None
 not_over = refl
 
 -- a text outside the table ends nothing
-outside : exec_code (record { tables = with_texts []; files = []; starts = []; instructions = append 0 ∷ Stop ∷ [] }) 9 (with_budget code 1) ≡ None
+outside : exec_code (record { tables = with_texts []; files = []; starts = []; instructions = append 0 ∷ Stop ∷ [] }) 9
+    (with_budget code 1) ≡ None
 outside = refl
 
 -- neither does an instruction without its operands
-lacks_operands : exec_code (record { tables = with_texts []; files = []; starts = []; instructions = Data (i.Calculate c.Add) ∷ Stop ∷ [] }) 9 (with_budget code 1) ≡ None
+lacks_operands : exec_code
+    (record { tables = with_texts []; files = []; starts = []; instructions = Data (i.Calculate c.Add) ∷ Stop ∷ [] }) 9
+    (with_budget code 1) ≡ None
 lacks_operands = refl
 
 -- code that runs out ends nothing
-runs_out : exec_code (record { tables = with_texts []; files = []; starts = []; instructions = Tick 1 ∷ [] }) 9 (with_budget code 1) ≡ None
+runs_out : exec_code (record { tables = with_texts []; files = []; starts = []; instructions = Tick 1 ∷ [] }) 9
+    (with_budget code 1) ≡ None
 runs_out = refl
 
--- PERFORM 2 TIMES PERFORM 3 TIMES DISPLAY "A" NO ADVANCING END-PERFORM END-PERFORM: each PERFORM counts at the address of its
--- `count`, and each turn has a `tick` at the line of its PERFORM
+-- PERFORM 2 TIMES PERFORM 3 TIMES DISPLAY "A" NO ADVANCING END-PERFORM END-PERFORM: each PERFORM counts at the address
+-- of its `count`, and each turn has a `tick` at the line of its PERFORM
 abbrev two_by_three : Code
 two_by_three = record {
   tables = with_texts (codes "A" ∷ []);
@@ -126,10 +139,12 @@ two_by_three = record {
       ∷ Turn (counter 4) 5 ∷ Turn (counter 1) 2 ∷ Stop ∷ [];
 }
 
-two_by_three_with_17 : exec_code two_by_three 99 (with_budget two_by_three 17) ≡ Some (record { events = map Shown (codes "AAAAAA"); end = Stopped; lines = []; files = [] ∷ [] })
+two_by_three_with_17 : exec_code two_by_three 99 (with_budget two_by_three 17)
+    ≡ Some (record { events = map Shown (codes "AAAAAA"); end = Stopped; lines = []; files = [] ∷ [] })
 two_by_three_with_17 = refl
 
-two_by_three_with_16 : exec_code two_by_three 99 (with_budget two_by_three 16) ≡ Some (record { events = map Shown (codes "AAAAA"); end = Budget; lines = []; files = [] ∷ [] })
+two_by_three_with_16 : exec_code two_by_three 99 (with_budget two_by_three 16)
+    ≡ Some (record { events = map Shown (codes "AAAAA"); end = Budget; lines = []; files = [] ∷ [] })
 two_by_three_with_16 = refl
 
 -- ---- data
@@ -137,7 +152,10 @@ two_by_three_with_16 = refl
 -- PIC 9(2) in front of the area
 abbrev two_digits : DataItem
 two_digits = record {
-  item = record { kind = kind.Numeric (record { digits = 2; scale = 0; usage = usage.Display operational.Unsigned }); length = 2 };
+  item = record {
+    kind = kind.Numeric (record { digits = 2; scale = 0; usage = usage.Display operational.Unsigned });
+    length = 2;
+  };
   editing = None;
   area = 0;
   offset = 0;
@@ -162,12 +180,14 @@ fourth = record {
   starts = 0 ∷ [];
   instructions =
       Tick 7 ∷ append 0 ∷ Show
-      ∷ Tick 8 ∷ Data (i.Place (record { number = 0 })) ∷ Data (i.Literal (record { number = 0 })) ∷ Data (i.Index 2 3) ∷ Data i.Append ∷ Show
+      ∷ Tick 8 ∷ Data (i.Place (record { number = 0 })) ∷ Data (i.Literal (record { number = 0 })) ∷ Data (i.Index 2 3)
+      ∷ Data i.Append ∷ Show
       ∷ Stop ∷ [];
 }
 
 -- The fault ends the run at the line of its statement, after what was shown before.
-fault : exec_code fourth 99 (with_budget fourth 9) ≡ Some (record { events = map Shown (codes "A"); end = Faulted Subscript 8; lines = []; files = [] ∷ [] })
+fault : exec_code fourth 99 (with_budget fourth 9)
+    ≡ Some (record { events = map Shown (codes "A"); end = Faulted Subscript 8; lines = []; files = [] ∷ [] })
 fault = refl
 
 -- ---- ways on
@@ -175,8 +195,8 @@ fault = refl
 abbrev number : ℕ → Instruction
 number index = Data (i.Literal (record { number = index }))
 
--- DIVIDE 1 BY a number GIVING N SIZE ERROR DISPLAY "A" NO ADVANCING NOT SIZE ERROR DISPLAY "B" NO ADVANCING END-DIVIDE, and behind
--- it DISPLAY "C" NO ADVANCING. Each branch and each jump leads behind a `join`.
+-- DIVIDE 1 BY a number GIVING N SIZE ERROR DISPLAY "A" NO ADVANCING NOT SIZE ERROR DISPLAY "B" NO ADVANCING END-DIVIDE,
+-- and behind it DISPLAY "C" NO ADVANCING. Each branch and each jump leads behind a `join`.
 abbrev dividing_by : ℕ → Code
 dividing_by divisor = record {
   tables = record {
@@ -190,7 +210,8 @@ dividing_by divisor = record {
   files = [];
   starts = 0 ∷ [];
   instructions =
-      Tick 1 ∷ Data i.ClearTruth ∷ Data (i.Place (record { number = 0 })) ∷ number 0 ∷ number 1 ∷ Data (i.Calculate c.Divide) ∷ Data (i.Store false true)
+      Tick 1 ∷ Data i.ClearTruth ∷ Data (i.Place (record { number = 0 })) ∷ number 0 ∷ number 1
+      ∷ Data (i.Calculate c.Divide) ∷ Data (i.Store false true)
       ∷ Branch 13
       ∷ Tick 2 ∷ append 0 ∷ Show ∷ Jump 17 ∷ Join
       ∷ Tick 3 ∷ append 1 ∷ Show ∷ Join
@@ -201,17 +222,20 @@ computing : Unit {0}
 unfolding quotient greatest fitted_decimal bytes_of
 computing = tt
 
-size_error : exec_code (dividing_by 0) 99 (with_budget (dividing_by 0) 9) ≡ Some (record { events = map Shown (codes "AC"); end = Stopped; lines = []; files = [] ∷ [] })
+size_error : exec_code (dividing_by 0) 99 (with_budget (dividing_by 0) 9)
+    ≡ Some (record { events = map Shown (codes "AC"); end = Stopped; lines = []; files = [] ∷ [] })
 unfolding computing
 size_error = refl
 
-no_size_error : exec_code (dividing_by 1) 99 (with_budget (dividing_by 1) 9) ≡ Some (record { events = map Shown (codes "BC"); end = Stopped; lines = []; files = [] ∷ [] })
+no_size_error : exec_code (dividing_by 1) 99 (with_budget (dividing_by 1) 9)
+    ≡ Some (record { events = map Shown (codes "BC"); end = Stopped; lines = []; files = [] ∷ [] })
 unfolding computing
 no_size_error = refl
 
 -- ---- ways back
 
--- The truth becomes true, and is inverted at each turn of a loop until it is true again. The branch leads to this address.
+-- The truth becomes true, and is inverted at each turn of a loop until it is true again. The branch leads to this
+-- address.
 abbrev until_true : ℕ → Code
 until_true to = record {
   tables = with_texts [];
@@ -221,13 +245,16 @@ until_true to = record {
 }
 
 -- two turns
-until_true_with_2 : exec_code (until_true 1) 99 (with_budget (until_true 1) 2) ≡ Some (record { events = []; end = Stopped; lines = []; files = [] ∷ [] })
+until_true_with_2 : exec_code (until_true 1) 99 (with_budget (until_true 1) 2)
+    ≡ Some (record { events = []; end = Stopped; lines = []; files = [] ∷ [] })
 until_true_with_2 = refl
 
-until_true_with_1 : exec_code (until_true 1) 99 (with_budget (until_true 1) 1) ≡ Some (record { events = []; end = Budget; lines = []; files = [] ∷ [] })
+until_true_with_1 : exec_code (until_true 1) 99 (with_budget (until_true 1) 1)
+    ≡ Some (record { events = []; end = Budget; lines = []; files = [] ∷ [] })
 until_true_with_1 = refl
 
-leads_back : (address : ℕ) → HasValidTargets (until_true 1).instructions address (slice_get (until_true 1).instructions address)
+leads_back : (address : ℕ)
+    → HasValidTargets (until_true 1).instructions address (slice_get (until_true 1).instructions address)
 leads_back zero = tt
 leads_back (suc zero) = tt
 leads_back (suc (suc zero)) = tt
@@ -245,20 +272,27 @@ all_of P [] each = All-nil P
 all_of P (one ∷ more) each = All-cons P one more each.0 (all_of P more each.1)
 
 -- code without files and file statements
-no_files : (code : Code) → code.files ≡ [] → Each (SuitsFile (entries_of code.tables code.files)) code.instructions → HasFiles code
+no_files : (code : Code) → code.files ≡ [] → Each (SuitsFile (entries_of code.tables code.files)) code.instructions
+    → HasFiles code
 no_files code none each = record {
   sound = subst (All (IsCodeFile code.tables)) (sym none) (All-nil (IsCodeFile code.tables));
   suit = all_of (SuitsFile (entries_of code.tables code.files)) code.instructions each;
 }
 
-starts_first : (number : ℕ) → number < 1 → StartsAt (until_true 1).instructions number (slice_index ((until_true 1).starts) number)
+starts_first : (number : ℕ) → number < 1
+    → StartsAt (until_true 1).instructions number (slice_index ((until_true 1).starts) number)
 starts_first zero within = record { front = inl refl; in_it = refl }
 starts_first (suc more) within = absurd (omega arith)
 
 -- a branch back to a `tick` is verified
 verified_back : IsVerified (until_true 1)
 verified_back = record {
-  tables = record { areas = λ k one here. absurd cc; items = λ k one here. absurd cc; senders = λ k one here. absurd cc; inspections = λ k one here. absurd cc };
+  tables = record {
+    areas = λ k one here. absurd cc;
+    items = λ k one here. absurd cc;
+    senders = λ k one here. absurd cc;
+    inspections = λ k one here. absurd cc;
+  };
   within = record {
     entries = all_of (NamesData (with_texts [])) (until_true 1).instructions (tt, (tt, (tt, (tt, (tt, tt)))));
     counters = all_of (NamesCounter 5) (until_true 1).instructions (tt, (tt, (tt, (tt, (tt, tt)))));
@@ -273,7 +307,11 @@ verified_back = record {
     order = record {
       ranges = All-nil (IsRange 1);
       heights = 0 ∷ [];
-      fall = record { one_each = refl; below = All-cons (λ k. k < 1) 0 [] (omega arith) (All-nil (λ k. k < 1)); fall = All-nil (Decreases (rank_in (0 ∷ []))) };
+      fall = record {
+        one_each = refl;
+        below = All-cons (λ k. k < 1) 0 [] (omega arith) (All-nil (λ k. k < 1));
+        fall = All-nil (Decreases (rank_in (0 ∷ [])));
+      };
     };
     stops = refl;
     finds = record { last = empty; along = refl };
@@ -283,15 +321,23 @@ verified_back = record {
 
 -- and one to what is no `tick` isn't
 no_way_back : IsVerified (until_true 2) → ⊥
-no_way_back verified = elim (verified.shape.leads 3 (omega arith)) [ inl on ↦ absurd (let later = on.later in omega arith) | inr back ↦ back.budget ]
+no_way_back verified = elim (verified.shape.leads 3
+    (omega arith)) [ inl on ↦ absurd (let later = on.later in omega arith) | inr back ↦ back.budget ]
 
 -- ---- as many turns as a number says
 
--- PERFORM N TIMES DISPLAY "A" NO ADVANCING END-PERFORM, with a number in place of N: where it is an integer above 0, its loop counts at the
--- address of its `count number`
+-- PERFORM N TIMES DISPLAY "A" NO ADVANCING END-PERFORM, with a number in place of N: where it is an integer above 0,
+-- its loop counts at the address of its `count number`
 abbrev counting : ℤ → ℕ → Code
 counting coefficient scale = record {
-  tables = record { areas = []; items = []; numbers = record { coefficient = coefficient; scale = scale } ∷ []; senders = []; texts = codes "A" ∷ []; inspections = [] };
+  tables = record {
+    areas = [];
+    items = [];
+    numbers = record { coefficient = coefficient; scale = scale } ∷ [];
+    senders = [];
+    texts = codes "A" ∷ [];
+    inspections = [];
+  };
   files = [];
   starts = 0 ∷ [];
   instructions =
@@ -300,13 +346,16 @@ counting coefficient scale = record {
 }
 
 abbrev counted : ℤ → ℕ → ℕ → Option Run
-counted coefficient scale budget = exec_code (counting coefficient scale) 99 (with_budget (counting coefficient scale) budget)
+counted coefficient scale budget =
+    exec_code (counting coefficient scale) 99 (with_budget (counting coefficient scale) budget)
 
-two_turns : counted (pos 2) 0 9 ≡ Some (record { events = map Shown (codes "AA"); end = Stopped; lines = []; files = [] ∷ [] })
+two_turns : counted (pos 2) 0 9
+    ≡ Some (record { events = map Shown (codes "AA"); end = Stopped; lines = []; files = [] ∷ [] })
 two_turns = refl
 
 -- 20 with one decimal
-two_with_decimals : counted (pos 20) 1 9 ≡ Some (record { events = map Shown (codes "AA"); end = Stopped; lines = []; files = [] ∷ [] })
+two_with_decimals : counted (pos 20) 1 9
+    ≡ Some (record { events = map Shown (codes "AA"); end = Stopped; lines = []; files = [] ∷ [] })
 two_with_decimals = refl
 
 no_turn : counted (pos 0) 0 9 ≡ Some (record { events = []; end = Stopped; lines = []; files = [] ∷ [] })
@@ -316,13 +365,14 @@ none_below_zero : counted (negsuc 1) 0 9 ≡ Some (record { events = []; end = S
 none_below_zero = refl
 
 -- 2.5 is no integer
-no_integer : counted (pos 25) 1 9 ≡ Some (record { events = []; end = Faulted evaluated.Data 1; lines = []; files = [] ∷ [] })
+no_integer : counted (pos 25) 1 9
+    ≡ Some (record { events = []; end = Faulted evaluated.Data 1; lines = []; files = [] ∷ [] })
 no_integer = refl
 
 -- ---- code paragraphs
 
--- MAIN performs A thru B, shows "C" and stops. A shows "A", B shows "B". What MAIN performs last, and the address to which a jump in A leads,
--- are given.
+-- MAIN performs A thru B, shows "C" and stops. A shows "A", B shows "B". What MAIN performs last, and the address to
+-- which a jump in A leads, are given.
 abbrev performing : ℕ → ℕ → Code
 performing last to = record {
   tables = with_texts (codes "A" ∷ codes "B" ∷ codes "C" ∷ []);
@@ -335,14 +385,17 @@ performing last to = record {
 }
 
 -- a `perform` uses one of the budget, and A falls into B, since only B is the last one
-performed_with_4 : exec_code (performing 2 11) 99 (with_budget (performing 2 11) 4) ≡ Some (record { events = map Shown (codes "ABC"); end = Stopped; lines = []; files = [] ∷ [] })
+performed_with_4 : exec_code (performing 2 11) 99 (with_budget (performing 2 11) 4)
+    ≡ Some (record { events = map Shown (codes "ABC"); end = Stopped; lines = []; files = [] ∷ [] })
 performed_with_4 = refl
 
-performed_with_3 : exec_code (performing 2 11) 99 (with_budget (performing 2 11) 3) ≡ Some (record { events = map Shown (codes "AB"); end = Budget; lines = []; files = [] ∷ [] })
+performed_with_3 : exec_code (performing 2 11) 99 (with_budget (performing 2 11) 3)
+    ≡ Some (record { events = map Shown (codes "AB"); end = Budget; lines = []; files = [] ∷ [] })
 performed_with_3 = refl
 
 -- the run comes back from A where that is the last one
-only_first : exec_code (performing 1 11) 99 (with_budget (performing 1 11) 4) ≡ Some (record { events = map Shown (codes "AC"); end = Stopped; lines = []; files = [] ∷ [] })
+only_first : exec_code (performing 1 11) 99 (with_budget (performing 1 11) 4)
+    ≡ Some (record { events = map Shown (codes "AC"); end = Stopped; lines = []; files = [] ∷ [] })
 only_first = refl
 
 -- a demand on one address after the other, from one on
@@ -350,7 +403,8 @@ abbrev EachFrom : (ℕ → Option Instruction → Type 0) → ℕ → List Instr
 EachFrom P address [] = Unit {0}
 EachFrom P address (one ∷ more) = P address (Some one) × EachFrom P (address + 1) more
 
-each_from : (P : ℕ → Option Instruction → Type 0) (address : ℕ) (is : List Instruction) → EachFrom P address is → (k : ℕ) → k < length is
+each_from : (P : ℕ → Option Instruction → Type 0) (address : ℕ) (is : List Instruction) → EachFrom P address is
+    → (k : ℕ) → k < length is
     → P (address + k) (slice_get is k)
 each_from P address [] each k within = absurd (omega arith)
 each_from P address (one ∷ more) each zero within = subst (λ n. P n (Some one)) (plus_none address) each.0
@@ -361,8 +415,10 @@ each_from P address (one ∷ more) each (suc k) within =
     let e : (address + 1) + k ≡ address + suc k = omega arith in
     subst (λ n. P n (slice_get more k)) e (each_from P (address + 1) more each.1 k (omega arith))
 
-each_address : (P : ℕ → Option Instruction → Type 0) (is : List Instruction) → EachFrom P 0 is → (k : ℕ) → k < length is → P k (slice_get is k)
-each_address P is each k within = let e : 0 + k ≡ k = omega arith in subst (λ n. P n (slice_get is k)) e (each_from P 0 is each k within)
+each_address : (P : ℕ → Option Instruction → Type 0) (is : List Instruction) → EachFrom P 0 is → (k : ℕ) → k < length is
+    → P k (slice_get is k)
+each_address P is each k within = let e : 0 + k ≡ k =
+    omega arith in subst (λ n. P n (slice_get is k)) e (each_from P 0 is each k within)
 
 -- numbers below a bound
 abbrev EachBelow : ℕ → List ℕ → Type 0
@@ -376,8 +432,37 @@ all_below bound (one ∷ more) each = All-cons (λ k. k < bound) one more each.0
 -- both in one code paragraph, each `back` with its number
 ways_stay : AllLead (performing 2 11).instructions
 ways_stay =
-    each_address (HasValidTargets (performing 2 11).instructions) (performing 2 11).instructions
-    (tt, (tt, (tt, (tt, (tt, (refl, (tt, (tt, (tt, (inl (record { later = omega arith; join = tt; stays = refl }), (tt, (refl, (tt, (tt, (tt, (refl, (tt, tt)))))))))))))))))
+    each_address (HasValidTargets (performing 2 11).instructions) (performing 2 11).instructions (
+      tt,
+      (
+        tt,
+        (
+          tt,
+          (
+            tt,
+            (
+              tt,
+              (
+                refl,
+                (
+                  tt,
+                  (
+                    tt,
+                    (
+                      tt,
+                      (
+                        inl (record { later = omega arith; join = tt; stays = refl }),
+                        (tt, (refl, (tt, (tt, (tt, (refl, (tt, tt))))))),
+                      ),
+                    ),
+                  ),
+                ),
+              ),
+            ),
+          ),
+        ),
+      ),
+    )
 
 paragraphs_start : AllStart (performing 2 11)
 paragraphs_start zero within = record { front = inl refl; in_it = refl }
@@ -396,26 +481,52 @@ paragraphs_order : HasOrder (performing 2 11)
 paragraphs_order =
     let one : PerformedRange = record { performer = 0; first = 1; last = 2 } in
     record {
-      ranges = All-cons (IsRange 3) one [] (record { performer = omega arith; first = omega arith; last = omega arith }) (All-nil (IsRange 3));
+      ranges = All-cons (IsRange 3) one [] (record { performer = omega arith; first = omega arith; last = omega arith })
+          (All-nil (IsRange 3));
       heights = 1 ∷ 0 ∷ 0 ∷ [];
       fall = record {
         one_each = refl;
         below = all_below 3 (1 ∷ 0 ∷ 0 ∷ []) (omega arith, (omega arith, (omega arith, tt)));
-        fall = All-cons (Decreases (rank_in (1 ∷ 0 ∷ 0 ∷ []))) one [] (λ number in_it. main_higher number in_it.first) (All-nil (Decreases (rank_in (1 ∷ 0 ∷ 0 ∷ []))));
+        fall = All-cons (Decreases (rank_in (1 ∷ 0 ∷ 0 ∷ []))) one [] (λ number in_it. main_higher number in_it.first)
+            (All-nil (Decreases (rank_in (1 ∷ 0 ∷ 0 ∷ []))));
       };
     }
 
 -- it is verified
 verified_paragraphs : IsVerified (performing 2 11)
 verified_paragraphs = record {
-  tables = record { areas = λ k one here. absurd cc; items = λ k one here. absurd cc; senders = λ k one here. absurd cc; inspections = λ k one here. absurd cc };
+  tables = record {
+    areas = λ k one here. absurd cc;
+    items = λ k one here. absurd cc;
+    senders = λ k one here. absurd cc;
+    inspections = λ k one here. absurd cc;
+  };
   within = record {
-    entries = all_of (NamesData (performing 2 11).tables) (performing 2 11).instructions
-        (tt, (tt, (omega arith, (tt, (tt, (tt, (tt, (omega arith, (tt, (tt, (tt, (tt, (tt, (omega arith, (tt, (tt, (tt, tt)))))))))))))))));
+    entries = all_of (NamesData (performing 2 11).tables) (performing 2 11).instructions (
+      tt,
+      (
+        tt,
+        (
+          omega arith,
+          (tt, (tt, (tt, (tt, (omega arith, (tt, (tt, (tt, (tt, (tt, (omega arith, (tt, (tt, (tt, tt)))))))))))))),
+        ),
+      ),
+    );
     counters = all_of (NamesCounter 17) (performing 2 11).instructions
         (tt, (tt, (tt, (tt, (tt, (tt, (tt, (tt, (tt, (tt, (tt, (tt, (tt, (tt, (tt, (tt, (tt, tt)))))))))))))))));
-    paragraphs = all_of (NamesParagraph 3) (performing 2 11).instructions
-        ((omega arith, omega arith), (tt, (tt, (tt, (tt, (omega arith, (tt, (tt, (tt, (tt, (tt, (omega arith, (tt, (tt, (tt, (omega arith, (tt, tt)))))))))))))))));
+    paragraphs = all_of (NamesParagraph 3) (performing 2 11).instructions (
+      (omega arith, omega arith),
+      (
+        tt,
+        (
+          tt,
+          (
+            tt,
+            (tt, (omega arith, (tt, (tt, (tt, (tt, (tt, (omega arith, (tt, (tt, (tt, (omega arith, (tt, tt))))))))))))),
+          ),
+        ),
+      ),
+    );
     starts = all_below 17 (0 ∷ 6 ∷ 12 ∷ []) (omega arith, (omega arith, (omega arith, tt)));
     files = all_of (NamesFile 0) (performing 2 11).instructions
         (tt, (tt, (tt, (tt, (tt, (tt, (tt, (tt, (tt, (tt, (tt, (tt, (tt, (tt, (tt, (tt, (tt, tt)))))))))))))))));
@@ -427,7 +538,8 @@ verified_paragraphs = record {
     order = paragraphs_order;
     stops = refl;
     finds = record { last = empty; along = refl };
-    files = no_files (performing 2 11) refl (tt, (tt, (tt, (tt, (tt, (tt, (tt, (tt, (tt, (tt, (tt, (tt, (tt, (tt, (tt, (tt, (tt, tt)))))))))))))))));
+    files = no_files (performing 2 11) refl
+        (tt, (tt, (tt, (tt, (tt, (tt, (tt, (tt, (tt, (tt, (tt, (tt, (tt, (tt, (tt, (tt, (tt, tt)))))))))))))))));
   };
 }
 
@@ -441,20 +553,32 @@ no_way_out verified =
 
 -- MAIN performs itself, which isn't verified either.
 abbrev recursive : Code
-recursive = record { tables = with_texts []; files = []; starts = 0 ∷ []; instructions = Perform 1 (paragraph 0) (paragraph 0) ∷ Stop ∷ Back (paragraph 0) ∷ Stop ∷ [] }
+recursive = record {
+  tables = with_texts [];
+  files = [];
+  starts = 0 ∷ [];
+  instructions = Perform 1 (paragraph 0) (paragraph 0) ∷ Stop ∷ Back (paragraph 0) ∷ Stop ∷ [];
+}
 
 no_recursion : IsVerified recursive → ⊥
 no_recursion verified =
     let one : PerformedRange = record { performer = 0; first = 0; last = 0 } in
-    let lower = verified.shape.order.fall.fall 0 one (omega arith) 0 (record { first = omega arith; last = omega arith }) in
+    let lower =
+    verified.shape.order.fall.fall 0 one (omega arith) 0 (record { first = omega arith; last = omega arith }) in
     absurd (omega (arith, lower))
 
 -- and a start inside of MAIN isn't
 abbrev starting_at : ℕ → Code
-starting_at start = record { tables = with_texts []; files = []; starts = start ∷ []; instructions = Tick 1 ∷ Stop ∷ Back (paragraph 0) ∷ Stop ∷ [] }
+starting_at start = record {
+  tables = with_texts [];
+  files = [];
+  starts = start ∷ [];
+  instructions = Tick 1 ∷ Stop ∷ Back (paragraph 0) ∷ Stop ∷ [];
+}
 
 no_start_inside : IsVerified (starting_at 1) → ⊥
-no_start_inside verified = elim (verified.shape.starts 0 (omega arith)).front [ inl first ↦ absurd (omega (arith, first)) | inr back ↦ back ]
+no_start_inside verified =
+    elim (verified.shape.starts 0 (omega arith)).front [ inl first ↦ absurd (omega (arith, first)) | inr back ↦ back ]
 
 -- ---- ACCEPT
 
@@ -462,7 +586,8 @@ no_start_inside verified = elim (verified.shape.starts 0 (omega arith)).front [ 
 abbrev three_characters : DataTables
 three_characters = record {
   areas = codes "..." ∷ [];
-  items = record { item = record { kind = kind.Alphanumeric false; length = 3 }; editing = None; area = 0; offset = 0 } ∷ [];
+  items = record { item = record { kind = kind.Alphanumeric false; length = 3 }; editing = None; area = 0; offset = 0 }
+      ∷ [];
   numbers = [];
   senders = [];
   texts = [];
@@ -471,26 +596,40 @@ three_characters = record {
 
 -- ACCEPT A
 abbrev accepting : Code
-accepting = record { tables = three_characters; files = []; starts = []; instructions = Data (i.Place (record { number = 0 })) ∷ Accept ∷ [] }
+accepting = record {
+  tables = three_characters;
+  files = [];
+  starts = [];
+  instructions = Data (i.Place (record { number = 0 })) ∷ Accept ∷ [];
+}
 
 -- tells of a point what the first area has there, and the console lines that are left
 abbrev area_told : Next
-area_told p = Some (record { events = map Shown (slice_index_or p.state.storage 0 []); end = Stopped; lines = p.state.lines; files = all_files p.state })
+area_told p = Some (record {
+  events = map Shown (slice_index_or p.state.storage 0 []);
+  end = Stopped;
+  lines = p.state.lines;
+  files = all_files p.state;
+})
 
 -- both instructions, with these lines
 abbrev accepted_from : List (List ℕ) → Option Run
 accepted_from lines =
-    act accepting (slice_get accepting.instructions 0) (λ p. act accepting (slice_get accepting.instructions p.address) area_told p) (with_lines accepting 1 lines)
+    act accepting (slice_get accepting.instructions 0)
+    (λ p. act accepting (slice_get accepting.instructions p.address) area_told p) (with_lines accepting 1 lines)
 
 -- the next line is cut, and those behind it are left
-line_cut : accepted_from (codes "HELLO" ∷ codes "X" ∷ []) ≡ Some (record { events = map Shown (codes "HEL"); end = Stopped; lines = codes "X" ∷ []; files = [] ∷ [] })
+line_cut : accepted_from (codes "HELLO" ∷ codes "X" ∷ [])
+    ≡ Some (record { events = map Shown (codes "HEL"); end = Stopped; lines = codes "X" ∷ []; files = [] ∷ [] })
 line_cut = refl
 
-line_padded : accepted_from (codes "X" ∷ []) ≡ Some (record { events = map Shown (codes "X  "); end = Stopped; lines = []; files = [] ∷ [] })
+line_padded : accepted_from (codes "X" ∷ [])
+    ≡ Some (record { events = map Shown (codes "X  "); end = Stopped; lines = []; files = [] ∷ [] })
 line_padded = refl
 
 -- past the end of input there are spaces
-no_line : accepted_from [] ≡ Some (record { events = map Shown (codes "   "); end = Stopped; lines = []; files = [] ∷ [] })
+no_line : accepted_from []
+    ≡ Some (record { events = map Shown (codes "   "); end = Stopped; lines = []; files = [] ∷ [] })
 no_line = refl
 
 -- ---- files
@@ -514,7 +653,9 @@ abbrev filing : List Instruction → Code
 filing instructions = record {
   tables = record {
     areas = codes ".." ∷ codes "  " ∷ [];
-    items = record { item = record { kind = kind.Alphanumeric false; length = 2 }; editing = None; area = 1; offset = 0 } ∷ [];
+    items =
+        record { item = record { kind = kind.Alphanumeric false; length = 2 }; editing = None; area = 1; offset = 0 }
+        ∷ [];
     numbers = [];
     senders = [];
     texts = [];
@@ -535,7 +676,8 @@ volume =
       name = codes "F";
       file = record {
         spec = spec_of f;
-        rows = record { number = 1; bytes = codes "AB"; arrivals = [] } ∷ record { number = 2; bytes = codes "CD"; arrivals = [] } ∷ [];
+        rows = record { number = 1; bytes = codes "AB"; arrivals = [] }
+            ∷ record { number = 2; bytes = codes "CD"; arrivals = [] } ∷ [];
         next_arrival = 3;
       };
     } ∷ []
@@ -552,11 +694,17 @@ filing_steps = tt
 
 -- tells of a point its events, and what the first area has there
 abbrev record_told : Next
-record_told p = Some (record { events = p.state.events ++ map Shown (slice_index_or p.state.storage 0 []); end = Stopped; lines = p.state.lines; files = all_files p.state })
+record_told p = Some (record {
+  events = p.state.events ++ map Shown (slice_index_or p.state.storage 0 []);
+  end = Stopped;
+  lines = p.state.lines;
+  files = all_files p.state;
+})
 
 -- three instructions from here on, and what the record area has then
 abbrev three_then : Code → Next
-three_then code p = act code (slice_get code.instructions p.address) (λ q. act code (slice_get code.instructions q.address) (λ r. act code (slice_get code.instructions r.address) record_told r) q) p
+three_then code p = act code (slice_get code.instructions p.address) (λ q. act code
+    (slice_get code.instructions q.address) (λ r. act code (slice_get code.instructions r.address) record_told r) q) p
 
 -- READ takes the second record after the first, and each status is received.
 abbrev reading_two : Code
@@ -577,7 +725,12 @@ abbrev reading_closed : Code
 reading_closed = filing (Tick 3 ∷ on_f v.ReadNext ∷ TestStatus AtEnd ∷ Branch 5 ∷ Stop ∷ Unheard ∷ Stop ∷ [])
 
 not_open : exec_code reading_closed 9 (with_volume reading_closed)
-    ≡ Some (record { events = Noted (record { file = 0; status = codes "47" }) ∷ []; end = Faulted evaluated.FileStatus 3; lines = []; files = volume ∷ volume ∷ [] })
+    ≡ Some (record {
+      events = Noted (record { file = 0; status = codes "47" }) ∷ [];
+      end = Faulted evaluated.FileStatus 3;
+      lines = [];
+      files = volume ∷ volume ∷ [];
+    })
 unfolding filing_steps
 not_open = refl
 
@@ -624,11 +777,13 @@ show_spelt = refl
 stop_spelt : instruction_bytes Stop ≡ 3 ∷ []
 stop_spelt = refl
 
-count_spelt : instruction_bytes (Count (counter 1) 258) ≡ 4 ∷ 0 ∷ 0 ∷ 0 ∷ 0 ∷ 0 ∷ 0 ∷ 0 ∷ 1 ∷ 0 ∷ 0 ∷ 0 ∷ 0 ∷ 0 ∷ 0 ∷ 1 ∷ 2 ∷ []
+count_spelt : instruction_bytes (Count (counter 1) 258)
+    ≡ 4 ∷ 0 ∷ 0 ∷ 0 ∷ 0 ∷ 0 ∷ 0 ∷ 0 ∷ 1 ∷ 0 ∷ 0 ∷ 0 ∷ 0 ∷ 0 ∷ 0 ∷ 1 ∷ 2 ∷ []
 unfolding count_bytes
 count_spelt = refl
 
-turn_spelt : instruction_bytes (Turn (counter 1) 2) ≡ 5 ∷ 0 ∷ 0 ∷ 0 ∷ 0 ∷ 0 ∷ 0 ∷ 0 ∷ 1 ∷ 0 ∷ 0 ∷ 0 ∷ 0 ∷ 0 ∷ 0 ∷ 0 ∷ 2 ∷ []
+turn_spelt : instruction_bytes (Turn (counter 1) 2)
+    ≡ 5 ∷ 0 ∷ 0 ∷ 0 ∷ 0 ∷ 0 ∷ 0 ∷ 0 ∷ 1 ∷ 0 ∷ 0 ∷ 0 ∷ 0 ∷ 0 ∷ 0 ∷ 0 ∷ 2 ∷ []
 unfolding count_bytes
 turn_spelt = refl
 
@@ -653,7 +808,8 @@ append_spelt : instruction_bytes (append 7) ≡ 24 ∷ 0 ∷ 0 ∷ 0 ∷ 7 ∷ [
 unfolding short_bytes
 append_spelt = refl
 
-perform_spelt : instruction_bytes (Perform 258 (paragraph 1) (paragraph 2)) ≡ 11 ∷ 0 ∷ 0 ∷ 1 ∷ 2 ∷ 0 ∷ 0 ∷ 0 ∷ 0 ∷ 0 ∷ 0 ∷ 0 ∷ 1 ∷ 0 ∷ 0 ∷ 0 ∷ 0 ∷ 0 ∷ 0 ∷ 0 ∷ 2 ∷ []
+perform_spelt : instruction_bytes (Perform 258 (paragraph 1) (paragraph 2))
+    ≡ 11 ∷ 0 ∷ 0 ∷ 1 ∷ 2 ∷ 0 ∷ 0 ∷ 0 ∷ 0 ∷ 0 ∷ 0 ∷ 0 ∷ 1 ∷ 0 ∷ 0 ∷ 0 ∷ 0 ∷ 0 ∷ 0 ∷ 0 ∷ 2 ∷ []
 unfolding count_bytes short_bytes
 perform_spelt = refl
 
@@ -706,11 +862,13 @@ mark_alone = refl
 
 -- no area, and one item, of a kind that there isn't
 no_kind : code_at (mark ++ count_bytes 0 ++ count_bytes 1 ++ 10 ∷ []) ≡ Err faults.Value
-unfolding code_at after_mark tables_at table_at entries_at data_item_at items.item_at kind_at plain_kind_of byte_at count_at count_bytes
+unfolding code_at after_mark tables_at table_at entries_at data_item_at items.item_at kind_at plain_kind_of byte_at
+    count_at count_bytes
 no_kind = refl
 
 reading : Unit {0}
-unfolding code_at after_mark tables_at table_at entries_at text_at instruction_at data_instruction_at plain_instruction_of byte_at count_at short_at count_bytes short_bytes
+unfolding code_at after_mark tables_at table_at entries_at text_at instruction_at data_instruction_at
+    plain_instruction_of byte_at count_at short_at count_bytes short_bytes
 reading = tt
 
 -- the code is read again from its spelling, of 112 bytes
@@ -733,5 +891,6 @@ abbrev one_file : Code
 one_file = record { tables = with_texts []; files = f ∷ []; starts = []; instructions = on_f v.Close ∷ Unheard ∷ [] }
 
 file_again : code_at (code_bytes one_file) ≡ Ok one_file
-unfolding reading file_at spec_at organization_at small_at small_bytes told_at access_of flag_of item_at verb_at plain_verb_of
+unfolding reading file_at spec_at organization_at small_at small_bytes told_at access_of flag_of item_at verb_at
+    plain_verb_of
 file_again = refl

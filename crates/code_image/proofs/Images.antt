@@ -21,7 +21,8 @@ use Rattle.code_image.proofs.Forms.{instruction_form}
 -- reading from each part on
 abbrev pub end_from : DataTables → List CodeFile → List ℕ → List Instruction × List ℕ → Result Code ImageFault
 end_from tables files starts x =
-    cond (eqb (length x.1) 0) (Ok (record { tables = tables; files = files; starts = starts; instructions = x.0 })) (Err faults.Length)
+    cond (eqb (length x.1) 0) (Ok (record { tables = tables; files = files; starts = starts; instructions = x.0 }))
+    (Err faults.Length)
 
 abbrev pub instructions_from : DataTables → List CodeFile → List ℕ × List ℕ → Result Code ImageFault
 instructions_from tables files x = table_at instruction_at x.1 >>= end_from tables files x.0

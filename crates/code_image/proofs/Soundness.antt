@@ -16,13 +16,15 @@ use Rattle.code_image.specs.declared.code.Code.{Code}
 use Rattle.code_image.specs.Spelling.{mark, instruction_bytes, code_bytes, HasSpelling}
 use Rattle.code_image.specs.Reading.{after_mark, code_at}
 use Rattle.code_image.proofs.Forms.{mark_takes}
-use Rattle.code_image.proofs.Images.{end_from, instructions_from, starts_from, files_from, tables_from, file_table, start_table, instruction_table}
+use Rattle.code_image.proofs.Images.{end_from, instructions_from, starts_from, files_from, tables_from, file_table}
+use Rattle.code_image.proofs.Images.{start_table, instruction_table}
 
 -- nothing follows the last part
 whole : (bytes text rest : List ℕ) → Takes bytes text rest → rest ≡ [] → bytes ≡ text
 whole bytes text rest takes none = takes.parts ∙ ap (λ (t : List ℕ). text ++ t) none ∙ append-nil text
 
-pub code_takes : (bytes : List ℕ) (code : Code) → IsBytes bytes → code_at bytes ≡ Ok code → (bytes ≡ code_bytes code) × HasSpelling code
+pub code_takes : (bytes : List ℕ) (code : Code) → IsBytes bytes → code_at bytes ≡ Ok code
+    → (bytes ≡ code_bytes code) × HasSpelling code
 unfolding code_at
 code_takes bytes code fits e =
     let a = bind_ok (after_mark bytes) tables_from code e in
@@ -39,15 +41,19 @@ code_takes bytes code fits e =
     let two = takes_then bytes mark a.0 tables t.rest first t.takes in
     let three = takes_then bytes (mark ++ tables) t.rest files f.rest two f.takes in
     let four = takes_then bytes (mark ++ tables ++ files) f.rest starts s.rest three s.takes in
-    let five = takes_then bytes (mark ++ tables ++ files ++ starts) s.rest (table_bytes instruction_bytes i.value) i.rest four i.takes in
+    let five = takes_then bytes (mark ++ tables ++ files ++ starts) s.rest (table_bytes instruction_bytes i.value)
+    i.rest four i.takes in
     let nothing : i.rest ≡ [] = nil_from_length i.rest (eqb-true _ _ g.0) in
-    let spelt : HasSpelling made = record { tables = t.sound; files = f.sound; starts = s.sound; instructions = i.sound } in
+    let spelt : HasSpelling made =
+    record { tables = t.sound; files = f.sound; starts = s.sound; instructions = i.sound } in
     (whole bytes (code_bytes made) i.rest five nothing ∙ ap code_bytes g.1, subst HasSpelling g.1 spelt)
 
-pub is_found : (bytes : List ℕ) (r : Result Code ImageError) → IsBytes bytes → Gives (λ code. code) fault_of r (code_at bytes) → IfOk r (λ code. bytes ≡ code_bytes code)
+pub is_found : (bytes : List ℕ) (r : Result Code ImageError) → IsBytes bytes
+    → Gives (λ code. code) fault_of r (code_at bytes) → IfOk r (λ code. bytes ≡ code_bytes code)
 is_found bytes (Ok code) fits given = (code_takes bytes code fits given).0
 is_found bytes (Err e) fits given = tt
 
-pub is_spelt : (bytes : List ℕ) (r : Result Code ImageError) → IsBytes bytes → Gives (λ code. code) fault_of r (code_at bytes) → IfOk r HasSpelling
+pub is_spelt : (bytes : List ℕ) (r : Result Code ImageError) → IsBytes bytes
+    → Gives (λ code. code) fault_of r (code_at bytes) → IfOk r HasSpelling
 is_spelt bytes (Ok code) fits given = (code_takes bytes code fits given).1
 is_spelt bytes (Err e) fits given = tt

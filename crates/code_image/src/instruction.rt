@@ -237,7 +237,8 @@ fn put_counting(
     counter: CounterIndex,
     number: usize,
 ) -> Result<(), AllocError>
-    ensures bytes { OnOk result (out.new.items ≡ out.old.items ++ (first ∷ (count_bytes counter.number ++ count_bytes number))) }
+    ensures bytes { OnOk result (out.new.items
+        ≡ out.old.items ++ (first ∷ (count_bytes counter.number ++ count_bytes number))) }
     ensures fits { IsCount counter.number × IsCount number }
 {
     out.push(first)?;
@@ -260,7 +261,8 @@ fn put_perform(
     first: ParagraphIndex,
     last: ParagraphIndex,
 ) -> Result<(), AllocError>
-    ensures bytes { OnOk result (out.new.items ≡ out.old.items ++ (11 ∷ (short_bytes line ++ count_bytes first.number ++ count_bytes last.number))) }
+    ensures bytes { OnOk result (out.new.items ≡ out.old.items
+        ++ (11 ∷ (short_bytes line ++ count_bytes first.number ++ count_bytes last.number))) }
     ensures fits { FitsFourBytes line × IsCount first.number × IsCount last.number }
 {
     out.push(PERFORM)?;
@@ -270,7 +272,8 @@ fn put_perform(
 }
 
 fn put_file(out: &mut Vec<u8>, file: FileIndex, verb: Verb) -> Result<(), AllocError>
-    ensures bytes { OnOk result (out.new.items ≡ out.old.items ++ (14 ∷ file.number ∷ verb_bytes verb)) }
+    ensures bytes { OnOk result
+        (out.new.items ≡ out.old.items ++ (14 ∷ file.number ∷ verb_bytes verb)) }
     ensures fits { IsByte file.number × IsVerbSpelled verb }
 {
     out.push(FILE)?;

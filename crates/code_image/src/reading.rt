@@ -20,7 +20,8 @@ pub fn from_bytes(alloc: Global, bytes: &[u8]) -> Result<Code, ImageError>
     ensures found { IfOk result (λ code. bytes.now ≡ code_bytes code) }
     ensures has_spelling { IfOk result HasSpelling }
     // What the bytes spell is read, unless memory runs out.
-    ensures only { (code : Code) → HasSpelling code → bytes.now ≡ code_bytes code → Gives (λ code. code) fault_of result (Ok code) }
+    ensures only { (code : Code) → HasSpelling code → bytes.now ≡ code_bytes code
+        → Gives (λ code. code) fault_of result (Ok code) }
     // Which fault comes first.
     ensures exact { Gives (λ code. code) fault_of result (code_at bytes.now) }
 {

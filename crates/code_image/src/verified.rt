@@ -146,7 +146,8 @@ fn leads_back(instructions: &[Instruction], paragraphs: &[usize], address: usize
 fn leads(instructions: &[Instruction], paragraphs: &[usize], address: usize) -> bool
     requires listed { ListsParagraphs instructions.now paragraphs.now }
     requires within { address < length instructions.now }
-    ensures { IsTrue result ↔ HasValidTargets instructions.now address (slice_get instructions.now address) }
+    ensures { IsTrue result
+        ↔ HasValidTargets instructions.now address (slice_get instructions.now address) }
 {
     match instructions.get(address) {
         Some(Instruction::Turn { to, .. }) => leads_back(instructions, paragraphs, address, *to),
@@ -172,7 +173,8 @@ fn all_lead(instructions: &[Instruction], paragraphs: &[usize]) -> bool
 }
 
 fn stops_last(instructions: &[Instruction]) -> bool
-    ensures { IsTrue result ↔ (slice_get instructions.now (length instructions.now - 1) ≡ Some Stop) }
+    ensures { IsTrue result
+        ↔ (slice_get instructions.now (length instructions.now - 1) ≡ Some Stop) }
 {
     matches!(instructions.last(), Some(Instruction::Stop))
 }
@@ -207,7 +209,8 @@ fn suits_file(code: &Code, instruction: Instruction) -> bool
 
 fn suit_files(code: &Code, instructions: &[Instruction]) -> bool
     requires { All (NamesFile (length code.now.files)) instructions.now }
-    ensures { IsTrue result ↔ All (SuitsFile (entries_of code.now.tables code.now.files)) instructions.now }
+    ensures { IsTrue result
+        ↔ All (SuitsFile (entries_of code.now.tables code.now.files)) instructions.now }
 {
     for instruction in instructions {
         if !suits_file(code, *instruction) {

@@ -1,5 +1,6 @@
 -- No piece depends on the instructions before it, but on how many there are.
-use Rattle.std.proofs.Common.{◌≡◌, ℕ, pos, Bool, true, false, List, [], ◌∷◌, length, map, refl, ap, ◌∙◌, arith, length-append}
+use Rattle.std.proofs.Common.{◌≡◌, ℕ, pos, Bool, true, false, List, [], ◌∷◌, length, map, refl, ap, ◌∙◌, arith}
+use Rattle.std.proofs.Common.{length-append}
 use Rattle.std.specs.Prelude.{slice_get}
 use Rattle.decimal18.specs.Fraction.{Fraction}
 use Rattle.source_tree.specs.declared.literal.LiteralValue.{LiteralValue}
@@ -34,11 +35,18 @@ use Rattle.data_instructions.specs.Codes.{integer, index_code}
 use Rattle.data_instructions.specs.TextCodes.{new_byte, new_mark}
 use Rattle.code_image.specs.declared.code.Code.{Code}
 use Rattle.code_image.specs.declared.instruction.Instruction.TheVariants as instruction
-use Rattle.codegen.specs.Fragments.{Fragment, no_tables, empty_code, joined_tables, append, sequence, in_order, plain_code}
-use Rattle.codegen.specs.DataCode.{item_number, item_index, dimensions_of, work_fragment, works_fragment, number_fragment, integer_fragment, adjustment_fragment, text_fragment, literal_entry, literal_fragment, line_end_fragment, show_fragment, subscript_fragment, subscripts_fragment, reference_fragment, take_fragment, sender_fragment, receivers_fragment, operand_fragment, operands_fragment}
+use Rattle.codegen.specs.Fragments.{Fragment, no_tables, empty_code, joined_tables, append, sequence, in_order}
+use Rattle.codegen.specs.Fragments.{plain_code}
+use Rattle.codegen.specs.DataCode.{item_number, item_index, dimensions_of, work_fragment, works_fragment}
+use Rattle.codegen.specs.DataCode.{number_fragment, integer_fragment, adjustment_fragment, text_fragment, literal_entry}
+use Rattle.codegen.specs.DataCode.{literal_fragment, line_end_fragment, show_fragment, subscript_fragment}
+use Rattle.codegen.specs.DataCode.{subscripts_fragment, reference_fragment, take_fragment, sender_fragment}
+use Rattle.codegen.specs.DataCode.{receivers_fragment, operand_fragment, operands_fragment}
 use Rattle.codegen.specs.ConditionCode.{condition_number, condition_item}
-use Rattle.codegen.specs.PatternCode.{overlay_fragment, pattern_fragment, pattern_of, set_of, initialize_fragment, set_fragment}
-use Rattle.codegen.specs.InspectCode.{inspection_fragment, inspection_entry, taken_fragment, takings_fragment, inspect_fragment}
+use Rattle.codegen.specs.PatternCode.{overlay_fragment, pattern_fragment, pattern_of, set_of, initialize_fragment}
+use Rattle.codegen.specs.PatternCode.{set_fragment}
+use Rattle.codegen.specs.InspectCode.{inspection_fragment, inspection_entry, taken_fragment, takings_fragment}
+use Rattle.codegen.specs.InspectCode.{inspect_fragment}
 use Rattle.codegen.specs.Layout.{data_fragment, texts_fragment}
 
 -- Two codes that no piece tells apart: the same tables, and as many instructions.
@@ -48,8 +56,15 @@ pub record Alike (a b : Code) : Type 0 where
 
 pub alike_joined : (a b x y : Code) → Alike a b → x ≡ y → Alike (append a x) (append b y)
 alike_joined a b x y alike same = record {
-  tables = ap (λ (t : DataTables). joined_tables t x.tables) alike.tables ∙ ap (λ (z : Code). joined_tables b.tables z.tables) same;
-  count = omega (arith, alike.count, length-append a.instructions x.instructions, length-append b.instructions y.instructions, ap (λ (z : Code). length z.instructions) same);
+  tables = ap (λ (t : DataTables). joined_tables t x.tables) alike.tables
+      ∙ ap (λ (z : Code). joined_tables b.tables z.tables) same;
+  count = omega (
+    arith,
+    alike.count,
+    length-append a.instructions x.instructions,
+    length-append b.instructions y.instructions,
+    ap (λ (z : Code). length z.instructions) same,
+  );
 }
 
 -- A piece is the same behind codes that are alike.
@@ -79,10 +94,12 @@ both_blind first second f g = record {
   by = λ a b alike.
       let same = f.by a b alike in
       ap (λ (z : Code). append z (second (append a (first a)))) same
-      ∙ ap (append (first b)) (g.by (append a (first a)) (append b (first b)) (alike_joined a b (first a) (first b) alike same));
+      ∙ ap (append (first b))
+      (g.by (append a (first a)) (append b (first b)) (alike_joined a b (first a) (first b) alike same));
 }
 
-pub in_order_blind : {A : Type 0} (piece : A → Fragment) → ((one : A) → Blind (piece one)) → (all : List A) → Blind (in_order piece all)
+pub in_order_blind : {A : Type 0} (piece : A → Fragment) → ((one : A) → Blind (piece one)) → (all : List A)
+    → Blind (in_order piece all)
 in_order_blind piece f [] = constant_blind empty_code
 in_order_blind piece f (one ∷ more) = both_blind (piece one) (in_order piece more) (f one) (in_order_blind piece f more)
 
@@ -142,9 +159,11 @@ integer_blind n = number_blind (integer (pos n))
 
 adjustment_blind : (one : Adjustment) → Blind (adjustment_fragment one)
 adjustment_blind adjustment.Nothing = constant_blind empty_code
-adjustment_blind (adjustment.Plus n) = both_blind (integer_fragment (number_of n)) (work_fragment (i.Calculate c.Add)) (integer_blind (number_of n)) (work_blind (i.Calculate c.Add))
+adjustment_blind (adjustment.Plus n) = both_blind (integer_fragment (number_of n)) (work_fragment (i.Calculate c.Add))
+    (integer_blind (number_of n)) (work_blind (i.Calculate c.Add))
 adjustment_blind (adjustment.Minus n) =
-    both_blind (integer_fragment (number_of n)) (work_fragment (i.Calculate c.Subtract)) (integer_blind (number_of n)) (work_blind (i.Calculate c.Subtract))
+    both_blind (integer_fragment (number_of n)) (work_fragment (i.Calculate c.Subtract)) (integer_blind (number_of n))
+    (work_blind (i.Calculate c.Subtract))
 
 line_end_blind : (advancing : Bool) → Blind (line_end_fragment advancing)
 line_end_blind true = text_blind (line_end true)
@@ -154,24 +173,31 @@ module _ (items : List LocatedItem) where
   subscript_blind : (one : written.Subscript) → Blind (subscript_fragment items one)
   subscript_blind (subscript.Literal n) = integer_blind (number_of n)
   subscript_blind (subscript.Item name adjusting) =
-      both_blind (work_fragment (i.Place (item_index items name))) (sequence (work_fragment i.Push) (adjustment_fragment adjusting)) (work_blind (i.Place (item_index items name)))
-      (both_blind (work_fragment i.Push) (adjustment_fragment adjusting) (work_blind i.Push) (adjustment_blind adjusting))
+      both_blind (work_fragment (i.Place (item_index items name)))
+      (sequence (work_fragment i.Push) (adjustment_fragment adjusting)) (work_blind (i.Place (item_index items name)))
+      (both_blind (work_fragment i.Push) (adjustment_fragment adjusting) (work_blind i.Push)
+      (adjustment_blind adjusting))
 
-  pub subscripts_blind : (dimensions : List Dimension) (all : List written.Subscript) → Blind (subscripts_fragment items dimensions all)
+  pub subscripts_blind : (dimensions : List Dimension) (all : List written.Subscript)
+      → Blind (subscripts_fragment items dimensions all)
   subscripts_blind [] all = constant_blind empty_code
   subscripts_blind (one ∷ more) [] = constant_blind empty_code
   subscripts_blind (one ∷ more) (written ∷ others) =
-      both_blind (sequence (subscript_fragment items written) (work_fragment (index_code one))) (subscripts_fragment items more others)
-      (both_blind (subscript_fragment items written) (work_fragment (index_code one)) (subscript_blind written) (work_blind (index_code one))) (subscripts_blind more others)
+      both_blind (sequence (subscript_fragment items written) (work_fragment (index_code one)))
+      (subscripts_fragment items more others)
+      (both_blind (subscript_fragment items written) (work_fragment (index_code one)) (subscript_blind written)
+      (work_blind (index_code one))) (subscripts_blind more others)
 
   pub reference_blind : (one : Reference) → Blind (reference_fragment items one)
   reference_blind one =
       let dimensions = dimensions_of (slice_get items (item_number items one.item)) in
-      both_blind (work_fragment (i.Place (item_index items one.item))) (subscripts_fragment items dimensions one.subscripts) (work_blind (i.Place (item_index items one.item)))
+      both_blind (work_fragment (i.Place (item_index items one.item)))
+      (subscripts_fragment items dimensions one.subscripts) (work_blind (i.Place (item_index items one.item)))
       (subscripts_blind dimensions one.subscripts)
 
   pub taking_blind : (taking : DataInstruction) (one : Reference) → Blind (take_fragment items taking one)
-  taking_blind taking one = both_blind (reference_fragment items one) (work_fragment taking) (reference_blind one) (work_blind taking)
+  taking_blind taking one =
+      both_blind (reference_fragment items one) (work_fragment taking) (reference_blind one) (work_blind taking)
 
   pub sender_blind : (one : Operand) → Blind (sender_fragment items one)
   sender_blind (operand.Item one) = taking_blind i.Take one
@@ -193,13 +219,15 @@ module _ (items : List LocatedItem) where
       let subscripts = subscripts_fragment items dimensions one.subscripts in
       let pattern = set_of (slice_get (all_conditions items) (condition_number items one.item)) in
       both_blind (work_fragment place) (sequence subscripts (pattern_fragment pattern)) (work_blind place)
-      (both_blind subscripts (pattern_fragment pattern) (subscripts_blind dimensions one.subscripts) (pattern_blind pattern))
+      (both_blind subscripts (pattern_fragment pattern) (subscripts_blind dimensions one.subscripts)
+      (pattern_blind pattern))
 
   pub moving_blind : (one : DataStatement) → Blind (data_fragment items one)
   moving_blind (Move sender receivers) =
       both_blind (sender_fragment items sender) (receivers_fragment items receivers) (sender_blind sender)
       (in_order_blind (take_fragment items i.Move) (λ one. taking_blind i.Move one) receivers)
-  moving_blind (Initialize receivers) = in_order_blind (initialize_fragment items) (λ one. initialize_blind one) receivers
+  moving_blind (Initialize receivers) =
+      in_order_blind (initialize_fragment items) (λ one. initialize_blind one) receivers
   moving_blind (Set conditions) = in_order_blind (set_fragment items) (λ one. set_blind one) conditions
 
   taken_blind : (one : InspectArgument) → Blind (taken_fragment items one)
@@ -213,15 +241,19 @@ module _ (items : List LocatedItem) where
       let parts = takings_fragment items (takings items one) in
       let last = inspection_fragment (inspection_entry items one) in
       both_blind subject (sequence parts last) (reference_blind one.subject)
-      (both_blind parts last (in_order_blind (taken_fragment items) (λ one. taken_blind one) (takings items one)) (inspection_blind (inspection_entry items one)))
+      (both_blind parts last (in_order_blind (taken_fragment items) (λ one. taken_blind one) (takings items one))
+      (inspection_blind (inspection_entry items one)))
 
   pub texts_blind : (one : TextStatement) → Blind (texts_fragment items one)
   texts_blind (Display operands advancing) =
       both_blind (sequence (operands_fragment items operands) (line_end_fragment advancing)) show_fragment
-      (both_blind (operands_fragment items operands) (line_end_fragment advancing) (in_order_blind (operand_fragment items) (λ one. operand_blind one) operands) (line_end_blind advancing))
+      (both_blind (operands_fragment items operands) (line_end_fragment advancing)
+      (in_order_blind (operand_fragment items) (λ one. operand_blind one) operands) (line_end_blind advancing))
       (constant_blind (plain_code (instruction.Show ∷ [])))
   texts_blind (Accept receiver) =
-      both_blind (reference_fragment items receiver) (λ before. plain_code (instruction.Accept ∷ [])) (reference_blind receiver) (constant_blind (plain_code (instruction.Accept ∷ [])))
+      both_blind (reference_fragment items receiver) (λ before. plain_code (instruction.Accept ∷ []))
+      (reference_blind receiver) (constant_blind (plain_code (instruction.Accept ∷ [])))
   texts_blind (AcceptDate receiver) =
-      both_blind (reference_fragment items receiver) (λ before. plain_code (instruction.Date ∷ [])) (reference_blind receiver) (constant_blind (plain_code (instruction.Date ∷ [])))
+      both_blind (reference_fragment items receiver) (λ before. plain_code (instruction.Date ∷ []))
+      (reference_blind receiver) (constant_blind (plain_code (instruction.Date ∷ [])))
   texts_blind (Inspect one) = inspect_blind one

@@ -13,8 +13,11 @@ use Rattle.data_instructions.specs.declared.instruction.DataInstruction.TheVaria
 use Rattle.code_image.specs.declared.instruction.Instruction.TheVariants.{Data}
 use Rattle.codegen.specs.Fragments.{no_tables, empty_code, sequence, in_order}
 use Rattle.codegen.specs.DataCode.{work_fragment, reference_fragment}
-use Rattle.codegen.specs.StringCode.{up_to_text_fragment, text_up_to_place_fragment, sent_item_fragment, sent_fragment, found_fragment, up_to_place_fragment, sender_by_fragment, sender_fragment, sendings_fragment, put_fragment, string_fragment}
-use Rattle.codegen.proofs.Blind.{Blind, constant_blind, tables_blind, both_blind, in_order_blind, work_blind, text_blind, reference_blind, taking_blind}
+use Rattle.codegen.specs.StringCode.{up_to_text_fragment, text_up_to_place_fragment, sent_item_fragment, sent_fragment}
+use Rattle.codegen.specs.StringCode.{found_fragment, up_to_place_fragment, sender_by_fragment, sender_fragment}
+use Rattle.codegen.specs.StringCode.{sendings_fragment, put_fragment, string_fragment}
+use Rattle.codegen.proofs.Blind.{Blind, constant_blind, tables_blind, both_blind, in_order_blind, work_blind}
+use Rattle.codegen.proofs.Blind.{text_blind, reference_blind, taking_blind}
 
 up_to_text_blind : (delimiter : List ℕ) → Blind (up_to_text_fragment delimiter)
 up_to_text_blind delimiter = tables_blind (λ (t : DataTables). record {
@@ -35,7 +38,8 @@ text_up_to_place_blind bytes = tables_blind (λ (t : DataTables). record {
 module _ (items : List LocatedItem) where
   sent_item_blind : (delimiter : Option (List ℕ)) (one : Reference) → Blind (sent_item_fragment items delimiter one)
   sent_item_blind None one = taking_blind items (i.Gather g.Bytes) one
-  sent_item_blind (Some delimiter) one = both_blind (reference_fragment items one) (up_to_text_fragment delimiter) (reference_blind items one) (up_to_text_blind delimiter)
+  sent_item_blind (Some delimiter) one = both_blind (reference_fragment items one) (up_to_text_fragment delimiter)
+      (reference_blind items one) (up_to_text_blind delimiter)
 
   sent_blind : (delimiter : Option (List ℕ)) (one : Operand) → Blind (sent_fragment items delimiter one)
   sent_blind delimiter (operand.Item one) = sent_item_blind delimiter one
@@ -49,18 +53,22 @@ module _ (items : List LocatedItem) where
   up_to_place_blind (operand.Item one) = taking_blind items (i.Gather g.UpToPlace) one
   up_to_place_blind (operand.Literal one) = text_up_to_place_blind (shown_literal one.value)
 
-  sending_by_blind : (senders : List Operand) (delimiter : Option Operand) → Blind (sender_by_fragment items senders delimiter)
+  sending_by_blind : (senders : List Operand) (delimiter : Option Operand)
+      → Blind (sender_by_fragment items senders delimiter)
   sending_by_blind senders None = in_order_blind (sent_fragment items None) (λ one. sent_blind None one) senders
   sending_by_blind senders (Some (operand.Literal delimiter)) =
-      let text = Some (shown_literal delimiter.value) in in_order_blind (sent_fragment items text) (λ one. sent_blind text one) senders
+      let text = Some (shown_literal delimiter.value) in
+      in_order_blind (sent_fragment items text) (λ one. sent_blind text one) senders
   sending_by_blind senders (Some (operand.Item delimiter)) =
       let found = in_order (found_fragment items) senders in
       let place = reference_fragment items delimiter in
       let parts = in_order (up_to_place_fragment items) senders in
       let last = work_fragment i.DropPlace in
-      both_blind found (sequence place (sequence parts last)) (in_order_blind (found_fragment items) (λ one. found_blind one) senders)
+      both_blind found (sequence place (sequence parts last))
+      (in_order_blind (found_fragment items) (λ one. found_blind one) senders)
       (both_blind place (sequence parts last) (reference_blind items delimiter)
-      (both_blind parts last (in_order_blind (up_to_place_fragment items) (λ one. up_to_place_blind one) senders) (work_blind i.DropPlace)))
+      (both_blind parts last (in_order_blind (up_to_place_fragment items) (λ one. up_to_place_blind one) senders)
+      (work_blind i.DropPlace)))
 
   sendings_blind : (all : List Sending) → Blind (sendings_fragment items all)
   sendings_blind all = in_order_blind (sender_fragment items) (λ one. sending_by_blind one.senders one.delimiter) all
@@ -69,8 +77,10 @@ module _ (items : List LocatedItem) where
   put_blind None = work_blind (i.String false)
   put_blind (Some pointer) = taking_blind items (i.String true) pointer
 
-  pub string_blind : (sendings : List Sending) (receiver : Reference) (pointer : Option Reference) → Blind (string_fragment items sendings receiver pointer)
+  pub string_blind : (sendings : List Sending) (receiver : Reference) (pointer : Option Reference)
+      → Blind (string_fragment items sendings receiver pointer)
   string_blind sendings receiver pointer =
       let place = reference_fragment items receiver in
-      both_blind (sendings_fragment items sendings) (sequence place (put_fragment items pointer)) (sendings_blind sendings)
+      both_blind (sendings_fragment items sendings) (sequence place (put_fragment items pointer))
+      (sendings_blind sendings)
       (both_blind place (put_fragment items pointer) (reference_blind items receiver) (put_blind pointer))

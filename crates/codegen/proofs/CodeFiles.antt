@@ -1,5 +1,6 @@
 -- The table of files has what the meaning has of each, and is in order, where the rules are kept.
-use Rattle.std.proofs.Common.{◌≡◌, ℕ, zero, suc, ◌+◌, ◌<◌, List, [], ◌∷◌, length, map, Option, Some, None, refl, sym, ap, ◌∙◌, subst, arith}
+use Rattle.std.proofs.Common.{◌≡◌, ℕ, zero, suc, ◌+◌, ◌<◌, List, [], ◌∷◌, length, map, Option, Some, None, refl, sym}
+use Rattle.std.proofs.Common.{ap, ◌∙◌, subst, arith}
 use Rattle.std.specs.Prelude.{IfSome, slice_get, slice_index_or}
 use Rattle.std.specs.List.{AllByRecursion}
 use Rattle.std.proofs.lemmas.Option.{same_Some, slice_get_within, slice_get-get_or}
@@ -26,20 +27,25 @@ use Rattle.codegen.proofs.HasFiles.{IsNumbered}
 -- ---- lists
 
 -- what is so at each place is so of all
-pub every : {A : Type 0} (P : A → Type 0) (xs : List A) → ((k : ℕ) (x : A) → slice_get xs k ≡ Some x → P x) → AllByRecursion P xs
+pub every : {A : Type 0} (P : A → Type 0) (xs : List A) → ((k : ℕ) (x : A) → slice_get xs k ≡ Some x → P x)
+    → AllByRecursion P xs
 every P [] h = tt
 every P (x ∷ xs) h = (h 0 x refl, every P xs (λ k y here. h (suc k) y here))
 
-pub each_at : {A : Type 0} (P : A → Type 0) (xs : List A) → AllByRecursion P xs → (k : ℕ) (x : A) → slice_get xs k ≡ Some x → P x
+pub each_at : {A : Type 0} (P : A → Type 0) (xs : List A) → AllByRecursion P xs → (k : ℕ) (x : A)
+    → slice_get xs k ≡ Some x → P x
 each_at P [] all k x here = absurd cc
 each_at P (y ∷ ys) all zero x here = subst P (same_Some y x here) all.0
 each_at P (y ∷ ys) all (suc k) x here = each_at P ys all.1 k x here
 
 -- one of a list that breaks no rule
-pub kept_at : {A : Type 0} (rules : A → List RuleBreach) (all : List A) (n : ℕ) (one : A) → each rules all ≡ [] → slice_get all n ≡ Some one → rules one ≡ []
+pub kept_at : {A : Type 0} (rules : A → List RuleBreach) (all : List A) (n : ℕ) (one : A) → each rules all ≡ []
+    → slice_get all n ≡ Some one → rules one ≡ []
 kept_at rules [] n one e here = absurd cc
-kept_at rules (first ∷ more) zero one e here = subst (λ x. rules x ≡ []) (same_Some first one here) (left_none (rules first) (each rules more) e)
-kept_at rules (first ∷ more) (suc n) one e here = kept_at rules more n one (right_none (rules first) (each rules more) e) here
+kept_at rules (first ∷ more) zero one e here =
+    subst (λ x. rules x ≡ []) (same_Some first one here) (left_none (rules first) (each rules more) e)
+kept_at rules (first ∷ more) (suc n) one e here =
+    kept_at rules more n one (right_none (rules first) (each rules more) e) here
 
 if_some : {A : Type 0} (P Q : A → Type 0) → ((x : A) → P x → Q x) → (o : Option A) → IfSome o P → IfSome o Q
 if_some P Q from None h = tt
@@ -48,7 +54,8 @@ if_some P Q from (Some x) h = from x h
 module _ (items : List LocatedItem) (areas : ℕ) (descriptions : List FileDescription) where
   -- ---- the same number of files, and their numbers
 
-  pub files_count : (number : ℕ) (selects : List Select) → length (files_from items areas descriptions number selects) ≡ length selects
+  pub files_count : (number : ℕ) (selects : List Select)
+      → length (files_from items areas descriptions number selects) ≡ length selects
   files_count number [] = refl
   files_count number (one ∷ more) = ap suc (files_count (number + 1) more)
 
@@ -77,18 +84,24 @@ module _ (items : List LocatedItem) (areas : ℕ) (descriptions : List FileDescr
 
   -- ---- what the meaning has of a file
 
-  module _ (tables : DataTables) (entries : (n : ℕ) (one : LocatedItem) → slice_get items n ≡ Some one → slice_get tables.items n ≡ Some (data_item one)) where
+  module _ (tables : DataTables) (entries : (n : ℕ) (one : LocatedItem) → slice_get items n ≡ Some one
+      → slice_get tables.items n ≡ Some (data_item one)) where
     module _ (number : ℕ) (one : Select) (named : NamesOne items one.relative_key × NamesOne items one.status) where
       abbrev file : ProgramFile
       file = file_of items areas descriptions number one
 
       pub places_are : places_of tables number (code_file items one file) ≡ file.places
       places_are =
-          ap (λ (place : Option ItemPlace). record (places_of tables number (code_file items one file)) { relative_key = place }) (place_is items tables entries one.relative_key named.0)
-          ∙ ap (λ (place : Option ItemPlace). record file.places { status = place }) (place_is items tables entries one.status named.1)
+          ap (λ (place : Option ItemPlace). record (places_of tables number (code_file items one file)) {
+            relative_key =
+                place;
+          }) (place_is items tables entries one.relative_key named.0)
+          ∙ ap (λ (place : Option ItemPlace). record file.places { status = place })
+          (place_is items tables entries one.status named.1)
 
       pub entry_is : entry_of tables (code_file items one file) ≡ file.entry
-      entry_is = ap (λ (place : Option ItemPlace). record file.entry { key_digits = digits_at place }) (place_is items tables entries one.relative_key named.0)
+      entry_is = ap (λ (place : Option ItemPlace). record file.entry { key_digits = digits_at place })
+          (place_is items tables entries one.relative_key named.0)
 
       -- ---- what is demanded of it
 
@@ -107,7 +120,8 @@ module _ (items : List LocatedItem) (areas : ℕ) (descriptions : List FileDescr
         record_area = record { area = area; here = here; long = long };
         relative_key = subst (λ (place : Option ItemPlace). IfSome place (IsRelativeKey file.places.area))
             (sym (place_is items tables entries one.relative_key named.0)) sound.relative_key;
-        status = subst (λ (place : Option ItemPlace). IfSome place IsTwoCharacters) (sym (place_is items tables entries one.status named.1))
+        status = subst (λ (place : Option ItemPlace). IfSome place IsTwoCharacters)
+            (sym (place_is items tables entries one.status named.1))
             (if_some (IsStatus areas) IsTwoCharacters (λ place h. h.kind) (item_place items one.status) sound.status);
       }
 
@@ -120,8 +134,10 @@ module _ (items : List LocatedItem) (areas : ℕ) (descriptions : List FileDescr
         let named = clauses_named items areas descriptions one (left_none (rules one) (each rules more) e) in
         let first = file_of items areas descriptions number one in
         let others = files_from items areas descriptions (number + 1) more in
-        ap (λ (entry : connector.Entry). entry ∷ map (entry_of tables) (code_files items more others)) (entry_is number one named)
-        ∙ ap (λ (l : List connector.Entry). first.entry ∷ l) (entries_from (number + 1) more (right_none (rules one) (each rules more) e))
+        ap (λ (entry : connector.Entry). entry ∷ map (entry_of tables) (code_files items more others))
+        (entry_is number one named)
+        ∙ ap (λ (l : List connector.Entry). first.entry ∷ l)
+        (entries_from (number + 1) more (right_none (rules one) (each rules more) e))
 
     pub entries_are : (selects : List Select) → each (select_rules items areas descriptions) selects ≡ []
         → table.entries_of tables (code_files items selects (files_from items areas descriptions 0 selects))

@@ -25,19 +25,22 @@ module _ {A B C : Type 0} (f : A → B) (g : B → C) where
   map_twice (Condition-F.Any parts) = ap (λ (l : List C). Condition-F.Any l) (all_twice parts)
 
 module _ (items : List LocatedItem) {A : Type 0} (f : A → Condition) (l : Condition-F A) where
-  pub mapped_piece : condition_fragment items (roll-Condition (map-Condition A Condition f l)) ≡ condition_layer_fragment items (map-Condition A Fragment (λ a. condition_fragment items (f a)) l)
+  pub mapped_piece : condition_fragment items (roll-Condition (map-Condition A Condition f l))
+      ≡ condition_layer_fragment items (map-Condition A Fragment (λ a. condition_fragment items (f a)) l)
   unfolding condition_fragment
   mapped_piece =
       fold-roll-Condition Fragment (condition_layer_fragment items) (map-Condition A Condition f l)
       ∙ ap (condition_layer_fragment items) (map_twice f (condition_fragment items) l)
 
-  pub mapped_rules : condition_rules items (roll-Condition (map-Condition A Condition f l)) ≡ condition_layer_rules items (map-Condition A (List RuleBreach) (λ a. condition_rules items (f a)) l)
+  pub mapped_rules : condition_rules items (roll-Condition (map-Condition A Condition f l))
+      ≡ condition_layer_rules items (map-Condition A (List RuleBreach) (λ a. condition_rules items (f a)) l)
   unfolding condition_rules
   mapped_rules =
       fold-roll-Condition (List RuleBreach) (condition_layer_rules items) (map-Condition A Condition f l)
       ∙ ap (condition_layer_rules items) (map_twice f (condition_rules items) l)
 
-  pub mapped_truth : holds items (roll-Condition (map-Condition A Condition f l)) ≡ condition_layer items (map-Condition A ConditionValue (λ a. holds items (f a)) l)
+  pub mapped_truth : holds items (roll-Condition (map-Condition A Condition f l))
+      ≡ condition_layer items (map-Condition A ConditionValue (λ a. holds items (f a)) l)
   unfolding holds
   mapped_truth =
       fold-roll-Condition ConditionValue (condition_layer items) (map-Condition A Condition f l)

@@ -16,7 +16,8 @@ use Rattle.codegen.specs.ConditionCode.{condition_number}
 
 -- ---- what a name names
 
-found_one : {A : Type 0} (all named : List A) (one : A) (found : LookUp) → IsLookUpOf all named found → named ≡ one ∷ [] → slice_get all (found_number found) ≡ Some one
+found_one : {A : Type 0} (all named : List A) (one : A) (found : LookUp) → IsLookUpOf all named found → named ≡ one ∷ []
+    → slice_get all (found_number found) ≡ Some one
 found_one {A} all named one Unknown is e = absurd (none (sym is ∙ e))
   where
     nothing : List A
@@ -33,9 +34,11 @@ found_one {A} all named one Several is e = absurd (more is.0 is.1 is.2 (sym is.3
     more : (x y : A) (zs : List A) → x ∷ y ∷ zs ≡ one ∷ [] → ⊥
     more x y zs e = cc
 
-pub condition_there : (items : List LocatedItem) (name : QualifiedName) (one : NamedCondition) → conditions_named items name ≡ one ∷ []
+pub condition_there : (items : List LocatedItem) (name : QualifiedName) (one : NamedCondition)
+    → conditions_named items name ≡ one ∷ []
     → slice_get (all_conditions items) (condition_number items name) ≡ Some one
-condition_there items name one e = found_one (all_conditions items) (conditions_named items name) one (look_up name (map called_condition (all_conditions items))) (named_conditions items name) e
+condition_there items name one e = found_one (all_conditions items) (conditions_named items name) one
+    (look_up name (map called_condition (all_conditions items))) (named_conditions items name) e
 
 -- ---- its item
 
@@ -50,21 +53,30 @@ module _ (found : NamedCondition) where
   of_item : (count : ℕ) (one : LocatedItem) (more : List LocatedItem) (others : List NamedCondition) (numbers : List ℕ)
       → ((n : ℕ) → slice_get others n ≡ Some found → IsNumbered more (suc count) (get_or numbers n 0) found.item)
       → (conditions : List ConditionEntry) (n : ℕ) → slice_get (conditions_of one conditions ++ others) n ≡ Some found
-      → IsNumbered (one ∷ more) count (get_or (map (λ (c : ConditionEntry). count) conditions ++ numbers) n 0) found.item
+      → IsNumbered (one ∷ more) count (get_or (map (λ (c : ConditionEntry). count) conditions ++ numbers) n 0)
+      found.item
   of_item count one more others numbers later [] n e =
       let l = later n e in
       let next : suc count + l.at ≡ count + suc l.at = omega arith in
       record { at = suc l.at; is = l.is ∙ next; here = l.here }
   of_item count one more others numbers later (c ∷ conditions) zero e =
       let none : count ≡ count + 0 = omega arith in
-      record { at = 0; is = none; here = ap (λ (x : NamedCondition). Some x.item) (same_Some (record { condition = c; item = one }) found e) }
-  of_item count one more others numbers later (c ∷ conditions) (suc n) e = of_item count one more others numbers later conditions n e
+      record {
+        at = 0;
+        is = none;
+        here = ap (λ (x : NamedCondition). Some x.item) (same_Some (record { condition = c; item = one }) found e);
+      }
+  of_item count one more others numbers later (c ∷ conditions) (suc n) e =
+      of_item count one more others numbers later conditions n e
 
-  of_items : (rest : List LocatedItem) (count n : ℕ) → slice_get (all_conditions rest) n ≡ Some found → IsNumbered rest count (get_or (item_numbers count rest) n 0) found.item
+  of_items : (rest : List LocatedItem) (count n : ℕ) → slice_get (all_conditions rest) n ≡ Some found
+      → IsNumbered rest count (get_or (item_numbers count rest) n 0) found.item
   of_items [] count n e = absurd cc
-  of_items (one ∷ more) count n e = of_item count one more (all_conditions more) (item_numbers (suc count) more) (of_items more (suc count)) one.conditions n e
+  of_items (one ∷ more) count n e = of_item count one more (all_conditions more) (item_numbers (suc count) more)
+      (of_items more (suc count)) one.conditions n e
 
-pub condition_item_there : (items : List LocatedItem) (n : ℕ) (found : NamedCondition) → slice_get (all_conditions items) n ≡ Some found
+pub condition_item_there : (items : List LocatedItem) (n : ℕ) (found : NamedCondition)
+    → slice_get (all_conditions items) n ≡ Some found
     → slice_get items (get_or (item_numbers 0 items) n 0) ≡ Some found.item
 condition_item_there items n found e =
     let l = of_items found items 0 n e in

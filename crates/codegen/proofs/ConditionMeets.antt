@@ -14,7 +14,8 @@ use Rattle.code_image.specs.declared.code.Code.{Code}
 use Rattle.codegen.specs.Fragments.{Fragment, append, sequence, in_order}
 use Rattle.codegen.specs.Meeting.{nothing_fragment}
 use Rattle.codegen.specs.DataCode.{work_fragment, works_fragment}
-use Rattle.codegen.specs.ConditionCode.{and_fragment, or_fragment, all_fragment, any_fragment, condition_layer_fragment, condition_fragment}
+use Rattle.codegen.specs.ConditionCode.{and_fragment, or_fragment, all_fragment, any_fragment, condition_layer_fragment}
+use Rattle.codegen.specs.ConditionCode.{condition_fragment}
 use Rattle.codegen.proofs.Codes.{left_none, right_none}
 use Rattle.codegen.proofs.ConditionBlind.{nothing_blind, condition_blind}
 use Rattle.codegen.proofs.ConditionForms.{mapped_piece, mapped_rules}
@@ -30,9 +31,11 @@ AlwaysMeets Q piece = (before : Code) → Meets Q before (piece before)
 straight_always : (Q : Asks) (piece : Fragment) → AlwaysStraight piece → AlwaysMeets Q piece
 straight_always Q piece straight before = straight_meets Q before (piece before) (straight before)
 
-both_always : (Q : Asks) (first second : Fragment) → AlwaysMeets Q first → AlwaysMeets Q second → AlwaysMeets Q (sequence first second)
+both_always : (Q : Asks) (first second : Fragment) → AlwaysMeets Q first → AlwaysMeets Q second
+    → AlwaysMeets Q (sequence first second)
 both_always Q first second f g before =
-    both_meet Q before (first before) (second (append before (first before))) (f before) (g (append before (first before)))
+    both_meet Q before (first before) (second (append before (first before))) (f before)
+    (g (append before (first before)))
 
 module _ (Q : Asks) (items : List LocatedItem) (formed : AreFormed items) where
   record IsMet (one : Condition) : Type 0 where
@@ -51,41 +54,53 @@ module _ (Q : Asks) (items : List LocatedItem) (formed : AreFormed items) where
   each_rules all = each broken_already (map rules_of all)
 
   and_meets : (one : Known) → rules_of one ≡ [] → AlwaysMeets Q (and_fragment (piece_of one))
-  and_meets one e = either_meets Q (piece_of one) nothing_fragment (condition_blind items one.0) nothing_blind (one.1.by e) (nothing_meets Q)
+  and_meets one e = either_meets Q (piece_of one) nothing_fragment (condition_blind items one.0) nothing_blind
+      (one.1.by e) (nothing_meets Q)
 
   or_meets : (one : Known) → rules_of one ≡ [] → AlwaysMeets Q (or_fragment (piece_of one))
-  or_meets one e = either_meets Q nothing_fragment (piece_of one) nothing_blind (condition_blind items one.0) (nothing_meets Q) (one.1.by e)
+  or_meets one e = either_meets Q nothing_fragment (piece_of one) nothing_blind (condition_blind items one.0)
+      (nothing_meets Q) (one.1.by e)
 
   ands_meet : (more : List Known) → each_rules more ≡ [] → AlwaysMeets Q (in_order and_fragment (map piece_of more))
   ands_meet [] e before = nothing_meets Q before
   ands_meet (one ∷ more) e before =
-      both_always Q (and_fragment (piece_of one)) (in_order and_fragment (map piece_of more)) (and_meets one (left_none (rules_of one) (each_rules more) e))
+      both_always Q (and_fragment (piece_of one)) (in_order and_fragment (map piece_of more))
+      (and_meets one (left_none (rules_of one) (each_rules more) e))
       (ands_meet more (right_none (rules_of one) (each_rules more) e)) before
 
   ors_meet : (more : List Known) → each_rules more ≡ [] → AlwaysMeets Q (in_order or_fragment (map piece_of more))
   ors_meet [] e before = nothing_meets Q before
   ors_meet (one ∷ more) e before =
-      both_always Q (or_fragment (piece_of one)) (in_order or_fragment (map piece_of more)) (or_meets one (left_none (rules_of one) (each_rules more) e))
+      both_always Q (or_fragment (piece_of one)) (in_order or_fragment (map piece_of more))
+      (or_meets one (left_none (rules_of one) (each_rules more) e))
       (ors_meet more (right_none (rules_of one) (each_rules more) e)) before
 
   all_meet : (parts : List Known) → each_rules parts ≡ [] → AlwaysMeets Q (all_fragment (map piece_of parts))
-  all_meet [] e = straight_always Q (works_fragment (i.ClearTruth ∷ i.Test t.Invert ∷ [])) (works_straight (i.ClearTruth ∷ i.Test t.Invert ∷ []))
+  all_meet [] e = straight_always Q (works_fragment (i.ClearTruth ∷ i.Test t.Invert ∷ []))
+      (works_straight (i.ClearTruth ∷ i.Test t.Invert ∷ []))
   all_meet (one ∷ more) e =
-      both_always Q (piece_of one) (in_order and_fragment (map piece_of more)) (one.1.by (left_none (rules_of one) (each_rules more) e))
+      both_always Q (piece_of one) (in_order and_fragment (map piece_of more))
+      (one.1.by (left_none (rules_of one) (each_rules more) e))
       (ands_meet more (right_none (rules_of one) (each_rules more) e))
 
   any_meets : (parts : List Known) → each_rules parts ≡ [] → AlwaysMeets Q (any_fragment (map piece_of parts))
   any_meets [] e = straight_always Q (works_fragment (i.ClearTruth ∷ [])) (works_straight (i.ClearTruth ∷ []))
   any_meets (one ∷ more) e =
-      both_always Q (piece_of one) (in_order or_fragment (map piece_of more)) (one.1.by (left_none (rules_of one) (each_rules more) e))
+      both_always Q (piece_of one) (in_order or_fragment (map piece_of more))
+      (one.1.by (left_none (rules_of one) (each_rules more) e))
       (ors_meet more (right_none (rules_of one) (each_rules more) e))
 
-  layer_meets : (l : Condition-F Known) → condition_layer_rules items (map-Condition Known (List RuleBreach) rules_of l) ≡ []
+  layer_meets : (l : Condition-F Known)
+      → condition_layer_rules items (map-Condition Known (List RuleBreach) rules_of l) ≡ []
       → AlwaysMeets Q (condition_layer_fragment items (map-Condition Known Fragment piece_of l))
-  layer_meets (Condition-F.Name reference) e before = straight_meets Q before _ (name_straight items formed reference before)
-  layer_meets (Condition-F.Relation left one right) e before = straight_meets Q before _ (relation_straight items left one right e before)
-  layer_meets (Condition-F.Sign value negated one) e before = straight_meets Q before _ (sign_straight items value (sign_relation one negated) before)
-  layer_meets (Condition-F.Class reference negated one) e before = straight_meets Q before _ (class_straight items reference negated one before)
+  layer_meets (Condition-F.Name reference) e before =
+      straight_meets Q before _ (name_straight items formed reference before)
+  layer_meets (Condition-F.Relation left one right) e before =
+      straight_meets Q before _ (relation_straight items left one right e before)
+  layer_meets (Condition-F.Sign value negated one) e before =
+      straight_meets Q before _ (sign_straight items value (sign_relation one negated) before)
+  layer_meets (Condition-F.Class reference negated one) e before =
+      straight_meets Q before _ (class_straight items reference negated one before)
   layer_meets (Condition-F.Not inner) e before =
       both_always Q (piece_of inner) (work_fragment (i.Test t.Invert)) (inner.1.by e)
       (straight_always Q (work_fragment (i.Test t.Invert)) (work_straight (i.Test t.Invert))) before
@@ -102,5 +117,6 @@ module _ (Q : Asks) (items : List LocatedItem) (formed : AreFormed items) where
   met : (one : Condition) → IsMet one
   met = ind-Condition IsMet (λ one l is. subst (λ k. IsMet (roll-Condition k)) is (met_inside l))
 
-  pub condition_meets : (one : Condition) → condition_rules items one ≡ [] → (before : Code) → Meets Q before (condition_fragment items one before)
+  pub condition_meets : (one : Condition) → condition_rules items one ≡ [] → (before : Code)
+      → Meets Q before (condition_fragment items one before)
   condition_meets one e before = (met one).by e before

@@ -1,5 +1,6 @@
 -- Condition names by their numbers, in the words of what is declared; and the forms of their values.
-use Rattle.std.proofs.Common.{◌≡◌, ℕ, zero, suc, ◌<◌, ◌≤◌, true, List, [], ◌∷◌, length, get_or, map, Option, Some, None, refl, sym, ap, ◌∙◌, arith}
+use Rattle.std.proofs.Common.{◌≡◌, ℕ, zero, suc, ◌<◌, ◌≤◌, true, List, [], ◌∷◌, length, get_or, map, Option, Some, None}
+use Rattle.std.proofs.Common.{refl, sym, ap, ◌∙◌, arith}
 use Rattle.std.specs.Prelude.{slice_get}
 use Rattle.std.specs.List.{AllByRecursion}
 use Rattle.std.specs.Option.{option_map}
@@ -23,7 +24,8 @@ use Rattle.codegen.proofs.ConditionValues.{conditions_formed}
 
 -- ---- forms
 
-pub value_formed : (all : List ValueRange) (i : ℕ) (d : ValueRange) → i < length all → AreFormedValues all → HasForms (get_or all i d).first (get_or all i d).last
+pub value_formed : (all : List ValueRange) (i : ℕ) (d : ValueRange) → i < length all → AreFormedValues all
+    → HasForms (get_or all i d).first (get_or all i d).last
 value_formed [] i d lt h = absurd (omega arith)
 value_formed (one ∷ more) zero d lt h = h.0
 value_formed (one ∷ more) (suc i) d lt h = value_formed more i d (omega arith) h.1
@@ -35,16 +37,20 @@ first_formed first (Some last) h = h.0
 pub last_formed : (first last : Literal) → HasForms first (Some last) → has_form last.value ≡ true
 last_formed first last h = h.1
 
-at_formed : (all : List NamedCondition) (n : ℕ) → AllByRecursion (λ (one : NamedCondition). AreFormedValues one.condition.values) all → AreFormedValues (values_of (slice_get all n))
+at_formed : (all : List NamedCondition) (n : ℕ)
+    → AllByRecursion (λ (one : NamedCondition). AreFormedValues one.condition.values) all
+    → AreFormedValues (values_of (slice_get all n))
 at_formed [] n h = tt
 at_formed (one ∷ more) zero h = h.0
 at_formed (one ∷ more) (suc n) h = at_formed more n h.1
 
 -- Where the rules of entries are kept, the values that a condition name has there have the form of literals.
-pub values_formed : (program : Program) (name : QualifiedName) → entry_rules program.storage ≡ [] → descriptions_rules program.storage program.files ≡ []
+pub values_formed : (program : Program) (name : QualifiedName) → entry_rules program.storage ≡ []
+    → descriptions_rules program.storage program.files ≡ []
     → AreFormedValues (values_named (program_items program) name)
 values_formed program name e f =
-    at_formed (all_conditions (program_items program)) (condition_number (program_items program) name) (conditions_formed program e f)
+    at_formed (all_conditions (program_items program)) (condition_number (program_items program) name)
+    (conditions_formed program e f)
 
 -- ---- numbers
 
@@ -70,14 +76,18 @@ some_at (x ∷ xs) (suc n) = some_at xs n
 
 module _ (items : List LocatedItem) (all : List DeclaredCondition) where
   module _ (numbers : map (λ (one : DeclaredCondition). one.item) all ≡ item_numbers 0 items) where
-    pub item_there : (n : ℕ) (one : DeclaredCondition) → n < length all → one ≡ get_or all n one → one.item ≡ get_or (item_numbers 0 items) n 0
+    pub item_there : (n : ℕ) (one : DeclaredCondition) → n < length all → one ≡ get_or all n one
+        → one.item ≡ get_or (item_numbers 0 items) n 0
     item_there n one lt e =
-        ap (λ (d : DeclaredCondition). d.item) e ∙ sym (get_or-map (λ (d : DeclaredCondition). d.item) all n one 0 lt) ∙ ap (λ (l : List ℕ). get_or l n 0) numbers
+        ap (λ (d : DeclaredCondition). d.item) e ∙ sym (get_or-map (λ (d : DeclaredCondition). d.item) all n one 0 lt)
+        ∙ ap (λ (l : List ℕ). get_or l n 0) numbers
 
     pub no_item : (n : ℕ) → length all ≤ n → 0 ≡ get_or (item_numbers 0 items) n 0
-    no_item n le = sym (beyond (item_numbers 0 items) n 0 (omega (arith, le, sym (ap length numbers) ∙ length-map all (λ (d : DeclaredCondition). d.item))))
+    no_item n le = sym (beyond (item_numbers 0 items) n 0
+        (omega (arith, le, sym (ap length numbers) ∙ length-map all (λ (d : DeclaredCondition). d.item))))
 
-  values_found : (c : ConditionEntry) (o : Option LocatedItem) (x : NamedCondition) → option_map (λ item. record { condition = c; item = item }) o ≡ Some x
+  values_found : (c : ConditionEntry) (o : Option LocatedItem) (x : NamedCondition)
+      → option_map (λ item. record { condition = c; item = item }) o ≡ Some x
       → values_of (option_map (λ item. record { condition = c; item = item }) o) ≡ c.values
   values_found c None x e = absurd cc
   values_found c (Some item) x e = refl
@@ -86,11 +96,13 @@ module _ (items : List LocatedItem) (all : List DeclaredCondition) where
     same_count : length all ≡ length (all_conditions items)
     same_count = sym (length-map all (found_at items)) ∙ ap length found ∙ length-map (all_conditions items) Some
 
-    pub values_there : (n : ℕ) (one : DeclaredCondition) → n < length all → one ≡ get_or all n one → one.condition.now.values ≡ values_of (slice_get (all_conditions items) n)
+    pub values_there : (n : ℕ) (one : DeclaredCondition) → n < length all → one ≡ get_or all n one
+        → one.condition.now.values ≡ values_of (slice_get (all_conditions items) n)
     values_there n one lt e =
         let x = there (all_conditions items) n (omega (arith, lt, same_count)) in
         let is : found_at items one ≡ slice_get (all_conditions items) n =
-        ap (found_at items) e ∙ sym (get_or-map (found_at items) all n one None lt) ∙ ap (λ (l : List (Option NamedCondition)). get_or l n None) found ∙ some_at (all_conditions items) n in
+        ap (found_at items) e ∙ sym (get_or-map (found_at items) all n one None lt)
+        ∙ ap (λ (l : List (Option NamedCondition)). get_or l n None) found ∙ some_at (all_conditions items) n in
         sym (values_found one.condition.now (slice_get items one.item) x.0 (is ∙ x.1)) ∙ ap values_of is
 
     pub no_values : (n : ℕ) → length all ≤ n → values_of (slice_get (all_conditions items) n) ≡ []

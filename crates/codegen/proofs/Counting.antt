@@ -1,5 +1,6 @@
 -- As many turns as an item says.
-use Rattle.std.proofs.Common.{◌≡◌, ℕ, zero, suc, ◌+◌, ◌<◌, true, false, List, [], ◌∷◌, length, Option, Some, Ok, Err, refl, ap, ◌∙◌, subst, arith, length-append, get_or-set_same}
+use Rattle.std.proofs.Common.{◌≡◌, ℕ, zero, suc, ◌+◌, ◌<◌, true, false, List, [], ◌∷◌, length, Option, Some, Ok, Err}
+use Rattle.std.proofs.Common.{refl, ap, ◌∙◌, subst, arith, length-append, get_or-set_same}
 use Rattle.std.specs.Prelude.{slice_get}
 use Rattle.std.proofs.Math.ListN.{length-set}
 use Rattle.std.proofs.lemmas.Option.{slice_get_within}
@@ -36,7 +37,8 @@ use Rattle.codegen.proofs.BlindStatements.{counted_turn_blind}
 use Rattle.codegen.proofs.Codes.{taking_coded}
 use Rattle.codegen.proofs.Running.{at, one_step, WorksFrom, works_from}
 use Rattle.codegen.proofs.DataDoing.{behind_code}
-use Rattle.codegen.proofs.Doing.{end_of, setting, Keeps, keeps_set, Comes, Does, PartDoes, Sits, back_sits, IsRoom, after, wider, moved_from, steps_to, behind, nothing_does, Repeats}
+use Rattle.codegen.proofs.Doing.{end_of, setting, Keeps, keeps_set, Comes, Does, PartDoes, Sits, back_sits, IsRoom}
+use Rattle.codegen.proofs.Doing.{after, wider, moved_from, steps_to, behind, nothing_does, Repeats}
 use Rattle.codegen.proofs.Ways.{Ways, ways}
 use Rattle.codegen.proofs.Branching.{first_does, second_does}
 use Rattle.codegen.proofs.Turning.{counted_turn_does, own_counter}
@@ -51,15 +53,18 @@ counted_own zero counter cs = record cs { truth = false }
 counted_own (suc more) counter cs = record (setting cs counter more) { truth = true }
 
 module _ (whole : Code) (kept : ℕ → Type 0) where
-  count_step : (address counter : ℕ) (newest : Option Fraction) (e : Evaluation ℕ) (cs : Own) (s : State) → (evaluation_of newest >>= turns_by) ≡ e
+  count_step : (address counter : ℕ) (newest : Option Fraction) (e : Evaluation ℕ) (cs : Own) (s : State)
+      → (evaluation_of newest >>= turns_by) ≡ e
       → slice_get whole.instructions address ≡ Some (CountNumber (record { number = counter }))
       → (k : ℕ) → exec_code whole (suc k) (at address (with_number newest cs) s)
       ≡ counted_by e cs.numbers counter (exec_code whole k) (at address (with_number newest cs) s)
   count_step address counter newest e cs s is here k =
       one_step whole address (with_number newest cs) s (CountNumber (record { number = counter })) here k
-      ∙ ap (λ (found : Evaluation ℕ). counted_by found cs.numbers counter (exec_code whole k) (at address (with_number newest cs) s)) is
+      ∙ ap (λ (found : Evaluation ℕ).
+      counted_by found cs.numbers counter (exec_code whole k) (at address (with_number newest cs) s)) is
 
-  number_comes : (address counter : ℕ) (newest : Option Fraction) (count : ℕ) (cs : Own) (s : State) → (evaluation_of newest >>= turns_by) ≡ Ok count
+  number_comes : (address counter : ℕ) (newest : Option Fraction) (count : ℕ) (cs : Own) (s : State)
+      → (evaluation_of newest >>= turns_by) ≡ Ok count
       → slice_get whole.instructions address ≡ Some (CountNumber (record { number = counter }))
       → Comes whole address (with_number newest cs) s (address + 1) (counted_own count counter cs) s
   number_comes address counter newest zero cs s is here =
@@ -90,10 +95,12 @@ module _ (whole : Code) (kept : ℕ → Type 0) where
     next = end_of (append before (append first part))
 
     here : slice_get whole.instructions begin ≡ Some (CountNumber (record { number = begin }))
-    here = first_stands whole before (append first part) (CountNumber (record { number = begin })) part.instructions refl sits.stands
+    here = first_stands whole before (append first part) (CountNumber (record { number = begin })) part.instructions
+        refl sits.stands
 
     starts : end_of inner ≡ begin + 1
-    starts = let single : length first.instructions ≡ 1 = refl in omega (arith, single, length-append before.instructions first.instructions)
+    starts = let single : length first.instructions ≡ 1 =
+        refl in omega (arith, single, length-append before.instructions first.instructions)
 
     ends : end_of (append inner part) ≡ next
     ends = ap end_of (joined_assoc before first part)
@@ -102,25 +109,31 @@ module _ (whole : Code) (kept : ℕ → Type 0) where
     ways_sit = back_sits whole kept before first part sits
 
     ways_here : Ways whole (counted_turn begin piece) nothing_fragment inner part
-    ways_here = ways whole (counted_turn begin piece) nothing_fragment (counted_turn_blind begin piece blind) nothing_blind inner ways_sit.stands
+    ways_here = ways whole (counted_turn begin piece) nothing_fragment (counted_turn_blind begin piece blind)
+        nothing_blind inner ways_sit.stands
 
     -- from the branch on
-    ways_do : (count : ℕ) → Does whole kept begin next (end_of inner) (counted_own count begin cs) s (end_of (append inner part)) (turns line count go s)
+    ways_do : (count : ℕ) → Does whole kept begin next (end_of inner) (counted_own count begin cs) s
+        (end_of (append inner part)) (turns line count go s)
     ways_do zero =
-        second_does whole kept (counted_turn begin piece) nothing_fragment inner part ways_here ways_sit begin next (omega (arith, starts))
+        second_does whole kept (counted_turn begin piece) nothing_fragment inner part ways_here ways_sit begin next
+        (omega (arith, starts))
         (omega (arith, ends)) (counted_own zero begin cs) s (Done s) refl (λ now low high sit.
         let last = end_of (append now (nothing_fragment now)) in
-        wider whole kept (end_of now) last begin next (end_of now) last (counted_own zero begin cs) s (Done s) (omega (arith, low, starts))
+        wider whole kept (end_of now) last begin next (end_of now) last (counted_own zero begin cs) s (Done s)
+        (omega (arith, low, starts))
         (omega (arith, high, ends)) (nothing_does whole kept now (counted_own zero begin cs) s))
     ways_do (suc more) =
         let ds = counted_own (suc more) begin cs in
         let within : begin < length cs.counters =
         (let h = slice_get_within whole.instructions begin
         (CountNumber (record { number = begin })) here in omega (arith, room.counters)) in
-        first_does whole kept (counted_turn begin piece) nothing_fragment inner part ways_here ways_sit begin next (omega (arith, starts))
+        first_does whole kept (counted_turn begin piece) nothing_fragment inner part ways_here ways_sit begin next
+        (omega (arith, starts))
         (omega (arith, ends)) ds s (turns line (suc more) go s) refl (λ now low high sit.
         let last = end_of (append now (counted_turn begin piece now)) in
-        wider whole kept begin last begin next (end_of now) last ds s (turns line (suc more) go s) (omega arith) (omega (arith, high, ends))
+        wider whole kept begin last begin next (end_of now) last ds s (turns line (suc more) go s) (omega arith)
+        (omega (arith, high, ends))
         (counted_turn_does whole kept line depth begin more go piece each now ds s (omega (arith, low, starts))
         (own_counter whole kept before first part refl sits) below
         (record { counters = length-set cs.counters begin more ∙ room.counters; line = room.line })
@@ -135,32 +148,40 @@ module _ (whole : Code) (kept : ℕ → Type 0) where
 
     -- As many turns as the newest number says, which is taken.
     pub counted_does : (e : Evaluation ℕ) → (evaluation_of newest >>= turns_by) ≡ e
-        → PartDoes whole kept before (counted_fragment piece before) (with_number newest cs) s (with_value e s (λ count. turns line count go s))
+        → PartDoes whole kept before (counted_fragment piece before) (with_number newest cs) s
+        (with_value e s (λ count. turns line count go s))
     counted_does (Ok count) is =
         let ds = counted_own count begin cs in
-        after whole kept begin next begin (begin + 1) next (with_number newest cs) ds s s (turns line count go s) (keeps_counted count)
+        after whole kept begin next begin (begin + 1) next (with_number newest cs) ds s s (turns line count go s)
+        (keeps_counted count)
         (number_comes begin begin newest count cs s is here)
         (moved_from whole kept begin next (begin + 1) (end_of inner) next ds s (turns line count go s) starts
-        (subst (λ (p : ℕ). Does whole kept begin next (end_of inner) ds s p (turns line count go s)) ends (ways_do count)))
+        (subst (λ (p : ℕ). Does whole kept begin next (end_of inner) ds s p (turns line count go s)) ends
+        (ways_do count)))
     counted_does (Err fault) is = (1, count_step begin begin newest (Err fault) cs s is here 0)
 
   -- a number that is found, and what goes on with it
-  found_does : (from to address mid next : ℕ) (cs : Own) (s : State) (count : ℕ) → address + count ≡ mid → (found : Evaluation Fraction)
+  found_does : (from to address mid next : ℕ) (cs : Own) (s : State) (count : ℕ) → address + count ≡ mid
+      → (found : Evaluation Fraction)
       (go : ℕ → Outcome)
-      → WorksFrom whole address cs s count (step_with (found >>= (λ x. Ok (Some x))) (λ x. push_step x (scratch_of s cs)))
+      → WorksFrom whole address cs s count
+      (step_with (found >>= (λ x. Ok (Some x))) (λ x. push_step x (scratch_of s cs)))
       → ((x : Fraction) → Does whole kept from to mid (with_number (Some x) cs) s next (with_value (turns_by x) s go))
       → Does whole kept from to address cs s next (with_value (found >>= turns_by) s go)
   found_does from to address mid next cs s count behind_is (Ok x) go h goes_on =
       let ds = with_number (Some x) cs in
       after whole kept from to address mid next cs ds s s (with_value (turns_by x) s go)
       (record { count = refl; by = λ k is outside. refl; line = λ e. e; returns = refl })
-      (record { by = λ k. (count + k, h k ∙ ap (λ n. exec_code whole k (at n ds s)) behind_is); falls = omega arith }) (goes_on x)
+      (record { by = λ k. (count + k, h k ∙ ap (λ n. exec_code whole k (at n ds s)) behind_is); falls = omega arith })
+      (goes_on x)
   found_does from to address mid next cs s count behind_is (Err fault) go h goes_on = h
 
-  module _ (items : List LocatedItem) (entries : (n : ℕ) (one : LocatedItem) → slice_get items n ≡ Some one → slice_get whole.tables.items n ≡ Some (data_item one))
+  module _ (items : List LocatedItem) (entries : (n : ℕ) (one : LocatedItem) → slice_get items n ≡ Some one
+      → slice_get whole.tables.items n ≡ Some (data_item one))
       (order : IsTables whole.tables) where
     -- The turns that an item says, wherever their code stands.
-    pub said_does : (line depth : ℕ) (one : Reference) (go : State → Outcome) (piece : Fragment) → reference_rules items integer_item one ≡ [] → Blind piece
+    pub said_does : (line depth : ℕ) (one : Reference) (go : State → Outcome) (piece : Fragment)
+        → reference_rules items integer_item one ≡ [] → Blind piece
         → Repeats whole kept depth (λ t. spend line t go) piece
         → Repeats whole kept depth (λ s. with_value (turns_in items one s.storage) s (λ count. turns line count go s))
         (sequence (take_fragment items i.Push one) (counted_fragment piece))
@@ -171,13 +192,17 @@ module _ (whole : Code) (kept : ℕ → Type 0) where
           let b = counted_fragment piece middle in
           let stands = front whole before a b sits.stands in
           let coded = taking_coded items whole entries i.Push integer_item one before keep stands in
-          let works_as = value_works items whole.tables order (operand.Item one) coded.code coded.holds (scratch_of s cs) in
+          let works_as =
+          value_works items whole.tables order (operand.Item one) coded.code coded.holds (scratch_of s cs) in
           let from = end_of before in
           let to = end_of (append before (append a b)) in
-          found_does from to from (end_of middle) to cs s (length coded.code) (behind_code whole before a coded.code coded.is)
+          found_does from to from (end_of middle) to cs s (length coded.code)
+          (behind_code whole before a coded.code coded.is)
           (place_of items one s.storage >>= number_at s.storage) (λ count. turns line count go s)
           (subst (WorksFrom whole from cs s (length coded.code)) works_as
           (works_from whole coded.code from cs s (code_stands whole before a coded.code coded.is stands)))
-          (λ x. behind whole kept before a b (with_number (Some x) cs) s (with_value (turns_by x) s (λ count. turns line count go s))
-          (counted_does line depth go piece blind each (Some x) middle cs s below room (back_sits whole kept before a b sits) (turns_by x) refl));
+          (λ x. behind whole kept before a b (with_number (Some x) cs) s
+          (with_value (turns_by x) s (λ count. turns line count go s))
+          (counted_does line depth go piece blind each (Some x) middle cs s below room
+          (back_sits whole kept before a b sits) (turns_by x) refl));
     }

@@ -28,28 +28,36 @@ module _ (program : Program) (all : Declarations) (h : Declares program all) whe
       ∙ ap (λ (l : List FileDescription). descriptions_rules all.storage.now l) (sym h.descriptions)
       ∙ descriptions_kept (items_in all) (data_in all) declared.file_rules
 
-  pub sections_by : (sections : List Section) → sections ≡ program.sections → sections_rules (scope program) all_permitted program.sections ≡ []
+  pub sections_by : (sections : List Section) → sections ≡ program.sections
+      → sections_rules (scope program) all_permitted program.sections ≡ []
       → sections_rules (scope_in all) all_permitted sections ≡ []
   sections_by sections same kept =
       ap (sections_rules (scope_in all) all_permitted) same
       ∙ ap (λ (found : Scope). sections_rules found all_permitted program.sections) (same_scope program all h) ∙ kept
 
   -- the code before the first statement
-  pub stored_by : storage_with (program_areas program) (items_in all) all.selects.now (files_in all) ≡ storage_code program
+  pub stored_by : storage_with (program_areas program) (items_in all) all.selects.now (files_in all)
+      ≡ storage_code program
   stored_by =
       ap (λ (l : List Select). storage_with (program_areas program) (items_in all) l (files_in all)) h.selects
-      ∙ ap (λ (found : Scope). storage_with (program_areas program) found.items program.selects found.files) (same_scope program all h)
+      ∙ ap (λ (found : Scope). storage_with (program_areas program) found.items program.selects found.files)
+      (same_scope program all h)
 
   -- the code of the sections behind that, and the end
-  pub code_by : (given : Program) (sections : List Section) (storage behind whole : Code) → given ≡ program → sections ≡ given.sections
+  pub code_by : (given : Program) (sections : List Section) (storage behind whole : Code) → given ≡ program
+      → sections ≡ given.sections
       → storage ≡ storage_with (program_areas given) (items_in all) all.selects.now (files_in all)
-      → behind ≡ append storage (in_order (section_fragment (scope_in all)) sections storage) → whole ≡ append behind end_fragment → whole ≡ code_of program
+      → behind ≡ append storage (in_order (section_fragment (scope_in all)) sections storage)
+      → whole ≡ append behind end_fragment → whole ≡ code_of program
   code_by given sections storage behind whole same within is next last =
       let stored : storage ≡ storage_code program =
-      is ∙ ap (λ (p : Program). storage_with (program_areas p) (items_in all) all.selects.now (files_in all)) same ∙ stored_by in
+      is ∙ ap (λ (p : Program). storage_with (program_areas p) (items_in all) all.selects.now (files_in all)) same
+      ∙ stored_by in
       last
       ∙ ap (λ (code : Code). append code end_fragment)
       (next
-      ∙ ap (λ (l : List Section). append storage (in_order (section_fragment (scope_in all)) l storage)) (within ∙ ap (λ (p : Program). p.sections) same)
-      ∙ ap (λ (found : Scope). append storage (in_order (section_fragment found) program.sections storage)) (same_scope program all h)
+      ∙ ap (λ (l : List Section). append storage (in_order (section_fragment (scope_in all)) l storage))
+      (within ∙ ap (λ (p : Program). p.sections) same)
+      ∙ ap (λ (found : Scope). append storage (in_order (section_fragment found) program.sections storage))
+      (same_scope program all h)
       ∙ ap (λ (code : Code). append code (in_order (section_fragment (scope program)) program.sections code)) stored)

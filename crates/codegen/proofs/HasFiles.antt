@@ -1,5 +1,6 @@
 -- The files of a program, in its code.
-use Rattle.std.proofs.Common.{◌≡◌, ℕ, zero, suc, ◌+◌, ◌<◌, Bool, true, false, List, [], ◌∷◌, length, map, Some, None, refl, sym, ap, subst, if◌then◌else◌}
+use Rattle.std.proofs.Common.{◌≡◌, ℕ, zero, suc, ◌+◌, ◌<◌, Bool, true, false, List, [], ◌∷◌, length, map, Some, None}
+use Rattle.std.proofs.Common.{refl, sym, ap, subst, if◌then◌else◌}
 use Rattle.std.specs.Prelude.{filter, slice_get}
 use Rattle.std.specs.List.{AllByRecursion}
 use Rattle.std.proofs.lemmas.Option.{same_Some, slice_get_within, get_or_from_slice_get}
@@ -29,7 +30,8 @@ pub record HasFiles (whole : Code) (scope : Scope) : Type 0 where
 
 -- what is so of all is so of the first that passes
 module _ {A : Type 0} (P : A → Type 0) (test : A → Bool) where
-  of_two : (passes : Bool) (x one : A) (rest : List A) → P x → (first rest ≡ Some one → P one) → first (if passes then x ∷ rest else rest) ≡ Some one
+  of_two : (passes : Bool) (x one : A) (rest : List A) → P x → (first rest ≡ Some one → P one)
+      → first (if passes then x ∷ rest else rest) ≡ Some one
       → P one
   of_two true x one rest h more e = subst P (same_Some x one e) h
   of_two false x one rest h more e = more e
@@ -42,7 +44,8 @@ module _ {A : Type 0} (P : A → Type 0) (test : A → Bool) where
   of_false true x rest e = absurd cc
   of_false false x rest e = refl
 
-  of_rest : (passes : Bool) (x : A) (rest : List A) → first (if passes then x ∷ rest else rest) ≡ None → first rest ≡ None
+  of_rest : (passes : Bool) (x : A) (rest : List A) → first (if passes then x ∷ rest else rest) ≡ None
+      → first rest ≡ None
   of_rest true x rest e = absurd cc
   of_rest false x rest e = e
 
@@ -72,17 +75,20 @@ pub record IsSuited (files : List ProgramFile) (number : ℕ) (verb : Verb) : Ty
   pub within : number < length files
   pub suits : Suits (entry_at (entries_of files) number) verb
 
-mapped_at : {A B : Type 0} (f : A → B) (all : List A) (k : ℕ) (one : A) → slice_get all k ≡ Some one → slice_get (map f all) k ≡ Some (f one)
+mapped_at : {A B : Type 0} (f : A → B) (all : List A) (k : ℕ) (one : A) → slice_get all k ≡ Some one
+    → slice_get (map f all) k ≡ Some (f one)
 mapped_at f [] k one here = absurd cc
 mapped_at f (x ∷ xs) zero one here = ap (λ y. Some (f y)) (same_Some x one here)
 mapped_at f (x ∷ xs) (suc k) one here = mapped_at f xs k one here
 
-entry_there : (files : List ProgramFile) (file : ProgramFile) → IsNumbered files file → entry_at (entries_of files) file.places.number ≡ file.entry
+entry_there : (files : List ProgramFile) (file : ProgramFile) → IsNumbered files file
+    → entry_at (entries_of files) file.places.number ≡ file.entry
 entry_there files file is =
     get_or_from_slice_get (entries_of files) file.places.number file.entry no_entry
     (mapped_at (λ (one : ProgramFile). one.entry) files file.places.number file is)
 
-pub suited : (files : List ProgramFile) (file : ProgramFile) (verb : Verb) → IsNumbered files file → Suits file.entry verb
+pub suited : (files : List ProgramFile) (file : ProgramFile) (verb : Verb) → IsNumbered files file
+    → Suits file.entry verb
     → IsSuited files file.places.number verb
 suited files file verb is suits = record {
   within = slice_get_within files file.places.number file is;

@@ -15,7 +15,8 @@ abbrev pub AreSized : List LocatedItem → Type 0
 AreSized items = (n : ℕ) (one : LocatedItem) → slice_get items n ≡ Some one → 1 ≤ one.item.length
 
 module _ (items : List LocatedItem) (sized : AreSized items) where
-  pub is_inspection : (one : InspectStatement) → inspect_rules items one ≡ [] → IsInspection (inspection_entry items one)
+  pub is_inspection : (one : InspectStatement) → inspect_rules items one ≡ []
+      → IsInspection (inspection_entry items one)
   is_inspection one e =
       let within = inspection_within items sized one e in
       record {

@@ -1,5 +1,6 @@
 -- How great an integer is that keeps its rule.
-use Rattle.std.proofs.Common.{◌≡◌, ℕ, ◌+◌, ◌-◌, ◌*◌, ◌^◌, ◌<◌, ◌≤◌, Bool, true, false, List, [], ◌∷◌, length, refl, sym, ap, subst, ◌∙◌, arith, lit<}
+use Rattle.std.proofs.Common.{◌≡◌, ℕ, ◌+◌, ◌-◌, ◌*◌, ◌^◌, ◌<◌, ◌≤◌, Bool, true, false, List, [], ◌∷◌, length, refl, sym}
+use Rattle.std.proofs.Common.{ap, subst, ◌∙◌, arith, lit<}
 use Rattle.std.specs.Prelude.{not, ◌&&◌, nat_le}
 use Rattle.std.specs.Char.{is_ascii_digit}
 use Rattle.std.specs.List.{list_all}
@@ -50,9 +51,12 @@ digits_below n (c ∷ cs) e =
 pub small_integer : (n : Integer) → integer_rules n ≡ [] → number_of n < 10 ^ 18
 small_integer n e =
     let form = not_false (is_integer n) (kept (not (is_integer n)) 17 n.place e) in
-    let digits = and_left (list_all is_ascii_digit n.digits) (nat_le 1 (length n.digits) && nat_le (length n.digits) most_literal_digits) form in
-    let counts = and_right (list_all is_ascii_digit n.digits) (nat_le 1 (length n.digits) && nat_le (length n.digits) most_literal_digits) form in
-    let few : length n.digits ≤ 18 = at_most (length n.digits) (and_right (nat_le 1 (length n.digits)) (nat_le (length n.digits) most_literal_digits) counts) in
+    let digits = and_left (list_all is_ascii_digit n.digits)
+    (nat_le 1 (length n.digits) && nat_le (length n.digits) most_literal_digits) form in
+    let counts = and_right (list_all is_ascii_digit n.digits)
+    (nat_le 1 (length n.digits) && nat_le (length n.digits) most_literal_digits) form in
+    let few : length n.digits ≤ 18 = at_most (length n.digits)
+    (and_right (nat_le 1 (length n.digits)) (nat_le (length n.digits) most_literal_digits) counts) in
     let power : 10 ^ length n.digits ≤ 10 ^ 18 = pow-le-pow_right (lit< tt) few in
     let most = digits_below 0 n.digits digits in
     omega (arith, power, most)

@@ -1,5 +1,6 @@
 -- The parts of what keeps its rules keep theirs.
-use Rattle.std.proofs.Common.{◌≡◌, ℕ, zero, suc, ◌<◌, ◌≤◌, ◌*◌, ◌^◌, Bool, true, false, not, ◌&&◌, nat_le, List, [], ◌∷◌, ◌++◌, length, get_or, refl, ap, arith}
+use Rattle.std.proofs.Common.{◌≡◌, ℕ, zero, suc, ◌<◌, ◌≤◌, ◌*◌, ◌^◌, Bool, true, false, not, ◌&&◌, nat_le, List, []}
+use Rattle.std.proofs.Common.{◌∷◌, ◌++◌, length, get_or, refl, ap, arith}
 use Rattle.std.proofs.Math.Nat.{pow-le-pow_right}
 use Rattle.std.specs.Char.{is_ascii_digit}
 use Rattle.std.specs.List.{list_all}
@@ -23,28 +24,37 @@ pub both_kept : (xs ys : List RuleBreach) → xs ≡ [] → ys ≡ [] → xs ++ 
 both_kept [] ys e f = f
 both_kept (x ∷ xs) ys e f = cc
 
-pub one_kept : {A : Type 0} (rules : A → List RuleBreach) (all : List A) (i : ℕ) (d : A) → i < length all → each rules all ≡ [] → rules (get_or all i d) ≡ []
+pub one_kept : {A : Type 0} (rules : A → List RuleBreach) (all : List A) (i : ℕ) (d : A) → i < length all
+    → each rules all ≡ [] → rules (get_or all i d) ≡ []
 one_kept rules [] i d lt e = absurd (omega arith)
 one_kept rules (one ∷ more) zero d lt e = front_kept (rules one) (each rules more) e
-one_kept rules (one ∷ more) (suc i) d lt e = one_kept rules more i d (omega arith) (back_kept (rules one) (each rules more) e)
+one_kept rules (one ∷ more) (suc i) d lt e =
+    one_kept rules more i d (omega arith) (back_kept (rules one) (each rules more) e)
 
 -- the subscripts of references whose items keep their rules
-pub subscripts_kept : (items : List LocatedItem) (asked : Place → LocatedItem → List RuleBreach) (all : List Reference) → each (reference_rules items asked) all ≡ []
+pub subscripts_kept : (items : List LocatedItem) (asked : Place → LocatedItem → List RuleBreach) (all : List Reference)
+    → each (reference_rules items asked) all ≡ []
     → each (λ (one : Reference). each (subscript_rules items) one.subscripts) all ≡ []
 subscripts_kept items asked [] e = refl
 subscripts_kept items asked (one ∷ more) e =
-    both_kept (each (subscript_rules items) one.subscripts) (each (λ (r : Reference). each (subscript_rules items) r.subscripts) more)
+    both_kept (each (subscript_rules items) one.subscripts)
+    (each (λ (r : Reference). each (subscript_rules items) r.subscripts) more)
     (back_kept _ _ (front_kept (reference_rules items asked one) (each (reference_rules items asked) more) e))
-    (subscripts_kept items asked more (back_kept (reference_rules items asked one) (each (reference_rules items asked) more) e))
+    (subscripts_kept items asked more
+    (back_kept (reference_rules items asked one) (each (reference_rules items asked) more) e))
 
 -- the subscripts of a reference whose item keeps its rules
-pub item_kept : (items : List LocatedItem) (asked : Place → LocatedItem → List RuleBreach) (one : Reference) → reference_rules items asked one ≡ [] → each (subscript_rules items) one.subscripts ≡ []
+pub item_kept : (items : List LocatedItem) (asked : Place → LocatedItem → List RuleBreach) (one : Reference)
+    → reference_rules items asked one ≡ [] → each (subscript_rules items) one.subscripts ≡ []
 item_kept items asked one e = back_kept _ _ e
 
 -- those of one of the receivers of an arithmetic statement
-pub receiver_kept : (items : List LocatedItem) (asked : Place → LocatedItem → List RuleBreach) (all : List Receiver) (i : ℕ) (d : Receiver) → i < length all
-    → each (λ (one : Receiver). reference_rules items asked one.item) all ≡ [] → each (subscript_rules items) (get_or all i d).item.subscripts ≡ []
-receiver_kept items asked all i d lt e = item_kept items asked (get_or all i d).item (one_kept (λ (one : Receiver). reference_rules items asked one.item) all i d lt e)
+pub receiver_kept : (items : List LocatedItem) (asked : Place → LocatedItem → List RuleBreach) (all : List Receiver)
+    (i : ℕ) (d : Receiver) → i < length all
+    → each (λ (one : Receiver). reference_rules items asked one.item) all ≡ []
+    → each (subscript_rules items) (get_or all i d).item.subscripts ≡ []
+receiver_kept items asked all i d lt e = item_kept items asked (get_or all i d).item
+    (one_kept (λ (one : Receiver). reference_rules items asked one.item) all i d lt e)
 
 -- ---- integers
 
@@ -62,10 +72,12 @@ at_most : (limit n : ℕ) → nat_le n limit ≡ true → n ≤ limit
 at_most limit n e = grind arith
 
 -- An integer of 1 to 18 digits fits.
-pub room : (one : Integer) (digits : List ℕ) → integer_rules one ≡ [] → digits ≡ one.digits → 1 * 10 ^ length digits ≤ 1000000000000000000
+pub room : (one : Integer) (digits : List ℕ) → integer_rules one ≡ [] → digits ≡ one.digits
+    → 1 * 10 ^ length digits ≤ 1000000000000000000
 room one digits kept e =
     let n : ℕ = length one.digits in
-    let h : n ≤ 18 = at_most 18 n (last_of (list_all is_ascii_digit one.digits) (nat_le 1 n) (nat_le n 18) (is_so (is_integer one) 17 one.place kept)) in
+    let h : n ≤ 18 = at_most 18 n (last_of (list_all is_ascii_digit one.digits) (nat_le 1 n) (nat_le n 18)
+    (is_so (is_integer one) 17 one.place kept)) in
     let k : length digits ≤ 18 = omega (arith, h, ap length e) in
     let top : 10 ^ length digits ≤ 10 ^ 18 = pow-le-pow_right (omega arith) k in
     omega (arith, top)

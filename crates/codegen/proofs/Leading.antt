@@ -1,13 +1,17 @@
 -- Where the ways of parts of code lead, and what they name.
-use Rattle.std.proofs.Common.{◌≡◌, ℕ, zero, suc, ◌+◌, ◌-◌, ◌≤◌, List, [], ◌∷◌, ◌++◌, length, Option, Some, None, refl, sym, ap, ◌∙◌, subst, inl, inr, ⊎_elim, arith, append_assoc, length-append}
+use Rattle.std.proofs.Common.{◌≡◌, ℕ, zero, suc, ◌+◌, ◌-◌, ◌≤◌, List, [], ◌∷◌, ◌++◌, length, Option, Some, None, refl}
+use Rattle.std.proofs.Common.{sym, ap, ◌∙◌, subst, inl, inr, ⊎_elim, arith, append_assoc, length-append}
 use Rattle.std.specs.Prelude.{◌⊎◌, slice_get, take}
 use Rattle.std.specs.List.{AllByRecursion}
 use Rattle.records.specs.declared.verb.Verb.{Verb}
 use Rattle.source_tree.specs.Procedures.{Range}
 use Rattle.code_image.specs.declared.code.Code.{Code}
 use Rattle.code_image.specs.declared.instruction.Instruction.{Instruction}
-use Rattle.code_image.specs.declared.instruction.Instruction.TheVariants.{Tick, Show, Stop, Count, CountNumber, Turn, Accept, Date, Branch, Jump, Join, Perform, Back, File, TestStatus, Unheard, Data}
-use Rattle.code_image.specs.Demands.{NamesCounter, UsesBudget, IsJoin, back_count, ends_in, paragraph_at, Stays, LeadsOn, JumpsBack, HasValidTargets, AllLead}
+use Rattle.code_image.specs.declared.instruction.Instruction.TheVariants.{Tick, Show, Stop, Count, CountNumber, Turn}
+use Rattle.code_image.specs.declared.instruction.Instruction.TheVariants.{Accept, Date, Branch, Jump, Join, Perform}
+use Rattle.code_image.specs.declared.instruction.Instruction.TheVariants.{Back, File, TestStatus, Unheard, Data}
+use Rattle.code_image.specs.Demands.{NamesCounter, UsesBudget, IsJoin, back_count, ends_in, paragraph_at, Stays}
+use Rattle.code_image.specs.Demands.{LeadsOn, JumpsBack, HasValidTargets, AllLead}
 use Rattle.codegen.specs.Fragments.{Fragment, empty_code, append, sequence, plain_code}
 use Rattle.codegen.specs.Meeting.{branch_code, jump_code, join_code, either_fragment}
 use Rattle.codegen.proofs.Standing.{at_seam}
@@ -16,7 +20,8 @@ use Rattle.codegen.proofs.Either.{either_laid}
 use Rattle.data_instructions.specs.Tables.{IsInspection}
 use Rattle.codegen.proofs.Straight.{all_both, IsSent, IsStraight, Straight}
 
-pub all_weaker : {A : Type 0} (P Q : A → Type 0) → ((x : A) → P x → Q x) → (xs : List A) → AllByRecursion P xs → AllByRecursion Q xs
+pub all_weaker : {A : Type 0} (P Q : A → Type 0) → ((x : A) → P x → Q x) → (xs : List A) → AllByRecursion P xs
+    → AllByRecursion Q xs
 all_weaker P Q from [] all = tt
 all_weaker P Q from (x ∷ xs) all = (from x all.0, all_weaker P Q from xs all.1)
 
@@ -57,14 +62,16 @@ none_taken (suc k) [] e = refl
 none_taken (suc k) (x ∷ xs) e = let h = none_taken k xs (omega (arith, e)) in omega (arith, e, h)
 
 -- as many end before an address behind these as in them, and before it behind them
-pub taken_behind : (xs ys : List Instruction) (k : ℕ) → ends_in (take (length xs + k) (xs ++ ys)) ≡ ends_in xs + ends_in (take k ys)
+pub taken_behind : (xs ys : List Instruction) (k : ℕ)
+    → ends_in (take (length xs + k) (xs ++ ys)) ≡ ends_in xs + ends_in (take k ys)
 taken_behind [] ys k =
     let e : 0 + k ≡ k = omega arith in
     let f : 0 + ends_in (take k ys) ≡ ends_in (take k ys) = omega arith in
     ap (λ n. ends_in (take n ys)) e ∙ sym f
 taken_behind (x ∷ xs) ys k =
     let e : length (x ∷ xs) + k ≡ suc (length xs + k) = omega arith in
-    let f : back_count x + (ends_in xs + ends_in (take k ys)) ≡ (back_count x + ends_in xs) + ends_in (take k ys) = omega arith in
+    let f : back_count x + (ends_in xs + ends_in (take k ys)) ≡ (back_count x + ends_in xs) + ends_in (take k ys) =
+    omega arith in
     ap (λ n. ends_in (take n (x ∷ (xs ++ ys)))) e ∙ ap (λ n. back_count x + n) (taken_behind xs ys k) ∙ f
 
 taken_front : (xs ys : List Instruction) (k : ℕ) → k ≤ length xs → take k (xs ++ ys) ≡ take k xs
@@ -77,14 +84,16 @@ pub paragraph_stays : (xs ys : List Instruction) (k : ℕ) → k ≤ length xs �
 paragraph_stays xs ys k le = ap ends_in (taken_front xs ys k le)
 
 -- and along a part in which none ends it is that of the part's begin
-pub paragraph_within : (xs ys : List Instruction) (k : ℕ) → ends_in ys ≡ 0 → length xs ≤ k → paragraph_at (xs ++ ys) k ≡ ends_in xs
+pub paragraph_within : (xs ys : List Instruction) (k : ℕ) → ends_in ys ≡ 0 → length xs ≤ k
+    → paragraph_at (xs ++ ys) k ≡ ends_in xs
 paragraph_within xs ys k none le =
     let m : ℕ = k - length xs in
     let e : k ≡ length xs + m = omega (arith, le) in
     let f : ends_in xs + 0 ≡ ends_in xs = omega arith in
     ap (paragraph_at (xs ++ ys)) e ∙ taken_behind xs ys m ∙ ap (λ n. ends_in xs + n) (none_taken m ys none) ∙ f
 
-pub stays_within : (whole xs ys : List Instruction) (address to : ℕ) → whole ≡ xs ++ ys → ends_in ys ≡ 0 → length xs ≤ address → length xs ≤ to
+pub stays_within : (whole xs ys : List Instruction) (address to : ℕ) → whole ≡ xs ++ ys → ends_in ys ≡ 0
+    → length xs ≤ address → length xs ≤ to
     → Stays whole address to
 stays_within whole xs ys address to is none from le =
     ap (λ l. paragraph_at l to) is ∙ paragraph_within xs ys to none le
@@ -98,21 +107,25 @@ LeadsFrom whole address [] = Unit {0}
 LeadsFrom whole address (i ∷ is) = HasValidTargets whole address (Some i) × LeadsFrom whole (address + 1) is
 
 -- what stands at an address stays there, whatever comes behind
-pub found_stays : (P : Option Instruction → Type 0) → (P None → ⊥) → (xs ys : List Instruction) (k : ℕ) → P (slice_get xs k)
+pub found_stays : (P : Option Instruction → Type 0) → (P None → ⊥) → (xs ys : List Instruction) (k : ℕ)
+    → P (slice_get xs k)
     → P (slice_get (xs ++ ys) k)
 found_stays P none [] ys k h = absurd (none h)
 found_stays P none (x ∷ xs) ys zero h = h
 found_stays P none (x ∷ xs) ys (suc k) h = found_stays P none xs ys k h
 
-found_within : (P : Option Instruction → Type 0) → (P None → ⊥) → (xs : List Instruction) (k : ℕ) → P (slice_get xs k) → suc k ≤ length xs
+found_within : (P : Option Instruction → Type 0) → (P None → ⊥) → (xs : List Instruction) (k : ℕ) → P (slice_get xs k)
+    → suc k ≤ length xs
 found_within P none [] k h = absurd (none h)
 found_within P none (x ∷ xs) zero h = omega arith
 found_within P none (x ∷ xs) (suc k) h = let le = found_within P none xs k h in omega (arith, le)
 
-way_within : (xs ys : List Instruction) (address to : ℕ) → address ≤ length xs → to ≤ length xs → Stays xs address to → Stays (xs ++ ys) address to
+way_within : (xs ys : List Instruction) (address to : ℕ) → address ≤ length xs → to ≤ length xs → Stays xs address to
+    → Stays (xs ++ ys) address to
 way_within xs ys address to from le h = paragraph_stays xs ys to le ∙ h ∙ sym (paragraph_stays xs ys address from)
 
-on_stays : (xs ys : List Instruction) (address to : ℕ) → address ≤ length xs → LeadsOn xs address to → LeadsOn (xs ++ ys) address to
+on_stays : (xs ys : List Instruction) (address to : ℕ) → address ≤ length xs → LeadsOn xs address to
+    → LeadsOn (xs ++ ys) address to
 on_stays xs ys address to from h =
     let le = found_within IsJoin (λ none. none) xs (to - 1) h.join in
     record {
@@ -121,7 +134,8 @@ on_stays xs ys address to from h =
       stays = way_within xs ys address to from (omega (arith, le)) h.stays;
     }
 
-back_stays : (xs ys : List Instruction) (address to : ℕ) → address ≤ length xs → JumpsBack xs address to → JumpsBack (xs ++ ys) address to
+back_stays : (xs ys : List Instruction) (address to : ℕ) → address ≤ length xs → JumpsBack xs address to
+    → JumpsBack (xs ++ ys) address to
 back_stays xs ys address to from h =
     let le = found_within UsesBudget (λ none. none) xs to h.budget in
     record {
@@ -130,11 +144,14 @@ back_stays xs ys address to from h =
       stays = way_within xs ys address to from (omega (arith, le)) h.stays;
     }
 
-way_stays : (xs ys : List Instruction) (address to : ℕ) → address ≤ length xs → LeadsOn xs address to ⊎ JumpsBack xs address to
+way_stays : (xs ys : List Instruction) (address to : ℕ) → address ≤ length xs
+    → LeadsOn xs address to ⊎ JumpsBack xs address to
     → LeadsOn (xs ++ ys) address to ⊎ JumpsBack (xs ++ ys) address to
-way_stays xs ys address to from h = ⊎_elim (λ on. inl (on_stays xs ys address to from on)) (λ back. inr (back_stays xs ys address to from back)) h
+way_stays xs ys address to from h =
+    ⊎_elim (λ on. inl (on_stays xs ys address to from on)) (λ back. inr (back_stays xs ys address to from back)) h
 
-leads_stay : (xs ys : List Instruction) (address : ℕ) (i : Instruction) → address ≤ length xs → HasValidTargets xs address (Some i)
+leads_stay : (xs ys : List Instruction) (address : ℕ) (i : Instruction) → address ≤ length xs
+    → HasValidTargets xs address (Some i)
     → HasValidTargets (xs ++ ys) address (Some i)
 leads_stay xs ys address (Tick line) from h = tt
 leads_stay xs ys address Show from h = tt
@@ -154,10 +171,12 @@ leads_stay xs ys address (TestStatus class) from h = tt
 leads_stay xs ys address Unheard from h = tt
 leads_stay xs ys address (Data one) from h = tt
 
-pub all_stay : (xs ys : List Instruction) (address : ℕ) (is : List Instruction) → address + length is ≤ length xs → LeadsFrom xs address is
+pub all_stay : (xs ys : List Instruction) (address : ℕ) (is : List Instruction) → address + length is ≤ length xs
+    → LeadsFrom xs address is
     → LeadsFrom (xs ++ ys) address is
 all_stay xs ys address [] le h = tt
-all_stay xs ys address (i ∷ is) le h = (leads_stay xs ys address i (omega (arith, le)) h.0, all_stay xs ys (address + 1) is (omega (arith, le)) h.1)
+all_stay xs ys address (i ∷ is) le h =
+    (leads_stay xs ys address i (omega (arith, le)) h.0, all_stay xs ys (address + 1) is (omega (arith, le)) h.1)
 
 pub both_lead : (whole : List Instruction) (address : ℕ) (xs ys : List Instruction) → LeadsFrom whole address xs
     → LeadsFrom whole (address + length xs) ys → LeadsFrom whole address (xs ++ ys)
@@ -169,13 +188,16 @@ both_lead whole address (x ∷ xs) ys a b =
 leads_at : (whole : List Instruction) (address : ℕ) (is : List Instruction) → LeadsFrom whole address is → (k : ℕ)
     → HasValidTargets whole (address + k) (slice_get is k)
 leads_at whole address [] h k = tt
-leads_at whole address (i ∷ is) h zero = let e : address ≡ address + 0 = omega arith in subst (λ p. HasValidTargets whole p (Some i)) e h.0
+leads_at whole address (i ∷ is) h zero = let e : address ≡ address + 0 =
+    omega arith in subst (λ p. HasValidTargets whole p (Some i)) e h.0
 leads_at whole address (i ∷ is) h (suc k) =
-    let e : address + 1 + k ≡ address + suc k = omega arith in subst (λ p. HasValidTargets whole p (slice_get is k)) e (leads_at whole (address + 1) is h.1 k)
+    let e : address + 1 + k ≡ address + suc k =
+    omega arith in subst (λ p. HasValidTargets whole p (slice_get is k)) e (leads_at whole (address + 1) is h.1 k)
 
 pub all_lead : (whole : List Instruction) → LeadsFrom whole 0 whole → AllLead whole
 all_lead whole h =
-    λ address within. let e : 0 + address ≡ address = omega arith in subst (λ p. HasValidTargets whole p (slice_get whole address)) e
+    λ address within. let e : 0 + address ≡ address =
+    omega arith in subst (λ p. HasValidTargets whole p (slice_get whole address)) e
     (leads_at whole 0 whole h address)
 
 -- ---- parts
@@ -195,7 +217,8 @@ both_name before a b f s =
     let i1 = length-append before.instructions a.instructions in
     let i2 = length-append a.instructions b.instructions in
     record {
-      counters = all_both (NamesCounter (length before.instructions + length (a.instructions ++ b.instructions))) a.instructions b.instructions
+      counters = all_both (NamesCounter (length before.instructions + length (a.instructions ++ b.instructions)))
+          a.instructions b.instructions
           (all_weaker (NamesCounter (length before.instructions + length a.instructions))
           (NamesCounter (length before.instructions + length (a.instructions ++ b.instructions)))
           (λ one h. more_counters _ _ one (omega (arith, i2)) h) a.instructions f.counters)
@@ -210,9 +233,11 @@ both_name before a b f s =
     }
 
 -- instructions that name nothing new
-pub plain_names : (before : Code) (all : List Instruction) → AllByRecursion (NamesCounter (length before.instructions + length all)) all
+pub plain_names : (before : Code) (all : List Instruction)
+    → AllByRecursion (NamesCounter (length before.instructions + length all)) all
     → Names before (plain_code all)
-plain_names before all counters = record { counters = counters; areas = refl; items = refl; files = refl; senders = tt; inspections = tt }
+plain_names before all counters =
+    record { counters = counters; areas = refl; items = refl; files = refl; senders = tt; inspections = tt }
 
 -- What is asked of ranges that are performed, and of the verbs of file statements, by the numbers of their files.
 pub record Asks : Type 1 where
@@ -248,16 +273,20 @@ pub record Meets (Q : Asks) (before part : Code) : Type 0 where
   pub performs : AllByRecursion (PerformsOnly Q) part.instructions
 
 -- the ways of two parts lead where they may
-pub both_ways : (before a b : Code) → LeadsFrom (before.instructions ++ a.instructions) (length before.instructions) a.instructions
-    → LeadsFrom ((before.instructions ++ a.instructions) ++ b.instructions) (length (before.instructions ++ a.instructions)) b.instructions
-    → LeadsFrom (before.instructions ++ (a.instructions ++ b.instructions)) (length before.instructions) (a.instructions ++ b.instructions)
+pub both_ways : (before a b : Code)
+    → LeadsFrom (before.instructions ++ a.instructions) (length before.instructions) a.instructions
+    → LeadsFrom ((before.instructions ++ a.instructions) ++ b.instructions)
+    (length (before.instructions ++ a.instructions)) b.instructions
+    → LeadsFrom (before.instructions ++ (a.instructions ++ b.instructions)) (length before.instructions)
+    (a.instructions ++ b.instructions)
 both_ways before a b f s =
     let whole = (before.instructions ++ a.instructions) ++ b.instructions in
     let n = length-append before.instructions a.instructions in
     subst (λ (w : List Instruction). LeadsFrom w (length before.instructions) (a.instructions ++ b.instructions))
     (append_assoc before.instructions a.instructions b.instructions)
     (both_lead whole (length before.instructions) a.instructions b.instructions
-    (all_stay (before.instructions ++ a.instructions) b.instructions (length before.instructions) a.instructions (omega (arith, n)) f)
+    (all_stay (before.instructions ++ a.instructions) b.instructions (length before.instructions) a.instructions
+    (omega (arith, n)) f)
     (subst (λ p. LeadsFrom whole p b.instructions) n s))
 
 -- ---- straight code
@@ -281,7 +310,8 @@ names_none n (File file verb) h = absurd h
 names_none n (TestStatus class) h = absurd h
 names_none n Unheard h = absurd h
 
-leads_nowhere : (whole : List Instruction) (address : ℕ) (one : Instruction) → IsStraight one → HasValidTargets whole address (Some one)
+leads_nowhere : (whole : List Instruction) (address : ℕ) (one : Instruction) → IsStraight one
+    → HasValidTargets whole address (Some one)
 leads_nowhere whole address (Data one) h = tt
 leads_nowhere whole address Show h = tt
 leads_nowhere whole address Accept h = tt
@@ -338,9 +368,11 @@ performs_none Q (File file verb) h = absurd h
 performs_none Q (TestStatus class) h = absurd h
 performs_none Q Unheard h = absurd h
 
-straight_leads : (whole : List Instruction) (address : ℕ) (all : List Instruction) → AllByRecursion IsStraight all → LeadsFrom whole address all
+straight_leads : (whole : List Instruction) (address : ℕ) (all : List Instruction) → AllByRecursion IsStraight all
+    → LeadsFrom whole address all
 straight_leads whole address [] h = tt
-straight_leads whole address (one ∷ more) h = (leads_nowhere whole address one h.0, straight_leads whole (address + 1) more h.1)
+straight_leads whole address (one ∷ more) h =
+    (leads_nowhere whole address one h.0, straight_leads whole (address + 1) more h.1)
 
 straight_none : (all : List Instruction) → AllByRecursion IsStraight all → ends_in all ≡ 0
 straight_none [] h = refl
@@ -360,20 +392,23 @@ module _ (Q : Asks) where
   }
 
   pub nothing_meets : (before : Code) → Meets Q before empty_code
-  nothing_meets before = record { names = plain_names before [] tt; leads = tt; starts = refl; none = refl; performs = tt }
+  nothing_meets before =
+      record { names = plain_names before [] tt; leads = tt; starts = refl; none = refl; performs = tt }
 
   pub straight_meets : (before part : Code) → Straight part → Meets Q before part
   straight_meets before part s = record {
     names = record {
       counters = all_weaker IsStraight (NamesCounter (length before.instructions + length part.instructions))
-          (λ one h. names_none (length before.instructions + length part.instructions) one h) part.instructions s.instructions;
+          (λ one h. names_none (length before.instructions + length part.instructions) one h) part.instructions
+          s.instructions;
       areas = s.areas;
       items = s.items;
       files = s.files;
       senders = s.senders;
       inspections = s.inspections;
     };
-    leads = straight_leads (before.instructions ++ part.instructions) (length before.instructions) part.instructions s.instructions;
+    leads = straight_leads (before.instructions ++ part.instructions) (length before.instructions) part.instructions
+        s.instructions;
     starts = s.starts;
     none = straight_none part.instructions s.instructions;
     performs = all_weaker IsStraight (PerformsOnly Q) (performs_none Q) part.instructions s.instructions;
@@ -383,10 +418,12 @@ module _ (Q : Asks) where
 
   -- The branch leads behind the first `join`, and the jump behind the last one.
   laid_meets : (first second : Fragment) (before : Code) (other end : ℕ)
-      → (let inner = append before (branch_code other) in let outer = append (append inner (first inner)) (jump_code end) in
+      → (let inner = append before (branch_code other) in let outer =
+      append (append inner (first inner)) (jump_code end) in
       Meets Q inner (first inner) → Meets Q outer (second outer) → other ≡ length outer.instructions
       → end ≡ length (append outer (second outer)).instructions + 1
-      → Meets Q before (sequence (λ now. branch_code other) (sequence first (sequence (λ now. jump_code end) (sequence second (λ now. join_code)))) before))
+      → Meets Q before (sequence (λ now. branch_code other)
+      (sequence first (sequence (λ now. jump_code end) (sequence second (λ now. join_code)))) before))
   laid_meets first second before other end one two other_is end_is =
       let branch = branch_code other in
       let inner = append before branch in
@@ -400,10 +437,14 @@ module _ (Q : Asks) where
       let r2 = append jump r3 in
       let r1 = append x r2 in
       let whole = (append before (append branch r1)).instructions in
-      let w1 : inner.instructions ++ r1.instructions ≡ whole = append_assoc before.instructions branch.instructions r1.instructions in
-      let w2 : middle.instructions ++ r2.instructions ≡ whole = append_assoc inner.instructions x.instructions r2.instructions ∙ w1 in
-      let w3 : outer.instructions ++ r3.instructions ≡ whole = append_assoc middle.instructions jump.instructions r3.instructions ∙ w2 in
-      let w4 : last.instructions ++ join_code.instructions ≡ whole = append_assoc outer.instructions y.instructions join_code.instructions ∙ w3 in
+      let w1 : inner.instructions ++ r1.instructions ≡ whole =
+      append_assoc before.instructions branch.instructions r1.instructions in
+      let w2 : middle.instructions ++ r2.instructions ≡ whole =
+      append_assoc inner.instructions x.instructions r2.instructions ∙ w1 in
+      let w3 : outer.instructions ++ r3.instructions ≡ whole =
+      append_assoc middle.instructions jump.instructions r3.instructions ∙ w2 in
+      let w4 : last.instructions ++ join_code.instructions ≡ whole =
+      append_assoc outer.instructions y.instructions join_code.instructions ∙ w3 in
       let n = length before.instructions in
       let l1 = length-append before.instructions branch.instructions in
       let l2 = length-append inner.instructions x.instructions in
@@ -419,7 +460,8 @@ module _ (Q : Asks) where
       (sym (append_assoc middle.instructions (Jump end ∷ []) (Join ∷ r3.instructions) ∙ w2))
       ∙ at_seam front Join r3.instructions in
       let joins_last : slice_get whole (end - 1) ≡ Some Join = ap (slice_get whole) (sym to_end)
-      ∙ ap (λ (l : List Instruction). slice_get l (length last.instructions)) (sym w4) ∙ at_seam last.instructions Join [] in
+      ∙ ap (λ (l : List Instruction). slice_get l (length last.instructions)) (sym w4)
+      ∙ at_seam last.instructions Join [] in
       let part = branch.instructions ++ r1.instructions in
       let none3 : ends_in r3.instructions ≡ 0 = none_end y.instructions join_code.instructions two.none refl in
       let none2 : ends_in r2.instructions ≡ 0 = none_end jump.instructions r3.instructions refl none3 in
@@ -428,30 +470,39 @@ module _ (Q : Asks) where
       let first_leads : LeadsFrom whole (n + 1) x.instructions =
       subst (λ p. LeadsFrom whole p x.instructions) l1
       (subst (λ (w : List Instruction). LeadsFrom w (length inner.instructions) x.instructions) w2
-      (all_stay middle.instructions r2.instructions (length inner.instructions) x.instructions (omega (arith, l2)) one.leads)) in
+      (all_stay middle.instructions r2.instructions (length inner.instructions) x.instructions (omega (arith, l2))
+      one.leads)) in
       let at_second : length outer.instructions ≡ n + 1 + length x.instructions + 1 + 1 = omega (arith, l1, l2, l3) in
       let second_leads : LeadsFrom whole (n + 1 + length x.instructions + 1 + 1) y.instructions =
       subst (λ p. LeadsFrom whole p y.instructions) at_second
       (subst (λ (w : List Instruction). LeadsFrom w (length outer.instructions) y.instructions) w4
-      (all_stay last.instructions join_code.instructions (length outer.instructions) y.instructions (omega (arith, l4)) two.leads)) in
+      (all_stay last.instructions join_code.instructions (length outer.instructions) y.instructions (omega (arith, l4))
+      two.leads)) in
       record {
         names = both_name before branch r1 (plain_names before branch.instructions (tt, tt))
-            (both_name inner x r2 one.names (both_name middle jump r3 (plain_names middle jump.instructions (tt, (tt, tt)))
+            (both_name inner x r2 one.names
+            (both_name middle jump r3 (plain_names middle jump.instructions (tt, (tt, tt)))
             (both_name outer y join_code two.names (plain_names last join_code.instructions (tt, tt)))));
         leads = (
           inl (record {
             later = omega (arith, l1, l2, l3, other_is);
             join = subst IsJoin (sym joins) tt;
-            stays = stays_within whole before.instructions part n other refl none (omega arith) (omega (arith, l1, l2, l3, other_is));
+            stays = stays_within whole before.instructions part n other refl none (omega arith)
+                (omega (arith, l1, l2, l3, other_is));
           }),
           both_lead whole (n + 1) x.instructions r2.instructions first_leads (
             inl (record {
               later = omega (arith, l1, l2, l3, l4, end_is);
               join = subst IsJoin (sym joins_last) tt;
-              stays = stays_within whole before.instructions part (n + 1 + length x.instructions) end refl none (omega arith)
+              stays = stays_within whole before.instructions part (n + 1 + length x.instructions) end refl none
+                  (omega arith)
                   (omega (arith, l1, l2, l3, l4, end_is));
             }),
-            (tt, both_lead whole (n + 1 + length x.instructions + 1 + 1) y.instructions join_code.instructions second_leads (tt, tt)),
+            (
+              tt,
+              both_lead whole (n + 1 + length x.instructions + 1 + 1) y.instructions join_code.instructions second_leads
+                  (tt, tt),
+            ),
           ),
         );
         starts = ap (λ l. l ++ (y.starts ++ [])) one.starts ∙ ap (λ l. l ++ []) two.starts;
@@ -473,8 +524,11 @@ module _ (Q : Asks) where
       let outer = append (append inner (first inner)) (jump_code l.end) in
       let l1 = length-append before.instructions (branch_code l.other).instructions in
       subst (Meets Q before) (sym l.is)
-      (laid_meets first second before l.other l.end (one_met inner (omega (arith, l1))) (two_met outer) l.other_is l.end_is)
+      (laid_meets first second before l.other l.end (one_met inner (omega (arith, l1))) (two_met outer) l.other_is
+      l.end_is)
 
   pub either_meets : (first second : Fragment) → Blind first → Blind second → ((now : Code) → Meets Q now (first now))
-      → ((now : Code) → Meets Q now (second now)) → (before : Code) → Meets Q before (either_fragment first second before)
-  either_meets first second f g one_met two_met before = branch_meets first second f g before (λ now behind. one_met now) two_met
+      → ((now : Code) → Meets Q now (second now)) → (before : Code)
+      → Meets Q before (either_fragment first second before)
+  either_meets first second f g one_met two_met before =
+      branch_meets first second f g before (λ now behind. one_met now) two_met

@@ -9,8 +9,11 @@ use Rattle.source_tree.specs.declared.expression.Operand.{Operand}
 use Rattle.source_tree.specs.declared.expression.Operand.TheVariants as operand
 use Rattle.source_tree.specs.declared.arithmetic.Receiver.{Receiver}
 use Rattle.source_tree.specs.declared.arithmetic.Operation.{Operation}
-use Rattle.source_tree.specs.declared.arithmetic.Operation.TheVariants.{Add, AddGiving, Subtract, SubtractGiving, Multiply, MultiplyGiving, Divide, DivideGiving, DivideRemainder, Compute}
-use Rattle.source_tree.specs.ArithmeticRules.{numeric_item, number_receiver, number_rules, updated_rules, given_rules, expression_rules, operation_rules}
+use Rattle.source_tree.specs.declared.arithmetic.Operation.TheVariants.{Add, AddGiving, Subtract, SubtractGiving}
+use Rattle.source_tree.specs.declared.arithmetic.Operation.TheVariants.{Multiply, MultiplyGiving, Divide, DivideGiving}
+use Rattle.source_tree.specs.declared.arithmetic.Operation.TheVariants.{DivideRemainder, Compute}
+use Rattle.source_tree.specs.ArithmeticRules.{numeric_item, number_receiver, number_rules, updated_rules, given_rules}
+use Rattle.source_tree.specs.ArithmeticRules.{expression_rules, operation_rules}
 use Rattle.source_tree.specs.Broken.{RuleBreach, each}
 use Rattle.source_tree.specs.Literals.{literal_sender}
 use Rattle.source_tree.specs.LookUp.{items_named, first}
@@ -26,25 +29,32 @@ use Rattle.codegen.specs.DataCode.{item_number}
 use Rattle.codegen.proofs.Codes.{left_none, right_none, item_there, keeps}
 use Rattle.codegen.proofs.Integers.{kept, not_false}
 
-module _ (items : List LocatedItem) (whole : Code) (entries : (n : ℕ) (one : LocatedItem) → slice_get items n ≡ Some one → slice_get whole.tables.items n ≡ Some (data_item one))
+module _ (items : List LocatedItem) (whole : Code) (entries : (n : ℕ) (one : LocatedItem) → slice_get items n ≡ Some one
+    → slice_get whole.tables.items n ≡ Some (data_item one))
     (lie : (n : ℕ) (one : LocatedItem) → slice_get items n ≡ Some one → LiesWhole whole.tables one) where
-  the_only : (one : Reference) (found other : LocatedItem) → items_named items one.item ≡ found ∷ [] → first (items_named items one.item) ≡ Some other → found ≡ other
+  the_only : (one : Reference) (found other : LocatedItem) → items_named items one.item ≡ found ∷ []
+      → first (items_named items one.item) ≡ Some other → found ≡ other
   the_only one found other named is = same (sym (ap first named) ∙ is)
     where
       same : Some found ≡ Some other → found ≡ other
       same e = cc
 
-  pub lies_all : (asked : Place → LocatedItem → List RuleBreach) (one : Reference) → reference_rules items asked one ≡ [] → LiesAll items whole.tables one
+  pub lies_all : (asked : Place → LocatedItem → List RuleBreach) (one : Reference)
+      → reference_rules items asked one ≡ [] → LiesAll items whole.tables one
   lies_all asked one e = λ found is.
       let k = keeps items whole entries asked one e in
-      subst (LiesWhole whole.tables) (the_only one k.found found k.named is) (lie (item_number items one.item) k.found (item_there items one.item k.found k.named))
+      subst (LiesWhole whole.tables) (the_only one k.found found k.named is)
+      (lie (item_number items one.item) k.found (item_there items one.item k.found k.named))
 
   pub shows_all : (all : List Operand) → display_rules items all ≡ [] → ShowsAll items whole.tables all
   shows_all [] e = tt
   shows_all (operand.Item one ∷ more) e =
-      let one_rules = reference_rules items any_item one in
-      (lies_all any_item one (left_none one_rules (each (shown_rules items) more) e), shows_all more (right_none one_rules (each (shown_rules items) more) e))
-  shows_all (operand.Literal one ∷ more) e = shows_all more (right_none (shown_rules items (operand.Literal one)) (each (shown_rules items) more) e)
+      let one_rules = reference_rules items any_item one in (
+        lies_all any_item one (left_none one_rules (each (shown_rules items) more) e),
+        shows_all more (right_none one_rules (each (shown_rules items) more) e),
+      )
+  shows_all (operand.Literal one ∷ more) e =
+      shows_all more (right_none (shown_rules items (operand.Literal one)) (each (shown_rules items) more) e)
 
   -- what is sent, for a sender that keeps the rules
   pub record Sends (sender : Operand) : Type 0 where
@@ -58,24 +68,32 @@ module _ (items : List LocatedItem) (whole : Code) (entries : (n : ℕ) (one : L
       record {
         sent = t.Item k.found.item;
         is = ap only_item k.named;
-        sends_as = (lies_all any_item one e, λ found is. ap (λ (p : LocatedItem). t.Item p.item) (sym (the_only one k.found found k.named is)));
+        sends_as = (
+          lies_all any_item one e,
+          λ found is. ap (λ (p : LocatedItem). t.Item p.item) (sym (the_only one k.found found k.named is)),
+        );
       }
   sends (operand.Literal one) e = record { sent = (literal_sender one.value).taken; is = refl; sends_as = refl }
 
-  pub receives_one : (sent : Taken) (one : Reference) → reference_rules items (receives (Some sent)) one ≡ [] → MayReceive items whole.tables sent one
+  pub receives_one : (sent : Taken) (one : Reference) → reference_rules items (receives (Some sent)) one ≡ []
+      → MayReceive items whole.tables sent one
   receives_one sent one e =
       let k = keeps items whole entries (receives (Some sent)) one e in (
         lies_all (receives (Some sent)) one e,
         λ found is.
             subst (λ (p : LocatedItem). may_move sent p.item ≡ true) (the_only one k.found found k.named is)
-            (not_false (may_move sent k.found.item) (kept (not (may_move sent k.found.item)) 49 one.item.name.place k.asks)),
+            (not_false (may_move sent k.found.item)
+            (kept (not (may_move sent k.found.item)) 49 one.item.name.place k.asks)),
       )
 
-  pub receive_each : (sent : Taken) (all : List Reference) → each (reference_rules items (receives (Some sent))) all ≡ [] → MayReceiveEach items whole.tables sent all
+  pub receive_each : (sent : Taken) (all : List Reference)
+      → each (reference_rules items (receives (Some sent))) all ≡ [] → MayReceiveEach items whole.tables sent all
   receive_each sent [] e = tt
   receive_each sent (one ∷ more) e =
-      let one_rules = reference_rules items (receives (Some sent)) one in
-      (receives_one sent one (left_none one_rules (each (reference_rules items (receives (Some sent))) more) e), receive_each sent more (right_none one_rules (each (reference_rules items (receives (Some sent))) more) e))
+      let one_rules = reference_rules items (receives (Some sent)) one in (
+        receives_one sent one (left_none one_rules (each (reference_rules items (receives (Some sent))) more) e),
+        receive_each sent more (right_none one_rules (each (reference_rules items (receives (Some sent))) more) e),
+      )
 
   -- ---- arithmetic statements
 
@@ -85,14 +103,19 @@ module _ (items : List LocatedItem) (whole : Code) (entries : (n : ℕ) (one : L
 
   lie_operands : (all : List Operand) → each (number_rules items) all ≡ [] → LieOperands items whole.tables all
   lie_operands [] e = tt
-  lie_operands (one ∷ more) e =
-      (lies_operand one (left_none (number_rules items one) (each (number_rules items) more) e), lie_operands more (right_none (number_rules items one) (each (number_rules items) more) e))
+  lie_operands (one ∷ more) e = (
+    lies_operand one (left_none (number_rules items one) (each (number_rules items) more) e),
+    lie_operands more (right_none (number_rules items one) (each (number_rules items) more) e),
+  )
 
-  lie_receivers : (asked : Place → LocatedItem → List RuleBreach) (all : List Receiver) → each (λ (one : Receiver). reference_rules items asked one.item) all ≡ [] → LieReceivers items whole.tables all
+  lie_receivers : (asked : Place → LocatedItem → List RuleBreach) (all : List Receiver)
+      → each (λ (one : Receiver). reference_rules items asked one.item) all ≡ [] → LieReceivers items whole.tables all
   lie_receivers asked [] e = tt
   lie_receivers asked (one ∷ more) e =
-      let rules = λ (one : Receiver). reference_rules items asked one.item in
-      (lies_all asked one.item (left_none (rules one) (each rules more) e), lie_receivers asked more (right_none (rules one) (each rules more) e))
+      let rules = λ (one : Receiver). reference_rules items asked one.item in (
+        lies_all asked one.item (left_none (rules one) (each rules more) e),
+        lie_receivers asked more (right_none (rules one) (each rules more) e),
+      )
 
   pub lies_operation : (one : Operation) → operation_rules items one ≡ [] → LiesOperation items whole.tables one
   lies_operation (Add operands receivers) e =
@@ -111,8 +134,11 @@ module _ (items : List LocatedItem) (whole : Code) (entries : (n : ℕ) (one : L
       let a = each (number_rules items) operands in
       let b = number_rules items minuend in
       let c = given_rules items receivers in
-      let f = left_none (a ++ b) c e in
-      (lie_operands operands (left_none a b f), lies_operand minuend (right_none a b f), lie_receivers number_receiver receivers (right_none (a ++ b) c e))
+      let f = left_none (a ++ b) c e in (
+        lie_operands operands (left_none a b f),
+        lies_operand minuend (right_none a b f),
+        lie_receivers number_receiver receivers (right_none (a ++ b) c e),
+      )
   lies_operation (Multiply factor receivers) e =
       let a = number_rules items factor in
       let b = updated_rules items receivers in
@@ -121,8 +147,11 @@ module _ (items : List LocatedItem) (whole : Code) (entries : (n : ℕ) (one : L
       let a = number_rules items factor in
       let b = number_rules items by in
       let c = given_rules items receivers in
-      let f = left_none (a ++ b) c e in
-      (lies_operand factor (left_none a b f), lies_operand by (right_none a b f), lie_receivers number_receiver receivers (right_none (a ++ b) c e))
+      let f = left_none (a ++ b) c e in (
+        lies_operand factor (left_none a b f),
+        lies_operand by (right_none a b f),
+        lie_receivers number_receiver receivers (right_none (a ++ b) c e),
+      )
   lies_operation (Divide divisor receivers) e =
       let a = number_rules items divisor in
       let b = updated_rules items receivers in
@@ -131,14 +160,22 @@ module _ (items : List LocatedItem) (whole : Code) (entries : (n : ℕ) (one : L
       let a = number_rules items one in
       let b = number_rules items two in
       let c = given_rules items receivers in
-      let f = left_none (a ++ b) c e in
-      (lies_operand one (left_none a b f), lies_operand two (right_none a b f), lie_receivers number_receiver receivers (right_none (a ++ b) c e))
+      let f = left_none (a ++ b) c e in (
+        lies_operand one (left_none a b f),
+        lies_operand two (right_none a b f),
+        lie_receivers number_receiver receivers (right_none (a ++ b) c e),
+      )
   lies_operation (DivideRemainder one order two quotient remainder) e =
       let a = number_rules items one in
       let b = number_rules items two in
       let c = reference_rules items number_receiver quotient.item in
       let d = reference_rules items number_receiver remainder in
       let f = left_none (a ++ b ++ c) d e in
-      let g = left_none (a ++ b) c f in
-      (lies_operand one (left_none a b g), lies_operand two (right_none a b g), lies_all number_receiver quotient.item (right_none (a ++ b) c f), lies_all number_receiver remainder (right_none (a ++ b ++ c) d e))
-  lies_operation (Compute receivers value) e = lie_receivers number_receiver receivers (left_none (given_rules items receivers) (expression_rules items value) e)
+      let g = left_none (a ++ b) c f in (
+        lies_operand one (left_none a b g),
+        lies_operand two (right_none a b g),
+        lies_all number_receiver quotient.item (right_none (a ++ b) c f),
+        lies_all number_receiver remainder (right_none (a ++ b ++ c) d e),
+      )
+  lies_operation (Compute receivers value) e =
+      lie_receivers number_receiver receivers (left_none (given_rules items receivers) (expression_rules items value) e)

@@ -1,5 +1,6 @@
 -- The run of the code of a program that keeps the rules is what the program means.
-use Rattle.std.proofs.Common.{◌≡◌, ℕ, zero, suc, ◌+◌, ◌-◌, ◌<◌, true, List, [], ◌∷◌, ◌++◌, length, map, Option, Some, refl, sym, ap, ◌∙◌, subst, arith}
+use Rattle.std.proofs.Common.{◌≡◌, ℕ, zero, suc, ◌+◌, ◌-◌, ◌<◌, true, List, [], ◌∷◌, ◌++◌, length, map, Option, Some}
+use Rattle.std.proofs.Common.{refl, sym, ap, ◌∙◌, subst, arith}
 use Rattle.std.specs.Prelude.{Bool, slice_get}
 use Rattle.std.specs.List.{AllByRecursion}
 use Rattle.std.proofs.lemmas.List.{length-replicate}
@@ -16,7 +17,9 @@ use Rattle.source_tree.specs.Broken.{RuleBreach, each}
 use Rattle.source_tree.specs.Given.{RunInput}
 use Rattle.source_tree.specs.PerformRules.{range_rules}
 use Rattle.source_tree.specs.Procedures.{Range, Procedure, range_of}
-use Rattle.source_tree.specs.Recursion.{Performance, each_performs, statement_performs, sentence_performs, paragraph_performs, performed_in, by_paragraph, performs_from, performs, performed_by_program, HasOrder}
+use Rattle.source_tree.specs.Recursion.{Performance, each_performs, statement_performs, sentence_performs}
+use Rattle.source_tree.specs.Recursion.{paragraph_performs, performed_in, by_paragraph, performs_from, performs}
+use Rattle.source_tree.specs.Recursion.{performed_by_program, HasOrder}
 use Rattle.source_tree.specs.Rules.{statement_rules, sentence_rules, paragraph_rules, all_permitted, program_rules}
 use Rattle.source_tree.specs.Setting.{Scope, scope, paragraphs}
 use Rattle.source_tree.specs.State.{State}
@@ -41,7 +44,8 @@ use Rattle.codegen.proofs.Ranges.{EndsWithin, FoundWithin, range_within, procedu
 use Rattle.codegen.proofs.Running.{at}
 use Rattle.codegen.proofs.Standing.{Stands}
 use Rattle.codegen.proofs.FileTable.{as_many}
-use Rattle.codegen.proofs.Verified.{paragraphs_keep, sections_kept, formed_conditions, numbered, areas_are, files_are, item_entries, items_sized, has_files, order, lies}
+use Rattle.codegen.proofs.Verified.{paragraphs_keep, sections_kept, formed_conditions, numbered, areas_are, files_are}
+use Rattle.codegen.proofs.Verified.{item_entries, items_sized, has_files, order, lies}
 
 -- ---- rules that ask which ranges may be performed
 
@@ -51,18 +55,22 @@ module _ (found : Scope) (permits : Range → Bool) where
 
   each_permitted : {A : Type 0} (rules others : A → List RuleBreach) (performing : A → List Performance)
       → ((one : A) → others one ≡ [] → AllByRecursion MayBe (performing one) → rules one ≡ [])
-      → (all : List A) → each others all ≡ [] → AllByRecursion MayBe (each_performs performing all) → each rules all ≡ []
+      → (all : List A) → each others all ≡ [] → AllByRecursion MayBe (each_performs performing all)
+      → each rules all ≡ []
   each_permitted rules others performing one_is [] e h = refl
   each_permitted rules others performing one_is (one ∷ more) e h =
       ap (λ l. l ++ each rules more)
-      (one_is one (left_none (others one) (each others more) e) (all_front MayBe (performing one) (each_performs performing more) h))
+      (one_is one (left_none (others one) (each others more) e)
+      (all_front MayBe (performing one) (each_performs performing more) h))
       ∙ each_permitted rules others performing one_is more (right_none (others one) (each others more) e)
       (all_back MayBe (performing one) (each_performs performing more) h)
 
-  sentence_permitted : (one : Sentence) → sentence_rules found all_permitted one ≡ [] → AllByRecursion MayBe (sentence_performs found.procedures one)
+  sentence_permitted : (one : Sentence) → sentence_rules found all_permitted one ≡ []
+      → AllByRecursion MayBe (sentence_performs found.procedures one)
       → sentence_rules found permits one ≡ []
   sentence_permitted one =
-      each_permitted (statement_rules found permits) (statement_rules found all_permitted) (statement_performs found.procedures)
+      each_permitted (statement_rules found permits) (statement_rules found all_permitted)
+      (statement_performs found.procedures)
       (λ statement e h. permitted_kept found permits statement e
       (All-from_recursion MayBe (statement_performs found.procedures statement) h)) one.statements
 
@@ -74,7 +82,8 @@ module _ (found : Scope) (permits : Range → Bool) where
 
 -- ---- ranks decrease along what a paragraph performs
 
-mapped_all : {A B : Type 0} (P : B → Type 0) (f : A → B) (xs : List A) → AllByRecursion P (map f xs) → AllByRecursion (λ (x : A). P (f x)) xs
+mapped_all : {A B : Type 0} (P : B → Type 0) (f : A → B) (xs : List A) → AllByRecursion P (map f xs)
+    → AllByRecursion (λ (x : A). P (f x)) xs
 mapped_all P f [] h = tt
 mapped_all P f (x ∷ xs) h = (h.0, mapped_all P f xs h.1)
 
@@ -84,26 +93,32 @@ module _ (height : ℕ → ℕ) where
 
   falls_in : (procedures : List Procedure) (all : List Paragraph) (number n m : ℕ) (one : Paragraph)
       → AllByRecursion FallsAt (performs_from procedures number all) → slice_get all n ≡ Some one
-      → m ≡ number + n → AllByRecursion (λ (p : Performance). Decreases height (performed_in m p)) (paragraph_performs procedures one)
+      → m ≡ number + n
+      → AllByRecursion (λ (p : Performance). Decreases height (performed_in m p)) (paragraph_performs procedures one)
   falls_in procedures [] number n m one h here is = absurd cc
   falls_in procedures (first ∷ more) number zero m one h here is =
       let performing = paragraph_performs procedures first in
-      let front = all_front FallsAt (map (by_paragraph number) performing) (performs_from procedures (number + 1) more) h in
+      let front =
+      all_front FallsAt (map (by_paragraph number) performing) (performs_from procedures (number + 1) more) h in
       let same : number ≡ m = omega arith in
-      subst (λ (x : Paragraph). AllByRecursion (λ (p : Performance). Decreases height (performed_in m p)) (paragraph_performs procedures x))
+      subst (λ (x : Paragraph).
+      AllByRecursion (λ (p : Performance). Decreases height (performed_in m p)) (paragraph_performs procedures x))
       (same_Some first one here)
       (subst (λ (k : ℕ). AllByRecursion (λ (p : Performance). Decreases height (performed_in k p)) performing) same
       (mapped_all FallsAt (by_paragraph number) performing front))
   falls_in procedures (first ∷ more) number (suc n) m one h here is =
       falls_in procedures more (number + 1) n m one
-      (all_back FallsAt (map (by_paragraph number) (paragraph_performs procedures first)) (performs_from procedures (number + 1) more) h) here
+      (all_back FallsAt (map (by_paragraph number) (paragraph_performs procedures first))
+      (performs_from procedures (number + 1) more) h) here
       (omega arith)
 
-  all_lower : (m : ℕ) (xs : List Performance) → AllByRecursion (λ (p : Performance). Decreases height (performed_in m p)) xs
+  all_lower : (m : ℕ) (xs : List Performance)
+      → AllByRecursion (λ (p : Performance). Decreases height (performed_in m p)) xs
       → AllByRecursion (λ (p : Performance). below height (height m) p.range ≡ true) xs
   all_lower m [] h = tt
   all_lower m (p ∷ ps) h = (
-    below_is height (height m) p.range.first (p.range.last + 1 - p.range.first) (λ q low up. h.0 q (record { first = low; last = omega arith })),
+    below_is height (height m) p.range.first (p.range.last + 1 - p.range.first)
+        (λ q low up. h.0 q (record { first = low; last = omega arith })),
     all_lower m ps h.1,
   )
 
@@ -141,23 +156,29 @@ module _ (program : Program) (keep : program_rules program ≡ []) (ordered : Ha
       (recursion_from_All (Decreases height) (performed_by_program program) ordered.1.fall)
 
   -- each paragraph performs lower ones alone
-  lower_keep : (n : ℕ) (one : Paragraph) → slice_get all n ≡ Some one → paragraph_rules found (below height (height n)) one ≡ []
+  lower_keep : (n : ℕ) (one : Paragraph) → slice_get all n ≡ Some one
+      → paragraph_rules found (below height (height n)) one ≡ []
   lower_keep n one here =
-      paragraph_permitted found (below height (height n)) one (kept_at (paragraph_rules found all_permitted) all n one all_keep here)
-      (all_lower height n (paragraph_performs found.procedures one) (falls_in height found.procedures all 0 n n one all_fall here (omega arith)))
+      paragraph_permitted found (below height (height n)) one
+      (kept_at (paragraph_rules found all_permitted) all n one all_keep here)
+      (all_lower height n (paragraph_performs found.procedures one)
+      (falls_in height found.procedures all 0 n n one all_fall here (omega arith)))
 
   within : AllByRecursion (EndsWithin count) found.procedures
   within = procedures_end count 0 program.sections (omega arith)
 
-  there : (permits : Range → Bool) (first : Name) (last : Option Name) (one : Range) → range_rules permits found.procedures first last ≡ []
+  there : (permits : Range → Bool) (first : Name) (last : Option Name) (one : Range)
+      → range_rules permits found.procedures first last ≡ []
       → range_of found.procedures first last ≡ Some one → one.last < count
-  there permits first last one e is = (subst (FoundWithin count) is (range_within count found.procedures within permits first last e)).last
+  there permits first last one e is =
+      (subst (FoundWithin count) is (range_within count found.procedures within permits first last e)).last
 
   bare : AreBare found all
   bare = record {
     by = λ n one here code.
         (paragraph_meets found all_permitted
-        (formed_conditions program keep) (items_sized program keep) count within (numbered program keep) (λ (range : Range). Unit {0}) one.sentences
+        (formed_conditions program keep) (items_sized program keep) count within (numbered program keep)
+        (λ (range : Range). Unit {0}) one.sentences
         (kept_at (paragraph_rules found all_permitted) all n one all_keep here)
         (nothing_asked (paragraph_performs found.procedures one)) code).starts;
   }
@@ -187,9 +208,12 @@ module _ (program : Program) (keep : program_rules program ≡ []) (ordered : Ha
 
   pub runs : (given : RunInput) → Runs code given (meaning program given)
   runs given =
-      let ended = range_ends code found (has_files program keep) (item_entries program keep) (order program keep) (lies program keep) all laid height lower_keep there
+      let ended = range_ends code found (has_files program keep) (item_entries program keep) (order program keep)
+      (lies program keep) all laid height lower_keep there
       (suc given.budget) 0 all (nothing_own code) (start program given)
-      refl (omega arith) refl (omega arith) (record { counters = length-replicate (length code.instructions) 0; line = refl }) in
+      refl (omega arith) refl (omega arith)
+      (record { counters = length-replicate (length code.instructions) 0; line = refl }) in
       let first = subst (λ (p : ℕ). (j : ℕ) ×
-      (exec_code code j (at p (nothing_own code) (start program given)) ≡ Some (meaning program given))) laid.begins ended in
+      (exec_code code j (at p (nothing_own code) (start program given)) ≡ Some (meaning program given))) laid.begins
+      ended in
       (first.0, ap (λ (s : State). exec_code code first.0 (at 0 (nothing_own code) s)) (begins given) ∙ first.1)

@@ -1,5 +1,6 @@
 -- Two ways whose branch and jump got their addresses at the end.
-use Rattle.std.proofs.Common.{◌≡◌, ℕ, ◌+◌, ◌-◌, ◌||◌, true, List, [], ◌∷◌, ◌++◌, length, Option, Some, None, refl, sym, ap, ◌∙◌, arith, append_assoc, length-append}
+use Rattle.std.proofs.Common.{◌≡◌, ℕ, ◌+◌, ◌-◌, ◌||◌, true, List, [], ◌∷◌, ◌++◌, length, Option, Some, None, refl, sym}
+use Rattle.std.proofs.Common.{ap, ◌∙◌, arith, append_assoc, length-append}
 use Rattle.std.specs.Prelude.{slice_set}
 use Rattle.std.proofs.lemmas.List.{append-nil}
 use Rattle.source_tree.specs.Arithmetic.{is_there}
@@ -16,18 +17,23 @@ use Rattle.codegen.specs.Phrases.{patched_instructions, patched_code}
 use Rattle.codegen.proofs.Fragments.{tables_assoc, tables_nothing, joined_assoc}
 
 -- an instruction behind others, in another's place
-set_behind : (front : List Instruction) (old new : Instruction) (back : List Instruction) (at : ℕ) → at ≡ length front → slice_set (front ++ (old ∷ back)) at new ≡ front ++ (new ∷ back)
+set_behind : (front : List Instruction) (old new : Instruction) (back : List Instruction) (at : ℕ) → at ≡ length front
+    → slice_set (front ++ (old ∷ back)) at new ≡ front ++ (new ∷ back)
 set_behind [] old new back at e = ap (λ n. slice_set (old ∷ back) n new) e
-set_behind (x ∷ front) old new back at e = ap (λ n. slice_set (x ∷ (front ++ (old ∷ back))) n new) e ∙ ap (λ l. x ∷ l) (set_behind front old new back (length front) refl)
+set_behind (x ∷ front) old new back at e = ap (λ n. slice_set (x ∷ (front ++ (old ∷ back))) n new) e
+    ∙ ap (λ l. x ∷ l) (set_behind front old new back (length front) refl)
 
 -- A branch, instructions, and a jump with its `join`, behind others and in front of others.
 abbrev ways : Instruction → Instruction → List Instruction → List Instruction → List Instruction → List Instruction
 ways branch jump before one behind = before ++ (branch ∷ (one ++ (jump ∷ Join ∷ behind)))
 
-set_branch : (branch jump : Instruction) (before one behind : List Instruction) (new : Instruction) → slice_set (ways branch jump before one behind) (length before) new ≡ ways new jump before one behind
-set_branch branch jump before one behind new = set_behind before branch new (one ++ (jump ∷ Join ∷ behind)) (length before) refl
+set_branch : (branch jump : Instruction) (before one behind : List Instruction) (new : Instruction)
+    → slice_set (ways branch jump before one behind) (length before) new ≡ ways new jump before one behind
+set_branch branch jump before one behind new =
+    set_behind before branch new (one ++ (jump ∷ Join ∷ behind)) (length before) refl
 
-set_jump : (branch jump : Instruction) (before one behind : List Instruction) (new : Instruction) (at : ℕ) → at ≡ length before + 1 + length one
+set_jump : (branch jump : Instruction) (before one behind : List Instruction) (new : Instruction) (at : ℕ)
+    → at ≡ length before + 1 + length one
     → slice_set (ways branch jump before one behind) at new ≡ ways branch new before one behind
 set_jump branch jump before one behind new at e =
     let front = before ++ (branch ∷ one) in
@@ -36,15 +42,20 @@ set_jump branch jump before one behind new at e =
     ∙ set_behind front jump new (Join ∷ behind) at count
     ∙ append_assoc before (branch ∷ one) (new ∷ Join ∷ behind)
 
-mended_ways : (before one two : List Instruction) → (let middle = before ++ (Branch 0 ∷ (one ++ (Jump 0 ∷ Join ∷ []))) in
-    patched_instructions (length before) (length middle) (middle ++ two) ≡ ways (Branch (length middle)) (Jump (length (middle ++ two) + 1)) before one (two ++ Join ∷ []))
+mended_ways : (before one two : List Instruction)
+    → (let middle = before ++ (Branch 0 ∷ (one ++ (Jump 0 ∷ Join ∷ []))) in
+    patched_instructions (length before) (length middle) (middle ++ two)
+    ≡ ways (Branch (length middle)) (Jump (length (middle ++ two) + 1)) before one (two ++ Join ∷ []))
 mended_ways before one two =
     let middle = before ++ (Branch 0 ∷ (one ++ (Jump 0 ∷ Join ∷ []))) in
     let end = length (middle ++ two) + 1 in
-    let count : length middle - 2 ≡ length before + 1 + length one = omega (arith, length-append before (Branch 0 ∷ (one ++ (Jump 0 ∷ Join ∷ []))), length-append one (Jump 0 ∷ Join ∷ [])) in
-    let is : (middle ++ two) ++ Join ∷ [] ≡ ways (Branch 0) (Jump 0) before one (two ++ Join ∷ []) = simp append_assoc in
+    let count : length middle - 2 ≡ length before + 1 + length one = omega
+    (arith, length-append before (Branch 0 ∷ (one ++ (Jump 0 ∷ Join ∷ []))), length-append one (Jump 0 ∷ Join ∷ [])) in
+    let is : (middle ++ two) ++ Join ∷ [] ≡ ways (Branch 0) (Jump 0) before one (two ++ Join ∷ []) =
+    simp append_assoc in
     ap (λ l. slice_set (slice_set l (length before) (Branch (length middle))) (length middle - 2) (Jump end)) is
-    ∙ ap (λ l. slice_set l (length middle - 2) (Jump end)) (set_branch (Branch 0) (Jump 0) before one (two ++ Join ∷ []) (Branch (length middle)))
+    ∙ ap (λ l. slice_set l (length middle - 2) (Jump end))
+    (set_branch (Branch 0) (Jump 0) before one (two ++ Join ∷ []) (Branch (length middle)))
     ∙ set_jump (Branch (length middle)) (Jump 0) before one (two ++ Join ∷ []) (Jump end) (length middle - 2) count
 
 module _ (first second : Fragment) (before : Code) where
@@ -57,11 +68,14 @@ module _ (first second : Fragment) (before : Code) where
   abbrev way_two : Code
   way_two = second middle_code
 
-  tables_meet : joined_tables middle_code.tables way_two.tables ≡ joined_tables before.tables (joined_tables way_one.tables (joined_tables way_two.tables no_tables))
+  tables_meet : joined_tables middle_code.tables way_two.tables
+      ≡ joined_tables before.tables (joined_tables way_one.tables (joined_tables way_two.tables no_tables))
   tables_meet =
-      ap (λ (t : DataTables). joined_tables (joined_tables before.tables t) way_two.tables) (tables_nothing way_one.tables)
+      ap (λ (t : DataTables). joined_tables (joined_tables before.tables t) way_two.tables)
+      (tables_nothing way_one.tables)
       ∙ tables_assoc before.tables way_one.tables way_two.tables
-      ∙ ap (λ (t : DataTables). joined_tables before.tables (joined_tables way_one.tables t)) (sym (tables_nothing way_two.tables))
+      ∙ ap (λ (t : DataTables). joined_tables before.tables (joined_tables way_one.tables t))
+      (sym (tables_nothing way_two.tables))
 
   lists_meet : {A : Type 0} (front one two : List A) → (front ++ (one ++ [])) ++ two ≡ front ++ (one ++ (two ++ []))
   lists_meet {A} front one two =
@@ -69,35 +83,46 @@ module _ (first second : Fragment) (before : Code) where
       ∙ append_assoc front one two
       ∙ ap (λ (l : List A). front ++ (one ++ l)) (sym (append-nil two))
 
-  same_code : (a b : DataTables) (f g : List CodeFile) (s t : List ℕ) (i j : List Instruction) → a ≡ b → f ≡ g → s ≡ t → i ≡ j
+  same_code : (a b : DataTables) (f g : List CodeFile) (s t : List ℕ) (i j : List Instruction) → a ≡ b → f ≡ g → s ≡ t
+      → i ≡ j
       → (let x : Code = record { tables = a; files = f; starts = s; instructions = i } in
       let y : Code = record { tables = b; files = g; starts = t; instructions = j } in x ≡ y)
   same_code a b f g s t i j p q r u = cc
 
   -- the code of both, with the way of each
-  pub ways_meet : patched_code (length before.instructions) (length middle_code.instructions) (append middle_code way_two) ≡ append before (either_fragment first second before)
+  pub ways_meet : patched_code (length before.instructions) (length middle_code.instructions)
+      (append middle_code way_two) ≡ append before (either_fragment first second before)
   ways_meet =
       same_code _ _ _ _ _ _ _ _ tables_meet (lists_meet before.files way_one.files way_two.files)
-      (lists_meet before.starts way_one.starts way_two.starts) (mended_ways before.instructions way_one.instructions way_two.instructions)
+      (lists_meet before.starts way_one.starts way_two.starts)
+      (mended_ways before.instructions way_one.instructions way_two.instructions)
 
 -- The same of code that was put together step by step.
 pub meeting : (first second : Fragment) (before begun one middle two end : Code) (branch other : ℕ)
-    → begun ≡ append before (branch_code 0) → branch ≡ length before.instructions → one ≡ append begun (first begun) → middle ≡ append one (jump_code 0)
-    → other ≡ length one.instructions + 2 → two ≡ append middle (second middle) → end ≡ patched_code branch other two → end ≡ append before (either_fragment first second before)
+    → begun ≡ append before (branch_code 0) → branch ≡ length before.instructions → one ≡ append begun (first begun)
+    → middle ≡ append one (jump_code 0)
+    → other ≡ length one.instructions + 2 → two ≡ append middle (second middle) → end ≡ patched_code branch other two
+    → end ≡ append before (either_fragment first second before)
 meeting first second before begun one middle two end branch other p q r s t u v =
     let b = append before (branch_code 0) in
     let x = first b in
     let one_is : one ≡ append b x = r ∙ ap (λ (c : Code). append c (first c)) p in
-    let middle_is : middle ≡ middle_code first second before = s ∙ ap (λ (c : Code). append c (jump_code 0)) one_is ∙ joined_assoc b x (jump_code 0) ∙ joined_assoc before (branch_code 0) (append x (jump_code 0)) in
-    let two_is : two ≡ append (middle_code first second before) (way_two first second before) = u ∙ ap (λ (c : Code). append c (second c)) middle_is in
+    let middle_is : middle ≡ middle_code first second before = s ∙ ap (λ (c : Code). append c (jump_code 0)) one_is
+    ∙ joined_assoc b x (jump_code 0) ∙ joined_assoc before (branch_code 0) (append x (jump_code 0)) in
+    let two_is : two ≡ append (middle_code first second before) (way_two first second before) =
+    u ∙ ap (λ (c : Code). append c (second c)) middle_is in
     let count : other ≡ length (middle_code first second before).instructions =
-    t ∙ sym (ap (λ (c : Code). length c.instructions) s ∙ length-append one.instructions (Jump 0 ∷ Join ∷ [])) ∙ ap (λ (c : Code). length c.instructions) middle_is in
-    v ∙ ap (λ n. patched_code n other two) q ∙ ap (λ n. patched_code (length before.instructions) n two) count ∙ ap (patched_code (length before.instructions) (length (middle_code first second before).instructions)) two_is
+    t ∙ sym (ap (λ (c : Code). length c.instructions) s ∙ length-append one.instructions (Jump 0 ∷ Join ∷ []))
+    ∙ ap (λ (c : Code). length c.instructions) middle_is in
+    v ∙ ap (λ n. patched_code n other two) q ∙ ap (λ n. patched_code (length before.instructions) n two) count
+    ∙ ap (patched_code (length before.instructions) (length (middle_code first second before).instructions)) two_is
     ∙ ways_meet first second before
 
 -- the phrases where one stands
-pub phrases_stand : (scope : Scope) {S : Type 0} (inside : S → Fragment) (arose did_not : Option (List S)) (before : Code) → (is_there arose || is_there did_not) ≡ true
-    → either_fragment (phrase_fragment scope inside arose) (phrase_fragment scope inside did_not) before ≡ phrases_from scope inside arose did_not before
+pub phrases_stand : (scope : Scope) {S : Type 0} (inside : S → Fragment) (arose did_not : Option (List S))
+    (before : Code) → (is_there arose || is_there did_not) ≡ true
+    → either_fragment (phrase_fragment scope inside arose) (phrase_fragment scope inside did_not) before
+    ≡ phrases_from scope inside arose did_not before
 phrases_stand scope inside None None before e = cc
 phrases_stand scope inside None (Some other) before e = refl
 phrases_stand scope inside (Some one) other before e = refl

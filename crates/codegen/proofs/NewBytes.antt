@@ -42,24 +42,32 @@ whole_marks (byte ∷ more) = ap (λ (l : List ℕ). 1 ∷ l) (whole_marks more)
 
 module _ (item : Item) where
   -- The first value is such as the item takes, if all condition names can be set.
-  pub first_has : (values : List ValueRange) (one : ValueRange) → Some one ≡ slice_get values 0 → HasFirst item values → HasValue item.kind (Some one.first)
+  pub first_has : (values : List ValueRange) (one : ValueRange) → Some one ≡ slice_get values 0 → HasFirst item values
+      → HasValue item.kind (Some one.first)
   first_has [] one e h = absurd cc
-  first_has (first ∷ more) one e h = subst (λ (r : ValueRange). HasValue item.kind (Some r.first)) (same_Some first one (sym e)) h
+  first_has (first ∷ more) one e h =
+      subst (λ (r : ValueRange). HasValue item.kind (Some r.first)) (same_Some first one (sym e)) h
 
-  pub first_is : (values : List ValueRange) (one : ValueRange) → Some one ≡ slice_get values 0 → whole_pattern (with_value item (literal_sender one.first.value)) ≡ first_value item values
+  pub first_is : (values : List ValueRange) (one : ValueRange) → Some one ≡ slice_get values 0
+      → whole_pattern (with_value item (literal_sender one.first.value)) ≡ first_value item values
   first_is [] one e = absurd cc
-  first_is (first ∷ more) one e = ap (λ (r : ValueRange). whole_pattern (with_value item (literal_sender r.first.value))) (sym (same_Some first one (sym e)))
+  first_is (first ∷ more) one e = ap (λ (r : ValueRange).
+      whole_pattern (with_value item (literal_sender r.first.value))) (sym (same_Some first one (sym e)))
 
   pub first_none : (values : List ValueRange) → None ≡ slice_get values 0 → [] ≡ first_value item values
   first_none [] e = refl
   first_none (first ∷ more) e = absurd cc
 
-  pub first_bytes : (values : List ValueRange) (one : ValueRange) → Some one ≡ slice_get values 0 → with_value item (literal_sender one.first.value) ≡ map new_byte (first_value item values)
-  first_bytes values one e = whole_bytes (with_value item (literal_sender one.first.value)) ∙ ap (map new_byte) (first_is values one e)
+  pub first_bytes : (values : List ValueRange) (one : ValueRange) → Some one ≡ slice_get values 0
+      → with_value item (literal_sender one.first.value) ≡ map new_byte (first_value item values)
+  first_bytes values one e =
+      whole_bytes (with_value item (literal_sender one.first.value)) ∙ ap (map new_byte) (first_is values one e)
 
-  pub first_marks : (values : List ValueRange) (one : ValueRange) (bytes : List ℕ) → Some one ≡ slice_get values 0 → bytes ≡ with_value item (literal_sender one.first.value)
+  pub first_marks : (values : List ValueRange) (one : ValueRange) (bytes : List ℕ) → Some one ≡ slice_get values 0
+      → bytes ≡ with_value item (literal_sender one.first.value)
       → replicate (length bytes) 1 ≡ map new_mark (first_value item values)
-  first_marks values one bytes e is = whole_marks bytes ∙ ap (λ (l : List ℕ). map new_mark (whole_pattern l)) is ∙ ap (map new_mark) (first_is values one e)
+  first_marks values one bytes e is = whole_marks bytes ∙ ap (λ (l : List ℕ). map new_mark (whole_pattern l)) is
+      ∙ ap (map new_mark) (first_is values one e)
 
 -- the condition name that SET names, and its item
 pub record IsSet (items : List LocatedItem) (one : Reference) : Type 0 where
@@ -67,13 +75,15 @@ pub record IsSet (items : List LocatedItem) (one : Reference) : Type 0 where
   pub here : slice_get (all_conditions items) (condition_number items one.item) ≡ Some found
   pub item : slice_get items (condition_item items one.item).number ≡ Some found.item
   pub values : values_named items one.item ≡ found.condition.values
-  pub pattern : set_of (slice_get (all_conditions items) (condition_number items one.item)) ≡ first_value found.item.item found.condition.values
+  pub pattern : set_of (slice_get (all_conditions items) (condition_number items one.item))
+      ≡ first_value found.item.item found.condition.values
 
 pub is_set : (items : List LocatedItem) (one : Reference) → set_one items one ≡ [] → IsSet items one
 is_set items one e =
     let place = one.item.name.place in
     let all = unique_name_rules place (condition_subscripts one) (conditions_named items one.item) in
-    let only = only_condition place (condition_subscripts one) (conditions_named items one.item) (left_none all (each (subscript_rules items) one.subscripts) (set_kept items one e)) in
+    let only = only_condition place (condition_subscripts one) (conditions_named items one.item)
+    (left_none all (each (subscript_rules items) one.subscripts) (set_kept items one e)) in
     let there = condition_there items one.item only.0 only.1 in
     record {
       found = only.0;
@@ -85,7 +95,8 @@ is_set items one e =
 
 module _ (items : List LocatedItem) (one : Reference) (keeps : set_one items one ≡ []) where
   -- its item, where it is told by the layout
-  item_is : (all : List PlacedItem) (n : ℕ) (placed : PlacedItem) → all ≡ map placed_item items → n ≡ (condition_item items one.item).number → Some placed ≡ slice_get all n
+  item_is : (all : List PlacedItem) (n : ℕ) (placed : PlacedItem) → all ≡ map placed_item items
+      → n ≡ (condition_item items one.item).number → Some placed ≡ slice_get all n
       → placed ≡ placed_item (is_set items one keeps).found.item
   item_is all n placed are at e =
       let s = is_set items one keeps in
@@ -93,7 +104,8 @@ module _ (items : List LocatedItem) (one : Reference) (keeps : set_one items one
       (e ∙ ap (λ (l : List PlacedItem). slice_get l n) are ∙ slice_get-map placed_item items n
       ∙ ap (λ (m : ℕ). option_map placed_item (slice_get items m)) at ∙ ap (option_map placed_item) s.item)
 
-  pub item_there : (all : List PlacedItem) (n : ℕ) → all ≡ map placed_item items → n ≡ (condition_item items one.item).number → None ≡ slice_get all n → ⊥
+  pub item_there : (all : List PlacedItem) (n : ℕ) → all ≡ map placed_item items
+      → n ≡ (condition_item items one.item).number → None ≡ slice_get all n → ⊥
   item_there all n are at e =
       let s = is_set items one keeps in
       let found : None ≡ Some (placed_item s.found.item) =
@@ -102,13 +114,17 @@ module _ (items : List LocatedItem) (one : Reference) (keeps : set_one items one
       cc
 
   can_be_set : All CanBeSet (all_conditions items) → CanBeSet (is_set items one keeps).found
-  can_be_set all = let s = is_set items one keeps in all_at CanBeSet (all_conditions items) all (condition_number items one.item) s.found s.here
+  can_be_set all = let s = is_set items one keeps in
+      all_at CanBeSet (all_conditions items) all (condition_number items one.item) s.found s.here
 
-  module _ (all : List PlacedItem) (n : ℕ) (placed : PlacedItem) (are : all ≡ map placed_item items) (at : n ≡ (condition_item items one.item).number) (e : Some placed ≡ slice_get all n) where
+  module _ (all : List PlacedItem) (n : ℕ) (placed : PlacedItem) (are : all ≡ map placed_item items)
+      (at : n ≡ (condition_item items one.item).number) (e : Some placed ≡ slice_get all n) where
     pub set_kind : All CanBeSet (all_conditions items) → HasKind placed.item
-    set_kind can = subst (λ (p : PlacedItem). HasKind p.item) (sym (item_is all n placed are at e)) (can_be_set can).kind
+    set_kind can =
+        subst (λ (p : PlacedItem). HasKind p.item) (sym (item_is all n placed are at e)) (can_be_set can).kind
 
-    pub set_value : (values : List ValueRange) → values ≡ values_named items one.item → All CanBeSet (all_conditions items) → HasFirst placed.item values
+    pub set_value : (values : List ValueRange) → values ≡ values_named items one.item
+        → All CanBeSet (all_conditions items) → HasFirst placed.item values
     set_value values is can =
         let s = is_set items one keeps in
         subst (λ (p : PlacedItem). HasFirst p.item values) (sym (item_is all n placed are at e))
@@ -118,4 +134,5 @@ module _ (items : List LocatedItem) (one : Reference) (keeps : set_one items one
         → first_value placed.item values ≡ set_of (slice_get (all_conditions items) (condition_number items one.item))
     set_is values is =
         let s = is_set items one keeps in
-        ap (λ (p : PlacedItem). first_value p.item values) (item_is all n placed are at e) ∙ ap (first_value s.found.item.item) (is ∙ s.values) ∙ sym s.pattern
+        ap (λ (p : PlacedItem). first_value p.item values) (item_is all n placed are at e)
+        ∙ ap (first_value s.found.item.item) (is ∙ s.values) ∙ sym s.pattern

@@ -18,7 +18,8 @@ module _ (items : List LocatedItem) (one : Reference) (names : NamesOne items on
   place_is : key_place items one ≡ record { offset = names.one.offset; length = names.one.item.length }
   place_is = ap (λ (l : List LocatedItem). place_in_record (first l)) names.named
 
-  module _ (all : List PlacedItem) (n : ℕ) (are : all ≡ map placed_item items) (at : n ≡ item_number items one.item) where
+  module _ (all : List PlacedItem) (n : ℕ) (are : all ≡ map placed_item items)
+      (at : n ≡ item_number items one.item) where
     there : slice_get all n ≡ Some (placed_item names.one)
     there =
         ap (λ (l : List PlacedItem). slice_get l n) are
@@ -30,10 +31,13 @@ module _ (items : List LocatedItem) (one : Reference) (names : NamesOne items on
     same found e = same_Some found (placed_item names.one) (e ∙ there)
 
     pub key_offset : (found : PlacedItem) → Some found ≡ slice_get all n → found.offset ≡ (key_place items one).offset
-    key_offset found e = ap (λ (x : PlacedItem). x.offset) (same found e) ∙ sym (ap (λ (place : KeyPlace). place.offset) place_is)
+    key_offset found e =
+        ap (λ (x : PlacedItem). x.offset) (same found e) ∙ sym (ap (λ (place : KeyPlace). place.offset) place_is)
 
-    pub key_bytes : (found : PlacedItem) → Some found ≡ slice_get all n → found.item.length ≡ (key_place items one).length
-    key_bytes found e = ap (λ (x : PlacedItem). x.item.length) (same found e) ∙ sym (ap (λ (place : KeyPlace). place.length) place_is)
+    pub key_bytes : (found : PlacedItem) → Some found ≡ slice_get all n
+        → found.item.length ≡ (key_place items one).length
+    key_bytes found e =
+        ap (λ (x : PlacedItem). x.item.length) (same found e) ∙ sym (ap (λ (place : KeyPlace). place.length) place_is)
 
     pub area_named : (found : PlacedItem) → Some found ≡ slice_get all n → found.area ≡ names.one.area
     area_named found e = ap (λ (x : PlacedItem). x.area) (same found e)
@@ -42,9 +46,11 @@ module _ (items : List LocatedItem) (one : Reference) (names : NamesOne items on
     not_missing e = let no : ◌≡◌ {A = Option PlacedItem} None (Some (placed_item names.one)) = e ∙ there in cc
 
 -- an item of this number is there
-pub place_there : (items : List LocatedItem) (all : List PlacedItem) (n : ℕ) → all ≡ map placed_item items → is_some (slice_get all n) ≡ is_some (plain_place (slice_get items n))
+pub place_there : (items : List LocatedItem) (all : List PlacedItem) (n : ℕ) → all ≡ map placed_item items
+    → is_some (slice_get all n) ≡ is_some (plain_place (slice_get items n))
 place_there items all n are =
-    ap (λ (l : List PlacedItem). is_some (slice_get l n)) are ∙ ap is_some (slice_get-map placed_item items n) ∙ same_there (slice_get items n)
+    ap (λ (l : List PlacedItem). is_some (slice_get l n)) are ∙ ap is_some (slice_get-map placed_item items n)
+    ∙ same_there (slice_get items n)
   where
     same_there : (found : Option LocatedItem) → is_some (option_map placed_item found) ≡ is_some (plain_place found)
     same_there None = refl

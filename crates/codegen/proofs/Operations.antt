@@ -1,7 +1,9 @@
 -- An operation is its two parts.
 use Rattle.std.proofs.Common.{◌≡◌, Bool, List, [], ◌++◌, refl, sym, ap, ◌∙◌}
 use Rattle.source_tree.specs.declared.arithmetic.Operation.{Operation}
-use Rattle.source_tree.specs.declared.arithmetic.Operation.TheVariants.{Add, AddGiving, Subtract, SubtractGiving, Multiply, MultiplyGiving, Divide, DivideGiving, DivideRemainder, Compute}
+use Rattle.source_tree.specs.declared.arithmetic.Operation.TheVariants.{Add, AddGiving, Subtract, SubtractGiving}
+use Rattle.source_tree.specs.declared.arithmetic.Operation.TheVariants.{Multiply, MultiplyGiving, Divide, DivideGiving}
+use Rattle.source_tree.specs.declared.arithmetic.Operation.TheVariants.{DivideRemainder, Compute}
 use Rattle.source_tree.specs.Places.{LocatedItem}
 use Rattle.source_tree.specs.NameRules.{reference_rules}
 use Rattle.source_tree.specs.ArithmeticRules.{number_rules, number_receiver, operation_rules}
@@ -12,30 +14,38 @@ use Rattle.codegen.specs.Operations.{values_rules, results_rules, values_fragmen
 use Rattle.codegen.proofs.Kept.{front_kept, back_kept, both_kept}
 use Rattle.codegen.proofs.Fragments.{joined_assoc}
 
-regrouped : (first second third : Fragment) (before : Code) → sequence first (sequence second third) before ≡ sequence (sequence first second) third before
+regrouped : (first second third : Fragment) (before : Code)
+    → sequence first (sequence second third) before ≡ sequence (sequence first second) third before
 regrouped first second third before =
     let one = first before in
     let two = second (append before one) in
     assoc one two (append before one) (joined_assoc before one two)
   where
-    assoc : (one two now : Code) → append now two ≡ append before (append one two) → append one (append two (third (append now two))) ≡ append (append one two) (third (append before (append one two)))
-    assoc one two now e = ap (λ (c : Code). append one (append two (third c))) e ∙ sym (joined_assoc one two (third (append before (append one two))))
+    assoc : (one two now : Code) → append now two ≡ append before (append one two) → append one
+        (append two (third (append now two))) ≡ append (append one two) (third (append before (append one two)))
+    assoc one two now e = ap (λ (c : Code). append one (append two (third c))) e
+        ∙ sym (joined_assoc one two (third (append before (append one two))))
 
 module _ (items : List LocatedItem) (keep : Bool) where
-  pub operation_parts : (one : Operation) (before : Code) → operation_fragment items keep one before ≡ sequence (values_fragment items one) (results_fragment items keep one) before
+  pub operation_parts : (one : Operation) (before : Code) → operation_fragment items keep one before ≡ sequence
+      (values_fragment items one) (results_fragment items keep one) before
   operation_parts (Add operands receivers) before = refl
   operation_parts (AddGiving operands receivers) before = refl
   operation_parts (Subtract operands receivers) before = refl
   operation_parts (SubtractGiving operands minuend receivers) before =
-      regrouped (total_fragment items operands) (value_fragment items minuend) (results_fragment items keep (SubtractGiving operands minuend receivers)) before
+      regrouped (total_fragment items operands) (value_fragment items minuend)
+      (results_fragment items keep (SubtractGiving operands minuend receivers)) before
   operation_parts (Multiply factor receivers) before = refl
   operation_parts (MultiplyGiving factor by receivers) before =
-      regrouped (value_fragment items factor) (value_fragment items by) (results_fragment items keep (MultiplyGiving factor by receivers)) before
+      regrouped (value_fragment items factor) (value_fragment items by)
+      (results_fragment items keep (MultiplyGiving factor by receivers)) before
   operation_parts (Divide divisor receivers) before = refl
   operation_parts (DivideGiving first order second receivers) before =
-      regrouped (value_fragment items first) (value_fragment items second) (results_fragment items keep (DivideGiving first order second receivers)) before
+      regrouped (value_fragment items first) (value_fragment items second)
+      (results_fragment items keep (DivideGiving first order second receivers)) before
   operation_parts (DivideRemainder first order second quotient remainder) before =
-      regrouped (value_fragment items first) (value_fragment items second) (results_fragment items keep (DivideRemainder first order second quotient remainder)) before
+      regrouped (value_fragment items first) (value_fragment items second)
+      (results_fragment items keep (DivideRemainder first order second quotient remainder)) before
   operation_parts (Compute receivers value) before = refl
 
 module _ (items : List LocatedItem) where
@@ -64,5 +74,6 @@ module _ (items : List LocatedItem) where
       let values = number_rules items first ++ number_rules items second in
       let one = reference_rules items number_receiver quotient.item in
       let other = reference_rules items number_receiver remainder in
-      both_kept one other (back_kept values one (front_kept (values ++ one) other e)) (back_kept (values ++ one) other e)
+      both_kept one other (back_kept values one (front_kept (values ++ one) other e))
+      (back_kept (values ++ one) other e)
   results_kept (Compute receivers value) e = front_kept _ _ e

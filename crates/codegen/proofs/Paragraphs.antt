@@ -1,5 +1,6 @@
 -- The code paragraphs of a program: where they start and end, what they name, and what they perform.
-use Rattle.std.proofs.Common.{◌≡◌, ℕ, zero, suc, ◌+◌, ◌-◌, ◌<◌, ◌≤◌, List, [], ◌∷◌, ◌++◌, length, map, Some, refl, sym, ap, ◌∙◌, subst, inl, inr, ⊎_elim, arith, append_assoc, length-append}
+use Rattle.std.proofs.Common.{◌≡◌, ℕ, zero, suc, ◌+◌, ◌-◌, ◌<◌, ◌≤◌, List, [], ◌∷◌, ◌++◌, length, map, Some, refl, sym}
+use Rattle.std.proofs.Common.{ap, ◌∙◌, subst, inl, inr, ⊎_elim, arith, append_assoc, length-append}
 use Rattle.std.specs.Prelude.{Bool, slice_get, slice_index}
 use Rattle.std.specs.List.{AllByRecursion}
 use Rattle.std.proofs.lemmas.List.{append-nil}
@@ -15,8 +16,11 @@ use Rattle.source_tree.specs.Rules.{paragraph_rules}
 use Rattle.source_tree.specs.Setting.{Scope}
 use Rattle.code_image.specs.declared.code.Code.{Code}
 use Rattle.code_image.specs.declared.instruction.Instruction.{Instruction}
-use Rattle.code_image.specs.declared.instruction.Instruction.TheVariants.{Tick, Show, Stop, Count, CountNumber, Turn, Accept, Date, Branch, Jump, Join, Perform, Back, File, TestStatus, Unheard, Data}
-use Rattle.code_image.specs.Demands.{NamesParagraph, IsBack, back_count, ends_in, paragraph_at, IsFront, StartsAt, performs, performed_from}
+use Rattle.code_image.specs.declared.instruction.Instruction.TheVariants.{Tick, Show, Stop, Count, CountNumber, Turn}
+use Rattle.code_image.specs.declared.instruction.Instruction.TheVariants.{Accept, Date, Branch, Jump, Join, Perform}
+use Rattle.code_image.specs.declared.instruction.Instruction.TheVariants.{Back, File, TestStatus, Unheard, Data}
+use Rattle.code_image.specs.Demands.{NamesParagraph, IsBack, back_count, ends_in, paragraph_at, IsFront, StartsAt}
+use Rattle.code_image.specs.Demands.{performs, performed_from}
 use Rattle.codegen.specs.Fragments.{empty_code, append, in_order}
 use Rattle.codegen.specs.Layout.{sentence_fragment, start_fragment, back_fragment, paragraph_fragment}
 use Rattle.codegen.proofs.Codes.{left_none, right_none}
@@ -24,7 +28,8 @@ use Rattle.codegen.proofs.ConditionValues.{AreFormed}
 use Rattle.codegen.proofs.Inspections.{AreSized}
 use Rattle.codegen.proofs.Demands.{Asked, asks_of, paragraph_meets}
 use Rattle.codegen.proofs.HasFiles.{IsNumbered, IsSuited}
-use Rattle.codegen.proofs.Leading.{ends_append, taken_behind, paragraph_stays, paragraph_within, LeadsFrom, found_stays, both_ways, Names, both_name, plain_names, all_weaker, Asks, PerformsOnly, Meets}
+use Rattle.codegen.proofs.Leading.{ends_append, taken_behind, paragraph_stays, paragraph_within, LeadsFrom, found_stays}
+use Rattle.codegen.proofs.Leading.{both_ways, Names, both_name, plain_names, all_weaker, Asks, PerformsOnly, Meets}
 use Rattle.codegen.proofs.Ranges.{EndsWithin}
 use Rattle.codegen.proofs.Standing.{at_seam}
 use Rattle.codegen.proofs.Straight.{all_both}
@@ -37,12 +42,15 @@ performed_append number [] ys = let e : number ≡ number + 0 = omega arith in a
 performed_append number (x ∷ xs) ys =
     let e : number + back_count x + ends_in xs ≡ number + (back_count x + ends_in xs) = omega arith in
     ap (λ l. performs number x ++ l)
-    (performed_append (number + back_count x) xs ys ∙ ap (λ n. performed_from (number + back_count x) xs ++ performed_from n ys) e)
-    ∙ sym (append_assoc (performs number x) (performed_from (number + back_count x) xs) (performed_from (number + (back_count x + ends_in xs)) ys))
+    (performed_append (number + back_count x) xs ys
+    ∙ ap (λ n. performed_from (number + back_count x) xs ++ performed_from n ys) e)
+    ∙ sym (append_assoc (performs number x) (performed_from (number + back_count x) xs)
+    (performed_from (number + (back_count x + ends_in xs)) ys))
 
 -- `Q`: of ranges that code paragraph `number` performs
 module _ (number : ℕ) (Q : Asks) (R : PerformedRange → Type 0)
-    (gives : (range : Range) → Q.ranges range → R (record { performer = number; first = range.first; last = range.last })) where
+    (gives : (range : Range) → Q.ranges range
+    → R (record { performer = number; first = range.first; last = range.last })) where
   one_performed : (one : Instruction) → PerformsOnly Q one → AllByRecursion R (performs number one)
   one_performed (Perform line first last) h = (gives (record { first = first.number; last = last.number }) h, tt)
   one_performed (Tick line) h = tt
@@ -62,7 +70,8 @@ module _ (number : ℕ) (Q : Asks) (R : PerformedRange → Type 0)
   one_performed Unheard h = tt
   one_performed (Data one) h = tt
 
-  all_performed : (all : List Instruction) → ends_in all ≡ 0 → AllByRecursion (PerformsOnly Q) all → AllByRecursion R (performed_from number all)
+  all_performed : (all : List Instruction) → ends_in all ≡ 0 → AllByRecursion (PerformsOnly Q) all
+      → AllByRecursion R (performed_from number all)
   all_performed [] none h = tt
   all_performed (one ∷ more) none h =
       let e : number ≡ number + back_count one = omega (arith, none) in
@@ -94,8 +103,10 @@ module _ (files : List ProgramFile) (count : ℕ) (asked : Range → Type 0) whe
   suited_at Unheard h = tt
   suited_at (Data one) h = tt
 
-  names_paragraph : (one : Instruction) → back_count one ≡ 0 → PerformsOnly (asks_of files count asked) one → NamesParagraph count one
-  names_paragraph (Perform line first last) none h = let le = h.within.first in let lt = h.within.last in (omega (arith, le, lt), lt)
+  names_paragraph : (one : Instruction) → back_count one ≡ 0 → PerformsOnly (asks_of files count asked) one
+      → NamesParagraph count one
+  names_paragraph (Perform line first last) none h = let le = h.within.first in let lt =
+      h.within.last in (omega (arith, le, lt), lt)
   names_paragraph (Tick line) none h = tt
   names_paragraph Show none h = tt
   names_paragraph Stop none h = tt
@@ -113,41 +124,52 @@ module _ (files : List ProgramFile) (count : ℕ) (asked : Range → Type 0) whe
   names_paragraph Unheard none h = tt
   names_paragraph (Data one) none h = tt
 
-  name_paragraphs : (all : List Instruction) → ends_in all ≡ 0 → AllByRecursion (PerformsOnly (asks_of files count asked)) all
+  name_paragraphs : (all : List Instruction) → ends_in all ≡ 0
+      → AllByRecursion (PerformsOnly (asks_of files count asked)) all
       → AllByRecursion (NamesParagraph count) all
   name_paragraphs [] none h = tt
-  name_paragraphs (one ∷ more) none h = (names_paragraph one (omega (arith, none)) h.0, name_paragraphs more (omega (arith, none)) h.1)
+  name_paragraphs (one ∷ more) none h =
+      (names_paragraph one (omega (arith, none)) h.0, name_paragraphs more (omega (arith, none)) h.1)
 
 -- ---- where code paragraphs start
 
 -- they start at these addresses, the first of them with this number
 abbrev pub StartFrom : List Instruction → ℕ → List ℕ → Type 0
 StartFrom whole number [] = Unit {0}
-StartFrom whole number (start ∷ more) = (StartsAt whole number start × (start ≤ length whole)) × StartFrom whole (number + 1) more
+StartFrom whole number (start ∷ more) =
+    (StartsAt whole number start × (start ≤ length whole)) × StartFrom whole (number + 1) more
 
 front_stays : (xs ys : List Instruction) (address : ℕ) → IsFront xs address → IsFront (xs ++ ys) address
-front_stays xs ys address h = ⊎_elim (λ first. inl first) (λ back. inr (found_stays IsBack (λ none. none) xs ys (address - 1) back)) h
+front_stays xs ys address h =
+    ⊎_elim (λ first. inl first) (λ back. inr (found_stays IsBack (λ none. none) xs ys (address - 1) back)) h
 
-pub starts_stay : (xs ys : List Instruction) (number : ℕ) (starts : List ℕ) → StartFrom xs number starts → StartFrom (xs ++ ys) number starts
+pub starts_stay : (xs ys : List Instruction) (number : ℕ) (starts : List ℕ) → StartFrom xs number starts
+    → StartFrom (xs ++ ys) number starts
 starts_stay xs ys number [] h = tt
 starts_stay xs ys number (start ∷ more) h =
     let n = length-append xs ys in
     let le = h.0.1 in (
-      (record { front = front_stays xs ys start h.0.0.front; in_it = paragraph_stays xs ys start le ∙ h.0.0.in_it }, omega (arith, le, n)),
+      (
+        record { front = front_stays xs ys start h.0.0.front; in_it = paragraph_stays xs ys start le ∙ h.0.0.in_it },
+        omega (arith, le, n),
+      ),
       starts_stay xs ys (number + 1) more h.1,
     )
 
-both_start : (whole : List Instruction) (number : ℕ) (xs ys : List ℕ) → StartFrom whole number xs → StartFrom whole (number + length xs) ys
+both_start : (whole : List Instruction) (number : ℕ) (xs ys : List ℕ) → StartFrom whole number xs
+    → StartFrom whole (number + length xs) ys
     → StartFrom whole number (xs ++ ys)
 both_start whole number [] ys a b = let e : number + 0 ≡ number = omega arith in subst (λ n. StartFrom whole n ys) e b
 both_start whole number (x ∷ xs) ys a b =
     let e : number + length (x ∷ xs) ≡ number + 1 + length xs = omega arith in
     (a.0, both_start whole (number + 1) xs ys a.1 (subst (λ n. StartFrom whole n ys) e b))
 
-pub start_at : (whole : List Instruction) (number : ℕ) (starts : List ℕ) → StartFrom whole number starts → (k : ℕ) → k < length starts
+pub start_at : (whole : List Instruction) (number : ℕ) (starts : List ℕ) → StartFrom whole number starts → (k : ℕ)
+    → k < length starts
     → StartsAt whole (number + k) (slice_index starts k)
 start_at whole number [] h k lt = absurd (omega (arith, lt))
-start_at whole number (start ∷ more) h zero lt = let e : number ≡ number + 0 = omega arith in subst (λ n. StartsAt whole n start) e h.0.0
+start_at whole number (start ∷ more) h zero lt = let e : number ≡ number + 0 =
+    omega arith in subst (λ n. StartsAt whole n start) e h.0.0
 start_at whole number (start ∷ more) h (suc k) lt =
     let e : number + 1 + k ≡ number + suc k = omega arith in
     subst (λ n. StartsAt whole n (slice_index more k)) e (start_at whole (number + 1) more h.1 k (omega (arith, lt)))
@@ -165,7 +187,8 @@ pub record IsReady (before : Code) : Type 0 where
   pub front : IsFront before.instructions (length before.instructions)
 
 -- So many code paragraphs of `count` in all; what they perform is `P`, and what they do to files suits these.
-pub record AreParagraphs (files : List ProgramFile) (count : ℕ) (P : PerformedRange → Type 0) (many : ℕ) (before part : Code) : Type 0 where
+pub record AreParagraphs (files : List ProgramFile) (count : ℕ) (P : PerformedRange → Type 0) (many : ℕ)
+    (before part : Code) : Type 0 where
   pub names : Names before part
   pub leads : LeadsFrom (before.instructions ++ part.instructions) (length before.instructions) part.instructions
   pub many_are : length part.starts ≡ many
@@ -193,7 +216,8 @@ module _ (files : List ProgramFile) (count : ℕ) (P : PerformedRange → Type 0
   }
 
   -- code behind which another code paragraph may start
-  ready_behind : (many : ℕ) (before part : Code) → IsReady before → AreParagraphs files count P many before part → IsReady (append before part)
+  ready_behind : (many : ℕ) (before part : Code) → IsReady before → AreParagraphs files count P many before part
+      → IsReady (append before part)
   ready_behind many before part is h =
       let n = length-append before.starts part.starts in
       let m = ends_append before.instructions part.instructions in
@@ -202,7 +226,8 @@ module _ (files : List ProgramFile) (count : ℕ) (P : PerformedRange → Type 0
       let c = h.many_are in
       record { ends = omega (arith, n, m, a, b, c); front = h.ready }
 
-  both_paragraphs : (m n : ℕ) (before a b : Code) → AreParagraphs files count P m before a → AreParagraphs files count P n (append before a) b
+  both_paragraphs : (m n : ℕ) (before a b : Code) → AreParagraphs files count P m before a
+      → AreParagraphs files count P n (append before a) b
       → AreParagraphs files count P (m + n) before (append a b)
   both_paragraphs m n before a b f s =
       let is = append_assoc before.instructions a.instructions b.instructions in
@@ -213,7 +238,8 @@ module _ (files : List ProgramFile) (count : ℕ) (P : PerformedRange → Type 0
       let s_many = s.many_are in
       let f_ends = f.ends in
       let s_ends = s.ends in
-      let number : length (before.starts ++ a.starts) ≡ length before.starts + ends_in a.instructions = omega (arith, in_all, f_many, f_ends) in
+      let number : length (before.starts ++ a.starts) ≡ length before.starts + ends_in a.instructions =
+      omega (arith, in_all, f_many, f_ends) in
       let performs_is = performed_append (length before.starts) a.instructions b.instructions in
       let front = performed_from (length before.starts) a.instructions in
       let back = performed_from (length before.starts + ends_in a.instructions) b.instructions in
@@ -223,9 +249,12 @@ module _ (files : List ProgramFile) (count : ℕ) (P : PerformedRange → Type 0
         many_are = omega (arith, so_many, f_many, s_many);
         ends = omega (arith, so_ends, f_ends, s_ends);
         starts = subst (λ l. StartFrom l (length before.starts) (a.starts ++ b.starts)) is
-            (both_start ((before.instructions ++ a.instructions) ++ b.instructions) (length before.starts) a.starts b.starts
-            (starts_stay (before.instructions ++ a.instructions) b.instructions (length before.starts) a.starts f.starts)
-            (subst (λ k. StartFrom ((before.instructions ++ a.instructions) ++ b.instructions) k b.starts) in_all s.starts));
+            (both_start ((before.instructions ++ a.instructions) ++ b.instructions) (length before.starts) a.starts
+            b.starts
+            (starts_stay (before.instructions ++ a.instructions) b.instructions (length before.starts) a.starts
+            f.starts)
+            (subst (λ k. StartFrom ((before.instructions ++ a.instructions) ++ b.instructions) k b.starts) in_all
+            s.starts));
         ready = subst (λ l. IsFront l (length l)) is s.ready;
         paragraphs = all_both (NamesParagraph count) a.instructions b.instructions f.paragraphs s.paragraphs;
         suited = all_both (IsSuitedAt files) a.instructions b.instructions f.suited s.suited;
@@ -233,7 +262,8 @@ module _ (files : List ProgramFile) (count : ℕ) (P : PerformedRange → Type 0
             (all_both (IsRange count) front back f.ranges
             (subst (λ k. AllByRecursion (IsRange count) (performed_from k b.instructions)) number s.ranges));
         performed = subst (AllByRecursion P) (sym performs_is)
-            (all_both P front back f.performed (subst (λ k. AllByRecursion P (performed_from k b.instructions)) number s.performed));
+            (all_both P front back f.performed
+            (subst (λ k. AllByRecursion P (performed_from k b.instructions)) number s.performed));
       }
 
   -- what a paragraph of this number performs is so
@@ -243,7 +273,8 @@ module _ (files : List ProgramFile) (count : ℕ) (P : PerformedRange → Type 0
   -- A code paragraph starts, statements stand in it, and it ends.
   one_paragraph : (before body : Code) → IsReady before → length before.starts < count
       → Meets (asks_of files count (asked_of (length before.starts))) (append before (start_fragment before)) body
-      → AreParagraphs files count P 1 before (append (start_fragment before) (append body (back_fragment (length before.starts) before)))
+      → AreParagraphs files count P 1 before
+      (append (start_fragment before) (append body (back_fragment (length before.starts) before)))
   one_paragraph before body is lt met =
       let number : ℕ = length before.starts in
       let Q = asks_of files count (asked_of number) in
@@ -260,20 +291,24 @@ module _ (files : List ProgramFile) (count : ℕ) (P : PerformedRange → Type 0
       let n3 = length-append middle.instructions last.instructions in
       let n4 : length last.instructions ≡ 1 = refl in
       let same : middle.instructions ++ last.instructions ≡ whole =
-      append_assoc front.instructions body.instructions last.instructions ∙ ap (λ l. l ++ (body.instructions ++ last.instructions)) same_front in
+      append_assoc front.instructions body.instructions last.instructions
+      ∙ ap (λ l. l ++ (body.instructions ++ last.instructions)) same_front in
       let at_back : paragraph_at (middle.instructions ++ last.instructions) (length middle.instructions) ≡ number =
       paragraph_stays middle.instructions last.instructions (length middle.instructions) (omega arith)
       ∙ paragraph_within front.instructions body.instructions (length middle.instructions) met.none (omega (arith, n1))
       ∙ front_ends in
-      let back_leads : LeadsFrom (middle.instructions ++ last.instructions) (length middle.instructions) last.instructions = (sym at_back, tt) in
+      let back_leads : LeadsFrom (middle.instructions ++ last.instructions) (length middle.instructions)
+      last.instructions = (sym at_back, tt) in
       let ends_is = ends_append body.instructions last.instructions in
       let none = met.none in
       let one_end : ends_in last.instructions ≡ 1 = refl in
-      let starts_is : part.starts ≡ length before.instructions ∷ [] = ap (λ l. length before.instructions ∷ (l ++ [])) met.starts in
+      let starts_is : part.starts ≡ length before.instructions ∷ [] =
+      ap (λ l. length before.instructions ∷ (l ++ [])) met.starts in
       let zero_is : length before.instructions + 0 ≡ length before.instructions = omega arith in
       let none_is : ends_in before.instructions + 0 ≡ number = omega (arith, is.ends) in
       let at_start : paragraph_at whole (length before.instructions) ≡ number =
-      ap (paragraph_at whole) (sym zero_is) ∙ taken_behind before.instructions (body.instructions ++ last.instructions) 0 ∙ none_is in
+      ap (paragraph_at whole) (sym zero_is)
+      ∙ taken_behind before.instructions (body.instructions ++ last.instructions) 0 ∙ none_is in
       let seam : slice_get whole (length middle.instructions) ≡ Some (Back (record { number = number })) =
       ap (λ (l : List Instruction). slice_get l (length middle.instructions)) (sym same)
       ∙ at_seam middle.instructions (Back (record { number = number })) [] in
@@ -283,11 +318,13 @@ module _ (files : List ProgramFile) (count : ℕ) (P : PerformedRange → Type 0
       let given : AllByRecursion (PerformsOnly Q) body.instructions = met.performs in
       let ranges : AllByRecursion (IsRange count) (performed_from number body.instructions) =
       all_performed number Q (IsRange count)
-      (λ range h. record { performer = lt; first = h.within.first; last = h.within.last }) body.instructions none given in
+      (λ range h. record { performer = lt; first = h.within.first; last = h.within.last }) body.instructions none
+      given in
       let asked : AllByRecursion P (performed_from number body.instructions) =
       all_performed number Q P (λ range h. h.asked) body.instructions none given in
       record {
-        names = both_name before start (append body last) (record { counters = tt; areas = refl; items = refl; files = refl; senders = tt; inspections = tt })
+        names = both_name before start (append body last)
+            (record { counters = tt; areas = refl; items = refl; files = refl; senders = tt; inspections = tt })
             (both_name front body last met.names (plain_names middle last.instructions (tt, tt)));
         leads = both_ways before start (append body last) tt (both_ways front body last met.leads back_leads);
         many_are = ap length starts_is;
@@ -295,7 +332,8 @@ module _ (files : List ProgramFile) (count : ℕ) (P : PerformedRange → Type 0
         starts = subst (StartFrom whole number) (sym starts_is) (
           (
             record {
-              front = front_stays before.instructions (body.instructions ++ last.instructions) (length before.instructions) is.front;
+              front = front_stays before.instructions (body.instructions ++ last.instructions)
+                  (length before.instructions) is.front;
               in_it = at_start;
             },
             omega (arith, n2),
@@ -306,12 +344,14 @@ module _ (files : List ProgramFile) (count : ℕ) (P : PerformedRange → Type 0
         paragraphs = all_both (NamesParagraph count) body.instructions last.instructions
             (name_paragraphs files count (asked_of number) body.instructions none given) (lt, tt);
         suited = all_both (IsSuitedAt files) body.instructions last.instructions
-            (all_weaker (PerformsOnly Q) (IsSuitedAt files) (suited_at files count (asked_of number)) body.instructions given) (tt, tt);
+            (all_weaker (PerformsOnly Q) (IsSuitedAt files) (suited_at files count (asked_of number)) body.instructions
+            given) (tt, tt);
         ranges = subst (AllByRecursion (IsRange count)) (sym performs_is)
             (all_both (IsRange count) (performed_from number body.instructions)
             (performed_from (number + ends_in body.instructions) last.instructions) ranges tt);
         performed = subst (AllByRecursion P) (sym performs_is)
-            (all_both P (performed_from number body.instructions) (performed_from (number + ends_in body.instructions) last.instructions) asked tt);
+            (all_both P (performed_from number body.instructions)
+            (performed_from (number + ends_in body.instructions) last.instructions) asked tt);
       }
 
   -- ---- the paragraphs of a program
@@ -325,8 +365,10 @@ module _ (files : List ProgramFile) (count : ℕ) (P : PerformedRange → Type 0
 
 module _ (scope : Scope) (count : ℕ) (P : PerformedRange → Type 0) where
   module _ (permits : Range → Bool) (formed : AreFormed scope.items) (sized : AreSized scope.items)
-      (within : AllByRecursion (EndsWithin count) scope.procedures) (numbered : AllByRecursion (IsNumbered scope.files) scope.files) where
-    pub paragraphs_lie : (all : List Paragraph) (before : Code) → IsReady before → length before.starts + length all ≤ count
+      (within : AllByRecursion (EndsWithin count) scope.procedures)
+      (numbered : AllByRecursion (IsNumbered scope.files) scope.files) where
+    pub paragraphs_lie : (all : List Paragraph) (before : Code) → IsReady before
+        → length before.starts + length all ≤ count
         → each (paragraph_rules scope permits) all ≡ []
         → AllByRecursion P (map (λ one. one.1) (performs_from scope.procedures (length before.starts) all))
         → AreParagraphs scope.files count P (length all) before (in_order (paragraph_fragment scope) all before)
@@ -337,16 +379,22 @@ module _ (scope : Scope) (count : ℕ) (P : PerformedRange → Type 0) where
         let body = in_order (sentence_fragment scope) one.sentences (append before start) in
         let part = paragraph_fragment scope one before in
         let next = append before part in
-        let split = first_asked scope.files count P number (paragraph_performs scope.procedures one) (performs_from scope.procedures (number + 1) more) q in
-        let met = paragraph_meets scope permits formed sized count within numbered (asked_of scope.files count P number) one.sentences
-        (left_none (paragraph_rules scope permits one) (each (paragraph_rules scope permits) more) e) split.0 (append before start) in
+        let split = first_asked scope.files count P number (paragraph_performs scope.procedures one)
+        (performs_from scope.procedures (number + 1) more) q in
+        let met = paragraph_meets scope permits formed sized count within numbered (asked_of scope.files count P number)
+        one.sentences
+        (left_none (paragraph_rules scope permits one) (each (paragraph_rules scope permits) more) e) split.0
+        (append before start) in
         let first = one_paragraph scope.files count P before body is (omega (arith, le)) met in
         let in_all = length-append before.starts part.starts in
         let many = first.many_are in
         let so_far : number + 1 ≡ length next.starts = omega (arith, in_all, many) in
-        let rest = paragraphs_lie more next (ready_behind scope.files count P 1 before part is first) (omega (arith, le, so_far))
+        let rest =
+        paragraphs_lie more next (ready_behind scope.files count P 1 before part is first) (omega (arith, le, so_far))
         (right_none (paragraph_rules scope permits one) (each (paragraph_rules scope permits) more) e)
         (subst (λ n. AllByRecursion P (map (λ one. one.1) (performs_from scope.procedures n more))) so_far split.1) in
         let sum : 1 + length more ≡ length (one ∷ more) = omega arith in
-        subst (λ n. AreParagraphs scope.files count P n before (append part (in_order (paragraph_fragment scope) more next))) sum
-        (both_paragraphs scope.files count P 1 (length more) before part (in_order (paragraph_fragment scope) more next) first rest)
+        subst (λ n.
+        AreParagraphs scope.files count P n before (append part (in_order (paragraph_fragment scope) more next))) sum
+        (both_paragraphs scope.files count P 1 (length more) before part (in_order (paragraph_fragment scope) more next)
+        first rest)

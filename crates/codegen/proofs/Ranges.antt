@@ -1,5 +1,6 @@
 -- Ranges that PERFORM names lie in the program, where the rules are kept.
-use Rattle.std.proofs.Common.{◌≡◌, ℕ, ◌+◌, ◌<◌, ◌≤◌, Bool, true, false, List, [], ◌∷◌, ◌++◌, length, Option, Some, None, arith, length-append}
+use Rattle.std.proofs.Common.{◌≡◌, ℕ, ◌+◌, ◌<◌, ◌≤◌, Bool, true, false, List, [], ◌∷◌, ◌++◌, length, Option, Some, None}
+use Rattle.std.proofs.Common.{arith, length-append}
 use Rattle.std.specs.Prelude.{nat_lt, not, cond, filter}
 use Rattle.std.specs.List.{AllByRecursion}
 use Rattle.source_tree.specs.declared.name.Name.{Name}
@@ -7,7 +8,9 @@ use Rattle.source_tree.specs.declared.program.Paragraph.{Paragraph}
 use Rattle.source_tree.specs.declared.program.Section.{Section}
 use Rattle.source_tree.specs.Broken.{where_so}
 use Rattle.source_tree.specs.PerformRules.{procedure_named, last_named, last_place, found_rules, range_rules}
-use Rattle.source_tree.specs.Procedures.{Range, Procedure, paragraphs_or_one, paragraphs_in, paragraph_procedures, procedures_from, is_procedure, procedures_named, only_range, range_named, to_end_of, range_through, range_of}
+use Rattle.source_tree.specs.Procedures.{Range, Procedure, paragraphs_or_one, paragraphs_in, paragraph_procedures}
+use Rattle.source_tree.specs.Procedures.{procedures_from, is_procedure, procedures_named, only_range, range_named}
+use Rattle.source_tree.specs.Procedures.{to_end_of, range_through, range_of}
 use Rattle.codegen.proofs.Codes.{left_none, right_none}
 use Rattle.codegen.proofs.Integers.{kept}
 
@@ -46,7 +49,8 @@ module _ (count : ℕ) where
   only_within (one ∷ []) h = h.0
   only_within (one ∷ other ∷ more) h = tt
 
-  to_end_within : (first : Range) (last : Option Range) → LastWithin count last → LastWithin count (to_end_of first last)
+  to_end_within : (first : Range) (last : Option Range) → LastWithin count last
+      → LastWithin count (to_end_of first last)
   to_end_within first None h = tt
   to_end_within first (Some last) h = h
 
@@ -54,7 +58,8 @@ module _ (count : ℕ) where
     named_within : (name : Name) → LastWithin count (range_named procedures name)
     named_within name = only_within (procedures_named procedures name) (filtered (is_procedure name) procedures all)
 
-    through_within : (last : Option Name) (first : Option Range) → LastWithin count first → LastWithin count (range_through procedures last first)
+    through_within : (last : Option Name) (first : Option Range) → LastWithin count first
+        → LastWithin count (range_through procedures last first)
     through_within last None h = tt
     through_within None (Some first) h = h
     through_within (Some last) (Some first) h = to_end_within first (range_named procedures last) (named_within last)
@@ -62,7 +67,8 @@ module _ (count : ℕ) where
     not_less : (a b : ℕ) → nat_lt a b ≡ false → b ≤ a
     not_less a b e = grind arith
 
-    found_within : (permits : Range → Bool) (first : Name) (last : Option Name) (range : Option Range) → found_rules permits first last range ≡ []
+    found_within : (permits : Range → Bool) (first : Name) (last : Option Name) (range : Option Range)
+        → found_rules permits first last range ≡ []
         → LastWithin count range → FoundWithin count range
     found_within permits first last None e h = tt
     found_within permits first last (Some range) e h =
@@ -70,12 +76,14 @@ module _ (count : ℕ) where
         let place = last_place first last in
         record {
           first = not_less range.last range.first
-              (kept backwards 55 place (left_none (where_so backwards 55 place) (where_so (not (permits range)) 54 first.place) e));
+              (kept backwards 55 place
+              (left_none (where_so backwards 55 place) (where_so (not (permits range)) 54 first.place) e));
           last = h;
         }
 
     -- what a PERFORM performs that keeps the rules
-    pub range_within : (permits : Range → Bool) (first : Name) (last : Option Name) → range_rules permits procedures first last ≡ []
+    pub range_within : (permits : Range → Bool) (first : Name) (last : Option Name)
+        → range_rules permits procedures first last ≡ []
         → FoundWithin count (range_of procedures first last)
     range_within permits first last e =
         let names = procedure_named procedures first in
@@ -86,7 +94,8 @@ module _ (count : ℕ) where
 
 -- ---- the procedures of a program
 
-all_joined : (count : ℕ) (xs ys : List Procedure) → AllByRecursion (EndsWithin count) xs → AllByRecursion (EndsWithin count) ys
+all_joined : (count : ℕ) (xs ys : List Procedure) → AllByRecursion (EndsWithin count) xs
+    → AllByRecursion (EndsWithin count) ys
     → AllByRecursion (EndsWithin count) (xs ++ ys)
 all_joined count [] ys a b = b
 all_joined count (x ∷ xs) ys a b = (a.0, all_joined count xs ys a.1 b)
@@ -94,7 +103,8 @@ all_joined count (x ∷ xs) ys a b = (a.0, all_joined count xs ys a.1 b)
 paragraphs_end : (count number : ℕ) (all : List Paragraph) → number + length all ≤ count
     → AllByRecursion (EndsWithin count) (paragraph_procedures number all)
 paragraphs_end count number [] le = tt
-paragraphs_end count number (one ∷ more) le = (omega (arith, le), paragraphs_end count (number + 1) more (omega (arith, le)))
+paragraphs_end count number (one ∷ more) le =
+    (omega (arith, le), paragraphs_end count (number + 1) more (omega (arith, le)))
 
 some_paragraph : (all : List Paragraph) → 1 ≤ length (paragraphs_or_one all)
 some_paragraph [] = omega arith

@@ -24,25 +24,31 @@ module _ (whole : Code) where
       → (k : ℕ) → exec_code whole (suc k) (at address own s) ≡ act whole (Some i) (exec_code whole k) (at address own s)
   one_step address own s i here k = ap (λ o. act whole o (exec_code whole k) (at address own s)) here
 
-  -- What comes of instructions on data: the machine stands behind them, or its run is over with the fault. They are never
-  -- stuck where their table isn't.
+  -- What comes of instructions on data: the machine stands behind them, or its run is over with the fault. They are
+  -- never stuck where their table isn't.
   abbrev pub WorksFrom : ℕ → Own → State → ℕ → Step → Type 0
-  WorksFrom address own s count (step.Continues t) = (k : ℕ) → exec_code whole (count + k) (at address own s) ≡ exec_code whole k (at (address + count) (own_with t own) (state_with t s))
-  WorksFrom address own s count (step.Faulted fault) = (j : ℕ) × (exec_code whole j (at address own s) ≡ Some (over (state.Faulted fault s.line) s))
+  WorksFrom address own s count (step.Continues t) = (k : ℕ) → exec_code whole (count + k)
+      (at address own s) ≡ exec_code whole k (at (address + count) (own_with t own) (state_with t s))
+  WorksFrom address own s count (step.Faulted fault) =
+      (j : ℕ) × (exec_code whole j (at address own s) ≡ Some (over (state.Faulted fault s.line) s))
   WorksFrom address own s count step.Stuck = Unit {0}
 
   -- one instruction, and then the others
-  work_first : (address : ℕ) (own : Own) (s : State) (one : DataInstruction) (count : ℕ) (first : Step) (more : Scratch → Step)
+  work_first :
+      (address : ℕ) (own : Own) (s : State) (one : DataInstruction) (count : ℕ) (first : Step) (more : Scratch → Step)
       → ((k : ℕ) → exec_code whole (suc k) (at address own s) ≡ data_from first (exec_code whole k) (at address own s))
-      → ((t : Scratch) → first ≡ step.Continues t → WorksFrom (address + 1) (own_with t own) (state_with t s) count (more t))
+      → ((t : Scratch) → first ≡ step.Continues t
+      → WorksFrom (address + 1) (own_with t own) (state_with t s) count (more t))
       → WorksFrom address own s (suc count) (go_on first more)
   work_first address own s one count (step.Continues t) more st rest = moved (more t) (rest t refl)
     where
-      moved : (end : Step) → WorksFrom (address + 1) (own_with t own) (state_with t s) count end → WorksFrom address own s (suc count) end
+      moved : (end : Step) → WorksFrom (address + 1) (own_with t own) (state_with t s) count end
+          → WorksFrom address own s (suc count) end
       moved (step.Went u) h = λ k.
           let more : suc count + k ≡ suc (count + k) = omega arith in
           let behind : address + 1 + count ≡ address + suc count = omega arith in
-          ap (λ n. exec_code whole n (at address own s)) more ∙ st (count + k) ∙ h k ∙ ap (λ n. exec_code whole k (at n (own_with u own) (state_with u s))) behind
+          ap (λ n. exec_code whole n (at address own s)) more ∙ st (count + k) ∙ h k
+          ∙ ap (λ n. exec_code whole k (at n (own_with u own) (state_with u s))) behind
       moved (step.Faulted fault) h = (suc h.0, st h.0 ∙ h.1)
       moved step.Stuck h = tt
   work_first address own s one count (step.Faulted fault) more st rest = (1, st 0)

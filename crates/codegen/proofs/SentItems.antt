@@ -1,5 +1,6 @@
 -- What READ INTO sends of each file is an item that is in order, where the rules are kept.
-use Rattle.std.proofs.Common.{◌≡◌, ℕ, zero, suc, ◌+◌, ◌≤◌, ◌<◌, Bool, true, false, List, [], ◌∷◌, ◌++◌, length, Option, Some, None, refl, sym, ap, ◌∙◌, subst, arith, if◌then◌else◌}
+use Rattle.std.proofs.Common.{◌≡◌, ℕ, zero, suc, ◌+◌, ◌≤◌, ◌<◌, Bool, true, false, List, [], ◌∷◌, ◌++◌, length, Option}
+use Rattle.std.proofs.Common.{Some, None, refl, sym, ap, ◌∙◌, subst, arith, if◌then◌else◌}
 use Rattle.std.specs.Prelude.{◌==◌, ◌&&◌, ◌||◌, not, nat_le, filter, slice_get, slice_index_or}
 use Rattle.std.specs.List.{AllByRecursion}
 use Rattle.std.proofs.lemmas.Bool.Decides.{nat_tests}
@@ -81,64 +82,88 @@ same_either false n = refl
 
 -- an only record, where it stands
 abbrev pub only_record : ℕ → ItemEntry → Forest → DataItem
-only_record area one inner = record { item = item_with nothing_around one inner; editing = editing_of nothing_around one; area = area; offset = 0 }
+only_record area one inner = record {
+  item = item_with nothing_around one inner;
+  editing = editing_of nothing_around one;
+  area = area;
+  offset = 0;
+}
 
 module _ (P : DataItem → Type 0) where
   abbrev OfPlaced : LocatedItem → Type 0
   OfPlaced one = P (data_item one)
 
-  record_at : (area : ℕ) (file : Name) (records : Forest) (one : ItemEntry) (conditions : List ConditionEntry) (inner : Forest)
-      → records ≡ Tree one conditions inner End → AllByRecursion OfPlaced (record_places area file records) → P (only_record area one inner)
+  record_at :
+      (area : ℕ) (file : Name) (records : Forest) (one : ItemEntry) (conditions : List ConditionEntry) (inner : Forest)
+      → records ≡ Tree one conditions inner End → AllByRecursion OfPlaced (record_places area file records)
+      → P (only_record area one inner)
   record_at area file records one conditions inner is all =
       let there = subst (λ (f : Forest). AllByRecursion OfPlaced (record_places area file f)) is all in
       subst (λ (n : ℕ). P (record (only_record area one inner) { offset = n })) (same_either (redefines one) 0) there.0
 
   -- the FD of a name, or a later one
-  by_name : (test : Bool) (area : ℕ) (name : Name) (file : FileDescription) (more : List FileDescription) (one : ItemEntry)
+  by_name :
+      (test : Bool) (area : ℕ) (name : Name) (file : FileDescription) (more : List FileDescription) (one : ItemEntry)
       (conditions : List ConditionEntry) (inner : Forest)
-      → (let there : DescribedFile = if test then record { area = area; entries = file.entries } else described_file (area + 1) name more in
+      → (let there : DescribedFile =
+      if test then record { area = area; entries = file.entries } else described_file (area + 1) name more in
       (test || is_among name (description_names more)) ≡ true → forest_of there.entries ≡ Tree one conditions inner End
       → AllByRecursion OfPlaced (record_places area file.name (forest_of file.entries))
-      → (is_among name (description_names more) ≡ true → forest_of (described_file (area + 1) name more).entries ≡ Tree one conditions inner End
+      → (is_among name (description_names more) ≡ true
+      → forest_of (described_file (area + 1) name more).entries ≡ Tree one conditions inner End
       → P (only_record (described_file (area + 1) name more).area one inner))
       → P (only_record there.area one inner))
-  by_name true area name file more one conditions inner among is here rest = record_at area file.name (forest_of file.entries) one conditions inner is here
+  by_name true area name file more one conditions inner among is here rest =
+      record_at area file.name (forest_of file.entries) one conditions inner is here
   by_name false area name file more one conditions inner among is here rest = rest among is
 
-  record_so : (area : ℕ) (name : Name) (files : List FileDescription) (one : ItemEntry) (conditions : List ConditionEntry) (inner : Forest)
-      → is_among name (description_names files) ≡ true → forest_of (described_file area name files).entries ≡ Tree one conditions inner End
-      → AllByRecursion OfPlaced (file_places area files) → P (only_record (described_file area name files).area one inner)
+  record_so : (area : ℕ) (name : Name) (files : List FileDescription) (one : ItemEntry)
+      (conditions : List ConditionEntry) (inner : Forest)
+      → is_among name (description_names files) ≡ true
+      → forest_of (described_file area name files).entries ≡ Tree one conditions inner End
+      → AllByRecursion OfPlaced (file_places area files)
+      → P (only_record (described_file area name files).area one inner)
   record_so area name [] one conditions inner among is all = absurd cc
   record_so area name (file ∷ more) one conditions inner among is all =
       let records = record_places area file.name (forest_of file.entries) in
-      by_name (same name file.name) area name file more one conditions inner among is (all_front OfPlaced records (file_places (area + 1) more) all)
-      (λ among is. record_so (area + 1) name more one conditions inner among is (all_back OfPlaced records (file_places (area + 1) more) all))
+      by_name (same name file.name) area name file more one conditions inner among is
+      (all_front OfPlaced records (file_places (area + 1) more) all)
+      (λ among is. record_so (area + 1) name more one conditions inner among is
+      (all_back OfPlaced records (file_places (area + 1) more) all))
 
 -- ---- the length of records
 
-length_kept : (one : FileDescription) → description_rules one ≡ [] → are_some most_record_bytes (record_length one.entries) ≡ true
+length_kept : (one : FileDescription) → description_rules one ≡ []
+    → are_some most_record_bytes (record_length one.entries) ≡ true
 length_kept one e =
     let levels = each level_rules one.entries in
     let lost = each homeless (leading_conditions one.entries) in
     let forest = forest_rules (outermost true) None (forest_of one.entries) in
     let size = where_so (not (are_some most_record_bytes (record_length one.entries))) 69 one.name.place in
     not_false (are_some most_record_bytes (record_length one.entries))
-    (kept (not (are_some most_record_bytes (record_length one.entries))) 69 one.name.place (right_none (levels ++ lost ++ forest) size e))
+    (kept (not (are_some most_record_bytes (record_length one.entries))) 69 one.name.place
+    (right_none (levels ++ lost ++ forest) size e))
 
 length_by : (test : Bool) (area : ℕ) (name : Name) (file : FileDescription) (more : List FileDescription)
-    → (let there : DescribedFile = if test then record { area = area; entries = file.entries } else described_file (area + 1) name more in
+    → (let there : DescribedFile =
+    if test then record { area = area; entries = file.entries } else described_file (area + 1) name more in
     (test || is_among name (description_names more)) ≡ true → description_rules file ≡ []
-    → (is_among name (description_names more) ≡ true → are_some most_record_bytes (record_length (described_file (area + 1) name more).entries) ≡ true)
+    → (is_among name (description_names more) ≡ true
+    → are_some most_record_bytes (record_length (described_file (area + 1) name more).entries) ≡ true)
     → are_some most_record_bytes (record_length there.entries) ≡ true)
 length_by true area name file more among e rest = length_kept file e
 length_by false area name file more among e rest = rest among
 
-described_length : (area : ℕ) (name : Name) (files : List FileDescription) → is_among name (description_names files) ≡ true
-    → each description_rules files ≡ [] → are_some most_record_bytes (record_length (described_file area name files).entries) ≡ true
+described_length : (area : ℕ) (name : Name) (files : List FileDescription)
+    → is_among name (description_names files) ≡ true
+    → each description_rules files ≡ []
+    → are_some most_record_bytes (record_length (described_file area name files).entries) ≡ true
 described_length area name [] among e = absurd cc
 described_length area name (file ∷ more) among e =
-    length_by (same name file.name) area name file more among (left_none (description_rules file) (each description_rules more) e)
-    (λ among. described_length (area + 1) name more among (right_none (description_rules file) (each description_rules more) e))
+    length_by (same name file.name) area name file more among
+    (left_none (description_rules file) (each description_rules more) e)
+    (λ among. described_length (area + 1) name more among
+    (right_none (description_rules file) (each description_rules more) e))
 
 -- ---- what is sent
 
@@ -176,22 +201,30 @@ module _ (areas : List (List ℕ)) (items : List LocatedItem) where
   -- not one that edits the record
   abbrev DoesNotEdit : ProgramFile → DataItem → Type 0
   DoesNotEdit file one =
-      ((one.area == file.places.area) && edited_alike one.item.kind file.sent.kind && (one.item.length == file.sent.length)) ≡ false
+      ((one.area == file.places.area) && edited_alike one.item.kind file.sent.kind
+      && (one.item.length == file.sent.length)) ≡ false
 
-  editing_found : (file : ProgramFile) (one : LocatedItem) → IsInOrder one → edits file one ≡ true → IsEditing file.sent one.editing
+  editing_found : (file : ProgramFile) (one : LocatedItem) → IsInOrder one → edits file one ≡ true
+      → IsEditing file.sent one.editing
   editing_found file one h e =
-      let front = and_front ((one.area == file.places.area) && edited_alike one.item.kind file.sent.kind) (one.item.length == file.sent.length) e in
-      let size = and_back ((one.area == file.places.area) && edited_alike one.item.kind file.sent.kind) (one.item.length == file.sent.length) e in
+      let front = and_front ((one.area == file.places.area) && edited_alike one.item.kind file.sent.kind)
+      (one.item.length == file.sent.length) e in
+      let size = and_back ((one.area == file.places.area) && edited_alike one.item.kind file.sent.kind)
+      (one.item.length == file.sent.length) e in
       let alike = and_back (one.area == file.places.area) (edited_alike one.item.kind file.sent.kind) front in
       subst (λ (item : Item). IsEditing item one.editing)
-      (same_item one.item file.sent (alike_same one.item.kind file.sent.kind alike) (equal_is one.item.length file.sent.length size)) h.editing
+      (same_item one.item file.sent (alike_same one.item.kind file.sent.kind alike)
+      (equal_is one.item.length file.sent.length size)) h.editing
 
   -- by what edits the record, or where nothing does
   editing_so : (file : ProgramFile) → AllByRecursion IsInOrder items
-      → (AllByRecursion (λ (one : LocatedItem). edits file one ≡ false) items → IsPlainKind file.sent.kind) → (found : Option LocatedItem)
+      → (AllByRecursion (λ (one : LocatedItem). edits file one ≡ false) items → IsPlainKind file.sent.kind)
+      → (found : Option LocatedItem)
       → first (filter (edits file) items) ≡ found → IsEditing file.sent (editing_in found)
-  editing_so file all none None is = none (none_pass (λ (one : LocatedItem). edits file one ≡ false) (edits file) items is)
-  editing_so file all none (Some one) is = editing_found file one (first_so IsInOrder (edits file) items one all is) (first_passes (edits file) items one is)
+  editing_so file all none None is =
+      none (none_pass (λ (one : LocatedItem). edits file one ≡ false) (edits file) items is)
+  editing_so file all none (Some one) is =
+      editing_found file one (first_so IsInOrder (edits file) items one all is) (first_passes (edits file) items one is)
 
   -- where the sent item has its form and lies in the area
   sent_so : (file : ProgramFile) → AllByRecursion IsInOrder items
@@ -201,10 +234,12 @@ module _ (areas : List (List ℕ)) (items : List LocatedItem) where
       record { form = form; editing = editing_so file all none (first (filter (edits file) items)) refl; lies = lies }
 
   -- an area of this length
-  area_there : (n size : ℕ) → n < length areas → length (slice_index_or areas n []) ≡ size → (area : List ℕ) × (slice_get areas n ≡ Some area) × (length area ≡ size)
+  area_there : (n size : ℕ) → n < length areas → length (slice_index_or areas n []) ≡ size
+      → (area : List ℕ) × (slice_get areas n ≡ Some area) × (length area ≡ size)
   area_there n size within e = (slice_index_or areas n [], slice_get-get_or areas n [] within, e)
 
-  module _ (storage : List LocatedItem) (first_area : ℕ) (files : List FileDescription) (name : Name) (file : ProgramFile)
+  module _ (storage : List LocatedItem) (first_area : ℕ) (files : List FileDescription) (name : Name)
+      (file : ProgramFile)
       (split : items ≡ storage ++ file_places first_area files) (among : is_among name (description_names files) ≡ true)
       (rules : each description_rules files ≡ []) (all : AllByRecursion IsInOrder items) where
     abbrev there : DescribedFile
@@ -215,10 +250,12 @@ module _ (areas : List (List ℕ)) (items : List LocatedItem) where
 
     -- several records, or none
     group_so : file.sent ≡ group (record_length there.entries) → file.places.area < length areas
-        → length (slice_index_or areas file.places.area []) ≡ record_length there.entries → IsDataItem areas (sent_entry items file)
+        → length (slice_index_or areas file.places.area []) ≡ record_length there.entries
+        → IsDataItem areas (sent_entry items file)
     group_so is within long =
         let size = described_length first_area name files among rules in
-        let bounds : (1 ≤ record_length there.entries) × (record_length there.entries ≤ 1000) = bounds_of (record_length there.entries) size in
+        let bounds : (1 ≤ record_length there.entries) × (record_length there.entries ≤ 1000) =
+        bounds_of (record_length there.entries) size in
         let low = bounds.0 in
         let high = bounds.1 in
         let area = area_there file.places.area (record_length there.entries) within long in
@@ -231,33 +268,48 @@ module _ (areas : List (List ℕ)) (items : List LocatedItem) where
         bounds_of n e = (grind (arith, nat_tests), grind (arith, nat_tests))
 
     -- the only record
-    record_is : (one : ItemEntry) (conditions : List ConditionEntry) (inner : Forest) → forest_of there.entries ≡ Tree one conditions inner End
-        → file.sent ≡ item_with nothing_around one inner → file.places.area ≡ there.area → IsDataItem areas (sent_entry items file)
+    record_is : (one : ItemEntry) (conditions : List ConditionEntry) (inner : Forest)
+        → forest_of there.entries ≡ Tree one conditions inner End
+        → file.sent ≡ item_with nothing_around one inner → file.places.area ≡ there.area
+        → IsDataItem areas (sent_entry items file)
     record_is one conditions inner is sent area =
-        let here = record_so (IsDataItem areas) first_area name files one conditions inner among is (of_records IsInOrder all) in
+        let here =
+        record_so (IsDataItem areas) first_area name files one conditions inner among is (of_records IsInOrder all) in
         let none = λ (none : AllByRecursion (λ (one : LocatedItem). edits file one ≡ false) items).
         let not_it = record_so (DoesNotEdit file) first_area name files one conditions inner among is
         (of_records (λ (one : LocatedItem). edits file one ≡ false) none) in
         let item : Item = item_with nothing_around one inner in
         let not_alike : edited_alike item.kind file.sent.kind ≡ false =
-        and_false (there.area == file.places.area) (edited_alike item.kind file.sent.kind) (item.length == file.sent.length) not_it
-        (is_equal there.area file.places.area (sym area)) (is_equal item.length file.sent.length (ap (λ (i : Item). i.length) (sym sent))) in
-        plain_else file.sent.kind (subst (λ (i : Item). edited_alike i.kind file.sent.kind ≡ false) (sym sent) not_alike) in
+        and_false (there.area == file.places.area) (edited_alike item.kind file.sent.kind)
+        (item.length == file.sent.length) not_it
+        (is_equal there.area file.places.area (sym area))
+        (is_equal item.length file.sent.length (ap (λ (i : Item). i.length) (sym sent))) in
+        plain_else file.sent.kind
+        (subst (λ (i : Item). edited_alike i.kind file.sent.kind ≡ false) (sym sent) not_alike) in
         let lies = here.lies in
         let size : file.sent.length ≡ (item_with nothing_around one inner).length = ap (λ (i : Item). i.length) sent in
         let within = lies.within in
         sent_so file all none (subst IsItem (sym sent) here.form)
-        (record { area = lies.area; here = subst (λ n. slice_get areas n ≡ Some lies.area) (sym area) lies.here; within = omega arith })
+        (record {
+          area = lies.area;
+          here = subst (λ n. slice_get areas n ≡ Some lies.area) (sym area) lies.here;
+          within = omega arith;
+        })
 
     -- by the records
-    sent_by : (records : Forest) → forest_of there.entries ≡ records → file.sent ≡ sent_of (record_length there.entries) records
+    sent_by : (records : Forest) → forest_of there.entries ≡ records
+        → file.sent ≡ sent_of (record_length there.entries) records
         → file.places.area ≡ there.area → file.places.area < length areas
-        → length (slice_index_or areas file.places.area []) ≡ record_length there.entries → IsDataItem areas (sent_entry items file)
+        → length (slice_index_or areas file.places.area []) ≡ record_length there.entries
+        → IsDataItem areas (sent_entry items file)
     sent_by End is sent area within long = group_so sent within long
     sent_by (Tree one conditions inner End) is sent area within long = record_is one conditions inner is sent area
-    sent_by (Tree one conditions inner (Tree other more deeper next)) is sent area within long = group_so sent within long
+    sent_by (Tree one conditions inner (Tree other more deeper next)) is sent area within long =
+        group_so sent within long
 
-    pub sent_is_item : file.sent ≡ sent_of (record_length there.entries) (forest_of there.entries) → file.places.area ≡ there.area
-        → file.places.area < length areas → length (slice_index_or areas file.places.area []) ≡ record_length there.entries
+    pub sent_is_item : file.sent ≡ sent_of (record_length there.entries) (forest_of there.entries)
+        → file.places.area ≡ there.area
+        → file.places.area < length areas
+        → length (slice_index_or areas file.places.area []) ≡ record_length there.entries
         → IsDataItem areas (sent_entry items file)
     sent_is_item = sent_by (forest_of there.entries) refl

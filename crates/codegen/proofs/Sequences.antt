@@ -5,16 +5,20 @@ use Rattle.code_image.specs.declared.code.Code.{Code}
 use Rattle.codegen.specs.Fragments.{Fragment, append, sequence}
 use Rattle.codegen.proofs.Fragments.{joined_assoc}
 
-pub then_piece : (first second : Fragment) (before now after : Code) → now ≡ append before (first before) → after ≡ append now (second now) → after ≡ append before (sequence first second before)
-then_piece first second before now after e f = f ∙ ap (λ (c : Code). append c (second c)) e ∙ joined_assoc before (first before) (second (append before (first before)))
+pub then_piece : (first second : Fragment) (before now after : Code) → now ≡ append before (first before)
+    → after ≡ append now (second now) → after ≡ append before (sequence first second before)
+then_piece first second before now after e f = f ∙ ap (λ (c : Code). append c (second c)) e
+    ∙ joined_assoc before (first before) (second (append before (first before)))
 
 -- the same where a call may have failed
 module _ {T E : Type 0} where
-  pub is_so : (result : Result T E) (made total wanted : Code) → OnOk result (made ≡ total) → total ≡ wanted → OnOk result (made ≡ wanted)
+  pub is_so : (result : Result T E) (made total wanted : Code) → OnOk result (made ≡ total) → total ≡ wanted
+      → OnOk result (made ≡ wanted)
   is_so (Ok x) made total wanted e f = e ∙ f
   is_so (Err x) made total wanted e f = e
 
-  pub ends_so : (result : Result T E) (first second : Fragment) (before now after : Code) → now ≡ append before (first before) → OnOk result (after ≡ append now (second now))
+  pub ends_so : (result : Result T E) (first second : Fragment) (before now after : Code)
+      → now ≡ append before (first before) → OnOk result (after ≡ append now (second now))
       → OnOk result (after ≡ append before (sequence first second before))
   ends_so (Ok x) first second before now after e f = then_piece first second before now after e f
   ends_so (Err x) first second before now after e f = f

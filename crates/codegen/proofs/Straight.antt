@@ -38,14 +38,19 @@ use Rattle.code_image.specs.declared.code.Code.{Code}
 use Rattle.code_image.specs.declared.instruction.Instruction.{Instruction}
 use Rattle.code_image.specs.declared.instruction.Instruction.TheVariants as instruction
 use Rattle.codegen.specs.Fragments.{Fragment, empty_code, append, sequence, in_order, plain_code}
-use Rattle.codegen.specs.DataCode.{item_index, item_number, dimensions_of, work_fragment, works_fragment, number_fragment, integer_fragment, adjustment_fragment, text_fragment, line_end_fragment, show_fragment, subscript_fragment, subscripts_fragment, reference_fragment, take_fragment, sender_fragment, receivers_fragment, operand_fragment, operands_fragment}
+use Rattle.codegen.specs.DataCode.{item_index, item_number, dimensions_of, work_fragment, works_fragment}
+use Rattle.codegen.specs.DataCode.{number_fragment, integer_fragment, adjustment_fragment, text_fragment}
+use Rattle.codegen.specs.DataCode.{line_end_fragment, show_fragment, subscript_fragment, subscripts_fragment}
+use Rattle.codegen.specs.DataCode.{reference_fragment, take_fragment, sender_fragment, receivers_fragment}
+use Rattle.codegen.specs.DataCode.{operand_fragment, operands_fragment}
 use Rattle.codegen.specs.ConditionCode.{condition_number, condition_item}
 use Rattle.codegen.specs.PatternCode.{pattern_fragment, pattern_of, set_of, initialize_fragment, set_fragment}
 use Rattle.codegen.specs.Layout.{data_fragment, texts_fragment}
 use Rattle.codegen.proofs.Codes.{left_none}
 use Rattle.codegen.proofs.Integers.{kept, not_false}
 
-pub all_both : {A : Type 0} (P : A → Type 0) (xs ys : List A) → AllByRecursion P xs → AllByRecursion P ys → AllByRecursion P (xs ++ ys)
+pub all_both : {A : Type 0} (P : A → Type 0) (xs ys : List A) → AllByRecursion P xs → AllByRecursion P ys
+    → AllByRecursion P (xs ++ ys)
 all_both P [] ys a b = b
 all_both P (x ∷ xs) ys a b = (a.0, all_both P xs ys a.1 b)
 
@@ -72,7 +77,8 @@ IsStraight (instruction.File file verb) = ⊥
 IsStraight (instruction.TestStatus class) = ⊥
 IsStraight instruction.Unheard = ⊥
 
--- A part of such instructions, without areas, items, files and starts of its own. Its senders have their bytes, and its inspections their texts.
+-- A part of such instructions, without areas, items, files and starts of its own. Its senders have their bytes, and its
+-- inspections their texts.
 pub record Straight (part : Code) : Type 0 where
   pub instructions : AllByRecursion IsStraight part.instructions
   pub starts : part.starts ≡ []
@@ -97,40 +103,88 @@ joined_straight a b f s = record {
   inspections = all_both IsInspection a.tables.inspections b.tables.inspections f.inspections s.inspections;
 }
 
-pub both_straight : (first second : Fragment) → AlwaysStraight first → AlwaysStraight second → AlwaysStraight (sequence first second)
-both_straight first second f s before = joined_straight (first before) (second (append before (first before))) (f before) (s (append before (first before)))
+pub both_straight : (first second : Fragment) → AlwaysStraight first → AlwaysStraight second
+    → AlwaysStraight (sequence first second)
+both_straight first second f s before =
+    joined_straight (first before) (second (append before (first before))) (f before) (s (append before (first before)))
 
 pub nothing_straight : Straight empty_code
-nothing_straight = record { instructions = tt; starts = refl; files = refl; areas = refl; items = refl; senders = tt; inspections = tt }
+nothing_straight = record {
+  instructions = tt;
+  starts = refl;
+  files = refl;
+  areas = refl;
+  items = refl;
+  senders = tt;
+  inspections = tt;
+}
 
-pub in_order_straight : {A : Type 0} (piece : A → Fragment) → ((one : A) → AlwaysStraight (piece one)) → (all : List A) → AlwaysStraight (in_order piece all)
+pub in_order_straight : {A : Type 0} (piece : A → Fragment) → ((one : A) → AlwaysStraight (piece one)) → (all : List A)
+    → AlwaysStraight (in_order piece all)
 in_order_straight piece straight [] before = nothing_straight
 in_order_straight piece straight (one ∷ more) before =
-    joined_straight (piece one before) (in_order piece more (append before (piece one before))) (straight one before) (in_order_straight piece straight more (append before (piece one before)))
+    joined_straight (piece one before) (in_order piece more (append before (piece one before))) (straight one before)
+    (in_order_straight piece straight more (append before (piece one before)))
 
 data_straight : (all : List DataInstruction) → AllByRecursion IsStraight (map instruction.Data all)
 data_straight [] = tt
 data_straight (one ∷ more) = (tt, data_straight more)
 
 pub works_straight : (all : List DataInstruction) → AlwaysStraight (works_fragment all)
-works_straight all before = record { instructions = data_straight all; starts = refl; files = refl; areas = refl; items = refl; senders = tt; inspections = tt }
+works_straight all before = record {
+  instructions = data_straight all;
+  starts = refl;
+  files = refl;
+  areas = refl;
+  items = refl;
+  senders = tt;
+  inspections = tt;
+}
 
 pub work_straight : (one : DataInstruction) → AlwaysStraight (work_fragment one)
 work_straight one = works_straight (one ∷ [])
 
 pub number_straight : (x : Fraction) → AlwaysStraight (number_fragment x)
-number_straight x before = record { instructions = (tt, tt); starts = refl; files = refl; areas = refl; items = refl; senders = tt; inspections = tt }
+number_straight x before = record {
+  instructions = (tt, tt);
+  starts = refl;
+  files = refl;
+  areas = refl;
+  items = refl;
+  senders = tt;
+  inspections = tt;
+}
 
 adjustment_straight : (one : Adjustment) → AlwaysStraight (adjustment_fragment one)
 adjustment_straight adjustment.Nothing before = nothing_straight
-adjustment_straight (adjustment.Plus n) before = both_straight (integer_fragment (number_of n)) (work_fragment (i.Calculate c.Add)) (number_straight (integer (pos (number_of n)))) (work_straight (i.Calculate c.Add)) before
-adjustment_straight (adjustment.Minus n) before = both_straight (integer_fragment (number_of n)) (work_fragment (i.Calculate c.Subtract)) (number_straight (integer (pos (number_of n)))) (work_straight (i.Calculate c.Subtract)) before
+adjustment_straight (adjustment.Plus n) before =
+    both_straight (integer_fragment (number_of n)) (work_fragment (i.Calculate c.Add))
+    (number_straight (integer (pos (number_of n)))) (work_straight (i.Calculate c.Add)) before
+adjustment_straight (adjustment.Minus n) before =
+    both_straight (integer_fragment (number_of n)) (work_fragment (i.Calculate c.Subtract))
+    (number_straight (integer (pos (number_of n)))) (work_straight (i.Calculate c.Subtract)) before
 
 pub text_straight : (bytes : List ℕ) → AlwaysStraight (text_fragment bytes)
-text_straight bytes before = record { instructions = (tt, tt); starts = refl; files = refl; areas = refl; items = refl; senders = tt; inspections = tt }
+text_straight bytes before = record {
+  instructions = (tt, tt);
+  starts = refl;
+  files = refl;
+  areas = refl;
+  items = refl;
+  senders = tt;
+  inspections = tt;
+}
 
 pattern_straight : (pattern : Pattern) → AlwaysStraight (pattern_fragment pattern)
-pattern_straight pattern before = record { instructions = (tt, tt); starts = refl; files = refl; areas = refl; items = refl; senders = tt; inspections = tt }
+pattern_straight pattern before = record {
+  instructions = (tt, tt);
+  starts = refl;
+  files = refl;
+  areas = refl;
+  items = refl;
+  senders = tt;
+  inspections = tt;
+}
 
 pub line_end_straight : (advancing : Bool) → AlwaysStraight (line_end_fragment advancing)
 line_end_straight true before = text_straight (line_end true) before
@@ -138,29 +192,45 @@ line_end_straight false before = nothing_straight
 
 -- one instruction
 pub one_straight : (one : Instruction) → IsStraight one → AlwaysStraight (λ before. plain_code (one ∷ []))
-one_straight one h before = record { instructions = (h, tt); starts = refl; files = refl; areas = refl; items = refl; senders = tt; inspections = tt }
+one_straight one h before = record {
+  instructions = (h, tt);
+  starts = refl;
+  files = refl;
+  areas = refl;
+  items = refl;
+  senders = tt;
+  inspections = tt;
+}
 
 module _ (items : List LocatedItem) where
   subscript_straight : (one : written.Subscript) → AlwaysStraight (subscript_fragment items one)
   subscript_straight (subscript.Literal n) = number_straight (integer (pos (number_of n)))
   subscript_straight (subscript.Item name adjusting) =
-      both_straight (work_fragment (i.Place (item_index items name))) (sequence (work_fragment i.Push) (adjustment_fragment adjusting)) (work_straight (i.Place (item_index items name)))
-      (both_straight (work_fragment i.Push) (adjustment_fragment adjusting) (work_straight i.Push) (adjustment_straight adjusting))
+      both_straight (work_fragment (i.Place (item_index items name))) (sequence (work_fragment i.Push)
+      (adjustment_fragment adjusting)) (work_straight (i.Place (item_index items name)))
+      (both_straight (work_fragment i.Push) (adjustment_fragment adjusting) (work_straight i.Push)
+      (adjustment_straight adjusting))
 
-  pub subscripts_straight : (dimensions : List Dimension) (all : List written.Subscript) → AlwaysStraight (subscripts_fragment items dimensions all)
+  pub subscripts_straight : (dimensions : List Dimension) (all : List written.Subscript)
+      → AlwaysStraight (subscripts_fragment items dimensions all)
   subscripts_straight [] all before = nothing_straight
   subscripts_straight (one ∷ more) [] before = nothing_straight
   subscripts_straight (one ∷ more) (written ∷ others) before =
-      both_straight (sequence (subscript_fragment items written) (work_fragment (index_code one))) (subscripts_fragment items more others)
-      (both_straight (subscript_fragment items written) (work_fragment (index_code one)) (subscript_straight written) (work_straight (index_code one))) (subscripts_straight more others) before
+      both_straight (sequence (subscript_fragment items written) (work_fragment (index_code one)))
+      (subscripts_fragment items more others)
+      (both_straight (subscript_fragment items written) (work_fragment (index_code one)) (subscript_straight written)
+      (work_straight (index_code one))) (subscripts_straight more others) before
 
   pub reference_straight : (one : Reference) → AlwaysStraight (reference_fragment items one)
   reference_straight one =
       let dimensions = dimensions_of (slice_get items (item_number items one.item)) in
-      both_straight (work_fragment (i.Place (item_index items one.item))) (subscripts_fragment items dimensions one.subscripts) (work_straight (i.Place (item_index items one.item))) (subscripts_straight dimensions one.subscripts)
+      both_straight (work_fragment (i.Place (item_index items one.item)))
+      (subscripts_fragment items dimensions one.subscripts) (work_straight (i.Place (item_index items one.item)))
+      (subscripts_straight dimensions one.subscripts)
 
   pub taking_straight : (taking : DataInstruction) (one : Reference) → AlwaysStraight (take_fragment items taking one)
-  taking_straight taking one = both_straight (reference_fragment items one) (work_fragment taking) (reference_straight one) (work_straight taking)
+  taking_straight taking one = both_straight (reference_fragment items one) (work_fragment taking)
+      (reference_straight one) (work_straight taking)
 
   -- ---- MOVE, DISPLAY and ACCEPT
 
@@ -172,7 +242,11 @@ module _ (items : List LocatedItem) where
     files = refl;
     areas = refl;
     items = refl;
-    senders = (sender_formed one.value (not_false (has_form one.value) (kept (not (has_form one.value)) (form_rule one.value) one.place e)), tt);
+    senders = (
+      sender_formed one.value
+          (not_false (has_form one.value) (kept (not (has_form one.value)) (form_rule one.value) one.place e)),
+      tt,
+    );
     inspections = tt;
   }
 
@@ -183,7 +257,8 @@ module _ (items : List LocatedItem) where
   initialize_straight : (one : Reference) → AlwaysStraight (initialize_fragment items one)
   initialize_straight one =
       let pattern = pattern_of (slice_get items (item_number items one.item)) in
-      both_straight (reference_fragment items one) (pattern_fragment pattern) (reference_straight one) (pattern_straight pattern)
+      both_straight (reference_fragment items one) (pattern_fragment pattern) (reference_straight one)
+      (pattern_straight pattern)
 
   set_straight : (one : Reference) → AlwaysStraight (set_fragment items one)
   set_straight one =
@@ -192,11 +267,14 @@ module _ (items : List LocatedItem) where
       let subscripts = subscripts_fragment items dimensions one.subscripts in
       let pattern = set_of (slice_get (all_conditions items) (condition_number items one.item)) in
       both_straight (work_fragment place) (sequence subscripts (pattern_fragment pattern)) (work_straight place)
-      (both_straight subscripts (pattern_fragment pattern) (subscripts_straight dimensions one.subscripts) (pattern_straight pattern))
+      (both_straight subscripts (pattern_fragment pattern) (subscripts_straight dimensions one.subscripts)
+      (pattern_straight pattern))
 
   pub moving_straight : (one : DataStatement) → moving_rules items one ≡ [] → AlwaysStraight (data_fragment items one)
   moving_straight (Move sender receivers) e =
       both_straight (sender_fragment items sender) (receivers_fragment items receivers)
-      (sender_straight sender (left_none (operand_rules items sender) (each (reference_rules items (receives (sent_by items sender))) receivers) e)) (in_order_straight (take_fragment items i.Move) (taking_straight i.Move) receivers)
+      (sender_straight sender (left_none
+      (operand_rules items sender) (each (reference_rules items (receives (sent_by items sender))) receivers) e))
+      (in_order_straight (take_fragment items i.Move) (taking_straight i.Move) receivers)
   moving_straight (Initialize receivers) e = in_order_straight (initialize_fragment items) initialize_straight receivers
   moving_straight (Set conditions) e = in_order_straight (set_fragment items) set_straight conditions

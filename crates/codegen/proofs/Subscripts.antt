@@ -10,14 +10,17 @@ use Rattle.codegen.specs.DataCode.{subscripts_fragment}
 use Rattle.codegen.proofs.Fragments.{joined_nothing}
 
 module _ (items : List LocatedItem) where
-  none_left : (dimensions : List Dimension) (before : Code) → subscripts_fragment items dimensions [] before ≡ empty_code
+  none_left : (dimensions : List Dimension) (before : Code)
+      → subscripts_fragment items dimensions [] before ≡ empty_code
   none_left [] before = refl
   none_left (one ∷ more) before = refl
 
-  pub subscripts_done : (dimensions : List Dimension) (subscripts : List Subscript) (i : ℕ) (code total : Code) → length subscripts ≤ i
+  pub subscripts_done : (dimensions : List Dimension) (subscripts : List Subscript) (i : ℕ) (code total : Code)
+      → length subscripts ≤ i
       → append code (subscripts_fragment items (drop i dimensions) (drop i subscripts) code) ≡ total → code ≡ total
   subscripts_done dimensions subscripts i code total le so_far =
       sym (joined_nothing code)
       ∙ ap (append code) (sym (none_left (drop i dimensions) code))
-      ∙ sym (ap (λ (l : List Subscript). append code (subscripts_fragment items (drop i dimensions) l code)) (drop_all i subscripts le))
+      ∙ sym (ap (λ (l : List Subscript). append code (subscripts_fragment items (drop i dimensions) l code))
+      (drop_all i subscripts le))
       ∙ so_far

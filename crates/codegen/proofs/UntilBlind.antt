@@ -1,4 +1,5 @@
--- The code of turns up to where a condition is true doesn't depend on the instructions before it, but on how many there are.
+-- The code of turns up to where a condition is true doesn't depend on the instructions before it, but on how many there
+-- are.
 use Rattle.std.proofs.Common.{ℕ, false, List, [], ◌∷◌, length, Option, Some, None, ap, ◌∙◌}
 use Rattle.source_tree.specs.declared.data_statement.DataStatement.TheVariants.{Move}
 use Rattle.source_tree.specs.declared.until.TestTime.{TestTime}
@@ -14,7 +15,8 @@ use Rattle.codegen.specs.Fragments.{Fragment, append, sequence, plain_code}
 use Rattle.codegen.specs.Meeting.{branch_code, either_fragment, nothing_fragment}
 use Rattle.codegen.specs.DataCode.{work_fragment}
 use Rattle.codegen.specs.ConditionCode.{condition_fragment}
-use Rattle.codegen.specs.UntilCode.{tick_fragment, repetition_fragment, until_before_fragment, until_after_fragment, until_from_fragment, vary_begin_fragment, vary_on_fragment, until_fragment}
+use Rattle.codegen.specs.UntilCode.{tick_fragment, repetition_fragment, until_before_fragment, until_after_fragment}
+use Rattle.codegen.specs.UntilCode.{until_from_fragment, vary_begin_fragment, vary_on_fragment, until_fragment}
 use Rattle.codegen.proofs.Blind.{Blind, constant_blind, both_blind, work_blind, moving_blind}
 use Rattle.codegen.proofs.BlindArithmetic.{arithmetic_blind}
 use Rattle.codegen.proofs.Either.{either_blind}
@@ -40,7 +42,8 @@ module _ (test onward turn : Fragment) (f : Blind test) (g : Blind onward) (h : 
   until_before_blind : Blind (until_before_fragment test onward turn)
   until_before_blind =
       let turns = repetition_fragment turn (sequence onward test) in
-      both_blind test (either_fragment nothing_fragment turns) f (either_blind nothing_fragment turns nothing_blind turn_before_blind)
+      both_blind test (either_fragment nothing_fragment turns) f
+      (either_blind nothing_fragment turns nothing_blind turn_before_blind)
 
   -- what goes on where the test is false
   pub onward_blind : Blind (sequence onward (work_fragment i.ClearTruth))
@@ -50,7 +53,8 @@ module _ (test onward turn : Fragment) (f : Blind test) (g : Blind onward) (h : 
   until_after_blind =
       let ways = either_fragment nothing_fragment (sequence onward (work_fragment i.ClearTruth)) in
       turning_blind turn (sequence test ways) h
-      (both_blind test ways f (either_blind nothing_fragment (sequence onward (work_fragment i.ClearTruth)) nothing_blind onward_blind))
+      (both_blind test ways f
+      (either_blind nothing_fragment (sequence onward (work_fragment i.ClearTruth)) nothing_blind onward_blind))
 
   until_from_blind : (tests : TestTime) → Blind (until_from_fragment tests test onward turn)
   until_from_blind Before = until_before_blind
@@ -69,5 +73,6 @@ module _ (items : List LocatedItem) where
   until_blind one turn f =
       let test = condition_fragment items one.condition in
       let onward = vary_on_fragment items one.varying in
-      both_blind (vary_begin_fragment items one.varying) (until_from_fragment one.test test onward turn) (vary_begin_blind one.varying)
+      both_blind (vary_begin_fragment items one.varying) (until_from_fragment one.test test onward turn)
+      (vary_begin_blind one.varying)
       (until_from_blind test onward turn (condition_blind items one.condition) (vary_on_blind one.varying) f one.test)

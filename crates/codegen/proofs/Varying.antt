@@ -20,8 +20,10 @@ use Rattle.codegen.specs.UntilCode.{vary_on_fragment}
 use Rattle.codegen.proofs.Kept.{front_kept, back_kept, item_kept}
 use Rattle.codegen.proofs.Fragments.{joined_nothing}
 
-both_same : (first second third fourth : Fragment) → ((b : Code) → first b ≡ third b) → ((b : Code) → second b ≡ fourth b) → (b : Code) → sequence first second b ≡ sequence third fourth b
-both_same first second third fourth p q b = ap (λ (c : Code). append c (second (append b c))) (p b) ∙ ap (append (third b)) (q (append b (third b)))
+both_same : (first second third fourth : Fragment) → ((b : Code) → first b ≡ third b)
+    → ((b : Code) → second b ≡ fourth b) → (b : Code) → sequence first second b ≡ sequence third fourth b
+both_same first second third fourth p q b =
+    ap (λ (c : Code). append c (second (append b c))) (p b) ∙ ap (append (third b)) (q (append b (third b)))
 
 -- the item to which BY is added
 abbrev pub varied : Varying → Receiver
@@ -29,24 +31,29 @@ varied one = record { item = one.item; rounded = false }
 
 module _ (items : List LocatedItem) (one : Varying) where
   abbrev adding : varying_rules items (Some one) ≡ [] → operation_rules items (vary_operation one) ≡ []
-  adding e = back_kept (move_rules items one.from (one.item ∷ []) ++ number_rules items one.from) (operation_rules items (vary_operation one)) e
+  adding e = back_kept (move_rules items one.from (one.item ∷ []) ++ number_rules items one.from)
+      (operation_rules items (vary_operation one)) e
 
   pub from_kept : varying_rules items (Some one) ≡ [] → operand_rules items one.from ≡ []
   from_kept e =
       front_kept (operand_rules items one.from) _
       (front_kept (move_rules items one.from (one.item ∷ [])) (number_rules items one.from)
-      (front_kept (move_rules items one.from (one.item ∷ []) ++ number_rules items one.from) (operation_rules items (vary_operation one)) e))
+      (front_kept (move_rules items one.from (one.item ∷ []) ++ number_rules items one.from)
+      (operation_rules items (vary_operation one)) e))
 
   pub by_kept : varying_rules items (Some one) ≡ [] → number_rules items one.by ≡ []
-  by_kept e = front_kept (number_rules items one.by) [] (front_kept (each (number_rules items) (one.by ∷ [])) (updated_rules items (varied one ∷ [])) (adding e))
+  by_kept e = front_kept (number_rules items one.by) []
+      (front_kept (each (number_rules items) (one.by ∷ [])) (updated_rules items (varied one ∷ [])) (adding e))
 
   pub varied_kept : varying_rules items (Some one) ≡ [] → each (subscript_rules items) one.item.subscripts ≡ []
   varied_kept e =
       item_kept items numeric_item one.item
-      (front_kept (reference_rules items numeric_item one.item) [] (back_kept (each (number_rules items) (one.by ∷ [])) (updated_rules items (varied one ∷ [])) (adding e)))
+      (front_kept (reference_rules items numeric_item one.item) []
+      (back_kept (each (number_rules items) (one.by ∷ [])) (updated_rules items (varied one ∷ [])) (adding e)))
 
   pub vary_on_is : (before : Code)
-      → sequence (work_fragment i.ClearTruth) (sequence (value_fragment items one.by) (sequence (update_fragment items false operator.Add (varied one)) (works_fragment (discard ∷ [])))) before
+      → sequence (work_fragment i.ClearTruth) (sequence (value_fragment items one.by)
+      (sequence (update_fragment items false operator.Add (varied one)) (works_fragment (discard ∷ [])))) before
       ≡ vary_on_fragment items (Some one) before
   vary_on_is before =
       let clear = work_fragment i.ClearTruth in

@@ -25,9 +25,11 @@ pub record Ways (whole : Code) (first second : Fragment) (before part : Code) : 
   pub second_begins : end_of before ≤ end_of outer
   pub second_ends : end_of (append outer (second outer)) ≤ end_of (append before part)
   pub to_first : (cs : Own) (s : State) → cs.truth ≡ true → Comes whole (end_of before) cs s (end_of inner) cs s
-  pub from_first : (cs : Own) (s : State) → Comes whole (end_of (append inner (first inner))) cs s (end_of (append before part)) cs s
+  pub from_first : (cs : Own) (s : State)
+      → Comes whole (end_of (append inner (first inner))) cs s (end_of (append before part)) cs s
   pub to_second : (cs : Own) (s : State) → cs.truth ≡ false → Comes whole (end_of before) cs s (end_of outer) cs s
-  pub from_second : (cs : Own) (s : State) → Comes whole (end_of (append outer (second outer))) cs s (end_of (append before part)) cs s
+  pub from_second : (cs : Own) (s : State)
+      → Comes whole (end_of (append outer (second outer))) cs s (end_of (append before part)) cs s
 
 module _ (whole : Code) (first second : Fragment) where
   -- where the branch leads to the second way, and the jump behind the last `join`
@@ -45,7 +47,8 @@ module _ (whole : Code) (first second : Fragment) where
     last = append outer_code (second outer_code)
 
     abbrev part : Code
-    part = sequence (λ now. branch_code other) (sequence first (sequence (λ now. jump_code end) (sequence second (λ now. join_code)))) before
+    part = sequence (λ now. branch_code other)
+        (sequence first (sequence (λ now. jump_code end) (sequence second (λ now. join_code)))) before
 
     abbrev behind_jump : Code
     behind_jump = append (second outer_code) join_code
@@ -63,14 +66,18 @@ module _ (whole : Code) (first second : Fragment) where
       length-append last.instructions join_code.instructions,
     )
 
-    laid_ways : Stands whole before part → other ≡ end_of outer_code → end ≡ end_of last + 1 → Ways whole first second before part
+    laid_ways : Stands whole before part → other ≡ end_of outer_code → end ≡ end_of last + 1
+        → Ways whole first second before part
     laid_ways st other_is end_is =
         let after_branch = back whole before (branch_code other) (append (first inner_code) behind_first) st in
         let after_first = back whole inner_code (first inner_code) behind_first after_branch in
         let after_jump = back whole middle (jump_code end) behind_jump after_first in
-        let branches = first_stands whole before part (Branch other) (append (first inner_code) behind_first).instructions refl st in
-        let jumps = first_stands whole middle behind_first (Jump end) (Join ∷ behind_jump.instructions) refl after_first in
-        let joins = first_stands whole last join_code Join [] refl (back whole outer_code (second outer_code) join_code after_jump) in
+        let branches =
+        first_stands whole before part (Branch other) (append (first inner_code) behind_first).instructions refl st in
+        let jumps =
+        first_stands whole middle behind_first (Jump end) (Join ∷ behind_jump.instructions) refl after_first in
+        let joins = first_stands whole last join_code Join [] refl
+        (back whole outer_code (second outer_code) join_code after_jump) in
         let l1 = length-append before.instructions (branch_code other).instructions in
         let l2 = length-append inner_code.instructions (first inner_code).instructions in
         let l3 = length-append middle.instructions (jump_code end).instructions in
@@ -85,13 +92,17 @@ module _ (whole : Code) (first second : Fragment) where
           first_ends = omega (arith, ends_part, l3, l4);
           second_begins = omega (arith, l1, l2, l3);
           second_ends = omega (arith, ends_part);
-          to_first = λ cs s is. subst (λ (p : ℕ). Comes whole (end_of before) cs s p cs s) (sym l1) (branch_goes_on whole (end_of before) other cs s branches is);
+          to_first = λ cs s is. subst (λ (p : ℕ). Comes whole (end_of before) cs s p cs s) (sym l1)
+              (branch_goes_on whole (end_of before) other cs s branches is);
           from_first = λ cs s. jump_comes whole (end_of middle) end to cs s jumps (omega (arith, end_is, ends_part));
-          to_second = λ cs s is. subst (λ (p : ℕ). Comes whole (end_of before) cs s p cs s) other_is (branch_goes_to whole (end_of before) other cs s branches is);
+          to_second = λ cs s is. subst (λ (p : ℕ). Comes whole (end_of before) cs s p cs s) other_is
+              (branch_goes_to whole (end_of before) other cs s branches is);
           from_second = λ cs s. join_comes whole (end_of last) to cs s joins (sym ends_part);
         }
 
-  pub ways : Blind first → Blind second → (before : Code) → Stands whole before (either_fragment first second before) → Ways whole first second before (either_fragment first second before)
+  pub ways : Blind first → Blind second → (before : Code) → Stands whole before (either_fragment first second before)
+      → Ways whole first second before (either_fragment first second before)
   ways f g before st =
       let l = either_laid first second f g before in
-      subst (λ (c : Code). Ways whole first second before c) (sym l.is) (laid_ways before l.other l.end (subst (Stands whole before) l.is st) l.other_is l.end_is)
+      subst (λ (c : Code). Ways whole first second before c) (sym l.is)
+      (laid_ways before l.other l.end (subst (Stands whole before) l.is st) l.other_is l.end_is)

@@ -5,6 +5,8 @@ use Rattle.code_image.specs.declared.code.Code.{Code}
 use Rattle.codegen.specs.Fragments.{append, in_order}
 use Rattle.codegen.specs.DataCode.{work_fragment, works_fragment}
 
-pub works_are : (all : List DataInstruction) (before : Code) → in_order work_fragment all before ≡ works_fragment all before
+pub works_are : (all : List DataInstruction) (before : Code)
+    → in_order work_fragment all before ≡ works_fragment all before
 works_are [] before = refl
-works_are (one ∷ more) before = ap (append (work_fragment one before)) (works_are more (append before (work_fragment one before)))
+works_are (one ∷ more) before =
+    ap (append (work_fragment one before)) (works_are more (append before (work_fragment one before)))

@@ -20,7 +20,8 @@ impl<'a> Emitter<'a> {
     ) -> Result<(), AllocError>
         requires declared { IsDeclared self.now.declarations.now }
         requires rules { accept_line_rules (items_in self.now.declarations.now) receiver.now ≡ [] }
-        ensures { OnOk result (code.new ≡ append code.old (spec.accept_fragment (items_in self.now.declarations.now) receiver.now code.old)) }
+        ensures { OnOk result (code.new ≡ append code.old
+            (spec.accept_fragment (items_in self.now.declarations.now) receiver.now code.old)) }
     {
         self.emit_reference(code, receiver)?;
         code.instructions.push(Instruction::Accept)?;
@@ -31,7 +32,8 @@ impl<'a> Emitter<'a> {
     pub(crate) fn emit_date(&self, code: &mut Code, receiver: &Reference) -> Result<(), AllocError>
         requires declared { IsDeclared self.now.declarations.now }
         requires rules { accept_date_rules (items_in self.now.declarations.now) receiver.now ≡ [] }
-        ensures { OnOk result (code.new ≡ append code.old (spec.date_fragment (items_in self.now.declarations.now) receiver.now code.old)) }
+        ensures { OnOk result (code.new ≡ append code.old
+            (spec.date_fragment (items_in self.now.declarations.now) receiver.now code.old)) }
     {
         self.emit_reference(code, receiver)?;
         code.instructions.push(Instruction::Date)?;

@@ -38,7 +38,8 @@ fn duplicate(depth: u32) -> DataInstruction
 
 /// From a dividend, a divisor and their quotient the remainder. Where the quotient was kept there is none.
 fn emit_subtracted(code: &mut Code, scale: u8, keep: bool) -> Result<(), AllocError>
-    ensures { OnOk result (code.new ≡ append code.old (works_fragment (i.Calculate (c.Truncate scale) ∷ i.Calculate c.Multiply ∷ i.Calculate c.Subtract ∷ spec.void_code keep) code.old)) }
+    ensures { OnOk result (code.new ≡ append code.old (works_fragment (i.Calculate (c.Truncate
+        scale) ∷ i.Calculate c.Multiply ∷ i.Calculate c.Subtract ∷ spec.void_code keep) code.old)) }
 {
     emit_work(
         code,
@@ -62,8 +63,11 @@ impl<'a> Emitter<'a> {
         item: &Reference,
     ) -> Result<(), AllocError>
         requires declared { IsDeclared self.now.declarations.now }
-        requires rules { each (subscript_rules (items_in self.now.declarations.now)) item.now.subscripts ≡ [] }
-        ensures { OnOk result (code.new ≡ append code.old (spec.store_fragment (items_in self.now.declarations.now) keep (record { item = item.now; rounded = rounded }) code.old)) }
+        requires rules { each (subscript_rules (items_in self.now.declarations.now))
+            item.now.subscripts ≡ [] }
+        ensures { OnOk result
+            (code.new ≡ append code.old (spec.store_fragment (items_in self.now.declarations.now)
+            keep (record { item = item.now; rounded = rounded }) code.old)) }
     {
         self.emit_taking(code, DataInstruction::Store { rounded, keep }, item)
     }
@@ -78,8 +82,11 @@ impl<'a> Emitter<'a> {
         item: &Reference,
     ) -> Result<(), AllocError>
         requires declared { IsDeclared self.now.declarations.now }
-        requires rules { each (subscript_rules (items_in self.now.declarations.now)) item.now.subscripts ≡ [] }
-        ensures { OnOk result (code.new ≡ append code.old (spec.update_fragment (items_in self.now.declarations.now) keep operator (record { item = item.now; rounded = rounded }) code.old)) }
+        requires rules { each (subscript_rules (items_in self.now.declarations.now))
+            item.now.subscripts ≡ [] }
+        ensures { OnOk result
+            (code.new ≡ append code.old (spec.update_fragment (items_in self.now.declarations.now)
+            keep operator (record { item = item.now; rounded = rounded }) code.old)) }
     {
         self.emit_taking(code, DataInstruction::Push, item)?;
         emit_works(code, &[duplicate(1), operator_code(operator)])?;
@@ -95,7 +102,8 @@ impl<'a> Emitter<'a> {
     ) -> Result<(), AllocError>
         requires declared { IsDeclared self.now.declarations.now }
         requires rules { updated_rules (items_in self.now.declarations.now) all.now ≡ [] }
-        ensures { OnOk result (code.new ≡ append code.old (spec.updates_fragment (items_in self.now.declarations.now) keep operator all.now code.old)) }
+        ensures { OnOk result (code.new ≡ append code.old (spec.updates_fragment
+            (items_in self.now.declarations.now) keep operator all.now code.old)) }
     {
         for one in all {
             self.emit_update(code, keep, operator, one.rounded, &one.item)?;
@@ -113,7 +121,8 @@ impl<'a> Emitter<'a> {
     ) -> Result<(), AllocError>
         requires declared { IsDeclared self.now.declarations.now }
         requires rules { updated_rules (items_in self.now.declarations.now) all.now ≡ [] }
-        ensures { OnOk result (code.new ≡ append code.old (sequence (spec.updates_fragment (items_in self.now.declarations.now) keep operator all.now) parts.discard_fragment code.old)) }
+        ensures { OnOk result (code.new ≡ append code.old (sequence (spec.updates_fragment (items_in
+            self.now.declarations.now) keep operator all.now) parts.discard_fragment code.old)) }
     {
         self.emit_updates(code, keep, operator, all.as_slice())?;
         emit_work(code, discard())
@@ -122,8 +131,10 @@ impl<'a> Emitter<'a> {
     /// A receiver becomes the newest number, which stays.
     fn emit_give(&self, code: &mut Code, keep: bool, one: &Receiver) -> Result<(), AllocError>
         requires declared { IsDeclared self.now.declarations.now }
-        requires rules { each (subscript_rules (items_in self.now.declarations.now)) one.now.item.subscripts ≡ [] }
-        ensures { OnOk result (code.new ≡ append code.old (spec.give_fragment (items_in self.now.declarations.now) keep one.now code.old)) }
+        requires rules { each (subscript_rules (items_in self.now.declarations.now))
+            one.now.item.subscripts ≡ [] }
+        ensures { OnOk result (code.new ≡ append code.old
+            (spec.give_fragment (items_in self.now.declarations.now) keep one.now code.old)) }
     {
         emit_work(code, duplicate(0))?;
         self.emit_store(code, keep, one.rounded, &one.item)
@@ -132,7 +143,8 @@ impl<'a> Emitter<'a> {
     fn emit_gives(&self, code: &mut Code, keep: bool, all: &[Receiver]) -> Result<(), AllocError>
         requires declared { IsDeclared self.now.declarations.now }
         requires rules { given_rules (items_in self.now.declarations.now) all.now ≡ [] }
-        ensures { OnOk result (code.new ≡ append code.old (spec.gives_fragment (items_in self.now.declarations.now) keep all.now code.old)) }
+        ensures { OnOk result (code.new ≡ append code.old
+            (spec.gives_fragment (items_in self.now.declarations.now) keep all.now code.old)) }
     {
         for one in all {
             self.emit_give(code, keep, one)?;
@@ -149,7 +161,8 @@ impl<'a> Emitter<'a> {
     ) -> Result<(), AllocError>
         requires declared { IsDeclared self.now.declarations.now }
         requires rules { given_rules (items_in self.now.declarations.now) all.now ≡ [] }
-        ensures { OnOk result (code.new ≡ append code.old (sequence (spec.gives_fragment (items_in self.now.declarations.now) keep all.now) parts.discard_fragment code.old)) }
+        ensures { OnOk result (code.new ≡ append code.old (sequence (spec.gives_fragment
+            (items_in self.now.declarations.now) keep all.now) parts.discard_fragment code.old)) }
     {
         self.emit_gives(code, keep, all.as_slice())?;
         emit_work(code, discard())
@@ -164,7 +177,10 @@ impl<'a> Emitter<'a> {
     ) -> Result<(), AllocError>
         requires declared { IsDeclared self.now.declarations.now }
         requires rules { given_rules (items_in self.now.declarations.now) all.now ≡ [] }
-        ensures { OnOk result (code.new ≡ append code.old (sequence (works_fragment (codes.duplicate 1 ∷ i.Calculate c.Subtract ∷ [])) (sequence (spec.gives_fragment (items_in self.now.declarations.now) keep all.now) (works_fragment (codes.discard ∷ codes.discard ∷ []))) code.old)) }
+        ensures { OnOk result (code.new ≡ append code.old
+            (sequence (works_fragment (codes.duplicate 1 ∷ i.Calculate c.Subtract ∷ []))
+            (sequence (spec.gives_fragment (items_in self.now.declarations.now) keep all.now)
+            (works_fragment (codes.discard ∷ codes.discard ∷ []))) code.old)) }
     {
         emit_works(code, &[duplicate(1), operator_code(Operator::Subtract)])?;
         self.emit_gives(code, keep, all.as_slice())?;
@@ -180,7 +196,9 @@ impl<'a> Emitter<'a> {
     ) -> Result<(), AllocError>
         requires declared { IsDeclared self.now.declarations.now }
         requires rules { given_rules (items_in self.now.declarations.now) all.now ≡ [] }
-        ensures { OnOk result (code.new ≡ append code.old (sequence (work_fragment (i.Calculate c.Multiply)) (sequence (spec.gives_fragment (items_in self.now.declarations.now) keep all.now) parts.discard_fragment) code.old)) }
+        ensures { OnOk result (code.new ≡ append code.old
+            (sequence (work_fragment (i.Calculate c.Multiply)) (sequence (spec.gives_fragment
+            (items_in self.now.declarations.now) keep all.now) parts.discard_fragment) code.old)) }
     {
         emit_work(code, operator_code(Operator::Multiply))?;
         self.emit_giving(code, keep, all)
@@ -195,7 +213,9 @@ impl<'a> Emitter<'a> {
     ) -> Result<(), AllocError>
         requires declared { IsDeclared self.now.declarations.now }
         requires rules { given_rules (items_in self.now.declarations.now) all.now ≡ [] }
-        ensures { OnOk result (code.new ≡ append code.old (sequence (work_fragment (i.Calculate c.Divide)) (sequence (spec.gives_fragment (items_in self.now.declarations.now) keep all.now) parts.discard_fragment) code.old)) }
+        ensures { OnOk result (code.new ≡ append
+            code.old (sequence (work_fragment (i.Calculate c.Divide)) (sequence (spec.gives_fragment
+            (items_in self.now.declarations.now) keep all.now) parts.discard_fragment) code.old)) }
     {
         emit_work(code, operator_code(Operator::Divide))?;
         self.emit_giving(code, keep, all)
@@ -211,7 +231,9 @@ impl<'a> Emitter<'a> {
     ) -> Result<(), AllocError>
         requires declared { IsDeclared self.now.declarations.now }
         requires rules { given_rules (items_in self.now.declarations.now) all.now ≡ [] }
-        ensures { OnOk result (code.new ≡ append code.old (spec.division_fragment order (sequence (work_fragment (i.Calculate c.Divide)) (sequence (spec.gives_fragment (items_in self.now.declarations.now) keep all.now) parts.discard_fragment)) code.old)) }
+        ensures { OnOk result (code.new ≡ append code.old (spec.division_fragment order
+            (sequence (work_fragment (i.Calculate c.Divide)) (sequence (spec.gives_fragment
+            (items_in self.now.declarations.now) keep all.now) parts.discard_fragment)) code.old)) }
     {
         match order {
             DivisionOrder::By => self.emit_quotient(code, keep, all),
@@ -232,8 +254,11 @@ impl<'a> Emitter<'a> {
         remainder: &Reference,
     ) -> Result<(), AllocError>
         requires declared { IsDeclared self.now.declarations.now }
-        requires rules { reference_rules (items_in self.now.declarations.now) number_receiver quotient.now.item ++ reference_rules (items_in self.now.declarations.now) number_receiver remainder.now ≡ [] }
-        ensures { OnOk result (code.new ≡ append code.old (spec.remainder_fragment (items_in self.now.declarations.now) keep quotient.now remainder.now code.old)) }
+        requires rules { reference_rules (items_in self.now.declarations.now) number_receiver
+            quotient.now.item ++ reference_rules (items_in self.now.declarations.now)
+            number_receiver remainder.now ≡ [] }
+        ensures { OnOk result (code.new ≡ append code.old (spec.remainder_fragment
+            (items_in self.now.declarations.now) keep quotient.now remainder.now code.old)) }
     {
         emit_works(
             code,
@@ -255,8 +280,12 @@ impl<'a> Emitter<'a> {
         remainder: &Reference,
     ) -> Result<(), AllocError>
         requires declared { IsDeclared self.now.declarations.now }
-        requires rules { reference_rules (items_in self.now.declarations.now) number_receiver quotient.now.item ++ reference_rules (items_in self.now.declarations.now) number_receiver remainder.now ≡ [] }
-        ensures { OnOk result (code.new ≡ append code.old (spec.division_fragment order (spec.remainder_fragment (items_in self.now.declarations.now) keep quotient.now remainder.now) code.old)) }
+        requires rules { reference_rules (items_in self.now.declarations.now) number_receiver
+            quotient.now.item ++ reference_rules (items_in self.now.declarations.now)
+            number_receiver remainder.now ≡ [] }
+        ensures { OnOk result
+            (code.new ≡ append code.old (spec.division_fragment order (spec.remainder_fragment
+            (items_in self.now.declarations.now) keep quotient.now remainder.now) code.old)) }
     {
         match order {
             DivisionOrder::By => self.emit_remainder(code, keep, quotient, remainder),
@@ -275,8 +304,11 @@ impl<'a> Emitter<'a> {
         second: &Operand,
     ) -> Result<(), AllocError>
         requires declared { IsDeclared self.now.declarations.now }
-        requires rules { number_rules (items_in self.now.declarations.now) first.now ++ number_rules (items_in self.now.declarations.now) second.now ≡ [] }
-        ensures { OnOk result (code.new ≡ append code.old (sequence (spec.value_fragment (items_in self.now.declarations.now) first.now) (spec.value_fragment (items_in self.now.declarations.now) second.now) code.old)) }
+        requires rules { number_rules (items_in self.now.declarations.now) first.now
+            ++ number_rules (items_in self.now.declarations.now) second.now ≡ [] }
+        ensures { OnOk result (code.new ≡ append
+            code.old (sequence (spec.value_fragment (items_in self.now.declarations.now) first.now)
+            (spec.value_fragment (items_in self.now.declarations.now) second.now) code.old)) }
     {
         self.emit_value(code, first)?;
         self.emit_value(code, second)
@@ -289,8 +321,11 @@ impl<'a> Emitter<'a> {
         minuend: &Operand,
     ) -> Result<(), AllocError>
         requires declared { IsDeclared self.now.declarations.now }
-        requires rules { each (number_rules (items_in self.now.declarations.now)) all.now ++ number_rules (items_in self.now.declarations.now) minuend.now ≡ [] }
-        ensures { OnOk result (code.new ≡ append code.old (sequence (spec.total_fragment (items_in self.now.declarations.now) all.now) (spec.value_fragment (items_in self.now.declarations.now) minuend.now) code.old)) }
+        requires rules { each (number_rules (items_in self.now.declarations.now)) all.now
+            ++ number_rules (items_in self.now.declarations.now) minuend.now ≡ [] }
+        ensures { OnOk result (code.new ≡ append
+            code.old (sequence (spec.total_fragment (items_in self.now.declarations.now) all.now)
+            (spec.value_fragment (items_in self.now.declarations.now) minuend.now) code.old)) }
     {
         self.emit_total(code, all)?;
         self.emit_value(code, minuend)
@@ -300,7 +335,8 @@ impl<'a> Emitter<'a> {
     fn emit_values(&self, code: &mut Code, one: &Operation) -> Result<(), AllocError>
         requires declared { IsDeclared self.now.declarations.now }
         requires rules { parts.values_rules (items_in self.now.declarations.now) one.now ≡ [] }
-        ensures { OnOk result (code.new ≡ append code.old (parts.values_fragment (items_in self.now.declarations.now) one.now code.old)) }
+        ensures { OnOk result (code.new ≡ append code.old
+            (parts.values_fragment (items_in self.now.declarations.now) one.now code.old)) }
     {
         match one {
             Operation::Add { operands, .. } => self.emit_total(code, operands.as_slice()),
@@ -324,7 +360,8 @@ impl<'a> Emitter<'a> {
     fn emit_results(&self, code: &mut Code, keep: bool, one: &Operation) -> Result<(), AllocError>
         requires declared { IsDeclared self.now.declarations.now }
         requires rules { parts.results_rules (items_in self.now.declarations.now) one.now ≡ [] }
-        ensures { OnOk result (code.new ≡ append code.old (parts.results_fragment (items_in self.now.declarations.now) keep one.now code.old)) }
+        ensures { OnOk result (code.new ≡ append code.old
+            (parts.results_fragment (items_in self.now.declarations.now) keep one.now code.old)) }
     {
         match one {
             Operation::Add { receivers, .. } => {
@@ -364,7 +401,8 @@ impl<'a> Emitter<'a> {
     fn emit_operation(&self, code: &mut Code, keep: bool, one: &Operation) -> Result<(), AllocError>
         requires declared { IsDeclared self.now.declarations.now }
         requires rules { operation_rules (items_in self.now.declarations.now) one.now ≡ [] }
-        ensures { OnOk result (code.new ≡ append code.old (spec.operation_fragment (items_in self.now.declarations.now) keep one.now code.old)) }
+        ensures { OnOk result (code.new ≡ append code.old
+            (spec.operation_fragment (items_in self.now.declarations.now) keep one.now code.old)) }
     {
         self.emit_values(code, one)?;
         self.emit_results(code, keep, one)
@@ -379,7 +417,8 @@ impl<'a> Emitter<'a> {
     ) -> Result<(), AllocError>
         requires declared { IsDeclared self.now.declarations.now }
         requires rules { operation_rules (items_in self.now.declarations.now) one.now ≡ [] }
-        ensures { OnOk result (code.new ≡ append code.old (spec.arithmetic_fragment (items_in self.now.declarations.now) keep one.now code.old)) }
+        ensures { OnOk result (code.new ≡ append code.old
+            (spec.arithmetic_fragment (items_in self.now.declarations.now) keep one.now code.old)) }
     {
         emit_work(code, DataInstruction::ClearTruth)?;
         self.emit_operation(code, keep, one)

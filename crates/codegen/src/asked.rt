@@ -21,7 +21,7 @@ use crate::phrases::{emit_branch, emit_jump, emit_meeting};
 use crate::references::emit_works;
 use code_image::Code;
 use data_instructions::{DataInstruction, Test};
-use declarations::{AskedCondition, Question, ObjectRange};
+use declarations::{AskedCondition, ObjectRange, Question};
 use source_tree::{Choice, Object, Relation, Side, Subject, When};
 use std::alloc::AllocError;
 
@@ -34,8 +34,10 @@ impl<'a> Emitter<'a> {
     ) -> Result<(), AllocError>
         requires declared { IsDeclared self.now.declarations.now }
         requires entries { entry_rules self.now.declarations.now.storage.now ≡ [] }
-        requires rules { condition_rules (items_in self.now.declarations.now) (condition_meant one) ≡ [] }
-        ensures { OnOk result (code.new ≡ append code.old (spec.condition_fragment (items_in self.now.declarations.now) (condition_meant one.entry) code.old)) }
+        requires rules { condition_rules (items_in self.now.declarations.now) (condition_meant one)
+            ≡ [] }
+        ensures { OnOk result (code.new ≡ append code.old (spec.condition_fragment
+            (items_in self.now.declarations.now) (condition_meant one.entry) code.old)) }
     {
         match one {
             AskedCondition::Name { negated, reference } => {
@@ -55,9 +57,14 @@ impl<'a> Emitter<'a> {
         last: &Side,
     ) -> Result<(), AllocError>
         requires declared { IsDeclared self.now.declarations.now }
-        requires first { relation_rules (items_in self.now.declarations.now) value.now first.now ≡ [] }
-        requires last { relation_rules (items_in self.now.declarations.now) value.now last.now ≡ [] }
-        ensures { OnOk result (code.new ≡ append code.old (sequence (spec.relation_fragment (items_in self.now.declarations.now) value.now relation.GreaterOrEqual first.now) (spec.and_fragment (spec.relation_fragment (items_in self.now.declarations.now) value.now relation.LessOrEqual last.now)) code.old)) }
+        requires first { relation_rules (items_in self.now.declarations.now) value.now first.now
+            ≡ [] }
+        requires last { relation_rules (items_in self.now.declarations.now) value.now last.now
+            ≡ [] }
+        ensures { OnOk result (code.new ≡ append code.old (sequence (spec.relation_fragment
+            (items_in self.now.declarations.now) value.now relation.GreaterOrEqual first.now)
+            (spec.and_fragment (spec.relation_fragment (items_in self.now.declarations.now)
+            value.now relation.LessOrEqual last.now)) code.old)) }
     {
         self.emit_relation(code, value, Relation::GreaterOrEqual, first)?;
         let branch = emit_branch(code)?;
@@ -75,8 +82,11 @@ impl<'a> Emitter<'a> {
         last: &Option<Side>,
     ) -> Result<(), AllocError>
         requires declared { IsDeclared self.now.declarations.now }
-        requires rules { condition_rules (items_in self.now.declarations.now) (meaning.value_within value.now first.now last.now) ≡ [] }
-        ensures { OnOk result (code.new ≡ append code.old (spec.condition_fragment (items_in self.now.declarations.now) (meaning.value_within value.now first.now last.now) code.old)) }
+        requires rules { condition_rules (items_in self.now.declarations.now)
+            (meaning.value_within value.now first.now last.now) ≡ [] }
+        ensures { OnOk result (code.new
+            ≡ append code.old (spec.condition_fragment (items_in self.now.declarations.now)
+            (meaning.value_within value.now first.now last.now) code.old)) }
     {
         match last {
             None => self.emit_relation(code, value, Relation::Equal, first),
@@ -92,8 +102,11 @@ impl<'a> Emitter<'a> {
         wanted: ObjectRange<'_>,
     ) -> Result<(), AllocError>
         requires declared { IsDeclared self.now.declarations.now }
-        requires rules { condition_rules (items_in self.now.declarations.now) (meaning.value_condition value.now (values_meant wanted)) ≡ [] }
-        ensures { OnOk result (code.new ≡ append code.old (spec.condition_fragment (items_in self.now.declarations.now) (meaning.value_condition value.now (values_meant wanted.entry)) code.old)) }
+        requires rules { condition_rules (items_in self.now.declarations.now)
+            (meaning.value_condition value.now (values_meant wanted)) ≡ [] }
+        ensures { OnOk result (code.new
+            ≡ append code.old (spec.condition_fragment (items_in self.now.declarations.now)
+            (meaning.value_condition value.now (values_meant wanted.entry)) code.old)) }
     {
         self.emit_within(code, value, wanted.first, wanted.last)?;
         emit_negation(code, wanted.negated)
@@ -108,8 +121,11 @@ impl<'a> Emitter<'a> {
     ) -> Result<(), AllocError>
         requires declared { IsDeclared self.now.declarations.now }
         requires entries { entry_rules self.now.declarations.now.storage.now ≡ [] }
-        requires rules { condition_rules (items_in self.now.declarations.now) (condition_meant one) ≡ [] }
-        ensures { OnOk result (code.new ≡ append code.old (spec.condition_fragment (items_in self.now.declarations.now) (meaning.condition_or_opposite truth (condition_meant one.entry)) code.old)) }
+        requires rules { condition_rules (items_in self.now.declarations.now) (condition_meant one)
+            ≡ [] }
+        ensures { OnOk result (code.new
+            ≡ append code.old (spec.condition_fragment (items_in self.now.declarations.now)
+            (meaning.condition_or_opposite truth (condition_meant one.entry)) code.old)) }
     {
         self.emit_asked_condition(code, one)?;
         emit_negation(code, !truth)
@@ -125,9 +141,14 @@ impl<'a> Emitter<'a> {
     ) -> Result<(), AllocError>
         requires declared { IsDeclared self.now.declarations.now }
         requires entries { entry_rules self.now.declarations.now.storage.now ≡ [] }
-        requires one { condition_rules (items_in self.now.declarations.now) (condition_meant one) ≡ [] }
-        requires other { condition_rules (items_in self.now.declarations.now) (condition_meant other) ≡ [] }
-        ensures { OnOk result (code.new ≡ append code.old (spec.condition_fragment (items_in self.now.declarations.now) (All (meaning.condition_or_opposite truth (condition_meant one.entry) ∷ meaning.condition_or_opposite truth (condition_meant other.entry) ∷ [])) code.old)) }
+        requires one { condition_rules (items_in self.now.declarations.now) (condition_meant one)
+            ≡ [] }
+        requires other { condition_rules (items_in self.now.declarations.now)
+            (condition_meant other) ≡ [] }
+        ensures { OnOk result (code.new
+            ≡ append code.old (spec.condition_fragment (items_in self.now.declarations.now)
+            (All (meaning.condition_or_opposite truth (condition_meant one.entry)
+            ∷ meaning.condition_or_opposite truth (condition_meant other.entry) ∷ [])) code.old)) }
     {
         self.emit_told(code, truth, one)?;
         let branch = emit_branch(code)?;
@@ -145,9 +166,13 @@ impl<'a> Emitter<'a> {
     ) -> Result<(), AllocError>
         requires declared { IsDeclared self.now.declarations.now }
         requires entries { entry_rules self.now.declarations.now.storage.now ≡ [] }
-        requires one { condition_rules (items_in self.now.declarations.now) (condition_meant one) ≡ [] }
-        requires other { condition_rules (items_in self.now.declarations.now) (condition_meant other) ≡ [] }
-        ensures { OnOk result (code.new ≡ append code.old (spec.condition_fragment (items_in self.now.declarations.now) (meaning.alike (condition_meant one.entry) (condition_meant other.entry)) code.old)) }
+        requires one { condition_rules (items_in self.now.declarations.now) (condition_meant one)
+            ≡ [] }
+        requires other { condition_rules (items_in self.now.declarations.now)
+            (condition_meant other) ≡ [] }
+        ensures { OnOk result (code.new
+            ≡ append code.old (spec.condition_fragment (items_in self.now.declarations.now)
+            (meaning.alike (condition_meant one.entry) (condition_meant other.entry)) code.old)) }
     {
         self.emit_both_told(code, true, one, other)?;
         let branch = emit_branch(code)?;
@@ -158,7 +183,9 @@ impl<'a> Emitter<'a> {
 
     /// Whether two truths are the same.
     fn emit_truths(&self, code: &mut Code, one: bool, other: bool) -> Result<(), AllocError>
-        ensures { OnOk result (code.new ≡ append code.old (spec.condition_fragment (items_in self.now.declarations.now) (meaning.condition_or_opposite one (meaning.constant other)) code.old)) }
+        ensures { OnOk result (code.new
+            ≡ append code.old (spec.condition_fragment (items_in self.now.declarations.now)
+            (meaning.condition_or_opposite one (meaning.constant other)) code.old)) }
     {
         emit_constant(code, other)?;
         emit_negation(code, !one)
@@ -168,8 +195,10 @@ impl<'a> Emitter<'a> {
     fn emit_question(&self, code: &mut Code, one: Question<'_>) -> Result<(), AllocError>
         requires declared { IsDeclared self.now.declarations.now }
         requires entries { entry_rules self.now.declarations.now.storage.now ≡ [] }
-        requires rules { condition_rules (items_in self.now.declarations.now) (question_meant one) ≡ [] }
-        ensures { OnOk result (code.new ≡ append code.old (spec.condition_fragment (items_in self.now.declarations.now) (question_meant one.entry) code.old)) }
+        requires rules { condition_rules (items_in self.now.declarations.now) (question_meant one)
+            ≡ [] }
+        ensures { OnOk result (code.new ≡ append code.old (spec.condition_fragment
+            (items_in self.now.declarations.now) (question_meant one.entry) code.old)) }
     {
         match one {
             Question::Nothing => emit_constant(code, true),
@@ -190,8 +219,12 @@ impl<'a> Emitter<'a> {
     ) -> Result<(), AllocError>
         requires declared { IsDeclared self.now.declarations.now }
         requires entries { entry_rules self.now.declarations.now.storage.now ≡ [] }
-        requires rules { condition_rules (items_in self.now.declarations.now) (meaning.selection_condition (items_in self.now.declarations.now) subject.now choice.now) ≡ [] }
-        ensures { OnOk result (code.new ≡ append code.old (spec.condition_fragment (items_in self.now.declarations.now) (meaning.selection_condition (items_in self.now.declarations.now) subject.now choice.now) code.old)) }
+        requires rules { condition_rules (items_in self.now.declarations.now)
+            (meaning.selection_condition (items_in self.now.declarations.now) subject.now
+            choice.now) ≡ [] }
+        ensures { OnOk result (code.new ≡ append code.old (spec.condition_fragment
+            (items_in self.now.declarations.now) (meaning.selection_condition
+            (items_in self.now.declarations.now) subject.now choice.now) code.old)) }
     {
         let question = self.declarations.question(subject, choice);
         self.emit_question(code, question)
@@ -206,8 +239,13 @@ impl<'a> Emitter<'a> {
     ) -> Result<(), AllocError>
         requires declared { IsDeclared self.now.declarations.now }
         requires entries { entry_rules self.now.declarations.now.storage.now ≡ [] }
-        requires rules { condition_rules (items_in self.now.declarations.now) (meaning.selection_condition (items_in self.now.declarations.now) subject.now choice.now) ≡ [] }
-        ensures { OnOk result (code.new ≡ append code.old (spec.and_fragment (spec.condition_fragment (items_in self.now.declarations.now) (meaning.selection_condition (items_in self.now.declarations.now) subject.now choice.now)) code.old)) }
+        requires rules { condition_rules (items_in self.now.declarations.now)
+            (meaning.selection_condition (items_in self.now.declarations.now) subject.now
+            choice.now) ≡ [] }
+        ensures { OnOk result
+            (code.new ≡ append code.old (spec.and_fragment (spec.condition_fragment
+            (items_in self.now.declarations.now) (meaning.selection_condition
+            (items_in self.now.declarations.now) subject.now choice.now)) code.old)) }
     {
         let branch = emit_branch(code)?;
         self.emit_asked(code, subject, choice)?;
@@ -224,8 +262,13 @@ impl<'a> Emitter<'a> {
     ) -> Result<(), AllocError>
         requires declared { IsDeclared self.now.declarations.now }
         requires entries { entry_rules self.now.declarations.now.storage.now ≡ [] }
-        requires rules { each (condition_rules (items_in self.now.declarations.now)) (meaning.object_conditions (items_in self.now.declarations.now) subjects.now objects.now) ≡ [] }
-        ensures { OnOk result (code.new ≡ append code.old (in_order (λ (one : Condition). spec.and_fragment (spec.condition_fragment (items_in self.now.declarations.now) one)) (meaning.object_conditions (items_in self.now.declarations.now) subjects.now objects.now) code.old)) }
+        requires rules { each (condition_rules (items_in self.now.declarations.now))
+            (meaning.object_conditions (items_in self.now.declarations.now) subjects.now
+            objects.now) ≡ [] }
+        ensures { OnOk result (code.new ≡ append code.old (in_order (λ (one : Condition).
+            spec.and_fragment (spec.condition_fragment (items_in self.now.declarations.now) one))
+            (meaning.object_conditions (items_in self.now.declarations.now) subjects.now
+            objects.now) code.old)) }
     {
         let mut asking = subjects;
         let mut rest = objects;
@@ -249,8 +292,12 @@ impl<'a> Emitter<'a> {
     ) -> Result<(), AllocError>
         requires declared { IsDeclared self.now.declarations.now }
         requires entries { entry_rules self.now.declarations.now.storage.now ≡ [] }
-        requires rules { each (condition_rules (items_in self.now.declarations.now)) (meaning.object_conditions (items_in self.now.declarations.now) subjects.now objects.now) ≡ [] }
-        ensures { OnOk result (code.new ≡ append code.old (spec.condition_fragment (items_in self.now.declarations.now) (All (meaning.object_conditions (items_in self.now.declarations.now) subjects.now objects.now)) code.old)) }
+        requires rules { each (condition_rules (items_in self.now.declarations.now))
+            (meaning.object_conditions (items_in self.now.declarations.now) subjects.now
+            objects.now) ≡ [] }
+        ensures { OnOk result (code.new ≡ append code.old (spec.condition_fragment
+            (items_in self.now.declarations.now) (All (meaning.object_conditions
+            (items_in self.now.declarations.now) subjects.now objects.now)) code.old)) }
     {
         let Some((subject, subjects)) = subjects.split_first() else {
             return emit_constant(code, true);
@@ -271,8 +318,12 @@ impl<'a> Emitter<'a> {
     ) -> Result<(), AllocError>
         requires declared { IsDeclared self.now.declarations.now }
         requires entries { entry_rules self.now.declarations.now.storage.now ≡ [] }
-        requires rules { each (condition_rules (items_in self.now.declarations.now)) (meaning.object_conditions (items_in self.now.declarations.now) subjects.now one.now.objects) ≡ [] }
-        ensures { OnOk result (code.new ≡ append code.old (spec.or_fragment (spec.condition_fragment (items_in self.now.declarations.now) (meaning.when_condition (items_in self.now.declarations.now) subjects.now one.now)) code.old)) }
+        requires rules { each (condition_rules (items_in self.now.declarations.now))
+            (meaning.object_conditions (items_in self.now.declarations.now) subjects.now
+            one.now.objects) ≡ [] }
+        ensures { OnOk result (code.new ≡ append code.old (spec.or_fragment
+            (spec.condition_fragment (items_in self.now.declarations.now) (meaning.when_condition
+            (items_in self.now.declarations.now) subjects.now one.now)) code.old)) }
     {
         let branch = emit_branch(code)?;
         let other = emit_jump(code)?;
@@ -289,8 +340,13 @@ impl<'a> Emitter<'a> {
     ) -> Result<(), AllocError>
         requires declared { IsDeclared self.now.declarations.now }
         requires entries { entry_rules self.now.declarations.now.storage.now ≡ [] }
-        requires rules { each (λ (one : When). each (condition_rules (items_in self.now.declarations.now)) (meaning.object_conditions (items_in self.now.declarations.now) subjects.now one.objects)) more.now ≡ [] }
-        ensures { OnOk result (code.new ≡ append code.old (in_order (λ (one : When). spec.or_fragment (spec.condition_fragment (items_in self.now.declarations.now) (meaning.when_condition (items_in self.now.declarations.now) subjects.now one))) more.now code.old)) }
+        requires rules { each (λ (one : When).
+            each (condition_rules (items_in self.now.declarations.now)) (meaning.object_conditions
+            (items_in self.now.declarations.now) subjects.now one.objects)) more.now ≡ [] }
+        ensures { OnOk result
+            (code.new ≡ append code.old (in_order (λ (one : When). spec.or_fragment
+            (spec.condition_fragment (items_in self.now.declarations.now) (meaning.when_condition
+            (items_in self.now.declarations.now) subjects.now one))) more.now code.old)) }
     {
         for one in more {
             self.emit_or_when(code, subjects, one)?;
@@ -307,8 +363,12 @@ impl<'a> Emitter<'a> {
     ) -> Result<(), AllocError>
         requires declared { IsDeclared self.now.declarations.now }
         requires entries { entry_rules self.now.declarations.now.storage.now ≡ [] }
-        requires rules { each (λ (one : When). each (condition_rules (items_in self.now.declarations.now)) (meaning.object_conditions (items_in self.now.declarations.now) subjects.now one.objects)) whens.now ≡ [] }
-        ensures { OnOk result (code.new ≡ append code.old (spec.condition_fragment (items_in self.now.declarations.now) (Any (meaning.when_conditions (items_in self.now.declarations.now) subjects.now whens.now)) code.old)) }
+        requires rules { each (λ (one : When).
+            each (condition_rules (items_in self.now.declarations.now)) (meaning.object_conditions
+            (items_in self.now.declarations.now) subjects.now one.objects)) whens.now ≡ [] }
+        ensures { OnOk result (code.new ≡ append code.old (spec.condition_fragment
+            (items_in self.now.declarations.now) (Any (meaning.when_conditions
+            (items_in self.now.declarations.now) subjects.now whens.now)) code.old)) }
     {
         let Some((first, more)) = whens.split_first() else {
             return emit_constant(code, false);

@@ -86,7 +86,8 @@ pub(crate) fn zero_literal() -> Literal
 
 /// NOT behind a test.
 pub(crate) fn emit_negation(code: &mut Code, negated: bool) -> Result<(), AllocError>
-    ensures { OnOk result (code.new ≡ append code.old (works_fragment (negation negated) code.old)) }
+    ensures { OnOk result
+        (code.new ≡ append code.old (works_fragment (negation negated) code.old)) }
 {
     if !negated {
         return Ok(());
@@ -103,7 +104,8 @@ impl<'a> Emitter<'a> {
         one: &Literal,
     ) -> Result<(), AllocError>
         requires { has_form one.now.value ≡ true }
-        ensures { OnOk result (code.new ≡ append code.old (spec.compared_fragment (items_in self.now.declarations.now) relation (operand.Literal one.now) code.old)) }
+        ensures { OnOk result (code.new ≡ append code.old (spec.compared_fragment
+            (items_in self.now.declarations.now) relation (operand.Literal one.now) code.old)) }
     {
         let literal = put_sender(self.alloc, code, &one.value)?;
         emit_work(
@@ -116,7 +118,8 @@ impl<'a> Emitter<'a> {
     fn emit_taken(&self, code: &mut Code, one: Alone<'_>) -> Result<(), AllocError>
         requires declared { IsDeclared self.now.declarations.now }
         requires rules { operand_rules (items_in self.now.declarations.now) (operand_of one) ≡ [] }
-        ensures { OnOk result (code.new ≡ append code.old (sender_fragment (items_in self.now.declarations.now) (operand_of one.entry) code.old)) }
+        ensures { OnOk result (code.new ≡ append code.old (sender_fragment
+            (items_in self.now.declarations.now) (operand_of one.entry) code.old)) }
     {
         match one {
             Alone::Item(reference) => self.emit_taking(code, DataInstruction::Take, reference),
@@ -133,7 +136,8 @@ impl<'a> Emitter<'a> {
     ) -> Result<(), AllocError>
         requires declared { IsDeclared self.now.declarations.now }
         requires rules { operand_rules (items_in self.now.declarations.now) (operand_of one) ≡ [] }
-        ensures { OnOk result (code.new ≡ append code.old (spec.compared_fragment (items_in self.now.declarations.now) relation (operand_of one.entry) code.old)) }
+        ensures { OnOk result (code.new ≡ append code.old (spec.compared_fragment
+            (items_in self.now.declarations.now) relation (operand_of one.entry) code.old)) }
     {
         match one {
             Alone::Item(reference) => {
@@ -148,7 +152,8 @@ impl<'a> Emitter<'a> {
     fn emit_number_alone(&self, code: &mut Code, one: Alone<'_>) -> Result<(), AllocError>
         requires declared { IsDeclared self.now.declarations.now }
         requires rules { operand_rules (items_in self.now.declarations.now) (operand_of one) ≡ [] }
-        ensures { OnOk result (code.new ≡ append code.old (value_fragment (items_in self.now.declarations.now) (operand_of one.entry) code.old)) }
+        ensures { OnOk result (code.new ≡ append code.old
+            (value_fragment (items_in self.now.declarations.now) (operand_of one.entry) code.old)) }
     {
         match one {
             Alone::Item(reference) => self.emit_taking(code, DataInstruction::Push, reference),
@@ -160,7 +165,8 @@ impl<'a> Emitter<'a> {
     fn emit_side(&self, code: &mut Code, side: &Side) -> Result<(), AllocError>
         requires declared { IsDeclared self.now.declarations.now }
         requires rules { side_rules (items_in self.now.declarations.now) side.now ≡ [] }
-        ensures { OnOk result (code.new ≡ append code.old (spec.side_fragment (items_in self.now.declarations.now) side.now code.old)) }
+        ensures { OnOk result (code.new ≡ append code.old
+            (spec.side_fragment (items_in self.now.declarations.now) side.now code.old)) }
     {
         if let Some(one) = alone_side(side) {
             return self.emit_number_alone(code, one);
@@ -182,7 +188,8 @@ impl<'a> Emitter<'a> {
         requires declared { IsDeclared self.now.declarations.now }
         requires left { side_rules (items_in self.now.declarations.now) left.now ≡ [] }
         requires right { side_rules (items_in self.now.declarations.now) right.now ≡ [] }
-        ensures { OnOk result (code.new ≡ append code.old (spec.numbers_fragment (items_in self.now.declarations.now) left.now relation right.now code.old)) }
+        ensures { OnOk result (code.new ≡ append code.old (spec.numbers_fragment
+            (items_in self.now.declarations.now) left.now relation right.now code.old)) }
     {
         self.emit_side(code, left)?;
         self.emit_side(code, right)?;
@@ -202,8 +209,11 @@ impl<'a> Emitter<'a> {
     ) -> Result<(), AllocError>
         requires declared { IsDeclared self.now.declarations.now }
         requires left { operand_rules (items_in self.now.declarations.now) (operand_of one) ≡ [] }
-        requires right { operand_rules (items_in self.now.declarations.now) (operand_of other) ≡ [] }
-        ensures { OnOk result (code.new ≡ append code.old (spec.pair_fragment (items_in self.now.declarations.now) (operand_of one.entry) relation (operand_of other.entry) code.old)) }
+        requires right { operand_rules (items_in self.now.declarations.now) (operand_of other)
+            ≡ [] }
+        ensures { OnOk result
+            (code.new ≡ append code.old (spec.pair_fragment (items_in self.now.declarations.now)
+            (operand_of one.entry) relation (operand_of other.entry) code.old)) }
     {
         self.emit_taken(code, one)?;
         self.emit_compared(code, relation, other)
@@ -213,7 +223,9 @@ impl<'a> Emitter<'a> {
     fn emit_look(&self, code: &mut Code, one: Alone<'_>) -> Result<(), AllocError>
         requires declared { IsDeclared self.now.declarations.now }
         requires rules { operand_rules (items_in self.now.declarations.now) (operand_of one) ≡ [] }
-        ensures { OnOk result (code.new ≡ append code.old (spec.pair_fragment (items_in self.now.declarations.now) (operand_of one.entry) relation.Equal (operand.Literal spec.zero_literal) code.old)) }
+        ensures { OnOk result
+            (code.new ≡ append code.old (spec.pair_fragment (items_in self.now.declarations.now)
+            (operand_of one.entry) relation.Equal (operand.Literal spec.zero_literal) code.old)) }
     {
         let zero = zero_literal();
         self.emit_pair_compared(code, one, Relation::Equal, Alone::Literal(&zero))
@@ -222,7 +234,8 @@ impl<'a> Emitter<'a> {
     /// An operand alone is a numeric item.
     pub(crate) fn is_numeric_operand(&self, one: Alone<'_>) -> bool
         requires { IsDeclared self.now.declarations.now }
-        ensures { result ≡ spec.is_numeric_operand (items_in self.now.declarations.now) (operand_of one.entry) }
+        ensures { result
+            ≡ spec.is_numeric_operand (items_in self.now.declarations.now) (operand_of one.entry) }
     {
         let Alone::Item(reference) = one else {
             return false;
@@ -241,7 +254,8 @@ impl<'a> Emitter<'a> {
     /// An operand alone is a literal, or an item without subscripts.
     pub(crate) fn is_operand_at_hand(&self, one: Alone<'_>) -> bool
         requires { IsDeclared self.now.declarations.now }
-        ensures { result ≡ spec.is_operand_at_hand (items_in self.now.declarations.now) (operand_of one.entry) }
+        ensures { result
+            ≡ spec.is_operand_at_hand (items_in self.now.declarations.now) (operand_of one.entry) }
     {
         let Alone::Item(reference) = one else {
             return true;
@@ -267,8 +281,10 @@ impl<'a> Emitter<'a> {
         right: &Side,
     ) -> Result<(), AllocError>
         requires declared { IsDeclared self.now.declarations.now }
-        requires rules { relation_rules (items_in self.now.declarations.now) left.now right.now ≡ [] }
-        ensures { OnOk result (code.new ≡ append code.old (spec.relation_fragment (items_in self.now.declarations.now) left.now relation right.now code.old)) }
+        requires rules { relation_rules (items_in self.now.declarations.now) left.now right.now
+            ≡ [] }
+        ensures { OnOk result (code.new ≡ append code.old (spec.relation_fragment
+            (items_in self.now.declarations.now) left.now relation right.now code.old)) }
     {
         let Some(one) = alone_side(left) else {
             return self.emit_numbers_compared(code, left, relation, right);
@@ -295,7 +311,10 @@ impl<'a> Emitter<'a> {
     ) -> Result<(), AllocError>
         requires declared { IsDeclared self.now.declarations.now }
         requires rules { expression_rules (items_in self.now.declarations.now) value.now ≡ [] }
-        ensures { OnOk result (code.new ≡ append code.old (sequence (expression_fragment (items_in self.now.declarations.now) value.now) (sequence (number_fragment zero_number) (work_fragment (i.Test (t.CompareNumbers (meaning.sign_relation sign negated))))) code.old)) }
+        ensures { OnOk result (code.new ≡ append
+            code.old (sequence (expression_fragment (items_in self.now.declarations.now) value.now)
+            (sequence (number_fragment zero_number) (work_fragment
+            (i.Test (t.CompareNumbers (meaning.sign_relation sign negated))))) code.old)) }
     {
         self.emit_expression(code, value)?;
         emit_number(code, Dec::short(0, 0))?;
@@ -315,8 +334,11 @@ impl<'a> Emitter<'a> {
         class: Class,
     ) -> Result<(), AllocError>
         requires declared { IsDeclared self.now.declarations.now }
-        requires rules { reference_rules (items_in self.now.declarations.now) any_item item.now ≡ [] }
-        ensures { OnOk result (code.new ≡ append code.old (sequence (take_fragment (items_in self.now.declarations.now) (i.Test (t.Class class)) item.now) (works_fragment (negation negated)) code.old)) }
+        requires rules { reference_rules (items_in self.now.declarations.now) any_item item.now
+            ≡ [] }
+        ensures { OnOk result (code.new
+            ≡ append code.old (sequence (take_fragment (items_in self.now.declarations.now)
+            (i.Test (t.Class class)) item.now) (works_fragment (negation negated)) code.old)) }
     {
         self.emit_taking(code, DataInstruction::Test(Test::Class { class }), item)?;
         emit_negation(code, negated)
@@ -328,7 +350,8 @@ impl<'a> Emitter<'a> {
         requires declared { IsDeclared self.now.declarations.now }
         requires entries { entry_rules self.now.declarations.now.storage.now ≡ [] }
         requires rules { condition_rules (items_in self.now.declarations.now) one.now ≡ [] }
-        ensures { OnOk result (code.new ≡ append code.old (spec.condition_fragment (items_in self.now.declarations.now) one.now code.old)) }
+        ensures { OnOk result (code.new ≡ append code.old
+            (spec.condition_fragment (items_in self.now.declarations.now) one.now code.old)) }
     {
         match one {
             Condition::Name(reference) => self.emit_condition_name(code, reference),
@@ -361,8 +384,10 @@ impl<'a> Emitter<'a> {
     fn emit_all(&self, code: &mut Code, parts: &[Condition]) -> Result<(), AllocError>
         requires declared { IsDeclared self.now.declarations.now }
         requires entries { entry_rules self.now.declarations.now.storage.now ≡ [] }
-        requires rules { each (condition_rules (items_in self.now.declarations.now)) parts.now ≡ [] }
-        ensures { OnOk result (code.new ≡ append code.old (spec.all_fragment (map (spec.condition_fragment (items_in self.now.declarations.now)) parts.now) code.old)) }
+        requires rules { each (condition_rules (items_in self.now.declarations.now)) parts.now
+            ≡ [] }
+        ensures { OnOk result (code.new ≡ append code.old (spec.all_fragment (map
+            (spec.condition_fragment (items_in self.now.declarations.now)) parts.now) code.old)) }
     {
         let Some((first, more)) = parts.split_first() else {
             return emit_works(
@@ -382,8 +407,10 @@ impl<'a> Emitter<'a> {
     fn emit_any(&self, code: &mut Code, parts: &[Condition]) -> Result<(), AllocError>
         requires declared { IsDeclared self.now.declarations.now }
         requires entries { entry_rules self.now.declarations.now.storage.now ≡ [] }
-        requires rules { each (condition_rules (items_in self.now.declarations.now)) parts.now ≡ [] }
-        ensures { OnOk result (code.new ≡ append code.old (spec.any_fragment (map (spec.condition_fragment (items_in self.now.declarations.now)) parts.now) code.old)) }
+        requires rules { each (condition_rules (items_in self.now.declarations.now)) parts.now
+            ≡ [] }
+        ensures { OnOk result (code.new ≡ append code.old (spec.any_fragment (map
+            (spec.condition_fragment (items_in self.now.declarations.now)) parts.now) code.old)) }
     {
         let Some((first, more)) = parts.split_first() else {
             return emit_works(code, &[DataInstruction::ClearTruth]);
@@ -398,7 +425,9 @@ impl<'a> Emitter<'a> {
         requires declared { IsDeclared self.now.declarations.now }
         requires entries { entry_rules self.now.declarations.now.storage.now ≡ [] }
         requires rules { each (condition_rules (items_in self.now.declarations.now)) more.now ≡ [] }
-        ensures { OnOk result (code.new ≡ append code.old (in_order (λ (one : Condition). spec.and_fragment (spec.condition_fragment (items_in self.now.declarations.now) one)) more.now code.old)) }
+        ensures { OnOk result (code.new ≡ append code.old (in_order (λ (one : Condition).
+            spec.and_fragment (spec.condition_fragment (items_in self.now.declarations.now) one))
+            more.now code.old)) }
     {
         for one in more {
             self.emit_and(code, one)?;
@@ -412,7 +441,9 @@ impl<'a> Emitter<'a> {
         requires declared { IsDeclared self.now.declarations.now }
         requires entries { entry_rules self.now.declarations.now.storage.now ≡ [] }
         requires rules { each (condition_rules (items_in self.now.declarations.now)) more.now ≡ [] }
-        ensures { OnOk result (code.new ≡ append code.old (in_order (λ (one : Condition). spec.or_fragment (spec.condition_fragment (items_in self.now.declarations.now) one)) more.now code.old)) }
+        ensures { OnOk result (code.new ≡ append code.old (in_order (λ (one : Condition).
+            spec.or_fragment (spec.condition_fragment (items_in self.now.declarations.now) one))
+            more.now code.old)) }
     {
         for one in more {
             self.emit_or(code, one)?;
@@ -426,7 +457,8 @@ impl<'a> Emitter<'a> {
         requires declared { IsDeclared self.now.declarations.now }
         requires entries { entry_rules self.now.declarations.now.storage.now ≡ [] }
         requires rules { condition_rules (items_in self.now.declarations.now) one.now ≡ [] }
-        ensures { OnOk result (code.new ≡ append code.old (spec.and_fragment (spec.condition_fragment (items_in self.now.declarations.now) one.now) code.old)) }
+        ensures { OnOk result (code.new ≡ append code.old (spec.and_fragment
+            (spec.condition_fragment (items_in self.now.declarations.now) one.now) code.old)) }
     {
         let branch = emit_branch(code)?;
         self.emit_condition(code, one)?;
@@ -440,7 +472,8 @@ impl<'a> Emitter<'a> {
         requires declared { IsDeclared self.now.declarations.now }
         requires entries { entry_rules self.now.declarations.now.storage.now ≡ [] }
         requires rules { condition_rules (items_in self.now.declarations.now) one.now ≡ [] }
-        ensures { OnOk result (code.new ≡ append code.old (spec.or_fragment (spec.condition_fragment (items_in self.now.declarations.now) one.now) code.old)) }
+        ensures { OnOk result (code.new ≡ append code.old (spec.or_fragment
+            (spec.condition_fragment (items_in self.now.declarations.now) one.now) code.old)) }
     {
         let branch = emit_branch(code)?;
         let other = emit_jump(code)?;

@@ -32,7 +32,8 @@ impl<'a> Emitter<'a> {
     /// The item of the condition name that a name names.
     pub(crate) fn condition_item(&self, name: &QualifiedName) -> Result<ItemIndex, AllocError>
         requires { IsDeclared self.now.declarations.now }
-        ensures { IfOk result (λ index. index ≡ spec.condition_item (items_in self.now.declarations.now) name.now) }
+        ensures { IfOk result
+            (λ index. index ≡ spec.condition_item (items_in self.now.declarations.now) name.now) }
     {
         let number = self.condition_number(name);
         let item = match self.declarations.conditions.conditions.get(number) {
@@ -64,7 +65,8 @@ impl<'a> Emitter<'a> {
         requires declared { IsDeclared self.now.declarations.now }
         requires entries { entry_rules self.now.declarations.now.storage.now ≡ [] }
         requires rules { condition_name_rules (items_in self.now.declarations.now) one.now ≡ [] }
-        ensures { OnOk result (code.new ≡ append code.old (spec.condition_name_fragment (items_in self.now.declarations.now) one.now code.old)) }
+        ensures { OnOk result (code.new ≡ append code.old
+            (spec.condition_name_fragment (items_in self.now.declarations.now) one.now code.old)) }
     {
         let item = self.condition_item(&one.item)?;
         emit_work(code, DataInstruction::Place { item })?;
@@ -78,7 +80,8 @@ impl<'a> Emitter<'a> {
 /// The sender compared with a value, where it is one alone; else with what lies from it to the last one.
 fn emit_range(alloc: Global, code: &mut Code, one: &ValueRange) -> Result<(), AllocError>
     requires { HasForms one.now.first one.now.last }
-    ensures { OnOk result (code.new ≡ append code.old (spec.value_range_fragment one.now code.old)) }
+    ensures { OnOk result
+        (code.new ≡ append code.old (spec.value_range_fragment one.now code.old)) }
 {
     let first = put_sender(alloc, code, &one.first.value)?;
     let Some(last) = &one.last else {

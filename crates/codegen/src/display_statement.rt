@@ -49,7 +49,8 @@ impl<'a> Emitter<'a> {
     fn emit_operand(&self, code: &mut Code, one: &Operand) -> Result<(), AllocError>
         requires declared { IsDeclared self.now.declarations.now }
         requires rules { shown_rules (items_in self.now.declarations.now) one.now ≡ [] }
-        ensures { OnOk result (code.new ≡ append code.old (spec.operand_fragment (items_in self.now.declarations.now) one.now code.old)) }
+        ensures { OnOk result (code.new ≡ append code.old
+            (spec.operand_fragment (items_in self.now.declarations.now) one.now code.old)) }
     {
         match one {
             Operand::Item(reference) => self.emit_taking(code, DataInstruction::Append, reference),
@@ -63,7 +64,8 @@ impl<'a> Emitter<'a> {
     fn emit_operands(&self, code: &mut Code, all: &[Operand]) -> Result<(), AllocError>
         requires declared { IsDeclared self.now.declarations.now }
         requires rules { display_rules (items_in self.now.declarations.now) all.now ≡ [] }
-        ensures { OnOk result (code.new ≡ append code.old (spec.operands_fragment (items_in self.now.declarations.now) all.now code.old)) }
+        ensures { OnOk result (code.new ≡ append code.old
+            (spec.operands_fragment (items_in self.now.declarations.now) all.now code.old)) }
     {
         for one in all {
             self.emit_operand(code, one)?;
@@ -80,7 +82,8 @@ impl<'a> Emitter<'a> {
     ) -> Result<(), AllocError>
         requires declared { IsDeclared self.now.declarations.now }
         requires rules { display_rules (items_in self.now.declarations.now) operands.now ≡ [] }
-        ensures { OnOk result (code.new ≡ append code.old (spec.display_fragment (items_in self.now.declarations.now) operands.now advancing code.old)) }
+        ensures { OnOk result (code.new ≡ append code.old (spec.display_fragment
+            (items_in self.now.declarations.now) operands.now advancing code.old)) }
     {
         self.emit_operands(code, operands)?;
         emit_line_end(self.alloc, code, advancing)?;

@@ -75,7 +75,8 @@ fn emit_back(code: &mut Code, number: usize) -> Result<(), AllocError>
 
 /// The code paragraph of a section without paragraphs.
 fn emit_nothing(code: &mut Code) -> Result<(), AllocError>
-    ensures { OnOk result (code.new ≡ append code.old (append (start_fragment code.old) (back_fragment (length code.old.starts) code.old))) }
+    ensures { OnOk result (code.new ≡ append code.old
+        (append (start_fragment code.old) (back_fragment (length code.old.starts) code.old))) }
 {
     let number = code.starts.len();
     emit_start(code)?;
@@ -88,7 +89,8 @@ impl<'a> Emitter<'a> {
         requires declared { IsDeclared self.now.declarations.now }
         requires entries { entry_rules self.now.declarations.now.storage.now ≡ [] }
         requires rules { rules.moving_rules (items_in self.now.declarations.now) one.now ≡ [] }
-        ensures { OnOk result (code.new ≡ append code.old (sequence (tick_fragment line) (data_fragment (items_in self.now.declarations.now) one.now) code.old)) }
+        ensures { OnOk result (code.new ≡ append code.old (sequence (tick_fragment line)
+            (data_fragment (items_in self.now.declarations.now) one.now) code.old)) }
     {
         emit_tick(code, line)?;
         match one {
@@ -107,7 +109,8 @@ impl<'a> Emitter<'a> {
     fn emit_texts(&self, code: &mut Code, line: u32, one: &TextStatement) -> Result<(), AllocError>
         requires declared { IsDeclared self.now.declarations.now }
         requires rules { rules.text_rules (items_in self.now.declarations.now) one.now ≡ [] }
-        ensures { OnOk result (code.new ≡ append code.old (sequence (tick_fragment line) (texts_fragment (items_in self.now.declarations.now) one.now) code.old)) }
+        ensures { OnOk result (code.new ≡ append code.old (sequence (tick_fragment line)
+            (texts_fragment (items_in self.now.declarations.now) one.now) code.old)) }
     {
         emit_tick(code, line)?;
         match one {
@@ -127,8 +130,10 @@ impl<'a> Emitter<'a> {
     fn emit_statement(&self, code: &mut Code, one: &Statement) -> Result<(), AllocError>
         requires declared { IsDeclared self.now.declarations.now }
         requires entries { entry_rules self.now.declarations.now.storage.now ≡ [] }
-        requires rules { rules.statement_rules (scope_in self.now.declarations.now) all_permitted one.now ≡ [] }
-        ensures { OnOk result (code.new ≡ append code.old (statement_fragment (scope_in self.now.declarations.now) one.now code.old)) }
+        requires rules { rules.statement_rules (scope_in self.now.declarations.now) all_permitted
+            one.now ≡ [] }
+        ensures { OnOk result (code.new ≡ append code.old
+            (statement_fragment (scope_in self.now.declarations.now) one.now code.old)) }
     {
         let line = one.place.line;
         match &one.verb {
@@ -153,10 +158,15 @@ impl<'a> Emitter<'a> {
     ) -> Result<(), AllocError>
         requires declared { IsDeclared self.now.declarations.now }
         requires entries { entry_rules self.now.declarations.now.storage.now ≡ [] }
-        requires operation { operation_rules (items_in self.now.declarations.now) one.now.operation ≡ [] }
-        requires arose { rules.phrase_rules (rules.statement_rules (scope_in self.now.declarations.now) all_permitted) one.now.phrases.arose ≡ [] }
-        requires did_not { rules.phrase_rules (rules.statement_rules (scope_in self.now.declarations.now) all_permitted) one.now.phrases.did_not ≡ [] }
-        ensures { OnOk result (code.new ≡ append code.old (arithmetic_statement_fragment (scope_in self.now.declarations.now) (statement_fragment (scope_in self.now.declarations.now)) line one.now code.old)) }
+        requires operation { operation_rules (items_in self.now.declarations.now) one.now.operation
+            ≡ [] }
+        requires arose { rules.phrase_rules (rules.statement_rules
+            (scope_in self.now.declarations.now) all_permitted) one.now.phrases.arose ≡ [] }
+        requires did_not { rules.phrase_rules (rules.statement_rules
+            (scope_in self.now.declarations.now) all_permitted) one.now.phrases.did_not ≡ [] }
+        ensures { OnOk result (code.new
+            ≡ append code.old (arithmetic_statement_fragment (scope_in self.now.declarations.now)
+            (statement_fragment (scope_in self.now.declarations.now)) line one.now code.old)) }
     {
         emit_tick(code, line)?;
         self.emit_arithmetic(code, one.phrases.arose.is_some(), &one.operation)?;
@@ -172,9 +182,13 @@ impl<'a> Emitter<'a> {
     ) -> Result<(), AllocError>
         requires declared { IsDeclared self.now.declarations.now }
         requires entries { entry_rules self.now.declarations.now.storage.now ≡ [] }
-        requires arose { rules.phrase_rules (rules.statement_rules (scope_in self.now.declarations.now) all_permitted) one.now.arose ≡ [] }
-        requires did_not { rules.phrase_rules (rules.statement_rules (scope_in self.now.declarations.now) all_permitted) one.now.did_not ≡ [] }
-        ensures { OnOk result (code.new ≡ append code.old (phrases_fragment (scope_in self.now.declarations.now) (statement_fragment (scope_in self.now.declarations.now)) one.now code.old)) }
+        requires arose { rules.phrase_rules (rules.statement_rules
+            (scope_in self.now.declarations.now) all_permitted) one.now.arose ≡ [] }
+        requires did_not { rules.phrase_rules (rules.statement_rules
+            (scope_in self.now.declarations.now) all_permitted) one.now.did_not ≡ [] }
+        ensures { OnOk result
+            (code.new ≡ append code.old (phrases_fragment (scope_in self.now.declarations.now)
+            (statement_fragment (scope_in self.now.declarations.now)) one.now code.old)) }
     {
         if !has_phrase(one) {
             return Ok(());
@@ -195,8 +209,11 @@ impl<'a> Emitter<'a> {
     ) -> Result<(), AllocError>
         requires declared { IsDeclared self.now.declarations.now }
         requires entries { entry_rules self.now.declarations.now.storage.now ≡ [] }
-        requires rules { rules.phrase_rules (rules.statement_rules (scope_in self.now.declarations.now) all_permitted) one.now ≡ [] }
-        ensures { OnOk result (code.new ≡ append code.old (phrase_fragment (scope_in self.now.declarations.now) (statement_fragment (scope_in self.now.declarations.now)) one.now code.old)) }
+        requires rules { rules.phrase_rules (rules.statement_rules
+            (scope_in self.now.declarations.now) all_permitted) one.now ≡ [] }
+        ensures { OnOk
+            result (code.new ≡ append code.old (phrase_fragment (scope_in self.now.declarations.now)
+            (statement_fragment (scope_in self.now.declarations.now)) one.now code.old)) }
     {
         match one {
             None => Ok(()),
@@ -214,8 +231,12 @@ impl<'a> Emitter<'a> {
     ) -> Result<(), AllocError>
         requires declared { IsDeclared self.now.declarations.now }
         requires entries { entry_rules self.now.declarations.now.storage.now ≡ [] }
-        requires rules { rules.branching_rules (items_in self.now.declarations.now) (rules.statement_rules (scope_in self.now.declarations.now) all_permitted) one.now ≡ [] }
-        ensures { OnOk result (code.new ≡ append code.old (conditional_fragment (scope_in self.now.declarations.now) (statement_fragment (scope_in self.now.declarations.now)) line one.now code.old)) }
+        requires rules { rules.branching_rules (items_in self.now.declarations.now)
+            (rules.statement_rules (scope_in self.now.declarations.now) all_permitted) one.now
+            ≡ [] }
+        ensures { OnOk result
+            (code.new ≡ append code.old (conditional_fragment (scope_in self.now.declarations.now)
+            (statement_fragment (scope_in self.now.declarations.now)) line one.now code.old)) }
     {
         emit_tick(code, line)?;
         match one {
@@ -245,8 +266,12 @@ impl<'a> Emitter<'a> {
     ) -> Result<(), AllocError>
         requires declared { IsDeclared self.now.declarations.now }
         requires entries { entry_rules self.now.declarations.now.storage.now ≡ [] }
-        requires rules { rules.performing_rules (scope_in self.now.declarations.now) all_permitted (rules.statement_rules (scope_in self.now.declarations.now) all_permitted) one.now ≡ [] }
-        ensures { OnOk result (code.new ≡ append code.old (perform_fragment (scope_in self.now.declarations.now) (statement_fragment (scope_in self.now.declarations.now)) line one.now code.old)) }
+        requires rules { rules.performing_rules (scope_in self.now.declarations.now) all_permitted
+            (rules.statement_rules (scope_in self.now.declarations.now) all_permitted) one.now
+            ≡ [] }
+        ensures { OnOk result
+            (code.new ≡ append code.old (perform_fragment (scope_in self.now.declarations.now)
+            (statement_fragment (scope_in self.now.declarations.now)) line one.now code.old)) }
     {
         match &one.turns {
             Repetition::Once => self.emit_turn(code, line, &one.performed),
@@ -275,8 +300,12 @@ impl<'a> Emitter<'a> {
     ) -> Result<(), AllocError>
         requires declared { IsDeclared self.now.declarations.now }
         requires entries { entry_rules self.now.declarations.now.storage.now ≡ [] }
-        requires rules { rules.performed_rules (scope_in self.now.declarations.now).procedures all_permitted (rules.statement_rules (scope_in self.now.declarations.now) all_permitted) one.now ≡ [] }
-        ensures { OnOk result (code.new ≡ append code.old (turn_fragment (scope_in self.now.declarations.now) (statement_fragment (scope_in self.now.declarations.now)) line one.now code.old)) }
+        requires rules { rules.performed_rules (scope_in self.now.declarations.now).procedures
+            all_permitted (rules.statement_rules (scope_in self.now.declarations.now) all_permitted)
+            one.now ≡ [] }
+        ensures { OnOk
+            result (code.new ≡ append code.old (turn_fragment (scope_in self.now.declarations.now)
+            (statement_fragment (scope_in self.now.declarations.now)) line one.now code.old)) }
     {
         match one {
             Performed::Procedures { first, last } => self.emit_range(code, line, first, last),
@@ -296,7 +325,8 @@ impl<'a> Emitter<'a> {
         last: &Option<Name>,
     ) -> Result<(), AllocError>
         requires { IsDeclared self.now.declarations.now }
-        ensures { OnOk result (code.new ≡ append code.old (range_fragment line (range_of (scope_in self.now.declarations.now).procedures first.now last.now) code.old)) }
+        ensures { OnOk result (code.new ≡ append code.old (range_fragment line (range_of
+            (scope_in self.now.declarations.now).procedures first.now last.now) code.old)) }
     {
         let Some(range) = self.declarations.procedures.range_of(first, last) else {
             return emit_tick(code, line);
@@ -320,8 +350,10 @@ impl<'a> Emitter<'a> {
     ) -> Result<(), AllocError>
         requires declared { IsDeclared self.now.declarations.now }
         requires entries { entry_rules self.now.declarations.now.storage.now ≡ [] }
-        requires rules { each (rules.statement_rules (scope_in self.now.declarations.now) all_permitted) all.now ≡ [] }
-        ensures { OnOk result (code.new ≡ append code.old (in_order (statement_fragment (scope_in self.now.declarations.now)) all.now code.old)) }
+        requires rules { each (rules.statement_rules (scope_in self.now.declarations.now)
+            all_permitted) all.now ≡ [] }
+        ensures { OnOk result (code.new ≡ append code.old
+            (in_order (statement_fragment (scope_in self.now.declarations.now)) all.now code.old)) }
     {
         for one in all {
             self.emit_statement(code, one)?;
@@ -332,8 +364,10 @@ impl<'a> Emitter<'a> {
     fn emit_sentence(&self, code: &mut Code, one: &Sentence) -> Result<(), AllocError>
         requires declared { IsDeclared self.now.declarations.now }
         requires entries { entry_rules self.now.declarations.now.storage.now ≡ [] }
-        requires rules { rules.sentence_rules (scope_in self.now.declarations.now) all_permitted one.now ≡ [] }
-        ensures { OnOk result (code.new ≡ append code.old (sentence_fragment (scope_in self.now.declarations.now) one.now code.old)) }
+        requires rules { rules.sentence_rules (scope_in self.now.declarations.now) all_permitted
+            one.now ≡ [] }
+        ensures { OnOk result (code.new ≡ append code.old
+            (sentence_fragment (scope_in self.now.declarations.now) one.now code.old)) }
     {
         self.emit_statements(code, one.statements.as_slice())
     }
@@ -341,8 +375,10 @@ impl<'a> Emitter<'a> {
     fn emit_sentences(&self, code: &mut Code, all: &[Sentence]) -> Result<(), AllocError>
         requires declared { IsDeclared self.now.declarations.now }
         requires entries { entry_rules self.now.declarations.now.storage.now ≡ [] }
-        requires rules { each (rules.sentence_rules (scope_in self.now.declarations.now) all_permitted) all.now ≡ [] }
-        ensures { OnOk result (code.new ≡ append code.old (in_order (sentence_fragment (scope_in self.now.declarations.now)) all.now code.old)) }
+        requires rules { each
+            (rules.sentence_rules (scope_in self.now.declarations.now) all_permitted) all.now ≡ [] }
+        ensures { OnOk result (code.new ≡ append code.old
+            (in_order (sentence_fragment (scope_in self.now.declarations.now)) all.now code.old)) }
     {
         for one in all {
             self.emit_sentence(code, one)?;
@@ -353,8 +389,10 @@ impl<'a> Emitter<'a> {
     fn emit_paragraph(&self, code: &mut Code, one: &Paragraph) -> Result<(), AllocError>
         requires declared { IsDeclared self.now.declarations.now }
         requires entries { entry_rules self.now.declarations.now.storage.now ≡ [] }
-        requires rules { rules.paragraph_rules (scope_in self.now.declarations.now) all_permitted one.now ≡ [] }
-        ensures { OnOk result (code.new ≡ append code.old (paragraph_fragment (scope_in self.now.declarations.now) one.now code.old)) }
+        requires rules { rules.paragraph_rules (scope_in self.now.declarations.now) all_permitted
+            one.now ≡ [] }
+        ensures { OnOk result (code.new ≡ append code.old
+            (paragraph_fragment (scope_in self.now.declarations.now) one.now code.old)) }
     {
         let number = code.starts.len();
         emit_start(code)?;
@@ -365,8 +403,10 @@ impl<'a> Emitter<'a> {
     fn emit_paragraphs(&self, code: &mut Code, all: &[Paragraph]) -> Result<(), AllocError>
         requires declared { IsDeclared self.now.declarations.now }
         requires entries { entry_rules self.now.declarations.now.storage.now ≡ [] }
-        requires rules { each (rules.paragraph_rules (scope_in self.now.declarations.now) all_permitted) all.now ≡ [] }
-        ensures { OnOk result (code.new ≡ append code.old (in_order (paragraph_fragment (scope_in self.now.declarations.now)) all.now code.old)) }
+        requires rules { each (rules.paragraph_rules (scope_in self.now.declarations.now)
+            all_permitted) all.now ≡ [] }
+        ensures { OnOk result (code.new ≡ append code.old
+            (in_order (paragraph_fragment (scope_in self.now.declarations.now)) all.now code.old)) }
     {
         for one in all {
             self.emit_paragraph(code, one)?;
@@ -377,8 +417,10 @@ impl<'a> Emitter<'a> {
     fn emit_section(&self, code: &mut Code, one: &Section) -> Result<(), AllocError>
         requires declared { IsDeclared self.now.declarations.now }
         requires entries { entry_rules self.now.declarations.now.storage.now ≡ [] }
-        requires rules { rules.section_rules (scope_in self.now.declarations.now) all_permitted one.now ≡ [] }
-        ensures { OnOk result (code.new ≡ append code.old (section_fragment (scope_in self.now.declarations.now) one.now code.old)) }
+        requires rules { rules.section_rules (scope_in self.now.declarations.now) all_permitted
+            one.now ≡ [] }
+        ensures { OnOk result (code.new ≡ append code.old
+            (section_fragment (scope_in self.now.declarations.now) one.now code.old)) }
     {
         match one.paragraphs.as_slice() {
             [] => emit_nothing(code),
@@ -390,8 +432,10 @@ impl<'a> Emitter<'a> {
     pub(crate) fn emit_sections(&self, code: &mut Code, all: &[Section]) -> Result<(), AllocError>
         requires declared { IsDeclared self.now.declarations.now }
         requires entries { entry_rules self.now.declarations.now.storage.now ≡ [] }
-        requires rules { rules.sections_rules (scope_in self.now.declarations.now) all_permitted all.now ≡ [] }
-        ensures { OnOk result (code.new ≡ append code.old (in_order (section_fragment (scope_in self.now.declarations.now)) all.now code.old)) }
+        requires rules { rules.sections_rules (scope_in self.now.declarations.now) all_permitted
+            all.now ≡ [] }
+        ensures { OnOk result (code.new ≡ append code.old
+            (in_order (section_fragment (scope_in self.now.declarations.now)) all.now code.old)) }
     {
         for one in all {
             self.emit_section(code, one)?;

@@ -58,7 +58,8 @@ impl<'a> Emitter<'a> {
     /// The item that a name names.
     pub(crate) fn item_index(&self, name: &QualifiedName) -> Result<ItemIndex, AllocError>
         requires { IsDeclared self.now.declarations.now }
-        ensures { IfOk result (λ index. index ≡ spec.item_index (items_in self.now.declarations.now) name.now) }
+        ensures { IfOk result
+            (λ index. index ≡ spec.item_index (items_in self.now.declarations.now) name.now) }
     {
         let number = entry_number(self.item_number(name))?;
         Ok(ItemIndex { number })
@@ -67,7 +68,8 @@ impl<'a> Emitter<'a> {
     /// The length of the item that a name names.
     pub(crate) fn length_of(&self, name: &QualifiedName) -> u32
         requires { IsDeclared self.now.declarations.now }
-        ensures { result ≡ found_size (slice_get (items_in self.now.declarations.now) (spec.item_number (items_in self.now.declarations.now) name.now)) }
+        ensures { result ≡ found_size (slice_get (items_in self.now.declarations.now)
+            (spec.item_number (items_in self.now.declarations.now) name.now)) }
     {
         match self.declarations.layout.items.get(self.item_number(name)) {
             Some(found) => found.item.length,
@@ -78,7 +80,8 @@ impl<'a> Emitter<'a> {
     /// The dimensions of an item.
     pub(crate) fn dimensions_at(&self, number: usize) -> &[Dimension]
         requires { IsDeclared self.now.declarations.now }
-        ensures { result.now ≡ spec.dimensions_of (slice_get (items_in self.now.declarations.now) number) }
+        ensures { result.now
+            ≡ spec.dimensions_of (slice_get (items_in self.now.declarations.now) number) }
     {
         match self.declarations.layout.items.get(number) {
             Some(found) => found.dimensions.as_slice(),
@@ -89,7 +92,8 @@ impl<'a> Emitter<'a> {
     /// The dimensions of the item that a name names.
     pub(crate) fn dimensions(&self, name: &QualifiedName) -> &[Dimension]
         requires { IsDeclared self.now.declarations.now }
-        ensures { result.now ≡ spec.dimensions_of (slice_get (items_in self.now.declarations.now) (spec.item_number (items_in self.now.declarations.now) name.now)) }
+        ensures { result.now ≡ spec.dimensions_of (slice_get (items_in self.now.declarations.now)
+            (spec.item_number (items_in self.now.declarations.now) name.now)) }
     {
         self.dimensions_at(self.item_number(name))
     }
@@ -97,7 +101,8 @@ impl<'a> Emitter<'a> {
     /// The decimals that the item that a name names keeps of a number.
     pub(crate) fn scale_kept(&self, name: &QualifiedName) -> u8
         requires { IsDeclared self.now.declarations.now }
-        ensures { result ≡ arithmetic.scale_of_item (slice_get (items_in self.now.declarations.now) (spec.item_number (items_in self.now.declarations.now) name.now)) }
+        ensures { result ≡ arithmetic.scale_of_item (slice_get (items_in self.now.declarations.now)
+            (spec.item_number (items_in self.now.declarations.now) name.now)) }
     {
         match self.declarations.layout.items.get(self.item_number(name)) {
             Some(found) => scale_kept(found),

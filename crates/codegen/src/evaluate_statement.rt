@@ -31,8 +31,12 @@ impl<'a> Emitter<'a> {
     ) -> Result<Way, AllocError>
         requires declared { IsDeclared self.now.declarations.now }
         requires entries { entry_rules self.now.declarations.now.storage.now ≡ [] }
-        requires rules { selected_rules (items_in self.now.declarations.now) (rules.statement_rules (scope_in self.now.declarations.now) all_permitted) subjects.now one.now ≡ [] }
-        ensures { IfOk result (λ way. Opens (condition_fragment (items_in self.now.declarations.now) (selected_condition (items_in self.now.declarations.now) subjects.now one.now)) (in_order (statement_fragment (scope_in self.now.declarations.now)) one.now.statements) code.old code.new way) }
+        requires rules { selected_rules (items_in self.now.declarations.now) (rules.statement_rules
+            (scope_in self.now.declarations.now) all_permitted) subjects.now one.now ≡ [] }
+        ensures { IfOk result (λ way. Opens (condition_fragment (items_in self.now.declarations.now)
+            (selected_condition (items_in self.now.declarations.now) subjects.now one.now))
+            (in_order (statement_fragment (scope_in self.now.declarations.now)) one.now.statements)
+            code.old code.new way) }
     {
         self.emit_whens(code, subjects, one.whens.as_slice())?;
         let branch = emit_branch(code)?;
@@ -51,8 +55,12 @@ impl<'a> Emitter<'a> {
     ) -> Result<Vec<Way>, AllocError>
         requires declared { IsDeclared self.now.declarations.now }
         requires entries { entry_rules self.now.declarations.now.storage.now ≡ [] }
-        requires rules { each (selected_rules (items_in self.now.declarations.now) (rules.statement_rules (scope_in self.now.declarations.now) all_permitted) subjects.now) selected.now ≡ [] }
-        ensures { IfOk result (λ ways. OpensAll (scope_in self.now.declarations.now) (statement_fragment (scope_in self.now.declarations.now)) subjects.now selected.now code.old code.new ways.items) }
+        requires rules { each (selected_rules (items_in self.now.declarations.now)
+            (rules.statement_rules (scope_in self.now.declarations.now) all_permitted) subjects.now)
+            selected.now ≡ [] }
+        ensures { IfOk result (λ ways. OpensAll (scope_in self.now.declarations.now)
+            (statement_fragment (scope_in self.now.declarations.now)) subjects.now selected.now
+            code.old code.new ways.items) }
     {
         let mut ways = Vec::new(self.alloc);
         for one in selected {
@@ -71,8 +79,12 @@ impl<'a> Emitter<'a> {
     ) -> Result<(), AllocError>
         requires declared { IsDeclared self.now.declarations.now }
         requires entries { entry_rules self.now.declarations.now.storage.now ≡ [] }
-        requires rules { rules.evaluate_rules (items_in self.now.declarations.now) (rules.statement_rules (scope_in self.now.declarations.now) all_permitted) one.now ≡ [] }
-        ensures { OnOk result (code.new ≡ append code.old (evaluate_fragment (scope_in self.now.declarations.now) (statement_fragment (scope_in self.now.declarations.now)) one.now code.old)) }
+        requires rules { rules.evaluate_rules (items_in self.now.declarations.now)
+            (rules.statement_rules (scope_in self.now.declarations.now) all_permitted) one.now
+            ≡ [] }
+        ensures { OnOk result
+            (code.new ≡ append code.old (evaluate_fragment (scope_in self.now.declarations.now)
+            (statement_fragment (scope_in self.now.declarations.now)) one.now code.old)) }
     {
         self.emit_subjects(code, one)?;
         let ways = self.emit_groups(code, one.subjects.as_slice(), one.selected.as_slice())?;

@@ -36,7 +36,8 @@ impl<'a> Emitter<'a> {
     pub(crate) fn emit_value(&self, code: &mut Code, one: &Operand) -> Result<(), AllocError>
         requires declared { IsDeclared self.now.declarations.now }
         requires rules { number_rules (items_in self.now.declarations.now) one.now ≡ [] }
-        ensures { OnOk result (code.new ≡ append code.old (spec.value_fragment (items_in self.now.declarations.now) one.now code.old)) }
+        ensures { OnOk result (code.new ≡ append code.old
+            (spec.value_fragment (items_in self.now.declarations.now) one.now code.old)) }
     {
         match one {
             Operand::Item(reference) => self.emit_taking(code, DataInstruction::Push, reference),
@@ -48,7 +49,8 @@ impl<'a> Emitter<'a> {
     fn emit_added(&self, code: &mut Code, one: &Operand) -> Result<(), AllocError>
         requires declared { IsDeclared self.now.declarations.now }
         requires rules { number_rules (items_in self.now.declarations.now) one.now ≡ [] }
-        ensures { OnOk result (code.new ≡ append code.old (spec.added_fragment (items_in self.now.declarations.now) one.now code.old)) }
+        ensures { OnOk result (code.new ≡ append code.old
+            (spec.added_fragment (items_in self.now.declarations.now) one.now code.old)) }
     {
         self.emit_value(code, one)?;
         emit_work(code, operator_code(Operator::Add))
@@ -58,7 +60,8 @@ impl<'a> Emitter<'a> {
     fn emit_all_added(&self, code: &mut Code, all: &[Operand]) -> Result<(), AllocError>
         requires declared { IsDeclared self.now.declarations.now }
         requires rules { each (number_rules (items_in self.now.declarations.now)) all.now ≡ [] }
-        ensures { OnOk result (code.new ≡ append code.old (in_order (spec.added_fragment (items_in self.now.declarations.now)) all.now code.old)) }
+        ensures { OnOk result (code.new ≡ append code.old (in_order
+            (spec.added_fragment (items_in self.now.declarations.now)) all.now code.old)) }
     {
         for one in all {
             self.emit_added(code, one)?;
@@ -70,7 +73,8 @@ impl<'a> Emitter<'a> {
     pub(crate) fn emit_total(&self, code: &mut Code, all: &[Operand]) -> Result<(), AllocError>
         requires declared { IsDeclared self.now.declarations.now }
         requires rules { each (number_rules (items_in self.now.declarations.now)) all.now ≡ [] }
-        ensures { OnOk result (code.new ≡ append code.old (spec.total_fragment (items_in self.now.declarations.now) all.now code.old)) }
+        ensures { OnOk result (code.new ≡ append code.old
+            (spec.total_fragment (items_in self.now.declarations.now) all.now code.old)) }
     {
         let Some((first, more)) = all.split_first() else {
             return emit_number(code, Dec::short(0, 0));
@@ -88,7 +92,8 @@ impl<'a> Emitter<'a> {
     ) -> Result<(), AllocError>
         requires declared { IsDeclared self.now.declarations.now }
         requires rules { expression_rules (items_in self.now.declarations.now) one.now ≡ [] }
-        ensures { OnOk result (code.new ≡ append code.old (spec.expression_fragment (items_in self.now.declarations.now) one.now code.old)) }
+        ensures { OnOk result (code.new ≡ append code.old
+            (spec.expression_fragment (items_in self.now.declarations.now) one.now code.old)) }
     {
         match one {
             Expression::Operand(operand) => self.emit_value(code, operand),
@@ -107,8 +112,12 @@ impl<'a> Emitter<'a> {
     #[cycle(expression)]
     fn emit_chain(&self, code: &mut Code, all: &[(Operator, Expression)]) -> Result<(), AllocError>
         requires declared { IsDeclared self.now.declarations.now }
-        requires rules { each (λ (one : Operator × Expression). expression_rules (items_in self.now.declarations.now) one.1) all.now ≡ [] }
-        ensures { OnOk result (code.new ≡ append code.old (in_order (λ (one : Operator × Expression). spec.chain_fragment (items_in self.now.declarations.now) (one.0, spec.expression_fragment (items_in self.now.declarations.now) one.1)) all.now code.old)) }
+        requires rules { each (λ (one : Operator × Expression).
+            expression_rules (items_in self.now.declarations.now) one.1) all.now ≡ [] }
+        ensures { OnOk result (code.new ≡ append code.old (in_order (λ (one : Operator
+            × Expression). spec.chain_fragment (items_in self.now.declarations.now)
+            (one.0, spec.expression_fragment (items_in self.now.declarations.now) one.1)) all.now
+            code.old)) }
     {
         for (operator, value) in all {
             self.emit_expression(code, value)?;

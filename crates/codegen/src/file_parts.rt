@@ -32,7 +32,8 @@ pub(crate) fn emit_file(
     verb: Verb,
     file: &ProgramFile<'_>,
 ) -> Result<(), AllocError>
-    ensures { OnOk result (code.new ≡ append code.old (plain_code (instruction.File (record { number = file.now.number }) verb ∷ []))) }
+    ensures { OnOk result (code.new ≡ append code.old
+        (plain_code (instruction.File (record { number = file.now.number }) verb ∷ []))) }
 {
     let file = file_index(file)?;
     code.instructions.push(Instruction::File { file, verb })?;
@@ -61,7 +62,8 @@ impl<'a> Emitter<'a> {
     /// The file has a FILE STATUS item.
     fn has_status(&self, file: &ProgramFile<'_>) -> bool
         requires { IsDeclared self.now.declarations.now }
-        ensures { result ≡ is_some (file_in (items_in self.now.declarations.now) file.now).places.status }
+        ensures { result
+            ≡ is_some (file_in (items_in self.now.declarations.now) file.now).places.status }
     {
         match file.status {
             Some(number) => self.declarations.layout.items.get(number).is_some(),
@@ -76,7 +78,8 @@ impl<'a> Emitter<'a> {
         file: &ProgramFile<'_>,
     ) -> Result<(), AllocError>
         requires { IsDeclared self.now.declarations.now }
-        ensures { OnOk result (code.new ≡ append code.old (spec.unheard_fragment (file_in (items_in self.now.declarations.now) file.now).places.status code.old)) }
+        ensures { OnOk result (code.new ≡ append code.old (spec.unheard_fragment
+            (file_in (items_in self.now.declarations.now) file.now).places.status code.old)) }
     {
         if self.has_status(file) {
             return Ok(());
@@ -88,7 +91,8 @@ impl<'a> Emitter<'a> {
     /// What READ INTO sends of a file, by its place in the table of items.
     fn sent_index(&self, file: &ProgramFile<'_>) -> Result<ItemIndex, AllocError>
         requires { IsDeclared self.now.declarations.now }
-        ensures { IfOk result (λ index. index ≡ spec.sent_index (items_in self.now.declarations.now) (file_in (items_in self.now.declarations.now) file.now)) }
+        ensures { IfOk result (λ index. index ≡ spec.sent_index (items_in self.now.declarations.now)
+            (file_in (items_in self.now.declarations.now) file.now)) }
     {
         let Some(place) = self
             .declarations
@@ -111,8 +115,12 @@ impl<'a> Emitter<'a> {
         into: &Option<Reference>,
     ) -> Result<(), AllocError>
         requires declared { IsDeclared self.now.declarations.now }
-        requires rules { into_rules (items_in self.now.declarations.now) (files_in self.now.declarations.now) (file_in (items_in self.now.declarations.now) file.now) into.now ≡ [] }
-        ensures { OnOk result (code.new ≡ append code.old (spec.into_fragment (items_in self.now.declarations.now) into.now (file_in (items_in self.now.declarations.now) file.now) code.old)) }
+        requires rules { into_rules
+            (items_in self.now.declarations.now) (files_in self.now.declarations.now)
+            (file_in (items_in self.now.declarations.now) file.now) into.now ≡ [] }
+        ensures { OnOk result
+            (code.new ≡ append code.old (spec.into_fragment (items_in self.now.declarations.now)
+            into.now (file_in (items_in self.now.declarations.now) file.now) code.old)) }
     {
         let Some(into) = into else {
             return Ok(());
@@ -133,8 +141,10 @@ impl<'a> Emitter<'a> {
         from: &Option<Reference>,
     ) -> Result<(), AllocError>
         requires declared { IsDeclared self.now.declarations.now }
-        requires rules { from_rules (items_in self.now.declarations.now) (files_in self.now.declarations.now) to.now from.now ≡ [] }
-        ensures { OnOk result (code.new ≡ append code.old (spec.from_fragment (items_in self.now.declarations.now) to.now from.now code.old)) }
+        requires rules { from_rules (items_in self.now.declarations.now)
+            (files_in self.now.declarations.now) to.now from.now ≡ [] }
+        ensures { OnOk result (code.new ≡ append code.old
+            (spec.from_fragment (items_in self.now.declarations.now) to.now from.now code.old)) }
     {
         let Some(from) = from else {
             return Ok(());
@@ -146,7 +156,8 @@ impl<'a> Emitter<'a> {
     /// The file of that name.
     pub(crate) fn file_named(&self, name: &Name) -> Option<&ProgramFile<'a>>
         requires { IsDeclared self.now.declarations.now }
-        ensures { first (files_named (files_in self.now.declarations.now) name.now) ≡ found_in (items_in self.now.declarations.now) result }
+        ensures { first (files_named (files_in self.now.declarations.now) name.now)
+            ≡ found_in (items_in self.now.declarations.now) result }
     {
         self.declarations.files.file_named(name)
     }
@@ -155,7 +166,9 @@ impl<'a> Emitter<'a> {
     pub(crate) fn file_of_record(&self, one: &Reference) -> Option<&ProgramFile<'a>>
         requires declared { IsDeclared self.now.declarations.now }
         requires named { NamesOne (items_in self.now.declarations.now) one.now }
-        ensures { file_with_record (files_in self.now.declarations.now) (first (items_named (items_in self.now.declarations.now) one.now.item)) ≡ found_in (items_in self.now.declarations.now) result }
+        ensures { file_with_record (files_in self.now.declarations.now)
+            (first (items_named (items_in self.now.declarations.now) one.now.item))
+            ≡ found_in (items_in self.now.declarations.now) result }
     {
         let number = self.item_number(&one.item);
         let found = self.declarations.layout.items.get(number)?;
@@ -165,7 +178,10 @@ impl<'a> Emitter<'a> {
     /// A statement without phrases on the file of that name, and what comes of its status.
     fn emit_alone(&self, code: &mut Code, verb: Verb, name: &Name) -> Result<(), AllocError>
         requires { IsDeclared self.now.declarations.now }
-        ensures { OnOk result (code.new ≡ append code.old (spec.on_name_fragment (items_in self.now.declarations.now) (files_in self.now.declarations.now) name.now (alone_fragment (scope_in self.now.declarations.now) (statement_fragment (scope_in self.now.declarations.now)) Absent (λ file. verb)) code.old)) }
+        ensures { OnOk result (code.new ≡ append code.old (spec.on_name_fragment
+            (items_in self.now.declarations.now) (files_in self.now.declarations.now)
+            name.now (alone_fragment (scope_in self.now.declarations.now) (statement_fragment
+            (scope_in self.now.declarations.now)) Absent (λ file. verb)) code.old)) }
     {
         let Some(file) = self.file_named(name) else {
             return Ok(());
@@ -181,7 +197,9 @@ impl<'a> Emitter<'a> {
     /// OPEN of each file in turn.
     pub(crate) fn emit_opens(&self, code: &mut Code, all: &[Opening]) -> Result<(), AllocError>
         requires { IsDeclared self.now.declarations.now }
-        ensures { OnOk result (code.new ≡ append code.old (in_order (open_fragment (scope_in self.now.declarations.now) (statement_fragment (scope_in self.now.declarations.now))) all.now code.old)) }
+        ensures { OnOk result (code.new
+            ≡ append code.old (in_order (open_fragment (scope_in self.now.declarations.now)
+            (statement_fragment (scope_in self.now.declarations.now))) all.now code.old)) }
     {
         for one in all {
             self.emit_alone(code, Verb::Open(one.mode), &one.file)?;
@@ -192,7 +210,9 @@ impl<'a> Emitter<'a> {
     /// CLOSE of each file in turn.
     pub(crate) fn emit_closes(&self, code: &mut Code, all: &[Name]) -> Result<(), AllocError>
         requires { IsDeclared self.now.declarations.now }
-        ensures { OnOk result (code.new ≡ append code.old (in_order (close_fragment (scope_in self.now.declarations.now) (statement_fragment (scope_in self.now.declarations.now))) all.now code.old)) }
+        ensures { OnOk result (code.new
+            ≡ append code.old (in_order (close_fragment (scope_in self.now.declarations.now)
+            (statement_fragment (scope_in self.now.declarations.now))) all.now code.old)) }
     {
         for one in all {
             self.emit_alone(code, Verb::Close, one)?;

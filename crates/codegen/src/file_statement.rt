@@ -38,9 +38,13 @@ impl<'a> Emitter<'a> {
     ) -> Result<(), AllocError>
         requires declared { IsDeclared self.now.declarations.now }
         requires entries { entry_rules self.now.declarations.now.storage.now ≡ [] }
-        requires rules { filing_rules (items_in self.now.declarations.now) (files_in self.now.declarations.now) one.now ≡ [] }
-        requires phrases { rules.file_phrases_rules (rules.statement_rules (scope_in self.now.declarations.now) all_permitted) (phrases_of one.now) ≡ [] }
-        ensures { OnOk result (code.new ≡ append code.old (sequence (tick_fragment line) (file_statement_fragment (scope_in self.now.declarations.now) (statement_fragment (scope_in self.now.declarations.now)) one.now) code.old)) }
+        requires rules { filing_rules (items_in self.now.declarations.now)
+            (files_in self.now.declarations.now) one.now ≡ [] }
+        requires phrases { rules.file_phrases_rules (rules.statement_rules
+            (scope_in self.now.declarations.now) all_permitted) (phrases_of one.now) ≡ [] }
+        ensures { OnOk result (code.new ≡ append code.old (sequence
+            (tick_fragment line) (file_statement_fragment (scope_in self.now.declarations.now)
+            (statement_fragment (scope_in self.now.declarations.now)) one.now) code.old)) }
     {
         emit_tick(code, line)?;
         match one {
@@ -83,9 +87,18 @@ impl<'a> Emitter<'a> {
     ) -> Result<(), AllocError>
         requires declared { IsDeclared self.now.declarations.now }
         requires entries { entry_rules self.now.declarations.now.storage.now ≡ [] }
-        requires rules { file_named_rules (items_in self.now.declarations.now) (files_in self.now.declarations.now) name.now (read_rules (items_in self.now.declarations.now) (files_in self.now.declarations.now) name.now.place next into.now key.now phrases.now) ≡ [] }
-        requires phrases { rules.file_phrases_rules (rules.statement_rules (scope_in self.now.declarations.now) all_permitted) phrases.now ≡ [] }
-        ensures { OnOk result (code.new ≡ append code.old (on_name_fragment (items_in self.now.declarations.now) (files_in self.now.declarations.now) name.now (statement_on_fragment (scope_in self.now.declarations.now) (statement_fragment (scope_in self.now.declarations.now)) phrases.now (into_fragment (items_in self.now.declarations.now) into.now) (λ file. meaning.read_verb (items_in self.now.declarations.now) file next key.now)) code.old)) }
+        requires rules { file_named_rules (items_in self.now.declarations.now)
+            (files_in self.now.declarations.now) name.now
+            (read_rules (items_in self.now.declarations.now) (files_in self.now.declarations.now)
+            name.now.place next into.now key.now phrases.now) ≡ [] }
+        requires phrases { rules.file_phrases_rules (rules.statement_rules
+            (scope_in self.now.declarations.now) all_permitted) phrases.now ≡ [] }
+        ensures { OnOk result
+            (code.new ≡ append code.old (on_name_fragment (items_in self.now.declarations.now)
+            (files_in self.now.declarations.now) name.now (statement_on_fragment (scope_in
+            self.now.declarations.now) (statement_fragment (scope_in self.now.declarations.now))
+            phrases.now (into_fragment (items_in self.now.declarations.now) into.now) (λ file.
+            meaning.read_verb (items_in self.now.declarations.now) file next key.now)) code.old)) }
     {
         let Some(file) = self.file_named(name) else {
             return Ok(());
@@ -106,9 +119,13 @@ impl<'a> Emitter<'a> {
     ) -> Result<(), AllocError>
         requires declared { IsDeclared self.now.declarations.now }
         requires entries { entry_rules self.now.declarations.now.storage.now ≡ [] }
-        requires rules { record_rules (items_in self.now.declarations.now) (files_in self.now.declarations.now) one.now from.now phrases.now ≡ [] }
-        requires phrases { rules.file_phrases_rules (rules.statement_rules (scope_in self.now.declarations.now) all_permitted) phrases.now ≡ [] }
-        ensures { OnOk result (code.new ≡ append code.old (record_fragment (scope_in self.now.declarations.now) (statement_fragment (scope_in self.now.declarations.now)) verb one.now from.now phrases.now code.old)) }
+        requires rules { record_rules (items_in self.now.declarations.now)
+            (files_in self.now.declarations.now) one.now from.now phrases.now ≡ [] }
+        requires phrases { rules.file_phrases_rules (rules.statement_rules
+            (scope_in self.now.declarations.now) all_permitted) phrases.now ≡ [] }
+        ensures { OnOk result (code.new ≡ append
+            code.old (record_fragment (scope_in self.now.declarations.now) (statement_fragment
+            (scope_in self.now.declarations.now)) verb one.now from.now phrases.now code.old)) }
     {
         self.emit_from(code, one, from)?;
         let Some(file) = self.file_of_record(one) else {
@@ -127,8 +144,12 @@ impl<'a> Emitter<'a> {
     ) -> Result<(), AllocError>
         requires declared { IsDeclared self.now.declarations.now }
         requires entries { entry_rules self.now.declarations.now.storage.now ≡ [] }
-        requires phrases { rules.file_phrases_rules (rules.statement_rules (scope_in self.now.declarations.now) all_permitted) phrases.now ≡ [] }
-        ensures { OnOk result (code.new ≡ append code.old (on_name_fragment (items_in self.now.declarations.now) (files_in self.now.declarations.now) name.now (alone_fragment (scope_in self.now.declarations.now) (statement_fragment (scope_in self.now.declarations.now)) phrases.now (λ file. file_verb.Delete)) code.old)) }
+        requires phrases { rules.file_phrases_rules (rules.statement_rules
+            (scope_in self.now.declarations.now) all_permitted) phrases.now ≡ [] }
+        ensures { OnOk result (code.new ≡ append code.old (on_name_fragment
+            (items_in self.now.declarations.now) (files_in self.now.declarations.now) name.now
+            (alone_fragment (scope_in self.now.declarations.now) (statement_fragment (scope_in
+            self.now.declarations.now)) phrases.now (λ file. file_verb.Delete)) code.old)) }
     {
         let Some(file) = self.file_named(name) else {
             return Ok(());
@@ -147,9 +168,16 @@ impl<'a> Emitter<'a> {
     ) -> Result<(), AllocError>
         requires declared { IsDeclared self.now.declarations.now }
         requires entries { entry_rules self.now.declarations.now.storage.now ≡ [] }
-        requires rules { file_named_rules (items_in self.now.declarations.now) (files_in self.now.declarations.now) name.now (start_rules (items_in self.now.declarations.now) (files_in self.now.declarations.now) name.now.place key.now phrases.now) ≡ [] }
-        requires phrases { rules.file_phrases_rules (rules.statement_rules (scope_in self.now.declarations.now) all_permitted) phrases.now ≡ [] }
-        ensures { OnOk result (code.new ≡ append code.old (on_name_fragment (items_in self.now.declarations.now) (files_in self.now.declarations.now) name.now (alone_fragment (scope_in self.now.declarations.now) (statement_fragment (scope_in self.now.declarations.now)) phrases.now (λ file. meaning.start_verb (items_in self.now.declarations.now) file key.now)) code.old)) }
+        requires rules { file_named_rules (items_in self.now.declarations.now) (files_in
+            self.now.declarations.now) name.now (start_rules (items_in self.now.declarations.now)
+            (files_in self.now.declarations.now) name.now.place key.now phrases.now) ≡ [] }
+        requires phrases { rules.file_phrases_rules (rules.statement_rules
+            (scope_in self.now.declarations.now) all_permitted) phrases.now ≡ [] }
+        ensures { OnOk result (code.new
+            ≡ append code.old (on_name_fragment (items_in self.now.declarations.now) (files_in
+            self.now.declarations.now) name.now (alone_fragment (scope_in self.now.declarations.now)
+            (statement_fragment (scope_in self.now.declarations.now)) phrases.now (λ file.
+            meaning.start_verb (items_in self.now.declarations.now) file key.now)) code.old)) }
     {
         let Some(file) = self.file_named(name) else {
             return Ok(());
@@ -170,9 +198,17 @@ impl<'a> Emitter<'a> {
     ) -> Result<(), AllocError>
         requires declared { IsDeclared self.now.declarations.now }
         requires entries { entry_rules self.now.declarations.now.storage.now ≡ [] }
-        requires into { into_rules (items_in self.now.declarations.now) (files_in self.now.declarations.now) (file_in (items_in self.now.declarations.now) file.now) into.now ≡ [] }
-        requires phrases { rules.file_phrases_rules (rules.statement_rules (scope_in self.now.declarations.now) all_permitted) phrases.now ≡ [] }
-        ensures { OnOk result (code.new ≡ append code.old (sequence (file_fragment verb (file_in (items_in self.now.declarations.now) file.now)) (status_fragment (scope_in self.now.declarations.now) (statement_fragment (scope_in self.now.declarations.now)) (file_in (items_in self.now.declarations.now) file.now).places.status phrases.now (into_fragment (items_in self.now.declarations.now) into.now (file_in (items_in self.now.declarations.now) file.now))) code.old)) }
+        requires into { into_rules
+            (items_in self.now.declarations.now) (files_in self.now.declarations.now)
+            (file_in (items_in self.now.declarations.now) file.now) into.now ≡ [] }
+        requires phrases { rules.file_phrases_rules (rules.statement_rules
+            (scope_in self.now.declarations.now) all_permitted) phrases.now ≡ [] }
+        ensures { OnOk result (code.new ≡ append code.old
+            (sequence (file_fragment verb (file_in (items_in self.now.declarations.now) file.now))
+            (status_fragment (scope_in self.now.declarations.now) (statement_fragment
+            (scope_in self.now.declarations.now)) (file_in (items_in self.now.declarations.now)
+            file.now).places.status phrases.now (into_fragment (items_in self.now.declarations.now)
+            into.now (file_in (items_in self.now.declarations.now) file.now))) code.old)) }
     {
         emit_file(code, verb, file)?;
         emit_test(code, StatusClass::Successful)?;
@@ -193,8 +229,11 @@ impl<'a> Emitter<'a> {
     ) -> Result<(), AllocError>
         requires declared { IsDeclared self.now.declarations.now }
         requires entries { entry_rules self.now.declarations.now.storage.now ≡ [] }
-        requires phrases { rules.file_phrases_rules (rules.statement_rules (scope_in self.now.declarations.now) all_permitted) phrases.now ≡ [] }
-        ensures { OnOk result (code.new ≡ append code.old (success_fragment (scope_in self.now.declarations.now) (statement_fragment (scope_in self.now.declarations.now)) phrases.now code.old)) }
+        requires phrases { rules.file_phrases_rules (rules.statement_rules
+            (scope_in self.now.declarations.now) all_permitted) phrases.now ≡ [] }
+        ensures { OnOk result
+            (code.new ≡ append code.old (success_fragment (scope_in self.now.declarations.now)
+            (statement_fragment (scope_in self.now.declarations.now)) phrases.now code.old)) }
     {
         match phrases {
             FilePhrases::Absent => Ok(()),
@@ -213,8 +252,12 @@ impl<'a> Emitter<'a> {
     ) -> Result<(), AllocError>
         requires declared { IsDeclared self.now.declarations.now }
         requires entries { entry_rules self.now.declarations.now.storage.now ≡ [] }
-        requires phrases { rules.file_phrases_rules (rules.statement_rules (scope_in self.now.declarations.now) all_permitted) phrases.now ≡ [] }
-        ensures { OnOk result (code.new ≡ append code.old (failure_fragment (scope_in self.now.declarations.now) (statement_fragment (scope_in self.now.declarations.now)) (file_in (items_in self.now.declarations.now) file.now).places.status phrases.now code.old)) }
+        requires phrases { rules.file_phrases_rules (rules.statement_rules
+            (scope_in self.now.declarations.now) all_permitted) phrases.now ≡ [] }
+        ensures { OnOk result
+            (code.new ≡ append code.old (failure_fragment (scope_in self.now.declarations.now)
+            (statement_fragment (scope_in self.now.declarations.now)) (file_in
+            (items_in self.now.declarations.now) file.now).places.status phrases.now code.old)) }
     {
         match phrases {
             FilePhrases::Absent => self.emit_unheard(code, file),
@@ -238,8 +281,12 @@ impl<'a> Emitter<'a> {
     ) -> Result<(), AllocError>
         requires declared { IsDeclared self.now.declarations.now }
         requires entries { entry_rules self.now.declarations.now.storage.now ≡ [] }
-        requires rules { rules.phrase_rules (rules.statement_rules (scope_in self.now.declarations.now) all_permitted) arose.now ≡ [] }
-        ensures { OnOk result (code.new ≡ append code.old (class_fragment (scope_in self.now.declarations.now) (statement_fragment (scope_in self.now.declarations.now)) (file_in (items_in self.now.declarations.now) file.now).places.status class arose.now code.old)) }
+        requires rules { rules.phrase_rules (rules.statement_rules
+            (scope_in self.now.declarations.now) all_permitted) arose.now ≡ [] }
+        ensures { OnOk
+            result (code.new ≡ append code.old (class_fragment (scope_in self.now.declarations.now)
+            (statement_fragment (scope_in self.now.declarations.now)) (file_in (items_in
+            self.now.declarations.now) file.now).places.status class arose.now code.old)) }
     {
         emit_test(code, class)?;
         let branch = emit_branch(code)?;
@@ -259,8 +306,12 @@ impl<'a> Emitter<'a> {
     ) -> Result<(), AllocError>
         requires declared { IsDeclared self.now.declarations.now }
         requires entries { entry_rules self.now.declarations.now.storage.now ≡ [] }
-        requires rules { rules.phrase_rules (rules.statement_rules (scope_in self.now.declarations.now) all_permitted) phrase.now ≡ [] }
-        ensures { OnOk result (code.new ≡ append code.old (taken_fragment (scope_in self.now.declarations.now) (statement_fragment (scope_in self.now.declarations.now)) (file_in (items_in self.now.declarations.now) file.now).places.status phrase.now code.old)) }
+        requires rules { rules.phrase_rules (rules.statement_rules
+            (scope_in self.now.declarations.now) all_permitted) phrase.now ≡ [] }
+        ensures { OnOk result
+            (code.new ≡ append code.old (taken_fragment (scope_in self.now.declarations.now)
+            (statement_fragment (scope_in self.now.declarations.now)) (file_in
+            (items_in self.now.declarations.now) file.now).places.status phrase.now code.old)) }
     {
         match phrase {
             None => self.emit_unheard(code, file),

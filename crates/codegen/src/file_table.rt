@@ -20,7 +20,8 @@ pub(crate) fn code_files(
     declarations: &Declarations<'_>,
 ) -> Result<Items<CodeFile>, AllocError>
     requires { IsDeclared declarations.now }
-    ensures { IfOk result (λ files. files ≡ spec.code_files (items_in declarations.now) declarations.now.selects.now (files_in declarations.now)) }
+    ensures { IfOk result (λ files. files ≡ spec.code_files (items_in declarations.now)
+        declarations.now.selects.now (files_in declarations.now)) }
 {
     let mut files = Items::new(alloc);
     for file in &declarations.files.files {

@@ -24,8 +24,10 @@ impl<'a> Emitter<'a> {
     fn key_item(&self, one: &Reference) -> KeyItem
         requires declared { IsDeclared self.now.declarations.now }
         requires named { NamesOne (items_in self.now.declarations.now) one.now }
-        ensures offset { result.offset ≡ (key_place (items_in self.now.declarations.now) one.now).offset }
-        ensures length { result.length ≡ (key_place (items_in self.now.declarations.now) one.now).length }
+        ensures offset { result.offset
+            ≡ (key_place (items_in self.now.declarations.now) one.now).offset }
+        ensures length { result.length
+            ≡ (key_place (items_in self.now.declarations.now) one.now).length }
     {
         match self
             .declarations
@@ -52,8 +54,12 @@ impl<'a> Emitter<'a> {
         key: &Option<Reference>,
     ) -> Result<Verb, AllocError>
         requires declared { IsDeclared self.now.declarations.now }
-        requires rules { read_key_rules (items_in self.now.declarations.now) (files_in self.now.declarations.now) (meaning.is_in_sequence (file_in (items_in self.now.declarations.now) file.now) next) (file_in (items_in self.now.declarations.now) file.now) key.now ≡ [] }
-        ensures { IfOk result (λ verb. verb ≡ meaning.read_verb (items_in self.now.declarations.now) (file_in (items_in self.now.declarations.now) file.now) next key.now) }
+        requires rules { read_key_rules
+            (items_in self.now.declarations.now) (files_in self.now.declarations.now)
+            (meaning.is_in_sequence (file_in (items_in self.now.declarations.now) file.now) next)
+            (file_in (items_in self.now.declarations.now) file.now) key.now ≡ [] }
+        ensures { IfOk result (λ verb. verb ≡ meaning.read_verb (items_in self.now.declarations.now)
+            (file_in (items_in self.now.declarations.now) file.now) next key.now) }
     {
         if is_in_sequence(file, next) {
             return Ok(Verb::ReadNext);
@@ -72,8 +78,12 @@ impl<'a> Emitter<'a> {
         key: &Option<StartKey>,
     ) -> Result<Verb, AllocError>
         requires declared { IsDeclared self.now.declarations.now }
-        requires rules { start_key_rules (items_in self.now.declarations.now) (files_in self.now.declarations.now) (file_in (items_in self.now.declarations.now) file.now) key.now ≡ [] }
-        ensures { IfOk result (λ verb. verb ≡ meaning.start_verb (items_in self.now.declarations.now) (file_in (items_in self.now.declarations.now) file.now) key.now) }
+        requires rules { start_key_rules
+            (items_in self.now.declarations.now) (files_in self.now.declarations.now)
+            (file_in (items_in self.now.declarations.now) file.now) key.now ≡ [] }
+        ensures { IfOk
+            result (λ verb. verb ≡ meaning.start_verb (items_in self.now.declarations.now)
+            (file_in (items_in self.now.declarations.now) file.now) key.now) }
     {
         let Some(one) = key else {
             let prime = KeyOfReference::Prime;
@@ -150,7 +160,8 @@ fn start_on(
     key: KeyOfReference,
     size: u32,
 ) -> Result<Verb, AllocError>
-    ensures { IfOk result (λ verb. verb ≡ verbs.Start relation key (min size (key_length (spec_in file.now) key))) }
+    ensures { IfOk result
+        (λ verb. verb ≡ verbs.Start relation key (min size (key_length (spec_in file.now) key))) }
 {
     let count = size.min(u32::from(key_size(file, key)));
     let Ok(count) = u8::try_from(count) else {

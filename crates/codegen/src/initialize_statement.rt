@@ -21,8 +21,10 @@ impl<'a> Emitter<'a> {
     fn emit_initialize(&self, code: &mut Code, one: &Reference) -> Result<(), AllocError>
         requires declared { IsDeclared self.now.declarations.now }
         requires entries { entry_rules self.now.declarations.now.storage.now ≡ [] }
-        requires rules { reference_rules (items_in self.now.declarations.now) any_item one.now ≡ [] }
-        ensures { OnOk result (code.new ≡ append code.old (spec.initialize_fragment (items_in self.now.declarations.now) one.now code.old)) }
+        requires rules { reference_rules (items_in self.now.declarations.now) any_item one.now
+            ≡ [] }
+        ensures { OnOk result (code.new ≡ append code.old
+            (spec.initialize_fragment (items_in self.now.declarations.now) one.now code.old)) }
     {
         self.emit_reference(code, one)?;
         emit_overlay(code, self.initial_overlay(one)?)
@@ -37,7 +39,8 @@ impl<'a> Emitter<'a> {
         requires declared { IsDeclared self.now.declarations.now }
         requires entries { entry_rules self.now.declarations.now.storage.now ≡ [] }
         requires rules { initialize_rules (items_in self.now.declarations.now) all.now ≡ [] }
-        ensures { OnOk result (code.new ≡ append code.old (spec.initializes_fragment (items_in self.now.declarations.now) all.now code.old)) }
+        ensures { OnOk result (code.new ≡ append code.old
+            (spec.initializes_fragment (items_in self.now.declarations.now) all.now code.old)) }
     {
         for one in all {
             self.emit_initialize(code, one)?;
@@ -50,7 +53,8 @@ impl<'a> Emitter<'a> {
         requires declared { IsDeclared self.now.declarations.now }
         requires entries { entry_rules self.now.declarations.now.storage.now ≡ [] }
         requires rules { set_one (items_in self.now.declarations.now) one.now ≡ [] }
-        ensures { OnOk result (code.new ≡ append code.old (spec.set_fragment (items_in self.now.declarations.now) one.now code.old)) }
+        ensures { OnOk result (code.new ≡ append code.old
+            (spec.set_fragment (items_in self.now.declarations.now) one.now code.old)) }
     {
         let item = self.condition_item(&one.item)?;
         emit_work(code, DataInstruction::Place { item })?;
@@ -65,7 +69,8 @@ impl<'a> Emitter<'a> {
         requires declared { IsDeclared self.now.declarations.now }
         requires entries { entry_rules self.now.declarations.now.storage.now ≡ [] }
         requires rules { set_rules (items_in self.now.declarations.now) all.now ≡ [] }
-        ensures { OnOk result (code.new ≡ append code.old (spec.sets_fragment (items_in self.now.declarations.now) all.now code.old)) }
+        ensures { OnOk result (code.new ≡ append code.old
+            (spec.sets_fragment (items_in self.now.declarations.now) all.now code.old)) }
     {
         for one in all {
             self.emit_set(code, one)?;
@@ -76,7 +81,8 @@ impl<'a> Emitter<'a> {
 
 /// New bytes for the newest place: those that are marked.
 fn emit_overlay(code: &mut Code, one: Overlay) -> Result<(), AllocError>
-    ensures { OnOk result (code.new ≡ append code.old (spec.overlay_fragment one.bytes one.marks code.old)) }
+    ensures { OnOk result
+        (code.new ≡ append code.old (spec.overlay_fragment one.bytes one.marks code.old)) }
 {
     let number = entry_number(code.tables.texts.len())?;
     let Overlay { bytes, marks } = one;

@@ -30,8 +30,10 @@ impl<'a> Emitter<'a> {
     /// An item's bytes, behind so many.
     fn emit_bytes(&self, code: &mut Code, at: u32, one: &Reference) -> Result<Span, AllocError>
         requires declared { IsDeclared self.now.declarations.now }
-        requires rules { reference_rules (items_in self.now.declarations.now) rules.inspected_item one.now ≡ [] }
-        ensures { IfOk result (λ span. spec.TextMade (items_in self.now.declarations.now) (layout.Bytes one.now) code.old code.new at span) }
+        requires rules { reference_rules (items_in self.now.declarations.now) rules.inspected_item
+            one.now ≡ [] }
+        ensures { IfOk result (λ span. spec.TextMade (items_in self.now.declarations.now)
+            (layout.Bytes one.now) code.old code.new at span) }
     {
         self.emit_taking(code, DataInstruction::Gather(Gather::Sized), one)?;
         Ok(Span {
@@ -44,7 +46,8 @@ impl<'a> Emitter<'a> {
     fn emit_source(&self, code: &mut Code, at: u32, one: &Operand) -> Result<Span, AllocError>
         requires declared { IsDeclared self.now.declarations.now }
         requires rules { rules.inspected_rules (items_in self.now.declarations.now) one.now ≡ [] }
-        ensures { IfOk result (λ span. spec.TextMade (items_in self.now.declarations.now) (layout.source one.now) code.old code.new at span) }
+        ensures { IfOk result (λ span. spec.TextMade (items_in self.now.declarations.now)
+            (layout.source one.now) code.old code.new at span) }
     {
         match one {
             Operand::Item(reference) => self.emit_bytes(code, at, reference),
@@ -62,7 +65,8 @@ impl<'a> Emitter<'a> {
         size: u32,
         one: &LiteralValue,
     ) -> Result<Span, AllocError>
-        ensures { IfOk result (λ span. spec.TextMade (items_in self.now.declarations.now) (layout.replacing_literal size one.now) code.old code.new at span) }
+        ensures { IfOk result (λ span. spec.TextMade (items_in self.now.declarations.now)
+            (layout.replacing_literal size one.now) code.old code.new at span) }
     {
         match one {
             LiteralValue::Figurative(constant) => {
@@ -82,7 +86,8 @@ impl<'a> Emitter<'a> {
     ) -> Result<Span, AllocError>
         requires declared { IsDeclared self.now.declarations.now }
         requires rules { rules.inspected_rules (items_in self.now.declarations.now) one.now ≡ [] }
-        ensures { IfOk result (λ span. spec.TextMade (items_in self.now.declarations.now) (layout.replacing_text size one.now) code.old code.new at span) }
+        ensures { IfOk result (λ span. spec.TextMade (items_in self.now.declarations.now)
+            (layout.replacing_text size one.now) code.old code.new at span) }
     {
         match one {
             Operand::Item(reference) => self.emit_bytes(code, at, reference),
@@ -101,7 +106,8 @@ impl<'a> Emitter<'a> {
     ) -> Result<LimitText, AllocError>
         requires declared { IsDeclared self.now.declarations.now }
         requires rules { rules.limit_rules (items_in self.now.declarations.now) one.now ≡ [] }
-        ensures { IfOk result (λ made. spec.LimitMade (items_in self.now.declarations.now) one.now code.old code.new at made.span made.end) }
+        ensures { IfOk result (λ made. spec.LimitMade (items_in self.now.declarations.now) one.now
+            code.old code.new at made.span made.end) }
     {
         let Some(operand) = one else {
             return Ok(LimitText {
@@ -120,7 +126,8 @@ impl<'a> Emitter<'a> {
     fn emit_limits(&self, code: &mut Code, at: u32, one: &Limits) -> Result<LimitTexts, AllocError>
         requires declared { IsDeclared self.now.declarations.now }
         requires rules { rules.limits_rules (items_in self.now.declarations.now) one.now ≡ [] }
-        ensures { IfOk result (λ made. spec.LimitsMade (items_in self.now.declarations.now) one.now code.old code.new at made.before made.after made.end) }
+        ensures { IfOk result (λ made. spec.LimitsMade (items_in self.now.declarations.now) one.now
+            code.old code.new at made.before made.after made.end) }
     {
         if one.after_first {
             let after = self.emit_limit(code, at, &one.after)?;
@@ -149,8 +156,11 @@ impl<'a> Emitter<'a> {
         one: &TalliedText,
     ) -> Result<(), AllocError>
         requires declared { IsDeclared self.now.declarations.now }
-        requires rules { rules.tallied_text_rules (items_in self.now.declarations.now) one.now ≡ [] }
-        ensures { OnOk result (spec.Puts (items_in self.now.declarations.now) (layout.tallied_text how one.now ∷ []) code.old code.new made.old.size made.old.entries made.new.size made.new.entries) }
+        requires rules { rules.tallied_text_rules (items_in self.now.declarations.now) one.now
+            ≡ [] }
+        ensures { OnOk result
+            (spec.Puts (items_in self.now.declarations.now) (layout.tallied_text how one.now ∷ [])
+            code.old code.new made.old.size made.old.entries made.new.size made.new.entries) }
     {
         let text = self.emit_source(code, made.size, &one.text)?;
         let end = longer(made.size, text.length)?;
@@ -173,8 +183,11 @@ impl<'a> Emitter<'a> {
         all: &[TalliedText],
     ) -> Result<(), AllocError>
         requires declared { IsDeclared self.now.declarations.now }
-        requires rules { each (rules.tallied_text_rules (items_in self.now.declarations.now)) all.now ≡ [] }
-        ensures { OnOk result (spec.Puts (items_in self.now.declarations.now) (layout.all_inspected (λ one. layout.tallied_text how one ∷ []) all.now) code.old code.new made.old.size made.old.entries made.new.size made.new.entries) }
+        requires rules { each (rules.tallied_text_rules (items_in self.now.declarations.now))
+            all.now ≡ [] }
+        ensures { OnOk result (spec.Puts (items_in self.now.declarations.now)
+            (layout.all_inspected (λ one. layout.tallied_text how one ∷ []) all.now) code.old
+            code.new made.old.size made.old.entries made.new.size made.new.entries) }
     {
         for one in all {
             self.emit_tallied_text(code, made, how, one)?;
@@ -191,7 +204,9 @@ impl<'a> Emitter<'a> {
     ) -> Result<(), AllocError>
         requires declared { IsDeclared self.now.declarations.now }
         requires rules { rules.tallied_rules (items_in self.now.declarations.now) one.now ≡ [] }
-        ensures { OnOk result (spec.Puts (items_in self.now.declarations.now) (layout.tallied_entries one.now) code.old code.new made.old.size made.old.entries made.new.size made.new.entries) }
+        ensures { OnOk
+            result (spec.Puts (items_in self.now.declarations.now) (layout.tallied_entries one.now)
+            code.old code.new made.old.size made.old.entries made.new.size made.new.entries) }
     {
         match one {
             Tallied::Characters { limits } => {
@@ -218,8 +233,11 @@ impl<'a> Emitter<'a> {
         all: &[Tallied],
     ) -> Result<(), AllocError>
         requires declared { IsDeclared self.now.declarations.now }
-        requires rules { each (rules.tallied_rules (items_in self.now.declarations.now)) all.now ≡ [] }
-        ensures { OnOk result (spec.Puts (items_in self.now.declarations.now) (layout.all_inspected layout.tallied_entries all.now) code.old code.new made.old.size made.old.entries made.new.size made.new.entries) }
+        requires rules { each (rules.tallied_rules (items_in self.now.declarations.now)) all.now
+            ≡ [] }
+        ensures { OnOk result (spec.Puts (items_in self.now.declarations.now)
+            (layout.all_inspected layout.tallied_entries all.now) code.old code.new made.old.size
+            made.old.entries made.new.size made.new.entries) }
     {
         for one in all {
             self.emit_tallied(code, made, one)?;
@@ -237,7 +255,9 @@ impl<'a> Emitter<'a> {
     ) -> Result<(), AllocError>
         requires declared { IsDeclared self.now.declarations.now }
         requires rules { rules.tallying_rules (items_in self.now.declarations.now) one.now ≡ [] }
-        ensures { OnOk result (spec.Counts (items_in self.now.declarations.now) (one.now ∷ []) code.old code.new made.old.size made.old.entries made.new.size made.new.entries counters.old counters.new) }
+        ensures { OnOk result (spec.Counts (items_in self.now.declarations.now) (one.now ∷ [])
+            code.old code.new made.old.size made.old.entries made.new.size made.new.entries
+            counters.old counters.new) }
     {
         self.emit_reference(code, &one.counter)?;
         let before = made.entries.len();
@@ -254,8 +274,11 @@ impl<'a> Emitter<'a> {
         all: &[Tallying],
     ) -> Result<(), AllocError>
         requires declared { IsDeclared self.now.declarations.now }
-        requires rules { each (rules.tallying_rules (items_in self.now.declarations.now)) all.now ≡ [] }
-        ensures { OnOk result (spec.Counts (items_in self.now.declarations.now) all.now code.old code.new made.old.size made.old.entries made.new.size made.new.entries counters.old counters.new) }
+        requires rules { each (rules.tallying_rules (items_in self.now.declarations.now)) all.now
+            ≡ [] }
+        ensures { OnOk result (spec.Counts (items_in self.now.declarations.now) all.now code.old
+            code.new made.old.size made.old.entries made.new.size made.new.entries counters.old
+            counters.new) }
     {
         for one in all {
             self.emit_counter(code, made, counters, one)?;
@@ -272,8 +295,11 @@ impl<'a> Emitter<'a> {
         one: &ReplacedText,
     ) -> Result<(), AllocError>
         requires declared { IsDeclared self.now.declarations.now }
-        requires rules { rules.replaced_text_rules (items_in self.now.declarations.now) one.now ≡ [] }
-        ensures { OnOk result (spec.Puts (items_in self.now.declarations.now) (layout.replaced_text (items_in self.now.declarations.now) how one.now ∷ []) code.old code.new made.old.size made.old.entries made.new.size made.new.entries) }
+        requires rules { rules.replaced_text_rules (items_in self.now.declarations.now) one.now
+            ≡ [] }
+        ensures { OnOk result (spec.Puts (items_in self.now.declarations.now)
+            (layout.replaced_text (items_in self.now.declarations.now) how one.now ∷ []) code.old
+            code.new made.old.size made.old.entries made.new.size made.new.entries) }
     {
         let text = self.emit_source(code, made.size, &one.text)?;
         let behind = longer(made.size, text.length)?;
@@ -298,8 +324,11 @@ impl<'a> Emitter<'a> {
         all: &[ReplacedText],
     ) -> Result<(), AllocError>
         requires declared { IsDeclared self.now.declarations.now }
-        requires rules { each (rules.replaced_text_rules (items_in self.now.declarations.now)) all.now ≡ [] }
-        ensures { OnOk result (spec.Puts (items_in self.now.declarations.now) (layout.all_inspected (λ one. layout.replaced_text (items_in self.now.declarations.now) how one ∷ []) all.now) code.old code.new made.old.size made.old.entries made.new.size made.new.entries) }
+        requires rules { each (rules.replaced_text_rules (items_in self.now.declarations.now))
+            all.now ≡ [] }
+        ensures { OnOk result (spec.Puts (items_in self.now.declarations.now) (layout.all_inspected
+            (λ one. layout.replaced_text (items_in self.now.declarations.now) how one ∷ []) all.now)
+            code.old code.new made.old.size made.old.entries made.new.size made.new.entries) }
     {
         for one in all {
             self.emit_replaced_text(code, made, how, one)?;
@@ -318,7 +347,10 @@ impl<'a> Emitter<'a> {
         requires declared { IsDeclared self.now.declarations.now }
         requires by { rules.inspected_rules (items_in self.now.declarations.now) by.now ≡ [] }
         requires limits { rules.limits_rules (items_in self.now.declarations.now) limits.now ≡ [] }
-        ensures { OnOk result (spec.Puts (items_in self.now.declarations.now) (layout.replacing_entries (items_in self.now.declarations.now) (replacing.Characters by.now limits.now)) code.old code.new made.old.size made.old.entries made.new.size made.new.entries) }
+        ensures { OnOk
+            result (spec.Puts (items_in self.now.declarations.now) (layout.replacing_entries
+            (items_in self.now.declarations.now) (replacing.Characters by.now limits.now)) code.old
+            code.new made.old.size made.old.entries made.new.size made.new.entries) }
     {
         let by = self.emit_by(code, made.size, 1, by)?;
         let end = longer(made.size, by.length)?;
@@ -341,7 +373,9 @@ impl<'a> Emitter<'a> {
     ) -> Result<(), AllocError>
         requires declared { IsDeclared self.now.declarations.now }
         requires rules { rules.replacing_rules (items_in self.now.declarations.now) one.now ≡ [] }
-        ensures { OnOk result (spec.Puts (items_in self.now.declarations.now) (layout.replacing_entries (items_in self.now.declarations.now) one.now) code.old code.new made.old.size made.old.entries made.new.size made.new.entries) }
+        ensures { OnOk result (spec.Puts (items_in self.now.declarations.now)
+            (layout.replacing_entries (items_in self.now.declarations.now) one.now) code.old
+            code.new made.old.size made.old.entries made.new.size made.new.entries) }
     {
         match one {
             Replacing::Characters { by, limits } => self.emit_any_replaced(code, made, by, limits),
@@ -359,8 +393,11 @@ impl<'a> Emitter<'a> {
         all: &[Replacing],
     ) -> Result<(), AllocError>
         requires declared { IsDeclared self.now.declarations.now }
-        requires rules { each (rules.replacing_rules (items_in self.now.declarations.now)) all.now ≡ [] }
-        ensures { OnOk result (spec.Puts (items_in self.now.declarations.now) (layout.all_inspected (layout.replacing_entries (items_in self.now.declarations.now)) all.now) code.old code.new made.old.size made.old.entries made.new.size made.new.entries) }
+        requires rules { each (rules.replacing_rules (items_in self.now.declarations.now)) all.now
+            ≡ [] }
+        ensures { OnOk result (spec.Puts (items_in self.now.declarations.now) (layout.all_inspected
+            (layout.replacing_entries (items_in self.now.declarations.now)) all.now) code.old
+            code.new made.old.size made.old.entries made.new.size made.new.entries) }
     {
         for one in all {
             self.emit_replacing(code, made, one)?;
@@ -376,7 +413,8 @@ impl<'a> Emitter<'a> {
     ) -> Result<(), AllocError>
         requires declared { IsDeclared self.now.declarations.now }
         requires rules { rules.inspect_rules (items_in self.now.declarations.now) one.now ≡ [] }
-        ensures { OnOk result (code.new ≡ append code.old (spec.inspect_fragment (items_in self.now.declarations.now) one.now code.old)) }
+        ensures { OnOk result (code.new ≡ append code.old
+            (spec.inspect_fragment (items_in self.now.declarations.now) one.now code.old)) }
     {
         let mut counters = Items::new(self.alloc);
         let mut tallying = Entries {

@@ -26,8 +26,13 @@ pub(crate) fn put_sender(
     value: &LiteralValue,
 ) -> Result<SenderIndex, AllocError>
     requires { has_form value.now ≡ true }
-    ensures code { OnOk result (code.new ≡ record code.old { tables = record code.old.tables { senders = code.old.tables.senders ++ spec.literal_entry (literal_sender value.now) ∷ [] } }) }
-    ensures index { IfOk result (λ index. index ≡ record { number = length code.old.tables.senders }) }
+    ensures code { OnOk result (code.new ≡ record code.old {
+      tables = record code.old.tables {
+        senders = code.old.tables.senders ++ spec.literal_entry (literal_sender value.now) ∷ [];
+      };
+    }) }
+    ensures index { IfOk result
+        (λ index. index ≡ record { number = length code.old.tables.senders }) }
 {
     let number = entry_number(code.tables.senders.len())?;
     let Sender { taken, bytes } = Sender::of(alloc, value)?;
@@ -53,7 +58,8 @@ impl<'a> Emitter<'a> {
     pub(crate) fn emit_sender(&self, code: &mut Code, one: &Operand) -> Result<(), AllocError>
         requires declared { IsDeclared self.now.declarations.now }
         requires rules { operand_rules (items_in self.now.declarations.now) one.now ≡ [] }
-        ensures { OnOk result (code.new ≡ append code.old (spec.sender_fragment (items_in self.now.declarations.now) one.now code.old)) }
+        ensures { OnOk result (code.new ≡ append code.old
+            (spec.sender_fragment (items_in self.now.declarations.now) one.now code.old)) }
     {
         match one {
             Operand::Item(reference) => self.emit_taking(code, DataInstruction::Take, reference),
@@ -68,8 +74,10 @@ impl<'a> Emitter<'a> {
         all: &[Reference],
     ) -> Result<(), AllocError>
         requires declared { IsDeclared self.now.declarations.now }
-        requires rules { each (λ (one : Reference). each (subscript_rules (items_in self.now.declarations.now)) one.subscripts) all.now ≡ [] }
-        ensures { OnOk result (code.new ≡ append code.old (spec.receivers_fragment (items_in self.now.declarations.now) all.now code.old)) }
+        requires rules { each (λ (one : Reference). each
+            (subscript_rules (items_in self.now.declarations.now)) one.subscripts) all.now ≡ [] }
+        ensures { OnOk result (code.new ≡ append code.old
+            (spec.receivers_fragment (items_in self.now.declarations.now) all.now code.old)) }
     {
         for one in all {
             self.emit_taking(code, DataInstruction::Move, one)?;
@@ -85,8 +93,10 @@ impl<'a> Emitter<'a> {
         receivers: &[Reference],
     ) -> Result<(), AllocError>
         requires declared { IsDeclared self.now.declarations.now }
-        requires rules { move_rules (items_in self.now.declarations.now) sender.now receivers.now ≡ [] }
-        ensures { OnOk result (code.new ≡ append code.old (spec.move_fragment (items_in self.now.declarations.now) sender.now receivers.now code.old)) }
+        requires rules { move_rules (items_in self.now.declarations.now) sender.now receivers.now
+            ≡ [] }
+        ensures { OnOk result (code.new ≡ append code.old (spec.move_fragment
+            (items_in self.now.declarations.now) sender.now receivers.now code.old)) }
     {
         self.emit_sender(code, sender)?;
         self.emit_receivers(code, receivers)

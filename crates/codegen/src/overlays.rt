@@ -68,9 +68,14 @@ impl<'a> Emitter<'a> {
     pub(crate) fn initial_overlay(&self, one: &Reference) -> Result<Overlay, AllocError>
         requires declared { IsDeclared self.now.declarations.now }
         requires entries { entry_rules self.now.declarations.now.storage.now ≡ [] }
-        requires rules { reference_rules (items_in self.now.declarations.now) any_item one.now ≡ [] }
-        ensures bytes { IfOk result (λ made. made.bytes ≡ map new_byte (spec.pattern_of (slice_get (items_in self.now.declarations.now) (item_number (items_in self.now.declarations.now) one.now.item)))) }
-        ensures marks { IfOk result (λ made. made.marks ≡ map new_mark (spec.pattern_of (slice_get (items_in self.now.declarations.now) (item_number (items_in self.now.declarations.now) one.now.item)))) }
+        requires rules { reference_rules (items_in self.now.declarations.now) any_item one.now
+            ≡ [] }
+        ensures bytes { IfOk result (λ made. made.bytes
+            ≡ map new_byte (spec.pattern_of (slice_get (items_in self.now.declarations.now)
+            (item_number (items_in self.now.declarations.now) one.now.item)))) }
+        ensures marks { IfOk result (λ made. made.marks
+            ≡ map new_mark (spec.pattern_of (slice_get (items_in self.now.declarations.now)
+            (item_number (items_in self.now.declarations.now) one.now.item)))) }
     {
         let number = self.item_number(&one.item);
         let NewBytes { bytes, marks } = initialized_item(
@@ -87,8 +92,12 @@ impl<'a> Emitter<'a> {
         requires declared { IsDeclared self.now.declarations.now }
         requires entries { entry_rules self.now.declarations.now.storage.now ≡ [] }
         requires rules { set_one (items_in self.now.declarations.now) one.now ≡ [] }
-        ensures bytes { IfOk result (λ made. made.bytes ≡ map new_byte (spec.set_of (slice_get (all_conditions (items_in self.now.declarations.now)) (condition_number (items_in self.now.declarations.now) one.now.item)))) }
-        ensures marks { IfOk result (λ made. made.marks ≡ map new_mark (spec.set_of (slice_get (all_conditions (items_in self.now.declarations.now)) (condition_number (items_in self.now.declarations.now) one.now.item)))) }
+        ensures bytes { IfOk result (λ made. made.bytes ≡ map
+            new_byte (spec.set_of (slice_get (all_conditions (items_in self.now.declarations.now))
+            (condition_number (items_in self.now.declarations.now) one.now.item)))) }
+        ensures marks { IfOk result (λ made. made.marks ≡ map
+            new_mark (spec.set_of (slice_get (all_conditions (items_in self.now.declarations.now))
+            (condition_number (items_in self.now.declarations.now) one.now.item)))) }
     {
         condition_values_suit();
         let index = self.condition_item(&one.item)?;

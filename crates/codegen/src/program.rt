@@ -21,13 +21,16 @@ use std::alloc::{AllocError, Global};
 pub fn generate(alloc: Global, checked: &Checked<'_>) -> Result<Code, AllocError>
     ensures layout { IfOk result (λ code. code ≡ code_of checked.now) }
     // Whatever it is given, the code's run is what the tree means,
-    ensures ends { IfOk result (λ code. (given : RunInput) → Runs code given (meaning checked.now given)) }
+    ensures ends { IfOk result
+        (λ code. (given : RunInput) → Runs code given (meaning checked.now given)) }
     // and nothing else is.
-    ensures ends_only { IfOk result (λ code. (given : RunInput) (run : Run) → Runs code given run → run ≡ meaning checked.now given) }
+    ensures ends_only { IfOk result (λ code. (given : RunInput) (run : Run) → Runs code given run
+        → run ≡ meaning checked.now given) }
     // There is one file for each SELECT.
     ensures files { IfOk result (λ code. length code.files ≡ length checked.now.selects) }
     // Each file is what its SELECT and FD say.
-    ensures entries { IfOk result (λ code. entries_of code.tables code.files ≡ described.entries_of (scope checked.now).files) }
+    ensures entries { IfOk result (λ code. entries_of code.tables code.files
+        ≡ described.entries_of (scope checked.now).files) }
     // A machine can run it.
     ensures verified { IfOk result (λ code. IsVerified code) }
 {

@@ -60,7 +60,8 @@ fn number_of(one: &Integer) -> Dec
 /// An integer, on the stack of numbers.
 fn emit_integer(code: &mut Code, one: &Integer) -> Result<(), AllocError>
     requires { integer_rules one.now ≡ [] }
-    ensures { OnOk result (code.new ≡ append code.old (spec.integer_fragment (written.number_of one.now) code.old)) }
+    ensures { OnOk result
+        (code.new ≡ append code.old (spec.integer_fragment (written.number_of one.now) code.old)) }
 {
     emit_number(code, number_of(one))
 }
@@ -85,7 +86,8 @@ fn emit_adjustment(code: &mut Code, one: &Adjustment) -> Result<(), AllocError>
 
 /// The range of a subscript, whose number is on the stack.
 fn emit_range(code: &mut Code, one: Dimension) -> Result<(), AllocError>
-    ensures { OnOk result (code.new ≡ append code.old (spec.work_fragment (index_code one) code.old)) }
+    ensures { OnOk result
+        (code.new ≡ append code.old (spec.work_fragment (index_code one) code.old)) }
 {
     let Dimension { stride, count } = one;
     emit_work(code, DataInstruction::Index { stride, count })
@@ -96,7 +98,8 @@ impl<'a> Emitter<'a> {
     fn emit_subscript(&self, code: &mut Code, one: &Subscript) -> Result<(), AllocError>
         requires declared { IsDeclared self.now.declarations.now }
         requires rules { subscript_rules (items_in self.now.declarations.now) one.now ≡ [] }
-        ensures { OnOk result (code.new ≡ append code.old (spec.subscript_fragment (items_in self.now.declarations.now) one.now code.old)) }
+        ensures { OnOk result (code.new ≡ append code.old
+            (spec.subscript_fragment (items_in self.now.declarations.now) one.now code.old)) }
     {
         match one {
             Subscript::Literal(integer) => emit_integer(code, integer),
@@ -118,7 +121,9 @@ impl<'a> Emitter<'a> {
     ) -> Result<(), AllocError>
         requires declared { IsDeclared self.now.declarations.now }
         requires rules { subscript_rules (items_in self.now.declarations.now) one.now ≡ [] }
-        ensures { OnOk result (code.new ≡ append code.old (sequence (spec.subscript_fragment (items_in self.now.declarations.now) one.now) (spec.work_fragment (index_code dimension)) code.old)) }
+        ensures { OnOk result (code.new ≡ append code.old
+            (sequence (spec.subscript_fragment (items_in self.now.declarations.now) one.now)
+            (spec.work_fragment (index_code dimension)) code.old)) }
     {
         self.emit_subscript(code, one)?;
         emit_range(code, dimension)
@@ -132,8 +137,10 @@ impl<'a> Emitter<'a> {
         subscripts: &[Subscript],
     ) -> Result<(), AllocError>
         requires declared { IsDeclared self.now.declarations.now }
-        requires rules { each (subscript_rules (items_in self.now.declarations.now)) subscripts.now ≡ [] }
-        ensures { OnOk result (code.new ≡ append code.old (spec.subscripts_fragment (items_in self.now.declarations.now) dimensions.now subscripts.now code.old)) }
+        requires rules { each (subscript_rules (items_in self.now.declarations.now)) subscripts.now
+            ≡ [] }
+        ensures { OnOk result (code.new ≡ append code.old (spec.subscripts_fragment
+            (items_in self.now.declarations.now) dimensions.now subscripts.now code.old)) }
     {
         for (number, dimension) in dimensions.iter().enumerate() {
             let Some(one) = subscripts.get(number) else {
@@ -147,8 +154,10 @@ impl<'a> Emitter<'a> {
     /// The place of a reference, on the stack of places.
     pub(crate) fn emit_reference(&self, code: &mut Code, one: &Reference) -> Result<(), AllocError>
         requires declared { IsDeclared self.now.declarations.now }
-        requires rules { each (subscript_rules (items_in self.now.declarations.now)) one.now.subscripts ≡ [] }
-        ensures { OnOk result (code.new ≡ append code.old (spec.reference_fragment (items_in self.now.declarations.now) one.now code.old)) }
+        requires rules { each (subscript_rules (items_in self.now.declarations.now))
+            one.now.subscripts ≡ [] }
+        ensures { OnOk result (code.new ≡ append code.old
+            (spec.reference_fragment (items_in self.now.declarations.now) one.now code.old)) }
     {
         let item = self.item_index(&one.item)?;
         emit_work(code, DataInstruction::Place { item })?;
@@ -164,8 +173,10 @@ impl<'a> Emitter<'a> {
         one: &Reference,
     ) -> Result<(), AllocError>
         requires declared { IsDeclared self.now.declarations.now }
-        requires rules { each (subscript_rules (items_in self.now.declarations.now)) one.now.subscripts ≡ [] }
-        ensures { OnOk result (code.new ≡ append code.old (spec.take_fragment (items_in self.now.declarations.now) taking one.now code.old)) }
+        requires rules { each (subscript_rules (items_in self.now.declarations.now))
+            one.now.subscripts ≡ [] }
+        ensures { OnOk result (code.new ≡ append code.old
+            (spec.take_fragment (items_in self.now.declarations.now) taking one.now code.old)) }
     {
         self.emit_reference(code, one)?;
         emit_work(code, taking)

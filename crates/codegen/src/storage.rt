@@ -32,7 +32,8 @@ pub(crate) fn storage_code(
     requires declared { IsDeclared declarations.now }
     requires program { Declares program.now declarations.now }
     requires rules { entry_rules program.now.storage ≡ [] }
-    ensures { IfOk result (λ code. code ≡ spec.storage_with (program_areas program.now) (items_in declarations.now) declarations.now.selects.now (files_in declarations.now)) }
+    ensures { IfOk result (λ code. code ≡ spec.storage_with (program_areas program.now)
+        (items_in declarations.now) declarations.now.selects.now (files_in declarations.now)) }
 {
     Ok(Code {
         tables: storage_tables(alloc, program, declarations)?,
@@ -53,7 +54,12 @@ fn editing_of(one: &PlacedItem) -> Result<Option<Picture>, AllocError>
 
 /// What code has of an item.
 fn data_item(one: &PlacedItem) -> Result<DataItem, AllocError>
-    ensures { IfOk result (λ item. item ≡ record { item = one.now.item; editing = one.now.editing; area = one.now.area; offset = one.now.offset }) }
+    ensures { IfOk result (λ item. item ≡ record {
+      item = one.now.item;
+      editing = one.now.editing;
+      area = one.now.area;
+      offset = one.now.offset;
+    }) }
 {
     Ok(DataItem {
         item: one.item,
@@ -121,7 +127,8 @@ fn sent_entry(
     file: &ProgramFile<'_>,
 ) -> Result<DataItem, AllocError>
     requires { IsDeclared declarations.now }
-    ensures { IfOk result (λ entry. entry ≡ files.sent_entry (items_in declarations.now) (file_in (items_in declarations.now) file.now)) }
+    ensures { IfOk result (λ entry. entry ≡ files.sent_entry (items_in declarations.now)
+        (file_in (items_in declarations.now) file.now)) }
 {
     Ok(DataItem {
         item: file.sent,
@@ -137,7 +144,8 @@ fn storage_items(
     declarations: &Declarations<'_>,
 ) -> Result<Items<DataItem>, AllocError>
     requires { IsDeclared declarations.now }
-    ensures { IfOk result (λ items. items ≡ spec.storage_items (items_in declarations.now) (files_in declarations.now)) }
+    ensures { IfOk result (λ items. items
+        ≡ spec.storage_items (items_in declarations.now) (files_in declarations.now)) }
 {
     let mut items = data_items(alloc, declarations)?;
     for file in &declarations.files.files {
@@ -155,7 +163,8 @@ fn storage_tables(
     requires declared { IsDeclared declarations.now }
     requires program { Declares program.now declarations.now }
     requires rules { entry_rules program.now.storage ≡ [] }
-    ensures { IfOk result (λ tables. tables ≡ spec.tables_with (program_areas program.now) (items_in declarations.now) (files_in declarations.now)) }
+    ensures { IfOk result (λ tables. tables ≡ spec.tables_with (program_areas program.now)
+        (items_in declarations.now) (files_in declarations.now)) }
 {
     let InitialStorage { areas } = InitialStorage::of(alloc, program)?;
     Ok(DataTables {

@@ -29,7 +29,8 @@ impl<'a> Emitter<'a> {
     fn emit_sized(&self, code: &mut Code, one: &Operand) -> Result<(), AllocError>
         requires declared { IsDeclared self.now.declarations.now }
         requires rules { sent_rules (items_in self.now.declarations.now) one.now ≡ [] }
-        ensures { OnOk result (code.new ≡ append code.old (spec.sent_fragment (items_in self.now.declarations.now) None one.now code.old)) }
+        ensures { OnOk result (code.new ≡ append code.old
+            (spec.sent_fragment (items_in self.now.declarations.now) None one.now code.old)) }
     {
         match one {
             Operand::Item(reference) => {
@@ -45,7 +46,8 @@ impl<'a> Emitter<'a> {
     fn emit_all_sized(&self, code: &mut Code, all: &[Operand]) -> Result<(), AllocError>
         requires declared { IsDeclared self.now.declarations.now }
         requires rules { each (sent_rules (items_in self.now.declarations.now)) all.now ≡ [] }
-        ensures { OnOk result (code.new ≡ append code.old (in_order (spec.sent_fragment (items_in self.now.declarations.now) None) all.now code.old)) }
+        ensures { OnOk result (code.new ≡ append code.old (in_order
+            (spec.sent_fragment (items_in self.now.declarations.now) None) all.now code.old)) }
     {
         for one in all {
             self.emit_sized(code, one)?;
@@ -57,7 +59,8 @@ impl<'a> Emitter<'a> {
     fn emit_cut(&self, code: &mut Code, delimiter: &[u8], one: &Operand) -> Result<(), AllocError>
         requires declared { IsDeclared self.now.declarations.now }
         requires rules { sent_rules (items_in self.now.declarations.now) one.now ≡ [] }
-        ensures { OnOk result (code.new ≡ append code.old (spec.sent_fragment (items_in self.now.declarations.now) (Some delimiter.now) one.now code.old)) }
+        ensures { OnOk result (code.new ≡ append code.old (spec.sent_fragment
+            (items_in self.now.declarations.now) (Some delimiter.now) one.now code.old)) }
     {
         match one {
             Operand::Item(reference) => {
@@ -81,7 +84,8 @@ impl<'a> Emitter<'a> {
     ) -> Result<(), AllocError>
         requires declared { IsDeclared self.now.declarations.now }
         requires rules { each (sent_rules (items_in self.now.declarations.now)) all.now ≡ [] }
-        ensures { OnOk result (code.new ≡ append code.old (in_order (spec.sent_fragment (items_in self.now.declarations.now) (Some delimiter.now)) all.now code.old)) }
+        ensures { OnOk result (code.new ≡ append code.old (in_order (spec.sent_fragment
+            (items_in self.now.declarations.now) (Some delimiter.now)) all.now code.old)) }
     {
         for one in all {
             self.emit_cut(code, delimiter, one)?;
@@ -93,7 +97,8 @@ impl<'a> Emitter<'a> {
     fn emit_found(&self, code: &mut Code, one: &Operand) -> Result<(), AllocError>
         requires declared { IsDeclared self.now.declarations.now }
         requires rules { sent_rules (items_in self.now.declarations.now) one.now ≡ [] }
-        ensures { OnOk result (code.new ≡ append code.old (spec.found_fragment (items_in self.now.declarations.now) one.now code.old)) }
+        ensures { OnOk result (code.new ≡ append code.old
+            (spec.found_fragment (items_in self.now.declarations.now) one.now code.old)) }
     {
         match one {
             Operand::Item(reference) => {
@@ -107,7 +112,8 @@ impl<'a> Emitter<'a> {
     fn emit_all_found(&self, code: &mut Code, all: &[Operand]) -> Result<(), AllocError>
         requires declared { IsDeclared self.now.declarations.now }
         requires rules { each (sent_rules (items_in self.now.declarations.now)) all.now ≡ [] }
-        ensures { OnOk result (code.new ≡ append code.old (in_order (spec.found_fragment (items_in self.now.declarations.now)) all.now code.old)) }
+        ensures { OnOk result (code.new ≡ append code.old (in_order
+            (spec.found_fragment (items_in self.now.declarations.now)) all.now code.old)) }
     {
         for one in all {
             self.emit_found(code, one)?;
@@ -119,7 +125,8 @@ impl<'a> Emitter<'a> {
     fn emit_up_to_place(&self, code: &mut Code, one: &Operand) -> Result<(), AllocError>
         requires declared { IsDeclared self.now.declarations.now }
         requires rules { sent_rules (items_in self.now.declarations.now) one.now ≡ [] }
-        ensures { OnOk result (code.new ≡ append code.old (spec.up_to_place_fragment (items_in self.now.declarations.now) one.now code.old)) }
+        ensures { OnOk result (code.new ≡ append code.old
+            (spec.up_to_place_fragment (items_in self.now.declarations.now) one.now code.old)) }
     {
         match one {
             Operand::Item(reference) => {
@@ -135,7 +142,8 @@ impl<'a> Emitter<'a> {
     fn emit_all_up_to_place(&self, code: &mut Code, all: &[Operand]) -> Result<(), AllocError>
         requires declared { IsDeclared self.now.declarations.now }
         requires rules { each (sent_rules (items_in self.now.declarations.now)) all.now ≡ [] }
-        ensures { OnOk result (code.new ≡ append code.old (in_order (spec.up_to_place_fragment (items_in self.now.declarations.now)) all.now code.old)) }
+        ensures { OnOk result (code.new ≡ append code.old (in_order
+            (spec.up_to_place_fragment (items_in self.now.declarations.now)) all.now code.old)) }
     {
         for one in all {
             self.emit_up_to_place(code, one)?;
@@ -152,8 +160,10 @@ impl<'a> Emitter<'a> {
     ) -> Result<(), AllocError>
         requires declared { IsDeclared self.now.declarations.now }
         requires senders { each (sent_rules (items_in self.now.declarations.now)) all.now ≡ [] }
-        requires delimiter { each (subscript_rules (items_in self.now.declarations.now)) delimiter.now.subscripts ≡ [] }
-        ensures { OnOk result (code.new ≡ append code.old (spec.delimited_fragment (items_in self.now.declarations.now) all.now delimiter.now code.old)) }
+        requires delimiter { each (subscript_rules (items_in self.now.declarations.now))
+            delimiter.now.subscripts ≡ [] }
+        ensures { OnOk result (code.new ≡ append code.old (spec.delimited_fragment
+            (items_in self.now.declarations.now) all.now delimiter.now code.old)) }
     {
         self.emit_all_found(code, all)?;
         self.emit_reference(code, delimiter)?;
@@ -171,7 +181,8 @@ impl<'a> Emitter<'a> {
         requires declared { IsDeclared self.now.declarations.now }
         requires senders { each (sent_rules (items_in self.now.declarations.now)) senders.now ≡ [] }
         requires delimiter { sent_rules (items_in self.now.declarations.now) delimiter.now ≡ [] }
-        ensures { OnOk result (code.new ≡ append code.old (spec.sender_by_fragment (items_in self.now.declarations.now) senders.now (Some delimiter.now) code.old)) }
+        ensures { OnOk result (code.new ≡ append code.old (spec.sender_by_fragment
+            (items_in self.now.declarations.now) senders.now (Some delimiter.now) code.old)) }
     {
         match delimiter {
             Operand::Literal(literal) => {
@@ -185,9 +196,12 @@ impl<'a> Emitter<'a> {
     /// Senders with their delimiter.
     fn emit_sending(&self, code: &mut Code, one: &Sending) -> Result<(), AllocError>
         requires declared { IsDeclared self.now.declarations.now }
-        requires senders { each (sent_rules (items_in self.now.declarations.now)) one.now.senders ≡ [] }
-        requires delimiter { delimiter_rules (items_in self.now.declarations.now) one.now.delimiter ≡ [] }
-        ensures { OnOk result (code.new ≡ append code.old (spec.sender_fragment (items_in self.now.declarations.now) one.now code.old)) }
+        requires senders { each (sent_rules (items_in self.now.declarations.now)) one.now.senders
+            ≡ [] }
+        requires delimiter { delimiter_rules (items_in self.now.declarations.now) one.now.delimiter
+            ≡ [] }
+        ensures { OnOk result (code.new ≡ append code.old
+            (spec.sender_fragment (items_in self.now.declarations.now) one.now code.old)) }
     {
         let senders = one.senders.as_slice();
         match &one.delimiter {
@@ -200,7 +214,8 @@ impl<'a> Emitter<'a> {
     fn emit_sendings(&self, code: &mut Code, all: &[Sending]) -> Result<(), AllocError>
         requires declared { IsDeclared self.now.declarations.now }
         requires rules { each (sending_rules (items_in self.now.declarations.now)) all.now ≡ [] }
-        ensures { OnOk result (code.new ≡ append code.old (spec.sendings_fragment (items_in self.now.declarations.now) all.now code.old)) }
+        ensures { OnOk result (code.new ≡ append code.old
+            (spec.sendings_fragment (items_in self.now.declarations.now) all.now code.old)) }
     {
         for one in all {
             self.emit_sending(code, one)?;
@@ -211,8 +226,10 @@ impl<'a> Emitter<'a> {
     /// The pointer's place, if there is one, and what puts the text.
     fn emit_put(&self, code: &mut Code, pointer: &Option<Reference>) -> Result<(), AllocError>
         requires declared { IsDeclared self.now.declarations.now }
-        requires rules { spec.pointer_subscripts (items_in self.now.declarations.now) pointer.now ≡ [] }
-        ensures { OnOk result (code.new ≡ append code.old (spec.put_fragment (items_in self.now.declarations.now) pointer.now code.old)) }
+        requires rules { spec.pointer_subscripts (items_in self.now.declarations.now) pointer.now
+            ≡ [] }
+        ensures { OnOk result (code.new ≡ append code.old
+            (spec.put_fragment (items_in self.now.declarations.now) pointer.now code.old)) }
     {
         match pointer {
             None => emit_work(code, DataInstruction::String { pointer: false }),
@@ -231,10 +248,14 @@ impl<'a> Emitter<'a> {
         pointer: &Option<Reference>,
     ) -> Result<(), AllocError>
         requires declared { IsDeclared self.now.declarations.now }
-        requires sendings { each (sending_rules (items_in self.now.declarations.now)) sendings.now ≡ [] }
-        requires receiver { each (subscript_rules (items_in self.now.declarations.now)) receiver.now.subscripts ≡ [] }
-        requires pointer { spec.pointer_subscripts (items_in self.now.declarations.now) pointer.now ≡ [] }
-        ensures { OnOk result (code.new ≡ append code.old (spec.string_fragment (items_in self.now.declarations.now) sendings.now receiver.now pointer.now code.old)) }
+        requires sendings { each (sending_rules (items_in self.now.declarations.now)) sendings.now
+            ≡ [] }
+        requires receiver { each (subscript_rules (items_in self.now.declarations.now))
+            receiver.now.subscripts ≡ [] }
+        requires pointer { spec.pointer_subscripts (items_in self.now.declarations.now) pointer.now
+            ≡ [] }
+        ensures { OnOk result (code.new ≡ append code.old (spec.string_fragment
+            (items_in self.now.declarations.now) sendings.now receiver.now pointer.now code.old)) }
     {
         self.emit_sendings(code, sendings)?;
         self.emit_reference(code, receiver)?;
@@ -252,9 +273,13 @@ impl<'a> Emitter<'a> {
         requires declared { IsDeclared self.now.declarations.now }
         requires entries { entry_rules self.now.declarations.now.storage.now ≡ [] }
         requires string { string_rules (items_in self.now.declarations.now) one.now ≡ [] }
-        requires arose { rules.phrase_rules (rules.statement_rules (scope_in self.now.declarations.now) all_permitted) one.now.phrases.arose ≡ [] }
-        requires did_not { rules.phrase_rules (rules.statement_rules (scope_in self.now.declarations.now) all_permitted) one.now.phrases.did_not ≡ [] }
-        ensures { OnOk result (code.new ≡ append code.old (string_statement_fragment (scope_in self.now.declarations.now) (statement_fragment (scope_in self.now.declarations.now)) line one.now code.old)) }
+        requires arose { rules.phrase_rules (rules.statement_rules
+            (scope_in self.now.declarations.now) all_permitted) one.now.phrases.arose ≡ [] }
+        requires did_not { rules.phrase_rules (rules.statement_rules
+            (scope_in self.now.declarations.now) all_permitted) one.now.phrases.did_not ≡ [] }
+        ensures { OnOk result (code.new
+            ≡ append code.old (string_statement_fragment (scope_in self.now.declarations.now)
+            (statement_fragment (scope_in self.now.declarations.now)) line one.now code.old)) }
     {
         emit_tick(code, line)?;
         self.emit_string(code, one.sendings.as_slice(), &one.receiver, &one.pointer)?;
@@ -277,7 +302,8 @@ fn emit_up_to_text(code: &mut Code, bytes: Items<u8>) -> Result<(), AllocError>
 
 /// A text up to the bytes of the newest place.
 fn emit_text_up_to_place(code: &mut Code, bytes: Items<u8>) -> Result<(), AllocError>
-    ensures { OnOk result (code.new ≡ append code.old (spec.text_up_to_place_fragment bytes code.old)) }
+    ensures { OnOk result
+        (code.new ≡ append code.old (spec.text_up_to_place_fragment bytes code.old)) }
 {
     let number = entry_number(code.tables.texts.len())?;
     code.tables.texts.push(bytes)?;

@@ -24,7 +24,8 @@ impl<'a> Emitter<'a> {
     /// A value is a literal, or an item without subscripts.
     fn is_at_hand(&self, value: &Side) -> bool
         requires { IsDeclared self.now.declarations.now }
-        ensures { result ≡ spec.is_at_hand (items_in self.now.declarations.now) (conditions.alone_side value.now) }
+        ensures { result ≡ spec.is_at_hand (items_in self.now.declarations.now)
+            (conditions.alone_side value.now) }
     {
         match alone_side(value) {
             Some(one) => self.is_operand_at_hand(one),
@@ -35,7 +36,8 @@ impl<'a> Emitter<'a> {
     /// A value has no fault: it is a literal, or an item that has no subscripts and isn't numeric.
     fn is_faultless(&self, value: &Side) -> bool
         requires { IsDeclared self.now.declarations.now }
-        ensures { result ≡ spec.is_faultless (items_in self.now.declarations.now) (conditions.alone_side value.now) }
+        ensures { result ≡ spec.is_faultless (items_in self.now.declarations.now)
+            (conditions.alone_side value.now) }
     {
         match alone_side(value) {
             Some(one) => self.is_operand_at_hand(one) && !self.is_numeric_operand(one),
@@ -46,16 +48,21 @@ impl<'a> Emitter<'a> {
     /// An object asks for its subject before it can have a fault of its own that is another one.
     fn asks_at_once(&self, subject: &Subject, choice: &Choice) -> bool
         requires { IsDeclared self.now.declarations.now }
-        ensures { result ≡ spec.asks_at_once (items_in self.now.declarations.now) (tree.resolved_subject (items_in self.now.declarations.now) subject.now) (optional_choice (items_in self.now.declarations.now) choice.now) }
+        ensures { result ≡ spec.asks_at_once (items_in self.now.declarations.now)
+            (tree.resolved_subject (items_in self.now.declarations.now) subject.now)
+            (optional_choice (items_in self.now.declarations.now) choice.now) }
     {
         match (
             self.declarations.looked_subject(subject),
             self.declarations.looked_object(choice),
         ) {
-            (ResolvedSubject::Value(_), ResolvedObject::Value(wanted)) => self.is_at_hand(wanted.first),
-            (ResolvedSubject::Condition(_), ResolvedObject::Truth(_) | ResolvedObject::Condition(_)) => {
-                true
-            }
+            (ResolvedSubject::Value(_), ResolvedObject::Value(wanted)) => self.is_at_hand(
+                wanted.first,
+            ),
+            (
+                ResolvedSubject::Condition(_),
+                ResolvedObject::Truth(_) | ResolvedObject::Condition(_),
+            ) => { true }
             _ => false,
         }
     }
@@ -63,7 +70,8 @@ impl<'a> Emitter<'a> {
     /// The only subject is asked for at once.
     fn is_asked_first(&self, subjects: &[Subject], object: Option<&Object>) -> bool
         requires { IsDeclared self.now.declarations.now }
-        ensures { result ≡ spec.is_asked_first (items_in self.now.declarations.now) subjects.now (option_copied object.entry) }
+        ensures { result ≡ spec.is_asked_first (items_in self.now.declarations.now) subjects.now
+            (option_copied object.entry) }
     {
         match (subjects, object) {
             ([subject], Some(object)) => self.asks_at_once(subject, &object.choice),
@@ -75,7 +83,9 @@ impl<'a> Emitter<'a> {
     fn emit_value_look(&self, code: &mut Code, value: &Side) -> Result<(), AllocError>
         requires declared { IsDeclared self.now.declarations.now }
         requires rules { side_rules (items_in self.now.declarations.now) value.now ≡ [] }
-        ensures { OnOk result (code.new ≡ append code.old (spec.look_fragment (items_in self.now.declarations.now) (spec.value_look (items_in self.now.declarations.now) value.now) code.old)) }
+        ensures { OnOk result
+            (code.new ≡ append code.old (spec.look_fragment (items_in self.now.declarations.now)
+            (spec.value_look (items_in self.now.declarations.now) value.now) code.old)) }
     {
         if self.is_faultless(value) {
             return Ok(());
@@ -89,7 +99,8 @@ impl<'a> Emitter<'a> {
         requires declared { IsDeclared self.now.declarations.now }
         requires entries { entry_rules self.now.declarations.now.storage.now ≡ [] }
         requires rules { subject_rules (items_in self.now.declarations.now) one.now ≡ [] }
-        ensures { OnOk result (code.new ≡ append code.old (spec.subject_fragment (items_in self.now.declarations.now) one.now code.old)) }
+        ensures { OnOk result (code.new ≡ append code.old
+            (spec.subject_fragment (items_in self.now.declarations.now) one.now code.old)) }
     {
         match self.declarations.looked_subject(one) {
             ResolvedSubject::Value(value) => self.emit_value_look(code, value),
@@ -103,7 +114,8 @@ impl<'a> Emitter<'a> {
         requires declared { IsDeclared self.now.declarations.now }
         requires entries { entry_rules self.now.declarations.now.storage.now ≡ [] }
         requires rules { each (subject_rules (items_in self.now.declarations.now)) all.now ≡ [] }
-        ensures { OnOk result (code.new ≡ append code.old (spec.each_subject_fragment (items_in self.now.declarations.now) all.now code.old)) }
+        ensures { OnOk result (code.new ≡ append code.old
+            (spec.each_subject_fragment (items_in self.now.declarations.now) all.now code.old)) }
     {
         for one in all {
             self.emit_subject(code, one)?;
@@ -119,8 +131,11 @@ impl<'a> Emitter<'a> {
     ) -> Result<(), AllocError>
         requires declared { IsDeclared self.now.declarations.now }
         requires entries { entry_rules self.now.declarations.now.storage.now ≡ [] }
-        requires rules { each (subject_rules (items_in self.now.declarations.now)) one.now.subjects ≡ [] }
-        ensures { OnOk result (code.new ≡ append code.old (spec.subjects_fragment (items_in self.now.declarations.now) one.now.subjects (spec.first_object one.now.selected) code.old)) }
+        requires rules { each (subject_rules (items_in self.now.declarations.now)) one.now.subjects
+            ≡ [] }
+        ensures { OnOk result
+            (code.new ≡ append code.old (spec.subjects_fragment (items_in self.now.declarations.now)
+            one.now.subjects (spec.first_object one.now.selected) code.old)) }
     {
         let subjects = one.subjects.as_slice();
         if self.is_asked_first(subjects, first_object(one.selected.as_slice())) {

@@ -80,8 +80,12 @@ impl<'a> Emitter<'a> {
     ) -> Result<(), AllocError>
         requires declared { IsDeclared self.now.declarations.now }
         requires entries { entry_rules self.now.declarations.now.storage.now ≡ [] }
-        requires rules { rules.performed_rules (scope_in self.now.declarations.now).procedures all_permitted (rules.statement_rules (scope_in self.now.declarations.now) all_permitted) one.now ≡ [] }
-        ensures { OnOk result (code.new ≡ append code.old (times_fragment count (turn_fragment (scope_in self.now.declarations.now) (statement_fragment (scope_in self.now.declarations.now)) line one.now) code.old)) }
+        requires rules { rules.performed_rules (scope_in self.now.declarations.now).procedures
+            all_permitted (rules.statement_rules (scope_in self.now.declarations.now) all_permitted)
+            one.now ≡ [] }
+        ensures { OnOk result (code.new ≡ append
+            code.old (times_fragment count (turn_fragment (scope_in self.now.declarations.now)
+            (statement_fragment (scope_in self.now.declarations.now)) line one.now) code.old)) }
     {
         if count == 0 {
             return Ok(());
@@ -101,9 +105,15 @@ impl<'a> Emitter<'a> {
     ) -> Result<(), AllocError>
         requires declared { IsDeclared self.now.declarations.now }
         requires entries { entry_rules self.now.declarations.now.storage.now ≡ [] }
-        requires item { reference_rules (items_in self.now.declarations.now) integer_item item.now ≡ [] }
-        requires rules { rules.performed_rules (scope_in self.now.declarations.now).procedures all_permitted (rules.statement_rules (scope_in self.now.declarations.now) all_permitted) one.now ≡ [] }
-        ensures { OnOk result (code.new ≡ append code.old (sequence (take_fragment (items_in self.now.declarations.now) i.Push item.now) (counted_fragment (turn_fragment (scope_in self.now.declarations.now) (statement_fragment (scope_in self.now.declarations.now)) line one.now)) code.old)) }
+        requires item { reference_rules (items_in self.now.declarations.now) integer_item item.now
+            ≡ [] }
+        requires rules { rules.performed_rules (scope_in self.now.declarations.now).procedures
+            all_permitted (rules.statement_rules (scope_in self.now.declarations.now) all_permitted)
+            one.now ≡ [] }
+        ensures { OnOk result (code.new ≡ append
+            code.old (sequence (take_fragment (items_in self.now.declarations.now) i.Push item.now)
+            (counted_fragment (turn_fragment (scope_in self.now.declarations.now)
+            (statement_fragment (scope_in self.now.declarations.now)) line one.now)) code.old)) }
     {
         self.emit_taking(code, DataInstruction::Push, item)?;
         let begin = emit_count_begin(code)?;
@@ -124,8 +134,12 @@ impl<'a> Emitter<'a> {
     ) -> Result<(), AllocError>
         requires declared { IsDeclared self.now.declarations.now }
         requires entries { entry_rules self.now.declarations.now.storage.now ≡ [] }
-        requires rules { rules.performed_rules (scope_in self.now.declarations.now).procedures all_permitted (rules.statement_rules (scope_in self.now.declarations.now) all_permitted) one.now ≡ [] }
-        ensures { OnOk result (code.new ≡ append code.old (counted_turn begin (turn_fragment (scope_in self.now.declarations.now) (statement_fragment (scope_in self.now.declarations.now)) line one.now) code.old)) }
+        requires rules { rules.performed_rules (scope_in self.now.declarations.now).procedures
+            all_permitted (rules.statement_rules (scope_in self.now.declarations.now) all_permitted)
+            one.now ≡ [] }
+        ensures { OnOk result (code.new ≡ append
+            code.old (counted_turn begin (turn_fragment (scope_in self.now.declarations.now)
+            (statement_fragment (scope_in self.now.declarations.now)) line one.now) code.old)) }
     {
         let to = code.instructions.len();
         self.emit_turn(code, line, one)?;

@@ -28,7 +28,8 @@ impl<'a> Emitter<'a> {
     fn emit_vary_begin(&self, code: &mut Code, one: &Option<Varying>) -> Result<(), AllocError>
         requires declared { IsDeclared self.now.declarations.now }
         requires rules { varying_rules (items_in self.now.declarations.now) one.now ≡ [] }
-        ensures { OnOk result (code.new ≡ append code.old (spec.vary_begin_fragment (items_in self.now.declarations.now) one.now code.old)) }
+        ensures { OnOk result (code.new ≡ append code.old
+            (spec.vary_begin_fragment (items_in self.now.declarations.now) one.now code.old)) }
     {
         let Some(varying) = one else {
             return Ok(());
@@ -41,7 +42,8 @@ impl<'a> Emitter<'a> {
     fn emit_vary_on(&self, code: &mut Code, one: &Option<Varying>) -> Result<(), AllocError>
         requires declared { IsDeclared self.now.declarations.now }
         requires rules { varying_rules (items_in self.now.declarations.now) one.now ≡ [] }
-        ensures { OnOk result (code.new ≡ append code.old (spec.vary_on_fragment (items_in self.now.declarations.now) one.now code.old)) }
+        ensures { OnOk result (code.new ≡ append code.old
+            (spec.vary_on_fragment (items_in self.now.declarations.now) one.now code.old)) }
     {
         let Some(varying) = one else {
             return Ok(());
@@ -56,7 +58,9 @@ impl<'a> Emitter<'a> {
     fn emit_onward(&self, code: &mut Code, one: &Option<Varying>) -> Result<(), AllocError>
         requires declared { IsDeclared self.now.declarations.now }
         requires rules { varying_rules (items_in self.now.declarations.now) one.now ≡ [] }
-        ensures { OnOk result (code.new ≡ append code.old (either_fragment nothing_fragment (sequence (spec.vary_on_fragment (items_in self.now.declarations.now) one.now) (work_fragment i.ClearTruth)) code.old)) }
+        ensures { OnOk result (code.new
+            ≡ append code.old (either_fragment nothing_fragment (sequence (spec.vary_on_fragment
+            (items_in self.now.declarations.now) one.now) (work_fragment i.ClearTruth)) code.old)) }
     {
         let branch = emit_branch(code)?;
         let other = emit_jump(code)?;
@@ -77,8 +81,13 @@ impl<'a> Emitter<'a> {
         requires declared { IsDeclared self.now.declarations.now }
         requires entries { entry_rules self.now.declarations.now.storage.now ≡ [] }
         requires turns { until_rules (items_in self.now.declarations.now) one.now ≡ [] }
-        requires rules { rules.performed_rules (scope_in self.now.declarations.now).procedures all_permitted (rules.statement_rules (scope_in self.now.declarations.now) all_permitted) performed.now ≡ [] }
-        ensures { OnOk result (code.new ≡ append code.old (spec.until_fragment (items_in self.now.declarations.now) one.now (turn_fragment (scope_in self.now.declarations.now) (statement_fragment (scope_in self.now.declarations.now)) line performed.now) code.old)) }
+        requires rules { rules.performed_rules (scope_in self.now.declarations.now).procedures
+            all_permitted (rules.statement_rules (scope_in self.now.declarations.now) all_permitted)
+            performed.now ≡ [] }
+        ensures { OnOk result
+            (code.new ≡ append code.old (spec.until_fragment (items_in self.now.declarations.now)
+            one.now (turn_fragment (scope_in self.now.declarations.now) (statement_fragment
+            (scope_in self.now.declarations.now)) line performed.now) code.old)) }
     {
         self.emit_vary_begin(code, &one.varying)?;
         match one.test {
@@ -99,8 +108,14 @@ impl<'a> Emitter<'a> {
         requires declared { IsDeclared self.now.declarations.now }
         requires entries { entry_rules self.now.declarations.now.storage.now ≡ [] }
         requires turns { until_rules (items_in self.now.declarations.now) one.now ≡ [] }
-        requires rules { rules.performed_rules (scope_in self.now.declarations.now).procedures all_permitted (rules.statement_rules (scope_in self.now.declarations.now) all_permitted) performed.now ≡ [] }
-        ensures { OnOk result (code.new ≡ append code.old (spec.until_before_fragment (condition_fragment (items_in self.now.declarations.now) one.now.condition) (spec.vary_on_fragment (items_in self.now.declarations.now) one.now.varying) (turn_fragment (scope_in self.now.declarations.now) (statement_fragment (scope_in self.now.declarations.now)) line performed.now) code.old)) }
+        requires rules { rules.performed_rules (scope_in self.now.declarations.now).procedures
+            all_permitted (rules.statement_rules (scope_in self.now.declarations.now) all_permitted)
+            performed.now ≡ [] }
+        ensures { OnOk result (code.new ≡ append code.old (spec.until_before_fragment
+            (condition_fragment (items_in self.now.declarations.now) one.now.condition)
+            (spec.vary_on_fragment (items_in self.now.declarations.now) one.now.varying)
+            (turn_fragment (scope_in self.now.declarations.now) (statement_fragment
+            (scope_in self.now.declarations.now)) line performed.now) code.old)) }
     {
         self.emit_condition(code, &one.condition)?;
         let branch = emit_branch(code)?;
@@ -121,8 +136,15 @@ impl<'a> Emitter<'a> {
         requires declared { IsDeclared self.now.declarations.now }
         requires entries { entry_rules self.now.declarations.now.storage.now ≡ [] }
         requires turns { until_rules (items_in self.now.declarations.now) one.now ≡ [] }
-        requires rules { rules.performed_rules (scope_in self.now.declarations.now).procedures all_permitted (rules.statement_rules (scope_in self.now.declarations.now) all_permitted) performed.now ≡ [] }
-        ensures { OnOk result (code.new ≡ append code.old (spec.repetition_fragment (turn_fragment (scope_in self.now.declarations.now) (statement_fragment (scope_in self.now.declarations.now)) line performed.now) (sequence (spec.vary_on_fragment (items_in self.now.declarations.now) one.now.varying) (condition_fragment (items_in self.now.declarations.now) one.now.condition)) code.old)) }
+        requires rules { rules.performed_rules (scope_in self.now.declarations.now).procedures
+            all_permitted (rules.statement_rules (scope_in self.now.declarations.now) all_permitted)
+            performed.now ≡ [] }
+        ensures { OnOk result (code.new ≡ append
+            code.old (spec.repetition_fragment (turn_fragment (scope_in self.now.declarations.now)
+            (statement_fragment (scope_in self.now.declarations.now)) line performed.now)
+            (sequence (spec.vary_on_fragment (items_in self.now.declarations.now) one.now.varying)
+            (condition_fragment (items_in self.now.declarations.now) one.now.condition))
+            code.old)) }
     {
         let begin = code.instructions.len();
         self.emit_turn(code, line, performed)?;
@@ -143,8 +165,14 @@ impl<'a> Emitter<'a> {
         requires declared { IsDeclared self.now.declarations.now }
         requires entries { entry_rules self.now.declarations.now.storage.now ≡ [] }
         requires turns { until_rules (items_in self.now.declarations.now) one.now ≡ [] }
-        requires rules { rules.performed_rules (scope_in self.now.declarations.now).procedures all_permitted (rules.statement_rules (scope_in self.now.declarations.now) all_permitted) performed.now ≡ [] }
-        ensures { OnOk result (code.new ≡ append code.old (spec.until_after_fragment (condition_fragment (items_in self.now.declarations.now) one.now.condition) (spec.vary_on_fragment (items_in self.now.declarations.now) one.now.varying) (turn_fragment (scope_in self.now.declarations.now) (statement_fragment (scope_in self.now.declarations.now)) line performed.now) code.old)) }
+        requires rules { rules.performed_rules (scope_in self.now.declarations.now).procedures
+            all_permitted (rules.statement_rules (scope_in self.now.declarations.now) all_permitted)
+            performed.now ≡ [] }
+        ensures { OnOk result (code.new ≡ append code.old (spec.until_after_fragment
+            (condition_fragment (items_in self.now.declarations.now) one.now.condition)
+            (spec.vary_on_fragment (items_in self.now.declarations.now) one.now.varying)
+            (turn_fragment (scope_in self.now.declarations.now) (statement_fragment
+            (scope_in self.now.declarations.now)) line performed.now) code.old)) }
     {
         let begin = code.instructions.len();
         self.emit_turn(code, line, performed)?;

@@ -51,7 +51,10 @@ abbrev named : ℕ → Token
 named letter = at (k.Word (letter ∷ []))
 
 abbrev item : ℕ → Reference
-item letter = record { item = record { name = record { characters = letter ∷ []; place = here }; qualifiers = [] }; subscripts = [] }
+item letter = record {
+  item = record { name = record { characters = letter ∷ []; place = here }; qualifiers = [] };
+  subscripts = [];
+}
 
 abbrev name : ℕ → Condition
 name letter = c.Name (item letter)
@@ -64,30 +67,46 @@ equal = at (k.Operator operator.Equal)
 
 -- every step of reading, so that a condition's tree is computed
 unfoldable computing : Unit {0}
-unfolding same_word read.after_word read.past_word read.expect read.skip read.presence_reader read.one_token read.name read.several_from read.several read.any s.qualifier_reader s.qualified_reader s.integer_reader s.subscript_reader r.subscripts_reader r.enclosed_subscripts_reader r.reference_reader o.item_reader o.number_literal_reader o.number_operand_reader l.literal_reader l.all_literal_reader e.further_operand_reader e.level_reader e.product_reader e.sum_reader e.plain_reader e.signed_reader e.enclosed_reader e.nested_reader e.factor_reader e.expression_reader looking.past_closing t.or_equal_phrase_reader t.or_equal_reader t.order_reader t.equal_reader t.asked_reader g.expression_side_reader g.literal_side_reader g.side_reader g.named_reader g.class_reader g.relation_reader g.compared_reader g.by_reference_reader g.plain_reader g.further_condition_reader g.level_reader g.conjunction_reader g.disjunction_reader g.negation_reader g.enclosed_reader g.nested_reader g.simple_reader g.condition_reader read.here v.alone_reader v.truth_reader v.subject_truth_reader v.subject_condition_reader v.subject_asked_reader v.subject_reader v.last_reader v.choice_any_reader v.choice_truth_reader v.choice_condition_reader v.choice_value_reader v.choice_asked_reader v.choice_reader v.object_reader
+unfolding same_word read.after_word read.past_word read.expect read.skip read.presence_reader read.one_token read.name
+    read.several_from read.several read.any s.qualifier_reader s.qualified_reader s.integer_reader s.subscript_reader
+    r.subscripts_reader r.enclosed_subscripts_reader r.reference_reader o.item_reader o.number_literal_reader
+    o.number_operand_reader l.literal_reader l.all_literal_reader e.further_operand_reader e.level_reader
+    e.product_reader e.sum_reader e.plain_reader e.signed_reader e.enclosed_reader e.nested_reader e.factor_reader
+    e.expression_reader looking.past_closing t.or_equal_phrase_reader t.or_equal_reader t.order_reader t.equal_reader
+    t.asked_reader g.expression_side_reader g.literal_side_reader g.side_reader g.named_reader g.class_reader
+    g.relation_reader g.compared_reader g.by_reference_reader g.plain_reader g.further_condition_reader g.level_reader
+    g.conjunction_reader g.disjunction_reader g.negation_reader g.enclosed_reader g.nested_reader g.simple_reader
+    g.condition_reader read.here v.alone_reader v.truth_reader v.subject_truth_reader v.subject_condition_reader
+    v.subject_asked_reader v.subject_reader v.last_reader v.choice_any_reader v.choice_truth_reader
+    v.choice_condition_reader v.choice_value_reader v.choice_asked_reader v.choice_reader v.object_reader
 computing = tt
 
 -- A OR B AND C: AND before OR, and nothing of the depth
-and_before_or : condition_reader 0 (named 65 ∷ word w.Or ∷ named 66 ∷ word w.And ∷ named 67 ∷ []) ≡ Ok (c.Any (name 65 ∷ c.All (name 66 ∷ name 67 ∷ []) ∷ []), [])
+and_before_or : condition_reader 0 (named 65 ∷ word w.Or ∷ named 66 ∷ word w.And ∷ named 67 ∷ [])
+    ≡ Ok (c.Any (name 65 ∷ c.All (name 66 ∷ name 67 ∷ []) ∷ []), [])
 unfolding computing
 and_before_or = refl
 
 -- NOT A AND B: NOT before AND
-not_before_and : condition_reader 1 (word w.Not ∷ named 65 ∷ word w.And ∷ named 66 ∷ []) ≡ Ok (c.All (c.Not (name 65) ∷ name 66 ∷ []), [])
+not_before_and : condition_reader 1 (word w.Not ∷ named 65 ∷ word w.And ∷ named 66 ∷ [])
+    ≡ Ok (c.All (c.Not (name 65) ∷ name 66 ∷ []), [])
 unfolding computing
 not_before_and = refl
 
 -- A IS NOT EQUAL TO B
-not_equal : condition_reader 0 (named 65 ∷ word w.Is ∷ word w.Not ∷ word w.Equal ∷ word w.To ∷ named 66 ∷ []) ≡ Ok (c.Relation (value 65) relation.NotEqual (value 66), [])
+not_equal : condition_reader 0 (named 65 ∷ word w.Is ∷ word w.Not ∷ word w.Equal ∷ word w.To ∷ named 66 ∷ [])
+    ≡ Ok (c.Relation (value 65) relation.NotEqual (value 66), [])
 unfolding computing
 not_equal = refl
 
 -- ( A ), a condition name; ( A ) = B, a relation
-name_in_parentheses : condition_reader 1 (at k.LeftParenthesis ∷ named 65 ∷ at k.RightParenthesis ∷ []) ≡ Ok (name 65, [])
+name_in_parentheses : condition_reader 1 (at k.LeftParenthesis ∷ named 65 ∷ at k.RightParenthesis ∷ [])
+    ≡ Ok (name 65, [])
 unfolding computing
 name_in_parentheses = refl
 
-operand_in_parentheses : condition_reader 1 (at k.LeftParenthesis ∷ named 65 ∷ at k.RightParenthesis ∷ equal ∷ named 66 ∷ []) ≡ Ok (c.Relation (value 65) relation.Equal (value 66), [])
+operand_in_parentheses : condition_reader 1 (at k.LeftParenthesis ∷ named 65 ∷ at k.RightParenthesis ∷ equal ∷ named 66
+    ∷ []) ≡ Ok (c.Relation (value 65) relation.Equal (value 66), [])
 unfolding computing
 operand_in_parentheses = refl
 
@@ -97,12 +116,14 @@ unfolding computing
 phrase_is_left = refl
 
 -- NOT ( A ), one level too deep at the parenthesis
-too_deep : condition_reader 1 (word w.Not ∷ at k.LeftParenthesis ∷ named 65 ∷ at k.RightParenthesis ∷ []) ≡ Err (TooDeep 3)
+too_deep : condition_reader 1 (word w.Not ∷ at k.LeftParenthesis ∷ named 65 ∷ at k.RightParenthesis ∷ [])
+    ≡ Err (TooDeep 3)
 unfolding computing
 too_deep = refl
 
 -- A IS NUMERIC
-of_class : condition_reader 0 (named 65 ∷ word w.Is ∷ word w.Numeric ∷ []) ≡ Ok (c.Class (item 65) false class.Numeric, [])
+of_class : condition_reader 0 (named 65 ∷ word w.Is ∷ word w.Numeric ∷ [])
+    ≡ Ok (c.Class (item 65) false class.Numeric, [])
 unfolding computing
 of_class = refl
 
@@ -112,7 +133,8 @@ abbrev chosen : Choice → Object
 chosen one = record { place = here; choice = one }
 
 -- ( A ), a reference alone
-subject_in_parentheses : subject_reader 1 (at k.LeftParenthesis ∷ named 65 ∷ at k.RightParenthesis ∷ word w.When ∷ []) ≡ Ok (subject.Value (value 65), word w.When ∷ [])
+subject_in_parentheses : subject_reader 1 (at k.LeftParenthesis ∷ named 65 ∷ at k.RightParenthesis ∷ word w.When ∷ [])
+    ≡ Ok (subject.Value (value 65), word w.When ∷ [])
 unfolding computing
 subject_in_parentheses = refl
 
@@ -126,22 +148,26 @@ unfolding computing
 denied_object = refl
 
 -- NOT A = B, a condition
-denied_relation : object_reader 1 (word w.Not ∷ named 65 ∷ equal ∷ named 66 ∷ []) ≡ Ok (chosen (choice.Condition (c.Not (c.Relation (value 65) relation.Equal (value 66)))), [])
+denied_relation : object_reader 1 (word w.Not ∷ named 65 ∷ equal ∷ named 66 ∷ [])
+    ≡ Ok (chosen (choice.Condition (c.Not (c.Relation (value 65) relation.Equal (value 66)))), [])
 unfolding computing
 denied_relation = refl
 
 -- A AND B
-conjunction : object_reader 0 (named 65 ∷ word w.And ∷ named 66 ∷ []) ≡ Ok (chosen (choice.Condition (c.All (name 65 ∷ name 66 ∷ []))), [])
+conjunction : object_reader 0 (named 65 ∷ word w.And ∷ named 66 ∷ [])
+    ≡ Ok (chosen (choice.Condition (c.All (name 65 ∷ name 66 ∷ []))), [])
 unfolding computing
 conjunction = refl
 
 -- NOT A THRU B
-range : object_reader 0 (word w.Not ∷ named 65 ∷ word w.Thru ∷ named 66 ∷ []) ≡ Ok (chosen (choice.Value true (value 65) (Some (value 66))), [])
+range : object_reader 0 (word w.Not ∷ named 65 ∷ word w.Thru ∷ named 66 ∷ [])
+    ≡ Ok (chosen (choice.Value true (value 65) (Some (value 66))), [])
 unfolding computing
 range = refl
 
 -- ( NOT A ): a condition, since no value stands
-denied_in_parentheses : object_reader 2 (at k.LeftParenthesis ∷ word w.Not ∷ named 65 ∷ at k.RightParenthesis ∷ []) ≡ Ok (chosen (choice.Condition (c.Not (name 65))), [])
+denied_in_parentheses : object_reader 2 (at k.LeftParenthesis ∷ word w.Not ∷ named 65 ∷ at k.RightParenthesis ∷ [])
+    ≡ Ok (chosen (choice.Condition (c.Not (name 65))), [])
 unfolding computing
 denied_in_parentheses = refl
 

@@ -44,9 +44,11 @@ impl<F: Fn(Global, &mut Tokens<'_>, usize) -> Result<Condition, ReadFault>> Part
     ghost use Rattle.conditions.specs.Conditions as spec;
     ghost use Rattle.conditions.specs.Nests.{Nests};
 
-    ghost ready = { λ n. Nests n.conditions.now.depth (F.pre n.conditions.now.simple) (F.post n.conditions.now.simple) };
+    ghost ready = { λ n. Nests n.conditions.now.depth (F.pre n.conditions.now.simple)
+        (F.post n.conditions.now.simple) };
 
-    ghost reading = { λ n. spec.further_condition_reader w.And (spec.simple_reader n.conditions.now.depth) };
+    ghost reading = { λ n.
+        spec.further_condition_reader w.And (spec.simple_reader n.conditions.now.depth) };
 
     ghost beginning = { λ _. begins_word w.And };
 
@@ -68,9 +70,11 @@ impl<F: Fn(Global, &mut Tokens<'_>, usize) -> Result<Condition, ReadFault>> Part
     ghost use Rattle.conditions.specs.Conditions as spec;
     ghost use Rattle.conditions.specs.Nests.{Nests};
 
-    ghost ready = { λ n. Nests n.conditions.now.depth (F.pre n.conditions.now.simple) (F.post n.conditions.now.simple) };
+    ghost ready = { λ n. Nests n.conditions.now.depth (F.pre n.conditions.now.simple)
+        (F.post n.conditions.now.simple) };
 
-    ghost reading = { λ n. spec.further_condition_reader w.Or (spec.conjunction_reader (spec.simple_reader n.conditions.now.depth)) };
+    ghost reading = { λ n. spec.further_condition_reader w.Or
+        (spec.conjunction_reader (spec.simple_reader n.conditions.now.depth)) };
 
     ghost beginning = { λ _. begins_word w.Or };
 
@@ -131,7 +135,8 @@ impl<F: Fn(Global, &mut Tokens<'_>, usize) -> Result<Condition, ReadFault>> Cond
     #[tactic(auto, unfolding(crate::specs::Conditions::conjunction_reader, crate::specs::Conditions::level_reader))]
     fn conjunction(&self, tokens: &mut Tokens<'_>) -> Result<Condition, ReadFault>
         requires { Nests self.now.depth (F.pre self.now.simple) (F.post self.now.simple) }
-        ensures { Reads (spec.conjunction_reader (spec.simple_reader self.now.depth) tokens.old) result tokens.new }
+        ensures { Reads (spec.conjunction_reader (spec.simple_reader self.now.depth) tokens.old)
+            result tokens.new }
     {
         let first = self.simple(tokens)?;
         let more = any(&FurtherSimple { conditions: self }, self.alloc, tokens);
@@ -143,7 +148,8 @@ impl<F: Fn(Global, &mut Tokens<'_>, usize) -> Result<Condition, ReadFault>> Cond
     #[tactic(auto, unfolding(crate::specs::Conditions::disjunction_reader, crate::specs::Conditions::level_reader))]
     pub fn disjunction(&self, tokens: &mut Tokens<'_>) -> Result<Condition, ReadFault>
         requires { Nests self.now.depth (F.pre self.now.simple) (F.post self.now.simple) }
-        ensures { Reads (spec.disjunction_reader (spec.simple_reader self.now.depth) tokens.old) result tokens.new }
+        ensures { Reads (spec.disjunction_reader (spec.simple_reader self.now.depth) tokens.old)
+            result tokens.new }
     {
         let first = self.conjunction(tokens)?;
         let more = any(
@@ -159,7 +165,8 @@ impl<F: Fn(Global, &mut Tokens<'_>, usize) -> Result<Condition, ReadFault>> Cond
     #[tactic(auto, unfolding(crate::specs::Conditions::negation_reader))]
     fn negation(&self, tokens: &mut Tokens<'_>) -> Result<Condition, ReadFault>
         requires { Nests self.now.depth (F.pre self.now.simple) (F.post self.now.simple) }
-        ensures { Reads (spec.negation_reader (spec.simple_reader self.now.depth) tokens.old) result tokens.new }
+        ensures { Reads (spec.negation_reader (spec.simple_reader self.now.depth) tokens.old) result
+            tokens.new }
     {
         tokens.expect(Reserved::Not)?;
         let inner = self.simple(tokens)?;
@@ -170,7 +177,8 @@ impl<F: Fn(Global, &mut Tokens<'_>, usize) -> Result<Condition, ReadFault>> Cond
     #[tactic(auto, unfolding(crate::specs::Conditions::enclosed_reader))]
     fn enclosed(&self, tokens: &mut Tokens<'_>) -> Result<Condition, ReadFault>
         requires { Nests self.now.depth (F.pre self.now.simple) (F.post self.now.simple) }
-        ensures { Reads (spec.enclosed_reader (spec.simple_reader self.now.depth) tokens.old) result tokens.new }
+        ensures { Reads (spec.enclosed_reader (spec.simple_reader self.now.depth) tokens.old) result
+            tokens.new }
     {
         left(tokens)?;
         let inner = self.disjunction(tokens)?;
@@ -182,7 +190,8 @@ impl<F: Fn(Global, &mut Tokens<'_>, usize) -> Result<Condition, ReadFault>> Cond
     #[tactic(auto, unfolding(crate::specs::Conditions::nested_reader))]
     fn nested(&self, tokens: &mut Tokens<'_>) -> Result<Condition, ReadFault>
         requires { Nests self.now.depth (F.pre self.now.simple) (F.post self.now.simple) }
-        ensures { Reads (spec.nested_reader (spec.simple_reader self.now.depth) tokens.old) result tokens.new }
+        ensures { Reads (spec.nested_reader (spec.simple_reader self.now.depth) tokens.old) result
+            tokens.new }
     {
         if tokens.at_word(Reserved::Not) {
             self.negation(tokens)

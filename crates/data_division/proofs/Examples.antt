@@ -92,7 +92,17 @@ nine = record { characters = 57 ∷ []; place = in_column 30 }
 
 -- every step of reading, so that entries are computed
 unfoldable computing : Unit {0}
-unfolding same_word read.after_word read.past_word read.expect read.skip read.presence_reader read.period read.heading_reader read.here read.one_token read.name read.several_from read.several read.any subscripts.integer_reader literals.literal_reader literals.all_literal_reader c.either_reader c.skip_either c.skip_led c.after_separate c.redefines_reader c.picture_reader c.usage_reader c.sign_reader c.occurs_reader c.synchronized_reader c.justified_reader c.blank_when_zero_reader c.value_reader c.clause_reader gathering.gathering_turns gathering.gathering_reader stated.stated_reader r.given_reader r.filler_reader r.named_reader r.item_reader r.through_literal_reader r.last_value_reader r.range_reader r.condition_reader r.by_level r.entry_reader file_clauses.label_records_reader file_clauses.to_size_reader file_clauses.block_contains_reader file_clauses.record_contains_reader file_clauses.data_records_reader file_clauses.file_clause_reader files.file_reader files.described_reader files.file_section_reader division.stored_reader division.working_storage_reader division.sections_reader division.data_division_reader
+unfolding same_word read.after_word read.past_word read.expect
+    read.skip read.presence_reader read.period read.heading_reader read.here read.one_token read.name read.several_from
+    read.several read.any subscripts.integer_reader literals.literal_reader literals.all_literal_reader c.either_reader
+    c.skip_either c.skip_led c.after_separate c.redefines_reader c.picture_reader c.usage_reader c.sign_reader
+    c.occurs_reader c.synchronized_reader c.justified_reader c.blank_when_zero_reader c.value_reader c.clause_reader
+    gathering.gathering_turns gathering.gathering_reader stated.stated_reader r.given_reader r.filler_reader
+    r.named_reader r.item_reader r.through_literal_reader r.last_value_reader r.range_reader r.condition_reader
+    r.by_level r.entry_reader file_clauses.label_records_reader file_clauses.to_size_reader
+    file_clauses.block_contains_reader file_clauses.record_contains_reader file_clauses.data_records_reader
+    file_clauses.file_clause_reader files.file_reader files.described_reader files.file_section_reader
+    division.stored_reader division.working_storage_reader division.sections_reader division.data_division_reader
 computing = tt
 
 -- 01 A.
@@ -102,32 +112,45 @@ no_clause = refl
 
 -- 01 A VALUE 5 SYNC COMP PIC 9.
 any_order :
-    r.entry_reader (named zero_one (65 ∷ []) (word 14 w.Value ∷ number 20 (53 ∷ []) ∷ word 22 w.Sync ∷ word 24 w.Comp ∷ word 26 w.Pic ∷ at 30 (k.Picture (57 ∷ [])) ∷ period 31 ∷ []))
-    ≡ Ok (entry_as.Item (record bare { picture = Some nine; usage = Some usage.Binary; value = Some (number_at 20 (53 ∷ [])) }), [])
+    r.entry_reader (named zero_one (65 ∷ []) (word 14 w.Value ∷ number 20 (53 ∷ []) ∷ word 22 w.Sync ∷ word 24 w.Comp
+    ∷ word 26 w.Pic ∷ at 30 (k.Picture (57 ∷ [])) ∷ period 31 ∷ []))
+    ≡ Ok (
+      entry_as.Item
+          (record bare { picture = Some nine; usage = Some usage.Binary; value = Some (number_at 20 (53 ∷ [])) }),
+      [],
+    )
 unfolding computing
 any_order = refl
 
 -- 01 A SIGN LEADING SEPARATE PIC 9.
 sign_clause :
-    r.entry_reader (named zero_one (65 ∷ []) (word 14 w.Sign ∷ word 16 w.Leading ∷ word 20 w.Separate ∷ word 26 w.Pic ∷ at 30 (k.Picture (57 ∷ [])) ∷ period 31 ∷ []))
-    ≡ Ok (entry_as.Item (record bare { picture = Some nine; sign = Some (record { position = position.Leading; separate = true }) }), [])
+    r.entry_reader (named zero_one (65 ∷ []) (word 14 w.Sign ∷ word 16 w.Leading ∷ word 20 w.Separate ∷ word 26 w.Pic
+    ∷ at 30 (k.Picture (57 ∷ [])) ∷ period 31 ∷ []))
+    ≡ Ok (
+      entry_as.Item
+          (record bare { picture = Some nine; sign = Some (record { position = position.Leading; separate = true }) }),
+      [],
+    )
 unfolding computing
 sign_clause = refl
 
 -- 01 A PIC 9 PIC 9.: refused at the second PIC, three tokens before the end
 twice :
-    r.entry_reader (named zero_one (65 ∷ []) (word 14 w.Pic ∷ at 18 (k.Picture (57 ∷ [])) ∷ word 26 w.Pic ∷ at 30 (k.Picture (57 ∷ [])) ∷ period 31 ∷ []))
+    r.entry_reader (named zero_one (65 ∷ [])
+    (word 14 w.Pic ∷ at 18 (k.Picture (57 ∷ [])) ∷ word 26 w.Pic ∷ at 30 (k.Picture (57 ∷ [])) ∷ period 31 ∷ []))
     ≡ Err (Unexpected 3)
 unfolding computing
 twice = refl
 
 -- 88 B VALUES ARE 1 THRU 3 5.
 condition_name :
-    r.entry_reader (named eighty_eight (66 ∷ []) (word 14 w.Values ∷ word 21 w.Are ∷ number 25 (49 ∷ []) ∷ word 27 w.Thru ∷ number 32 (51 ∷ []) ∷ number 34 (53 ∷ []) ∷ period 35 ∷ []))
+    r.entry_reader (named eighty_eight (66 ∷ []) (word 14 w.Values ∷ word 21 w.Are ∷ number 25 (49 ∷ [])
+    ∷ word 27 w.Thru ∷ number 32 (51 ∷ []) ∷ number 34 (53 ∷ []) ∷ period 35 ∷ []))
     ≡ Ok (
       entry_as.Condition (record {
         name = name_at 12 (66 ∷ []);
-        values = record { first = number_at 25 (49 ∷ []); last = Some (number_at 32 (51 ∷ [])) } ∷ record { first = number_at 34 (53 ∷ []); last = None } ∷ [];
+        values = record { first = number_at 25 (49 ∷ []); last = Some (number_at 32 (51 ∷ [])) }
+            ∷ record { first = number_at 34 (53 ∷ []); last = None } ∷ [];
       }),
       [],
     )
@@ -135,13 +158,15 @@ unfolding computing
 condition_name = refl
 
 -- 88 A PIC 9.: an entry of level 88 has the second form only
-condition_with_a_picture : r.entry_reader (named eighty_eight (65 ∷ []) (word 26 w.Pic ∷ at 30 (k.Picture (57 ∷ [])) ∷ period 31 ∷ [])) ≡ Err (Unexpected 3)
+condition_with_a_picture : r.entry_reader
+    (named eighty_eight (65 ∷ []) (word 26 w.Pic ∷ at 30 (k.Picture (57 ∷ [])) ∷ period 31 ∷ [])) ≡ Err (Unexpected 3)
 unfolding computing
 condition_with_a_picture = refl
 
 -- DATA DIVISION. WORKING-STORAGE SECTION. 01 A. PROCEDURE ..
 in_its_section :
-    division.data_division_reader (word 8 w.Data ∷ word 13 w.Division ∷ period 21 ∷ word 8 w.WorkingStorage ∷ word 24 w.Section ∷ period 31
+    division.data_division_reader
+    (word 8 w.Data ∷ word 13 w.Division ∷ period 21 ∷ word 8 w.WorkingStorage ∷ word 24 w.Section ∷ period 31
     ∷ named zero_one (65 ∷ []) (period 13 ∷ word 8 w.Procedure ∷ []))
     ≡ Ok (record { files = []; storage = entry_as.Item bare ∷ [] }, word 8 w.Procedure ∷ [])
 unfolding computing
@@ -155,31 +180,40 @@ fd_tokens more =
 
 -- DATA DIVISION. FILE SECTION. and it
 a_file :
-    division.data_division_reader (word 8 w.Data ∷ word 13 w.Division ∷ period 21 ∷ word 8 w.File ∷ word 13 w.Section ∷ period 20 ∷ fd_tokens (word 8 w.Procedure ∷ []))
-    ≡ Ok (record { files = record { name = name_at 12 (70 ∷ []); entries = entry_as.Item bare ∷ [] } ∷ []; storage = [] }, word 8 w.Procedure ∷ [])
+    division.data_division_reader (word 8 w.Data ∷ word 13 w.Division ∷ period 21 ∷ word 8 w.File ∷ word 13 w.Section
+    ∷ period 20 ∷ fd_tokens (word 8 w.Procedure ∷ []))
+    ≡ Ok (
+      record { files = record { name = name_at 12 (70 ∷ []); entries = entry_as.Item bare ∷ [] } ∷ []; storage = [] },
+      word 8 w.Procedure ∷ [],
+    )
 unfolding computing
 a_file = refl
 
 -- FD F DATA RECORD A DATA RECORD B. 01 A.: refused at the second DATA
 data_records_twice :
-    files.file_reader (word 8 w.Fd ∷ at 12 (k.Word (70 ∷ [])) ∷ word 14 w.Data ∷ word 19 w.Record ∷ at 26 (k.Word (65 ∷ [])) ∷ word 28 w.Data ∷ word 33 w.Record
+    files.file_reader (word 8 w.Fd ∷ at 12 (k.Word (70 ∷ [])) ∷ word 14 w.Data ∷ word 19 w.Record
+    ∷ at 26 (k.Word (65 ∷ [])) ∷ word 28 w.Data ∷ word 33 w.Record
     ∷ at 40 (k.Word (66 ∷ [])) ∷ period 41 ∷ named zero_one (65 ∷ []) (period 13 ∷ []))
     ≡ Err (Unexpected 7)
 unfolding computing
 data_records_twice = refl
 
-left_out : division.data_division_reader (word 8 w.Procedure ∷ []) ≡ Ok (record { files = []; storage = [] }, word 8 w.Procedure ∷ [])
+left_out : division.data_division_reader (word 8 w.Procedure ∷ [])
+    ≡ Ok (record { files = []; storage = [] }, word 8 w.Procedure ∷ [])
 unfolding computing
 left_out = refl
 
 -- ---- clauses together
 
 -- in either order
-either_order : gathered_clauses entry_clauses no_clauses (clause_as.Usage usage.Binary ∷ clause_as.Justified ∷ []) ≡ gathered_clauses entry_clauses no_clauses (clause_as.Justified ∷ clause_as.Usage usage.Binary ∷ [])
+either_order : gathered_clauses entry_clauses no_clauses (clause_as.Usage usage.Binary ∷ clause_as.Justified ∷ [])
+    ≡ gathered_clauses entry_clauses no_clauses (clause_as.Justified ∷ clause_as.Usage usage.Binary ∷ [])
 either_order = refl
 
-usage_twice : gathered_clauses entry_clauses no_clauses (clause_as.Usage usage.Binary ∷ clause_as.Justified ∷ clause_as.Usage usage.Display ∷ []) ≡ None
+usage_twice : gathered_clauses entry_clauses no_clauses
+    (clause_as.Usage usage.Binary ∷ clause_as.Justified ∷ clause_as.Usage usage.Display ∷ []) ≡ None
 usage_twice = refl
 
-synchronized_twice : gathered_clauses entry_clauses no_clauses (clause_as.Synchronized ∷ clause_as.Synchronized ∷ []) ≡ None
+synchronized_twice : gathered_clauses entry_clauses no_clauses (clause_as.Synchronized ∷ clause_as.Synchronized ∷ [])
+    ≡ None
 synchronized_twice = refl

@@ -184,7 +184,8 @@ fn file_clause(
 /// Passes clauses up to where no more can begin. One that comes a second time is refused where it stands.
 #[tactic(auto, unfolding(crate::specs::Gathering::gathering_reader, crate::specs::Gathering::gathering_turns))]
 pub fn file_clauses(alloc: Global, tokens: &mut Tokens<'_>) -> Result<FileClauses, ReadFault>
-    ensures { Reads (gathering_reader spec.file_clauses spec.file_clause_reader spec.no_file_clauses tokens.old) result tokens.new }
+    ensures { Reads (gathering_reader spec.file_clauses spec.file_clause_reader spec.no_file_clauses
+        tokens.old) result tokens.new }
 {
     let mut stated = FileClauses::none();
     for _turn in 0..tokens.len() {

@@ -15,7 +15,8 @@ pub fn first_formless(
     files: &[FileDescription],
     storage: &[Entry],
 ) -> Result<Option<Place>, AllocError>
-    ensures { IfOk result (λ place. place ≡ spec.first_formless (spec.file_entries files.now ++ storage.now)) }
+    ensures { IfOk result
+        (λ place. place ≡ spec.first_formless (spec.file_entries files.now ++ storage.now)) }
 {
     match formless_file(alloc, files)? {
         Some(place) => Ok(Some(place)),

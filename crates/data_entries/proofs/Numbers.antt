@@ -1,5 +1,6 @@
 -- Integers that are told up to a bound.
-use Rattle.std.proofs.Common.{◌≡◌, ℕ, suc, ◌+◌, ◌-◌, ◌*◌, ◌≤◌, ◌<◌, min, ◌⊎◌, inl, inr, List, [], ◌∷◌, length, drop, get_or, sym, ap, ◌∙◌, add-one, drop-cons, arith}
+use Rattle.std.proofs.Common.{◌≡◌, ℕ, suc, ◌+◌, ◌-◌, ◌*◌, ◌≤◌, ◌<◌, min, ◌⊎◌, inl, inr, List, [], ◌∷◌, length, drop}
+use Rattle.std.proofs.Common.{get_or, sym, ap, ◌∙◌, add-one, drop-cons, arith}
 use Rattle.decimal18.specs.Digits.{digits_after}
 
 -- digits behind more stand for more
@@ -22,7 +23,8 @@ capped cap a cs = elim (split a cap) [
       let e : min a cap ≡ cap = omega arith in
       let least = behind_least cap cs in
       let top = behind_least a cs in
-      ap (λ n. min (digits_after n cs) cap) e ∙ (let both : min (digits_after cap cs) cap ≡ min (digits_after a cs) cap = omega arith in both)
+      ap (λ n. min (digits_after n cs) cap) e
+      ∙ (let both : min (digits_after cap cs) cap ≡ min (digits_after a cs) cap = omega arith in both)
 ]
 
 -- one digit more

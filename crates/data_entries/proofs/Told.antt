@@ -1,5 +1,6 @@
 -- Levels of entries that keep the rules.
-use Rattle.std.proofs.Common.{◌≡◌, ℕ, ◌<◌, ◌==◌, nat_lt, nat_le, Bool, true, false, not, ◌&&◌, ◌||◌, if◌then◌else◌, List, [], ◌∷◌, ◌++◌, drop, None, refl, lit<, arith}
+use Rattle.std.proofs.Common.{◌≡◌, ℕ, ◌<◌, ◌==◌, nat_lt, nat_le, Bool, true, false, not, ◌&&◌, ◌||◌, if◌then◌else◌}
+use Rattle.std.proofs.Common.{List, [], ◌∷◌, ◌++◌, drop, None, refl, lit<, arith}
 use Rattle.lexical.specs.declared.place.Place.{Place}
 use Rattle.source_tree.specs.declared.entry.ItemEntry.{ItemEntry}
 use Rattle.source_tree.specs.declared.entry.Entry.{Entry}
@@ -8,7 +9,8 @@ use Rattle.source_tree.specs.declared.select.FileDescription.{FileDescription}
 use Rattle.source_tree.specs.Integers.{number_of}
 use Rattle.source_tree.specs.Levels.{Forest, End, Tree, level_of, deeper, beyond, leading_conditions, forest_of}
 use Rattle.source_tree.specs.Broken.{where_so, each}
-use Rattle.source_tree.specs.EntryRules.{is_level, level_rules, outermost, forest_rules, storage_rules, excess, homeless, most_entries, entry_rules}
+use Rattle.source_tree.specs.EntryRules.{is_level, level_rules, outermost, forest_rules, storage_rules, excess}
+use Rattle.source_tree.specs.EntryRules.{homeless, most_entries, entry_rules}
 use Rattle.source_tree.specs.FileRules.{description_rules, most_record_bytes}
 use Rattle.source_tree.specs.Records.{record_length}
 use Rattle.source_tree.specs.ValueRules.{are_some}
@@ -33,12 +35,14 @@ told_if false F G f g = g
 told_deeper : (level : ℕ) (F : Forest) → AreTold F → AreTold (deeper level F)
 told_deeper level End h = tt
 told_deeper level (Tree one conditions inner next) h =
-    told_if (nat_lt level (level_of one)) (Tree one conditions inner (deeper level next)) End (h.0, h.1, told_deeper level next h.2) tt
+    told_if (nat_lt level (level_of one)) (Tree one conditions inner (deeper level next)) End
+    (h.0, h.1, told_deeper level next h.2) tt
 
 told_beyond : (level : ℕ) (F : Forest) → AreTold F → AreTold (beyond level F)
 told_beyond level End h = tt
 told_beyond level (Tree one conditions inner next) h =
-    told_if (nat_lt level (level_of one)) (beyond level next) (Tree one conditions inner next) (told_beyond level next h.2) h
+    told_if (nat_lt level (level_of one)) (beyond level next) (Tree one conditions inner next)
+    (told_beyond level next h.2) h
 
 second_of : (d c : Bool) → ((d && c) || false) ≡ true → c ≡ true
 second_of true true e = refl
@@ -58,19 +62,26 @@ true_where false e = cc
 
 known_level : (one : ItemEntry) → level_rules (Item one) ≡ [] → level_of one < 100000
 known_level one e =
-    known_by (number_of one.level == 77) (number_of one.level) (true_where (is_level (number_of one.level)) (kept (not (is_level (number_of one.level))) 43 one.level.place e))
+    known_by (number_of one.level == 77) (number_of one.level)
+    (true_where (is_level (number_of one.level)) (kept (not (is_level (number_of one.level))) 43 one.level.place e))
 
 told : (entries : List Entry) → each level_rules entries ≡ [] → AreTold (forest_of entries)
 told [] e = tt
 told (Item one ∷ more) e =
-    let rest = told more (back_nil (level_rules (Item one)) (each level_rules more) e) in
-    (known_level one (front_nil (level_rules (Item one)) (each level_rules more) e), told_deeper (level_of one) (forest_of more) rest, told_beyond (level_of one) (forest_of more) rest)
+    let rest = told more (back_nil (level_rules (Item one)) (each level_rules more) e) in (
+      known_level one (front_nil (level_rules (Item one)) (each level_rules more) e),
+      told_deeper (level_of one) (forest_of more) rest,
+      told_beyond (level_of one) (forest_of more) rest,
+    )
 told (Condition one ∷ more) e = told more e
 
 pub all_told : (entries : List Entry) → entry_rules entries ≡ [] → AreTold (forest_of entries)
 all_told entries e =
-    let counted = back_nil (each excess (drop most_entries entries)) (each level_rules entries ++ (each homeless (leading_conditions entries) ++ (forest_rules (outermost false) None (forest_of entries) ++ storage_rules 0 (forest_of entries)))) e in
-    told entries (front_nil (each level_rules entries) (each homeless (leading_conditions entries) ++ (forest_rules (outermost false) None (forest_of entries) ++ storage_rules 0 (forest_of entries))) counted)
+    let counted = back_nil
+    (each excess (drop most_entries entries)) (each level_rules entries ++ (each homeless (leading_conditions entries)
+    ++ (forest_rules (outermost false) None (forest_of entries) ++ storage_rules 0 (forest_of entries)))) e in
+    told entries (front_nil (each level_rules entries) (each homeless (leading_conditions entries)
+    ++ (forest_rules (outermost false) None (forest_of entries) ++ storage_rules 0 (forest_of entries))) counted)
 
 pub record_told : (one : FileDescription) → description_rules one ≡ [] → AreTold (forest_of one.entries)
 record_told one e =
@@ -78,4 +89,5 @@ record_told one e =
     let homes = each homeless (leading_conditions one.entries) in
     let forest = forest_rules (outermost true) None (forest_of one.entries) in
     let length = where_so (not (are_some most_record_bytes (record_length one.entries))) 69 one.name.place in
-    told one.entries (front_nil levels homes (front_nil (levels ++ homes) forest (front_nil (levels ++ homes ++ forest) length e)))
+    told one.entries
+    (front_nil levels homes (front_nil (levels ++ homes) forest (front_nil (levels ++ homes ++ forest) length e)))

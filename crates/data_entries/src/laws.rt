@@ -15,5 +15,6 @@ pub fn levels_are_told()
 
 /// So is each level of a file's records, where its description keeps the rules.
 pub fn record_levels_are_told()
-    ensures { (one : FileDescription) → description_rules one ≡ [] → AreTold (forest_of one.entries) }
+    ensures { (one : FileDescription) → description_rules one ≡ []
+        → AreTold (forest_of one.entries) }
 {}

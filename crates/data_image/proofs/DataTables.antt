@@ -12,7 +12,8 @@ use Rattle.data_image.specs.Pictures.{editing_bytes, editing_at}
 use Rattle.data_image.specs.Fractions.{fraction_bytes, IsFractionSpelled, fraction_at}
 use Rattle.data_image.specs.Senders.{sender_bytes, IsSenderSpelled, sender_at}
 use Rattle.data_image.specs.Inspections.{inspection_bytes, IsInspectionSpelled, inspection_at}
-use Rattle.data_image.specs.Tables.{data_item_bytes, tables_bytes, IsDataItemSpelled, HasTables, data_item_at, tables_at}
+use Rattle.data_image.specs.Tables.{data_item_bytes, tables_bytes, IsDataItemSpelled, HasTables, data_item_at}
+use Rattle.data_image.specs.Tables.{tables_at}
 use Rattle.data_image.proofs.Forms.{ok_is, takes_then, IsForm, part, part_again, Took, form_of}
 use Rattle.data_image.proofs.Numbers.{short_form}
 use Rattle.data_image.proofs.TableForms.{table_form, text_form}
@@ -30,7 +31,8 @@ regroup_6 a b c d e f g = simp append_assoc
 
 -- ---- an item that code names
 
-data_item_took : (bytes : List ℕ) (x : DataItem × List ℕ) → IsBytes bytes → data_item_at bytes ≡ Ok x → Took data_item_bytes IsDataItemSpelled bytes x
+data_item_took : (bytes : List ℕ) (x : DataItem × List ℕ) → IsBytes bytes → data_item_at bytes ≡ Ok x
+    → Took data_item_bytes IsDataItemSpelled bytes x
 unfolding data_item_at
 data_item_took bytes x is e =
     let a = part item_form bytes _ x is e in
@@ -39,10 +41,14 @@ data_item_took bytes x is e =
     let d = part short_form c.rest _ x c.takes.rest_fits c.goes in
     let made : DataItem = record { item = a.value; editing = b.value; area = c.value; offset = d.value } in
     let two = takes_then bytes (item_bytes a.value) a.rest (editing_bytes b.value) b.rest a.takes b.takes in
-    let three = takes_then bytes (item_bytes a.value ++ editing_bytes b.value) b.rest (short_bytes c.value) c.rest two c.takes in
-    let four = takes_then bytes (item_bytes a.value ++ editing_bytes b.value ++ short_bytes c.value) c.rest (short_bytes d.value) d.rest three d.takes in
-    let fits : IsDataItemSpelled made = record { item = a.sound; editing = b.sound; area = c.sound; offset = d.sound } in
-    subst (Took data_item_bytes IsDataItemSpelled bytes) {x = (made, d.rest)} (ok_is (made, d.rest) x d.goes) (four, fits)
+    let three =
+    takes_then bytes (item_bytes a.value ++ editing_bytes b.value) b.rest (short_bytes c.value) c.rest two c.takes in
+    let four = takes_then bytes (item_bytes a.value ++ editing_bytes b.value ++ short_bytes c.value) c.rest
+    (short_bytes d.value) d.rest three d.takes in
+    let fits : IsDataItemSpelled made =
+    record { item = a.sound; editing = b.sound; area = c.sound; offset = d.sound } in
+    subst (Took data_item_bytes IsDataItemSpelled bytes) {x =
+    (made, d.rest)} (ok_is (made, d.rest) x d.goes) (four, fits)
 
 abbrev offset_from : DataItem → ℕ × List ℕ → ReadResult DataItem
 offset_from one offset = Ok (record one { offset = offset.0 }, offset.1)
@@ -50,7 +56,8 @@ offset_from one offset = Ok (record one { offset = offset.0 }, offset.1)
 abbrev area_from : DataItem → ℕ × List ℕ → ReadResult DataItem
 area_from one area = short_at area.1 >>= offset_from (record one { area = area.0 })
 
-data_item_again : (one : DataItem) (rest : List ℕ) → IsDataItemSpelled one → data_item_at (data_item_bytes one ++ rest) ≡ Ok (one, rest)
+data_item_again : (one : DataItem) (rest : List ℕ) → IsDataItemSpelled one
+    → data_item_at (data_item_bytes one ++ rest) ≡ Ok (one, rest)
 unfolding data_item_at
 data_item_again one rest h =
     let i = item_bytes one.item in
@@ -58,8 +65,10 @@ data_item_again one rest h =
     let a = short_bytes one.area in
     let o = short_bytes one.offset in
     ap data_item_at (regroup_4 i p a o rest)
-    ∙ part_again item_form one.item (p ++ (a ++ (o ++ rest))) (λ item. editing_at item.1 >>= λ editing. short_at editing.1 >>= area_from (record one { item = item.0; editing = editing.0 })) h.item
-    ∙ part_again editing_form one.editing (a ++ (o ++ rest)) (λ editing. short_at editing.1 >>= area_from (record one { editing = editing.0 })) h.editing
+    ∙ part_again item_form one.item (p ++ (a ++ (o ++ rest))) (λ item. editing_at item.1 >>= λ editing.
+    short_at editing.1 >>= area_from (record one { item = item.0; editing = editing.0 })) h.item
+    ∙ part_again editing_form one.editing (a ++ (o ++ rest))
+    (λ editing. short_at editing.1 >>= area_from (record one { editing = editing.0 })) h.editing
     ∙ part_again short_form one.area (o ++ rest) (area_from one) h.area
     ∙ part_again short_form one.offset rest (offset_from one) h.offset
 
@@ -83,7 +92,8 @@ sender_table = table_form sender_at sender_bytes IsSenderSpelled sender_form
 inspection_table : IsForm (table_at inspection_at) (table_bytes inspection_bytes) (AreSpelled IsInspectionSpelled)
 inspection_table = table_form inspection_at inspection_bytes IsInspectionSpelled inspection_form
 
-tables_took : (bytes : List ℕ) (x : DataTables × List ℕ) → IsBytes bytes → tables_at bytes ≡ Ok x → Took tables_bytes HasTables bytes x
+tables_took : (bytes : List ℕ) (x : DataTables × List ℕ) → IsBytes bytes → tables_at bytes ≡ Ok x
+    → Took tables_bytes HasTables bytes x
 unfolding tables_at
 tables_took bytes x is e =
     let a = part text_table bytes _ x is e in
@@ -97,13 +107,28 @@ tables_took bytes x is e =
     let tc = table_bytes fraction_bytes c.value in
     let td = table_bytes sender_bytes d.value in
     let tf = table_bytes text_bytes f.value in
-    let made : DataTables = record { areas = a.value; items = b.value; numbers = c.value; senders = d.value; texts = f.value; inspections = g.value } in
+    let made : DataTables = record {
+      areas = a.value;
+      items = b.value;
+      numbers = c.value;
+      senders = d.value;
+      texts = f.value;
+      inspections = g.value;
+    } in
     let two = takes_then bytes ta a.rest tb b.rest a.takes b.takes in
     let three = takes_then bytes (ta ++ tb) b.rest tc c.rest two c.takes in
     let four = takes_then bytes (ta ++ tb ++ tc) c.rest td d.rest three d.takes in
     let five = takes_then bytes (ta ++ tb ++ tc ++ td) d.rest tf f.rest four f.takes in
-    let six = takes_then bytes (ta ++ tb ++ tc ++ td ++ tf) f.rest (table_bytes inspection_bytes g.value) g.rest five g.takes in
-    let fits : HasTables made = record { areas = a.sound; items = b.sound; numbers = c.sound; senders = d.sound; texts = f.sound; inspections = g.sound } in
+    let six =
+    takes_then bytes (ta ++ tb ++ tc ++ td ++ tf) f.rest (table_bytes inspection_bytes g.value) g.rest five g.takes in
+    let fits : HasTables made = record {
+      areas = a.sound;
+      items = b.sound;
+      numbers = c.sound;
+      senders = d.sound;
+      texts = f.sound;
+      inspections = g.sound;
+    } in
     subst (Took tables_bytes HasTables bytes) {x = (made, g.rest)} (ok_is (made, g.rest) x g.goes) (six, fits)
 
 abbrev inspections_from : DataTables → List Inspection × List ℕ → ReadResult DataTables
@@ -124,7 +149,8 @@ items_from tables items = table_at fraction_at items.1 >>= numbers_from (record 
 abbrev areas_from : DataTables → List (List ℕ) × List ℕ → ReadResult DataTables
 areas_from tables areas = table_at data_item_at areas.1 >>= items_from (record tables { areas = areas.0 })
 
-tables_again : (tables : DataTables) (rest : List ℕ) → HasTables tables → tables_at (tables_bytes tables ++ rest) ≡ Ok (tables, rest)
+tables_again : (tables : DataTables) (rest : List ℕ) → HasTables tables
+    → tables_at (tables_bytes tables ++ rest) ≡ Ok (tables, rest)
 unfolding tables_at
 tables_again tables rest h =
     let a = table_bytes text_bytes tables.areas in

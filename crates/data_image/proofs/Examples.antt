@@ -17,7 +17,8 @@ use Rattle.source_tree.specs.declared.condition.Relation.TheVariants as relation
 use Rattle.source_tree.specs.declared.condition.Class.TheVariants as class
 use Rattle.data_image.specs.declared.fault.ImageFault.TheVariants as faults
 use Rattle.data_image.specs.Spelling.{count_bytes, short_bytes, wide_bytes, text_bytes}
-use Rattle.data_image.specs.Reading.{count_at, short_at, wide_at, byte_at, told_at, flag_of, entries_at, table_at, text_at}
+use Rattle.data_image.specs.Reading.{count_at, short_at, wide_at, byte_at, told_at, flag_of, entries_at, table_at}
+use Rattle.data_image.specs.Reading.{text_at}
 use Rattle.data_image.specs.Items.{item_bytes, usage_of, plain_kind_of, numeric_at, kind_at, item_at}
 use Rattle.data_image.specs.Pictures.{run_bytes, symbol_of, run_at, editing_at}
 use Rattle.data_image.specs.Fractions.{fraction_bytes, fraction_at}
@@ -32,13 +33,16 @@ unfolding count_bytes
 text_spelt = refl
 
 -- PIC S9(5)V99 PACKED-DECIMAL, of four bytes
-numeric_spelt : item_bytes (record { kind = k.Numeric (record { digits = 7; scale = 2; usage = u.Packed true }); length = 4 }) ≡ 9 ∷ 7 ∷ 2 ∷ 9 ∷ 0 ∷ 0 ∷ 0 ∷ 4 ∷ []
+numeric_spelt :
+    item_bytes (record { kind = k.Numeric (record { digits = 7; scale = 2; usage = u.Packed true }); length = 4 })
+    ≡ 9 ∷ 7 ∷ 2 ∷ 9 ∷ 0 ∷ 0 ∷ 0 ∷ 4 ∷ []
 unfolding short_bytes
 numeric_spelt = refl
 
 -- PIC X(300) JUSTIFIED, the second item of area 1
 data_item_spelt :
-    data_item_bytes (record { item = record { kind = k.Alphanumeric true; length = 300 }; editing = None; area = 1; offset = 7 })
+    data_item_bytes
+    (record { item = record { kind = k.Alphanumeric true; length = 300 }; editing = None; area = 1; offset = 7 })
     ≡ 5 ∷ 0 ∷ 0 ∷ 1 ∷ 44 ∷ 0 ∷ 0 ∷ 0 ∷ 0 ∷ 1 ∷ 0 ∷ 0 ∷ 0 ∷ 7 ∷ []
 unfolding short_bytes
 data_item_spelt = refl
@@ -49,12 +53,15 @@ unfolding wide_bytes count_bytes
 run_spelt = refl
 
 -- -2.58
-fraction_spelt : fraction_bytes (record { coefficient = negsuc 257; scale = 2 }) ≡ 1 ∷ (replicate 14 0 ++ 1 ∷ 2 ∷ 2 ∷ [])
+fraction_spelt : fraction_bytes (record { coefficient = negsuc 257; scale = 2 })
+    ≡ 1 ∷ (replicate 14 0 ++ 1 ∷ 2 ∷ 2 ∷ [])
 unfolding wide_bytes count_bytes
 fraction_spelt = refl
 
 -- the literal "A", and ZERO
-sender_spelt : sender_bytes (record { taken = t.Item (record { kind = k.Alphanumeric false; length = 1 }); bytes = 65 ∷ [] }) ≡ 7 ∷ 4 ∷ 0 ∷ 0 ∷ 0 ∷ 1 ∷ 0 ∷ 0 ∷ 0 ∷ 0 ∷ 0 ∷ 0 ∷ 0 ∷ 1 ∷ 65 ∷ []
+sender_spelt :
+    sender_bytes (record { taken = t.Item (record { kind = k.Alphanumeric false; length = 1 }); bytes = 65 ∷ [] })
+    ≡ 7 ∷ 4 ∷ 0 ∷ 0 ∷ 0 ∷ 1 ∷ 0 ∷ 0 ∷ 0 ∷ 0 ∷ 0 ∷ 0 ∷ 0 ∷ 1 ∷ 65 ∷ []
 unfolding short_bytes count_bytes
 sender_spelt = refl
 
@@ -78,7 +85,8 @@ unfolding short_bytes
 duplicate_spelt = refl
 
 -- not equal to the literal 258
-compare_literal_spelt : data_instruction_bytes (i.Test (test.CompareLiteral relation.NotEqual (record { number = 258 }))) ≡ 41 ∷ 0 ∷ 0 ∷ 1 ∷ 2 ∷ 4 ∷ []
+compare_literal_spelt : data_instruction_bytes
+    (i.Test (test.CompareLiteral relation.NotEqual (record { number = 258 }))) ≡ 41 ∷ 0 ∷ 0 ∷ 1 ∷ 2 ∷ 4 ∷ []
 unfolding short_bytes
 compare_literal_spelt = refl
 
@@ -86,7 +94,8 @@ class_spelt : data_instruction_bytes (i.Test (test.Class class.AlphabeticLower))
 class_spelt = refl
 
 -- up to the text 258
-up_to_text_spelt : data_instruction_bytes (i.Gather (gather.UpToText (record { number = 258 }))) ≡ 64 ∷ 0 ∷ 0 ∷ 1 ∷ 2 ∷ []
+up_to_text_spelt : data_instruction_bytes (i.Gather (gather.UpToText (record { number = 258 })))
+    ≡ 64 ∷ 0 ∷ 0 ∷ 1 ∷ 2 ∷ []
 unfolding short_bytes
 up_to_text_spelt = refl
 
@@ -191,19 +200,33 @@ cut_truncate = refl
 abbrev small : DataTables
 small = record {
   areas = (48 ∷ 48 ∷ 48 ∷ 48 ∷ []) ∷ [];
-  items = record { item = record { kind = k.Numeric (record { digits = 4; scale = 0; usage = u.Display s.Unsigned }); length = 4 }; editing = None; area = 0; offset = 0 } ∷ [];
+  items = record {
+    item = record { kind = k.Numeric (record { digits = 4; scale = 0; usage = u.Display s.Unsigned }); length = 4 };
+    editing = None;
+    area = 0;
+    offset = 0;
+  } ∷ [];
   numbers = record { coefficient = pos 3; scale = 0 } ∷ [];
   senders = record { taken = t.Figurative f.Zero; bytes = [] } ∷ [];
   texts = (65 ∷ []) ∷ [];
   inspections = record {
     size = 3;
     counters = 1 ∷ [];
-    tallying = record { fit = fit.All (record { start = 0; length = 1 }); before = None; after = Some (record { start = 1; length = 1 }); by = None } ∷ [];
-    replacing = record { fit = fit.Characters; before = None; after = None; by = Some (record { start = 2; length = 1 }) } ∷ [];
+    tallying = record {
+      fit = fit.All (record { start = 0; length = 1 });
+      before = None;
+      after = Some (record { start = 1; length = 1 });
+      by = None;
+    } ∷ [];
+    replacing =
+        record { fit = fit.Characters; before = None; after = None; by = Some (record { start = 2; length = 1 }) } ∷ [];
   } ∷ [];
 }
 
 -- read again, with what comes after them
 read_again : tables_at (tables_bytes small ++ 7 ∷ []) ≡ Ok (small, 7 ∷ [])
-unfolding tables_at data_item_at item_at kind_at numeric_at usage_of editing_at fraction_at flag_of sender_at taken_at plain_taken_of inspections.inspection_at inspections.entry_at inspections.fit_at inspections.text_at inspections.span_at text_at table_at entries_at told_at byte_at wide_at short_at count_at count_bytes short_bytes wide_bytes
+unfolding tables_at data_item_at item_at kind_at numeric_at usage_of editing_at fraction_at flag_of sender_at taken_at
+    plain_taken_of inspections.inspection_at inspections.entry_at inspections.fit_at inspections.text_at
+    inspections.span_at text_at table_at entries_at told_at byte_at wide_at short_at count_at count_bytes short_bytes
+    wide_bytes
 read_again = refl

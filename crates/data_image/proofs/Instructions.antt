@@ -1,5 +1,6 @@
 -- Instructions on data, read and spelled.
-use Rattle.std.proofs.Common.{◌≡◌, ℕ, ◌<◌, ◌^◌, eqb, true, false, List, [], ◌∷◌, ◌++◌, Ok, refl, sym, ap, subst, ◌∙◌, append_assoc, inl, inr}
+use Rattle.std.proofs.Common.{◌≡◌, ℕ, ◌<◌, ◌^◌, eqb, true, false, List, [], ◌∷◌, ◌++◌, Ok, refl, sym, ap, subst, ◌∙◌}
+use Rattle.std.proofs.Common.{append_assoc, inl, inr}
 use Rattle.std.specs.Prelude.{Some}
 use Rattle.data_instructions.specs.declared.calculation.Calculation.TheVariants as c
 use Rattle.data_instructions.specs.declared.test.Test.TheVariants as t
@@ -8,10 +9,13 @@ use Rattle.data_instructions.specs.declared.instruction.DataInstruction.{DataIns
 use Rattle.data_instructions.specs.declared.instruction.DataInstruction.TheVariants as i
 use Rattle.data_image.specs.Spelling.{IsBytes, short_bytes}
 use Rattle.data_image.specs.Reading.{◌>>=◌, byte_at, short_at}
-use Rattle.data_image.specs.Instructions.{data_instruction_bytes, HasShorts, store, plain_instruction_of, naming_at, index_at, truncate, place_instruction, literal, take_literal, append_literal, duplicate, text_from, test_from, instruction_from, data_instruction_at}
+use Rattle.data_image.specs.Instructions.{data_instruction_bytes, HasShorts, store, plain_instruction_of, naming_at}
+use Rattle.data_image.specs.Instructions.{index_at, truncate, place_instruction, literal, take_literal, append_literal}
+use Rattle.data_image.specs.Instructions.{duplicate, text_from, test_from, instruction_from, data_instruction_at}
 use Rattle.data_image.specs.Tests.{compare, compare_numbers, or_equal, or_within}
 use Rattle.data_image.specs.Gathers.{inspect, overlay, up_to_text, text_up_to_place}
-use Rattle.data_image.proofs.Forms.{ok_is, chosen, takes_then, takes_kind, IsForm, part, part_again, Took, form_of, first_took, byte_is, behind_took, told_took, first_told, told_in}
+use Rattle.data_image.proofs.Forms.{ok_is, chosen, takes_then, takes_kind, IsForm, part, part_again, Took, form_of}
+use Rattle.data_image.proofs.Forms.{first_took, byte_is, behind_took, told_took, first_told, told_in}
 use Rattle.data_image.proofs.Numbers.{byte_form, short_form}
 use Rattle.data_image.proofs.Tests.{relation_form, class_form, compare_literal_took, compare_literal_again}
 
@@ -19,18 +23,74 @@ abbrev plain_instructions : List (ℕ × DataInstruction)
 plain_instructions =
     (18, i.Push) ∷ (20, i.Take) ∷ (22, i.Move) ∷ (23, i.Append) ∷ (25, i.ClearTruth) ∷ (26, i.VoidIfTrue)
     ∷ (28, store false false) ∷ (29, store true false) ∷ (30, store false true) ∷ (31, store true true)
-    ∷ (32, i.Calculate c.Add) ∷ (33, i.Calculate c.Subtract) ∷ (34, i.Calculate c.Multiply) ∷ (35, i.Calculate c.Divide) ∷ (36, i.Calculate c.Negate)
+    ∷ (32, i.Calculate c.Add) ∷ (33, i.Calculate c.Subtract) ∷ (34, i.Calculate c.Multiply) ∷ (35, i.Calculate c.Divide)
+    ∷ (36, i.Calculate c.Negate)
     ∷ (39, i.Calculate c.Discard) ∷ (46, i.Test t.Invert)
-    ∷ (61, i.DropPlace) ∷ (62, i.Gather g.Bytes) ∷ (63, i.Gather g.UpToPlace) ∷ (66, i.String false) ∷ (67, i.String true) ∷ (68, i.Gather g.Sized) ∷ []
+    ∷ (61, i.DropPlace) ∷ (62, i.Gather g.Bytes) ∷ (63, i.Gather g.UpToPlace) ∷ (66, i.String false)
+    ∷ (67, i.String true) ∷ (68, i.Gather g.Sized) ∷ []
 
 instruction_told : (n : ℕ) → plain_instruction_of n ≡ first_told plain_instructions n
 unfolding plain_instruction_of
 instruction_told n = refl
 
-plain_instruction_is : (n : ℕ) (one : DataInstruction) → plain_instruction_of n ≡ Some one → (data_instruction_bytes one ≡ n ∷ []) × HasShorts one
+plain_instruction_is : (n : ℕ) (one : DataInstruction) → plain_instruction_of n ≡ Some one
+    → (data_instruction_bytes one ≡ n ∷ []) × HasShorts one
 plain_instruction_is n one e =
-    told_in data_instruction_bytes HasShorts plain_instructions
-    ((refl, tt), ((refl, tt), ((refl, tt), ((refl, tt), ((refl, tt), ((refl, tt), ((refl, tt), ((refl, tt), ((refl, tt), ((refl, tt), ((refl, tt), ((refl, tt), ((refl, tt), ((refl, tt), ((refl, tt), ((refl, tt), ((refl, tt), ((refl, tt), ((refl, tt), ((refl, tt), ((refl, tt), ((refl, tt), ((refl, tt), tt)))))))))))))))))))))))
+    told_in data_instruction_bytes HasShorts plain_instructions (
+      (refl, tt),
+      (
+        (refl, tt),
+        (
+          (refl, tt),
+          (
+            (refl, tt),
+            (
+              (refl, tt),
+              (
+                (refl, tt),
+                (
+                  (refl, tt),
+                  (
+                    (refl, tt),
+                    (
+                      (refl, tt),
+                      (
+                        (refl, tt),
+                        (
+                          (refl, tt),
+                          (
+                            (refl, tt),
+                            (
+                              (refl, tt),
+                              (
+                                (refl, tt),
+                                (
+                                  (refl, tt),
+                                  (
+                                    (refl, tt),
+                                    (
+                                      (refl, tt),
+                                      (
+                                        (refl, tt),
+                                        ((refl, tt), ((refl, tt), ((refl, tt), ((refl, tt), ((refl, tt), tt))))),
+                                      ),
+                                    ),
+                                  ),
+                                ),
+                              ),
+                            ),
+                          ),
+                        ),
+                      ),
+                    ),
+                  ),
+                ),
+              ),
+            ),
+          ),
+        ),
+      ),
+    )
     n one (sym (instruction_told n) ∙ e)
 
 -- so does an instruction with this first byte
@@ -45,36 +105,48 @@ index_took rest x is e =
     let t = takes_kind 17 rest (short_bytes a.value ++ short_bytes b.value) b.rest both in
     subst (Reads 17 rest) (ok_is (i.Index a.value b.value, b.rest) x b.goes) (t, (a.sound, b.sound))
 
-text_from_took : (n : ℕ) (rest : List ℕ) (x : DataInstruction × List ℕ) → IsBytes rest → text_from n rest ≡ Ok x → Reads n rest x
+text_from_took : (n : ℕ) (rest : List ℕ) (x : DataInstruction × List ℕ) → IsBytes rest → text_from n rest ≡ Ok x
+    → Reads n rest x
 text_from_took n rest x is e =
     elim (chosen (eqb n 60) _ _ _ e) [
-      | inl p ↦ byte_is data_instruction_bytes HasShorts 60 n rest x p.0 (behind_took data_instruction_bytes HasShorts short_form 60 overlay (λ a. refl) (λ a h. h) rest x is p.1)
+      | inl p ↦ byte_is data_instruction_bytes HasShorts 60 n rest x p.0
+          (behind_took data_instruction_bytes HasShorts short_form 60 overlay (λ a. refl) (λ a h. h) rest x is p.1)
       | inr q ↦ elim (chosen (eqb n 64) _ _ _ q.1) [
-        | inl p ↦ byte_is data_instruction_bytes HasShorts 64 n rest x p.0 (behind_took data_instruction_bytes HasShorts short_form 64 up_to_text (λ a. refl) (λ a h. h) rest x is p.1)
+        | inl p ↦ byte_is data_instruction_bytes HasShorts 64 n rest x p.0
+            (behind_took data_instruction_bytes HasShorts short_form 64 up_to_text (λ a. refl) (λ a h. h) rest x is p.1)
         | inr r ↦ elim (chosen (eqb n 65) _ _ _ r.1) [
-          | inl p ↦ byte_is data_instruction_bytes HasShorts 65 n rest x p.0 (behind_took data_instruction_bytes HasShorts short_form 65 text_up_to_place (λ a. refl) (λ a h. h) rest x is p.1)
+          | inl p ↦ byte_is data_instruction_bytes HasShorts 65 n rest x p.0 (behind_took data_instruction_bytes
+              HasShorts short_form 65 text_up_to_place (λ a. refl) (λ a h. h) rest x is p.1)
           | inr s ↦ elim (chosen (eqb n 69) _ _ _ s.1) [
-            | inl p ↦ byte_is data_instruction_bytes HasShorts 69 n rest x p.0 (behind_took data_instruction_bytes HasShorts short_form 69 inspect (λ a. refl) (λ a h. h) rest x is p.1)
-            | inr u ↦ told_took data_instruction_bytes HasShorts plain_instruction_of plain_instruction_is n rest x is u.1
+            | inl p ↦ byte_is data_instruction_bytes HasShorts 69 n rest x p.0 (behind_took data_instruction_bytes
+                HasShorts short_form 69 inspect (λ a. refl) (λ a h. h) rest x is p.1)
+            | inr u ↦
+                told_took data_instruction_bytes HasShorts plain_instruction_of plain_instruction_is n rest x is u.1
           ]
         ]
       ]
     ]
 
-test_from_took : (n : ℕ) (rest : List ℕ) (x : DataInstruction × List ℕ) → IsBytes rest → test_from n rest ≡ Ok x → Reads n rest x
+test_from_took : (n : ℕ) (rest : List ℕ) (x : DataInstruction × List ℕ) → IsBytes rest → test_from n rest ≡ Ok x
+    → Reads n rest x
 test_from_took n rest x is e =
     elim (chosen (eqb n 40) _ _ _ e) [
-      | inl p ↦ byte_is data_instruction_bytes HasShorts 40 n rest x p.0 (behind_took data_instruction_bytes HasShorts relation_form 40 compare (λ a. refl) (λ a h. h) rest x is p.1)
+      | inl p ↦ byte_is data_instruction_bytes HasShorts 40 n rest x p.0
+          (behind_took data_instruction_bytes HasShorts relation_form 40 compare (λ a. refl) (λ a h. h) rest x is p.1)
       | inr q ↦ elim (chosen (eqb n 41) _ _ _ q.1) [
         | inl p ↦ byte_is data_instruction_bytes HasShorts 41 n rest x p.0 (compare_literal_took rest x is p.1)
         | inr r ↦ elim (chosen (eqb n 42) _ _ _ r.1) [
-          | inl p ↦ byte_is data_instruction_bytes HasShorts 42 n rest x p.0 (behind_took data_instruction_bytes HasShorts relation_form 42 compare_numbers (λ a. refl) (λ a h. h) rest x is p.1)
+          | inl p ↦ byte_is data_instruction_bytes HasShorts 42 n rest x p.0 (behind_took data_instruction_bytes
+              HasShorts relation_form 42 compare_numbers (λ a. refl) (λ a h. h) rest x is p.1)
           | inr s ↦ elim (chosen (eqb n 43) _ _ _ s.1) [
-            | inl p ↦ byte_is data_instruction_bytes HasShorts 43 n rest x p.0 (behind_took data_instruction_bytes HasShorts class_form 43 (λ a. i.Test (t.Class a)) (λ a. refl) (λ a h. h) rest x is p.1)
+            | inl p ↦ byte_is data_instruction_bytes HasShorts 43 n rest x p.0 (behind_took data_instruction_bytes
+                HasShorts class_form 43 (λ a. i.Test (t.Class a)) (λ a. refl) (λ a h. h) rest x is p.1)
             | inr u ↦ elim (chosen (eqb n 44) _ _ _ u.1) [
-              | inl p ↦ byte_is data_instruction_bytes HasShorts 44 n rest x p.0 (behind_took data_instruction_bytes HasShorts short_form 44 or_equal (λ a. refl) (λ a h. h) rest x is p.1)
+              | inl p ↦ byte_is data_instruction_bytes HasShorts 44 n rest x p.0 (behind_took data_instruction_bytes
+                  HasShorts short_form 44 or_equal (λ a. refl) (λ a h. h) rest x is p.1)
               | inr v ↦ elim (chosen (eqb n 45) _ _ _ v.1) [
-                | inl p ↦ byte_is data_instruction_bytes HasShorts 45 n rest x p.0 (behind_took data_instruction_bytes HasShorts short_form 45 or_within (λ a. refl) (λ a h. h) rest x is p.1)
+                | inl p ↦ byte_is data_instruction_bytes HasShorts 45 n rest x p.0 (behind_took data_instruction_bytes
+                    HasShorts short_form 45 or_within (λ a. refl) (λ a h. h) rest x is p.1)
                 | inr w ↦ text_from_took n rest x is w.1
               ]
             ]
@@ -83,22 +155,29 @@ test_from_took n rest x is e =
       ]
     ]
 
-instruction_from_took : (n : ℕ) (rest : List ℕ) (x : DataInstruction × List ℕ) → IsBytes rest → instruction_from n rest ≡ Ok x → Reads n rest x
+instruction_from_took : (n : ℕ) (rest : List ℕ) (x : DataInstruction × List ℕ) → IsBytes rest
+    → instruction_from n rest ≡ Ok x → Reads n rest x
 instruction_from_took n rest x is e =
     elim (chosen (eqb n 16) _ _ _ e) [
-      | inl p ↦ byte_is data_instruction_bytes HasShorts 16 n rest x p.0 (behind_took data_instruction_bytes HasShorts short_form 16 place_instruction (λ a. refl) (λ a h. h) rest x is p.1)
+      | inl p ↦ byte_is data_instruction_bytes HasShorts 16 n rest x p.0 (behind_took data_instruction_bytes HasShorts
+          short_form 16 place_instruction (λ a. refl) (λ a h. h) rest x is p.1)
       | inr q ↦ elim (chosen (eqb n 17) _ _ _ q.1) [
         | inl p ↦ byte_is data_instruction_bytes HasShorts 17 n rest x p.0 (index_took rest x is p.1)
         | inr r ↦ elim (chosen (eqb n 19) _ _ _ r.1) [
-          | inl p ↦ byte_is data_instruction_bytes HasShorts 19 n rest x p.0 (behind_took data_instruction_bytes HasShorts short_form 19 literal (λ a. refl) (λ a h. h) rest x is p.1)
+          | inl p ↦ byte_is data_instruction_bytes HasShorts 19 n rest x p.0
+              (behind_took data_instruction_bytes HasShorts short_form 19 literal (λ a. refl) (λ a h. h) rest x is p.1)
           | inr s ↦ elim (chosen (eqb n 21) _ _ _ s.1) [
-            | inl p ↦ byte_is data_instruction_bytes HasShorts 21 n rest x p.0 (behind_took data_instruction_bytes HasShorts short_form 21 take_literal (λ a. refl) (λ a h. h) rest x is p.1)
+            | inl p ↦ byte_is data_instruction_bytes HasShorts 21 n rest x p.0 (behind_took data_instruction_bytes
+                HasShorts short_form 21 take_literal (λ a. refl) (λ a h. h) rest x is p.1)
             | inr t ↦ elim (chosen (eqb n 24) _ _ _ t.1) [
-              | inl p ↦ byte_is data_instruction_bytes HasShorts 24 n rest x p.0 (behind_took data_instruction_bytes HasShorts short_form 24 append_literal (λ a. refl) (λ a h. h) rest x is p.1)
+              | inl p ↦ byte_is data_instruction_bytes HasShorts 24 n rest x p.0 (behind_took data_instruction_bytes
+                  HasShorts short_form 24 append_literal (λ a. refl) (λ a h. h) rest x is p.1)
               | inr u ↦ elim (chosen (eqb n 37) _ _ _ u.1) [
-                | inl p ↦ byte_is data_instruction_bytes HasShorts 37 n rest x p.0 (behind_took data_instruction_bytes HasShorts byte_form 37 truncate (λ a. refl) (λ a h. h) rest x is p.1)
+                | inl p ↦ byte_is data_instruction_bytes HasShorts 37 n rest x p.0 (behind_took data_instruction_bytes
+                    HasShorts byte_form 37 truncate (λ a. refl) (λ a h. h) rest x is p.1)
                 | inr v ↦ elim (chosen (eqb n 38) _ _ _ v.1) [
-                  | inl p ↦ byte_is data_instruction_bytes HasShorts 38 n rest x p.0 (behind_took data_instruction_bytes HasShorts short_form 38 duplicate (λ a. refl) (λ a h. h) rest x is p.1)
+                  | inl p ↦ byte_is data_instruction_bytes HasShorts 38 n rest x p.0 (behind_took data_instruction_bytes
+                      HasShorts short_form 38 duplicate (λ a. refl) (λ a h. h) rest x is p.1)
                   | inr w ↦ test_from_took n rest x is w.1
                 ]
               ]
@@ -108,19 +187,24 @@ instruction_from_took n rest x is e =
       ]
     ]
 
-instruction_took : (bytes : List ℕ) (x : DataInstruction × List ℕ) → IsBytes bytes → data_instruction_at bytes ≡ Ok x → Took data_instruction_bytes HasShorts bytes x
+instruction_took : (bytes : List ℕ) (x : DataInstruction × List ℕ) → IsBytes bytes → data_instruction_at bytes ≡ Ok x
+    → Took data_instruction_bytes HasShorts bytes x
 unfolding data_instruction_at
-instruction_took bytes x is e = first_took data_instruction_bytes HasShorts instruction_from instruction_from_took bytes x is e
+instruction_took bytes x is e =
+    first_took data_instruction_bytes HasShorts instruction_from instruction_from_took bytes x is e
 
-naming_again : (make : ℕ → DataInstruction) (number : ℕ) (rest : List ℕ) → number < 2 ^ 32 → naming_at make (short_bytes number ++ rest) ≡ Ok (make number, rest)
+naming_again : (make : ℕ → DataInstruction) (number : ℕ) (rest : List ℕ) → number < 2 ^ 32
+    → naming_at make (short_bytes number ++ rest) ≡ Ok (make number, rest)
 naming_again make number rest h = part_again short_form number rest (λ n. Ok (make n.0, n.1)) h
 
-instruction_again : (one : DataInstruction) (rest : List ℕ) → HasShorts one → data_instruction_at (data_instruction_bytes one ++ rest) ≡ Ok (one, rest)
+instruction_again : (one : DataInstruction) (rest : List ℕ) → HasShorts one
+    → data_instruction_at (data_instruction_bytes one ++ rest) ≡ Ok (one, rest)
 unfolding data_instruction_at byte_at plain_instruction_of
 instruction_again (i.Place item) rest h = naming_again place_instruction item.number rest h
 instruction_again (i.Index stride count) rest h =
     ap index_at (append_assoc (short_bytes stride) (short_bytes count) rest)
-    ∙ part_again short_form stride (short_bytes count ++ rest) (λ s. short_at s.1 >>= λ n. Ok (i.Index s.0 n.0, n.1)) h.0
+    ∙ part_again short_form stride (short_bytes count ++ rest) (λ s. short_at s.1 >>= λ n. Ok (i.Index s.0 n.0, n.1))
+    h.0
     ∙ part_again short_form count rest (λ n. Ok (i.Index stride n.0, n.1)) h.1
 instruction_again i.Push rest h = refl
 instruction_again (i.Literal number) rest h = naming_again literal number.number rest h
@@ -145,8 +229,10 @@ instruction_again (i.Calculate (c.Duplicate depth)) rest h = naming_again duplic
 instruction_again (i.Calculate c.Discard) rest h = refl
 instruction_again (i.Test (t.Compare one)) rest h = part_again relation_form one rest (λ r. Ok (compare r.0, r.1)) tt
 instruction_again (i.Test (t.CompareLiteral one literal)) rest h = compare_literal_again one literal.number rest h
-instruction_again (i.Test (t.CompareNumbers one)) rest h = part_again relation_form one rest (λ r. Ok (compare_numbers r.0, r.1)) tt
-instruction_again (i.Test (t.Class one)) rest h = part_again class_form one rest (λ r. Ok (i.Test (t.Class r.0), r.1)) tt
+instruction_again (i.Test (t.CompareNumbers one)) rest h =
+    part_again relation_form one rest (λ r. Ok (compare_numbers r.0, r.1)) tt
+instruction_again (i.Test (t.Class one)) rest h =
+    part_again class_form one rest (λ r. Ok (i.Test (t.Class r.0), r.1)) tt
 instruction_again (i.Test (t.OrEqual literal)) rest h = naming_again or_equal literal.number rest h
 instruction_again (i.Test (t.OrWithin first)) rest h = naming_again or_within first.number rest h
 instruction_again (i.Test t.Invert) rest h = refl

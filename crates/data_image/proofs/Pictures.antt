@@ -17,8 +17,12 @@ use Rattle.picture.proofs.Pictures.{from_form, from_only}
 use Rattle.data_image.specs.declared.fault.ImageFault.TheVariants as faults
 use Rattle.data_image.specs.Spelling.{IsBytes, wide_bytes, table_bytes, IsAny, AreSpelled}
 use Rattle.data_image.specs.Reading.{◌>>=◌, or_value, byte_at, wide_at, told_at, table_at}
-use Rattle.data_image.specs.Pictures.{run_bytes, picture_bytes, editing_bytes, IsRunSpelled, IsPictureSpelled, IsEditingSpelled, symbol_of, run_at, picture_of, picture_at, editing_from, editing_at}
-use Rattle.data_image.proofs.Forms.{bind_ok, ok_is, failed, value_ok, chosen, Takes, takes_then, IsForm, part, part_again, Took, form_of, first_took, byte_is, behind_took, alone_took, first_told, byte_told}
+use Rattle.data_image.specs.Pictures.{run_bytes, picture_bytes, editing_bytes, IsRunSpelled, IsPictureSpelled}
+use Rattle.data_image.specs.Pictures.{IsEditingSpelled, symbol_of, run_at, picture_of, picture_at, editing_from}
+use Rattle.data_image.specs.Pictures.{editing_at}
+use Rattle.data_image.proofs.Forms.{bind_ok, ok_is, failed, value_ok, chosen, Takes, takes_then, IsForm, part}
+use Rattle.data_image.proofs.Forms.{part_again, Took, form_of, first_took, byte_is, behind_took, alone_took, first_told}
+use Rattle.data_image.proofs.Forms.{byte_told}
 use Rattle.data_image.proofs.Numbers.{wide_form}
 use Rattle.data_image.proofs.TableForms.{table_form}
 
@@ -26,7 +30,8 @@ use Rattle.data_image.proofs.TableForms.{table_form}
 
 abbrev symbols : List (ℕ × Symbol)
 symbols =
-    (65, s.A) ∷ (88, s.X) ∷ (57, s.Nine) ∷ (83, s.S) ∷ (86, s.V) ∷ (66, s.B) ∷ (48, s.Zero) ∷ (47, s.Slash) ∷ (44, s.Comma) ∷ (46, s.Point) ∷ (90, s.Z)
+    (65, s.A) ∷ (88, s.X) ∷ (57, s.Nine) ∷ (83, s.S) ∷ (86, s.V) ∷ (66, s.B) ∷ (48, s.Zero) ∷ (47, s.Slash)
+    ∷ (44, s.Comma) ∷ (46, s.Point) ∷ (90, s.Z)
     ∷ (42, s.Star) ∷ (43, s.Plus) ∷ (45, s.Minus) ∷ (36, s.Currency) ∷ (67, s.Cr) ∷ (68, s.Db) ∷ []
 
 symbol_told : (n : ℕ) → symbol_of n ≡ first_told symbols n
@@ -58,13 +63,46 @@ symbol_bytes symbol = letter symbol ∷ []
 
 symbol_form : IsForm (told_at symbol_of) symbol_bytes IsAny
 symbol_form =
-    byte_told symbol_bytes symbol_of symbols
-    ((refl, tt), ((refl, tt), ((refl, tt), ((refl, tt), ((refl, tt), ((refl, tt), ((refl, tt), ((refl, tt), ((refl, tt), ((refl, tt), ((refl, tt), ((refl, tt), ((refl, tt), ((refl, tt), ((refl, tt), ((refl, tt), ((refl, tt), tt))))))))))))))))) symbol_told
+    byte_told symbol_bytes symbol_of symbols (
+      (refl, tt),
+      (
+        (refl, tt),
+        (
+          (refl, tt),
+          (
+            (refl, tt),
+            (
+              (refl, tt),
+              (
+                (refl, tt),
+                (
+                  (refl, tt),
+                  (
+                    (refl, tt),
+                    (
+                      (refl, tt),
+                      (
+                        (refl, tt),
+                        (
+                          (refl, tt),
+                          ((refl, tt), ((refl, tt), ((refl, tt), ((refl, tt), ((refl, tt), ((refl, tt), tt)))))),
+                        ),
+                      ),
+                    ),
+                  ),
+                ),
+              ),
+            ),
+          ),
+        ),
+      ),
+    ) symbol_told
     (λ symbol. (letter symbol, refl, symbol_again symbol))
 
 -- ---- runs
 
-run_took : (bytes : List ℕ) (x : Run × List ℕ) → IsBytes bytes → run_at bytes ≡ Ok x → Took run_bytes IsRunSpelled bytes x
+run_took : (bytes : List ℕ) (x : Run × List ℕ) → IsBytes bytes → run_at bytes ≡ Ok x
+    → Took run_bytes IsRunSpelled bytes x
 unfolding run_at
 run_took bytes x is e =
     let a = part symbol_form bytes _ x is e in
@@ -76,7 +114,8 @@ run_took bytes x is e =
 run_again : (run : Run) (rest : List ℕ) → IsRunSpelled run → run_at (run_bytes run ++ rest) ≡ Ok (run, rest)
 unfolding run_at
 run_again run rest h =
-    part_again symbol_form run.symbol (wide_bytes run.count ++ rest) (λ symbol. wide_at symbol.1 >>= λ count. Ok (record { symbol = symbol.0; count = count.0 }, count.1)) tt
+    part_again symbol_form run.symbol (wide_bytes run.count ++ rest)
+    (λ symbol. wide_at symbol.1 >>= λ count. Ok (record { symbol = symbol.0; count = count.0 }, count.1)) tt
     ∙ part_again wide_form run.count rest (λ count. Ok (record { symbol = run.symbol; count = count.0 }, count.1)) h
 
 run_form : IsForm run_at run_bytes IsRunSpelled
@@ -108,19 +147,24 @@ from_is runs picture e = from_form runs (Ok picture) (ap or_no_form e)
 from_again : (picture : Description) → IsAnyPicture picture → picture_from picture.runs ≡ Some picture
 from_again picture h =
     let runs = picture.runs in
-    answer_is (picture_from runs) picture (from_only runs (answered (picture_from runs)) (gives (picture_from runs)) picture (record { read = h; same = refl }))
+    answer_is (picture_from runs) picture (from_only runs (answered (picture_from runs)) (gives (picture_from runs))
+    picture (record { read = h; same = refl }))
 
-picture_took : (bytes : List ℕ) (x : Description × List ℕ) → IsBytes bytes → picture_at bytes ≡ Ok x → Took picture_bytes IsPictureSpelled bytes x
+picture_took : (bytes : List ℕ) (x : Description × List ℕ) → IsBytes bytes → picture_at bytes ≡ Ok x
+    → Took picture_bytes IsPictureSpelled bytes x
 unfolding picture_at
 picture_took bytes x is e =
     let a = part runs_form bytes (λ runs. picture_of runs.0 >>= λ picture. Ok (picture, runs.1)) x is e in
     let b = bind_ok (picture_of a.value) (λ picture. Ok (picture, a.rest)) x a.goes in
     let of : IsOfRuns a.value b.0 = from_is a.value b.0 (value_ok (picture_from a.value) b.0 b.1) in
-    let t : Takes bytes (picture_bytes b.0) a.rest = subst (λ (runs : List Run). Takes bytes (table_bytes run_bytes runs) a.rest) (sym of.same) a.takes in
-    let fits : IsPictureSpelled b.0 = record { any = of.read; runs = subst (AreSpelled IsRunSpelled) (sym of.same) a.sound } in
+    let t : Takes bytes (picture_bytes b.0) a.rest =
+    subst (λ (runs : List Run). Takes bytes (table_bytes run_bytes runs) a.rest) (sym of.same) a.takes in
+    let fits : IsPictureSpelled b.0 =
+    record { any = of.read; runs = subst (AreSpelled IsRunSpelled) (sym of.same) a.sound } in
     subst (Took picture_bytes IsPictureSpelled bytes) {x = (b.0, a.rest)} (ok_is (b.0, a.rest) x b.2) (t, fits)
 
-picture_again : (picture : Description) (rest : List ℕ) → IsPictureSpelled picture → picture_at (picture_bytes picture ++ rest) ≡ Ok (picture, rest)
+picture_again : (picture : Description) (rest : List ℕ) → IsPictureSpelled picture
+    → picture_at (picture_bytes picture ++ rest) ≡ Ok (picture, rest)
 unfolding picture_at
 picture_again picture rest h =
     part_again runs_form picture.runs rest (λ runs. picture_of runs.0 >>= λ picture. Ok (picture, runs.1)) h.runs
@@ -134,21 +178,26 @@ picture_form = form_of picture_at picture_bytes IsPictureSpelled picture_took pi
 abbrev some_picture : Description → Option Description
 some_picture picture = Some picture
 
-editing_from_took : (n : ℕ) (rest : List ℕ) (x : Option Description × List ℕ) → IsBytes rest → editing_from n rest ≡ Ok x → Took editing_bytes IsEditingSpelled (n ∷ rest) x
+editing_from_took : (n : ℕ) (rest : List ℕ) (x : Option Description × List ℕ) → IsBytes rest
+    → editing_from n rest ≡ Ok x → Took editing_bytes IsEditingSpelled (n ∷ rest) x
 editing_from_took n rest x is e =
     elim (chosen (eqb n 0) _ _ _ e) [
-      | inl p ↦ byte_is editing_bytes IsEditingSpelled 0 n rest x p.0 (alone_took editing_bytes IsEditingSpelled 0 None rest x (refl, tt) is p.1)
+      | inl p ↦ byte_is editing_bytes IsEditingSpelled 0 n rest x p.0
+          (alone_took editing_bytes IsEditingSpelled 0 None rest x (refl, tt) is p.1)
       | inr q ↦ elim (chosen (eqb n 1) _ _ _ q.1) [
-        | inl p ↦ byte_is editing_bytes IsEditingSpelled 1 n rest x p.0 (behind_took editing_bytes IsEditingSpelled picture_form 1 some_picture (λ a. refl) (λ a h. h) rest x is p.1)
+        | inl p ↦ byte_is editing_bytes IsEditingSpelled 1 n rest x p.0 (behind_took editing_bytes IsEditingSpelled
+            picture_form 1 some_picture (λ a. refl) (λ a h. h) rest x is p.1)
         | inr r ↦ absurd (failed faults.Value x r.1)
       ]
     ]
 
-editing_took : (bytes : List ℕ) (x : Option Description × List ℕ) → IsBytes bytes → editing_at bytes ≡ Ok x → Took editing_bytes IsEditingSpelled bytes x
+editing_took : (bytes : List ℕ) (x : Option Description × List ℕ) → IsBytes bytes → editing_at bytes ≡ Ok x
+    → Took editing_bytes IsEditingSpelled bytes x
 unfolding editing_at
 editing_took bytes x is e = first_took editing_bytes IsEditingSpelled editing_from editing_from_took bytes x is e
 
-editing_again : (editing : Option Description) (rest : List ℕ) → IsEditingSpelled editing → editing_at (editing_bytes editing ++ rest) ≡ Ok (editing, rest)
+editing_again : (editing : Option Description) (rest : List ℕ) → IsEditingSpelled editing
+    → editing_at (editing_bytes editing ++ rest) ≡ Ok (editing, rest)
 unfolding editing_at byte_at
 editing_again None rest h = refl
 editing_again (Some picture) rest h = part_again picture_form picture rest (λ picture. Ok (Some picture.0, picture.1)) h

@@ -12,14 +12,16 @@ use Rattle.data_image.specs.Spelling.{IsBytes, short_bytes, IsAny}
 use Rattle.data_image.specs.Reading.{◌>>=◌, told_at}
 use Rattle.data_image.specs.Tests.{relation_byte, class_byte, relation_of, class_of, compare_literal_at}
 use Rattle.data_image.specs.Instructions.{data_instruction_bytes, HasShorts}
-use Rattle.data_image.proofs.Forms.{ok_is, takes_then, takes_kind, IsForm, part, part_again, Took, first_told, byte_told}
+use Rattle.data_image.proofs.Forms.{ok_is, takes_then, takes_kind, IsForm, part, part_again, Took, first_told}
+use Rattle.data_image.proofs.Forms.{byte_told}
 use Rattle.data_image.proofs.Numbers.{short_form}
 
 -- ---- relations
 
 abbrev relations : List (ℕ × Relation)
 relations =
-    (1, relation.Less) ∷ (2, relation.LessOrEqual) ∷ (3, relation.Equal) ∷ (4, relation.NotEqual) ∷ (5, relation.GreaterOrEqual) ∷ (6, relation.Greater) ∷ []
+    (1, relation.Less) ∷ (2, relation.LessOrEqual) ∷ (3, relation.Equal) ∷ (4, relation.NotEqual)
+    ∷ (5, relation.GreaterOrEqual) ∷ (6, relation.Greater) ∷ []
 
 relation_told : (n : ℕ) → relation_of n ≡ first_told relations n
 unfolding relation_of
@@ -70,18 +72,22 @@ class_form =
 
 -- ---- a literal and a relation
 
-pub compare_literal_took : (rest : List ℕ) (x : DataInstruction × List ℕ) → IsBytes rest → compare_literal_at rest ≡ Ok x → Took data_instruction_bytes HasShorts (41 ∷ rest) x
+pub compare_literal_took : (rest : List ℕ) (x : DataInstruction × List ℕ) → IsBytes rest
+    → compare_literal_at rest ≡ Ok x → Took data_instruction_bytes HasShorts (41 ∷ rest) x
 compare_literal_took rest x is e =
     let a = part short_form rest _ x is e in
     let b = part relation_form a.rest _ x a.takes.rest_fits a.goes in
     let both = takes_then rest (short_bytes a.value) a.rest (relation_bytes b.value) b.rest a.takes b.takes in
     let whole = takes_kind 41 rest (short_bytes a.value ++ relation_bytes b.value) b.rest both in
     let made : DataInstruction = i.Test (t.CompareLiteral b.value (record { number = a.value })) in
-    subst (Took data_instruction_bytes HasShorts (41 ∷ rest)) {x = (made, b.rest)} (ok_is (made, b.rest) x b.goes) (whole, a.sound)
+    subst (Took data_instruction_bytes HasShorts (41 ∷ rest)) {x =
+    (made, b.rest)} (ok_is (made, b.rest) x b.goes) (whole, a.sound)
 
 pub compare_literal_again : (one : Relation) (number : ℕ) (rest : List ℕ) → number < 2 ^ 32
-    → compare_literal_at ((short_bytes number ++ relation_bytes one) ++ rest) ≡ Ok (i.Test (t.CompareLiteral one (record { number = number })), rest)
+    → compare_literal_at ((short_bytes number ++ relation_bytes one) ++ rest)
+    ≡ Ok (i.Test (t.CompareLiteral one (record { number = number })), rest)
 compare_literal_again one number rest h =
     ap compare_literal_at (append_assoc (short_bytes number) (relation_bytes one) rest)
-    ∙ part_again short_form number (relation_bytes one ++ rest) (λ literal. told_at relation_of literal.1 >>= λ r. Ok (i.Test (t.CompareLiteral r.0 (record { number = literal.0 })), r.1)) h
+    ∙ part_again short_form number (relation_bytes one ++ rest) (λ literal. told_at relation_of literal.1 >>= λ r.
+    Ok (i.Test (t.CompareLiteral r.0 (record { number = literal.0 })), r.1)) h
     ∙ part_again relation_form one rest (λ r. Ok (i.Test (t.CompareLiteral r.0 (record { number = number })), r.1)) tt

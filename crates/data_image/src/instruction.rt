@@ -120,7 +120,8 @@ impl TableEntry for DataInstruction {
 }
 
 fn put_index(out: &mut Vec<u8>, stride: u32, count: u32) -> Result<(), AllocError>
-    ensures bytes { OnOk result (out.new.items ≡ out.old.items ++ (17 ∷ (short_bytes stride ++ short_bytes count))) }
+    ensures bytes { OnOk result
+        (out.new.items ≡ out.old.items ++ (17 ∷ (short_bytes stride ++ short_bytes count))) }
     ensures fits { FitsFourBytes stride × FitsFourBytes count }
 {
     put_byte(out, INDEX)?;

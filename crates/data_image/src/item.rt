@@ -52,7 +52,8 @@ pub fn read_item(bytes: &[u8]) -> Result<(Item, &[u8]), ImageError>
 }
 
 fn put_numeric(out: &mut Vec<u8>, numeric: Numeric) -> Result<(), AllocError>
-    ensures bytes { OnOk result (out.new.items ≡ out.old.items ++ kind_bytes (spec.numeric numeric)) }
+    ensures bytes { OnOk result
+        (out.new.items ≡ out.old.items ++ kind_bytes (spec.numeric numeric)) }
     ensures fits { HasByteDigits (spec.numeric numeric) }
 {
     let usage = usage_byte(numeric.usage);

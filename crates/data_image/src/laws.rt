@@ -9,14 +9,20 @@ ghost use Rattle.data_image.specs.Instructions.{data_instruction_bytes, data_ins
 
 /// Tables are read again from their bytes, whatever follows these. What is read from bytes has these as its bytes.
 pub fn tables_law()
-    ensures again { (tables : DataTables) (rest : List ℕ) → HasTables tables → tables_at (tables_bytes tables ++ rest) ≡ Ok (tables, rest) }
-    ensures found { (bytes : List ℕ) (tables : DataTables) (rest : List ℕ) → IsBytes bytes → tables_at bytes ≡ Ok (tables, rest) → bytes ≡ tables_bytes tables ++ rest }
-    ensures fits { (bytes : List ℕ) (tables : DataTables) (rest : List ℕ) → IsBytes bytes → tables_at bytes ≡ Ok (tables, rest) → HasTables tables }
+    ensures again { (tables : DataTables) (rest : List ℕ) → HasTables tables
+        → tables_at (tables_bytes tables ++ rest) ≡ Ok (tables, rest) }
+    ensures found { (bytes : List ℕ) (tables : DataTables) (rest : List ℕ) → IsBytes bytes
+        → tables_at bytes ≡ Ok (tables, rest) → bytes ≡ tables_bytes tables ++ rest }
+    ensures fits { (bytes : List ℕ) (tables : DataTables) (rest : List ℕ) → IsBytes bytes
+        → tables_at bytes ≡ Ok (tables, rest) → HasTables tables }
 {}
 
 /// The same of one instruction.
 pub fn instruction_law()
-    ensures again { (one : DataInstruction) (rest : List ℕ) → HasShorts one → data_instruction_at (data_instruction_bytes one ++ rest) ≡ Ok (one, rest) }
-    ensures found { (bytes : List ℕ) (one : DataInstruction) (rest : List ℕ) → IsBytes bytes → data_instruction_at bytes ≡ Ok (one, rest) → bytes ≡ data_instruction_bytes one ++ rest }
-    ensures fits { (bytes : List ℕ) (one : DataInstruction) (rest : List ℕ) → IsBytes bytes → data_instruction_at bytes ≡ Ok (one, rest) → HasShorts one }
+    ensures again { (one : DataInstruction) (rest : List ℕ) → HasShorts one
+        → data_instruction_at (data_instruction_bytes one ++ rest) ≡ Ok (one, rest) }
+    ensures found { (bytes : List ℕ) (one : DataInstruction) (rest : List ℕ) → IsBytes bytes
+        → data_instruction_at bytes ≡ Ok (one, rest) → bytes ≡ data_instruction_bytes one ++ rest }
+    ensures fits { (bytes : List ℕ) (one : DataInstruction) (rest : List ℕ) → IsBytes bytes
+        → data_instruction_at bytes ≡ Ok (one, rest) → HasShorts one }
 {}

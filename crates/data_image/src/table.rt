@@ -36,7 +36,8 @@ pub trait TableEntry: Drop {
 
 /// Puts the count of the entries, and each entry.
 pub fn put_table<T: TableEntry>(out: &mut Vec<u8>, entries: &[T]) -> Result<(), AllocError>
-    ensures bytes { OnOk result (out.new.items ≡ out.old.items ++ table_bytes T.spelled entries.now) }
+    ensures bytes { OnOk result
+        (out.new.items ≡ out.old.items ++ table_bytes T.spelled entries.now) }
     ensures count { OnOk result (IsCount (length entries.now)) }
     ensures fits { OnOk result (AllByRecursion T.fits entries.now) }
 {

@@ -122,7 +122,8 @@ fn put_telling(out: &mut Vec<u8>, first: u8, byte: u8) -> Result<(), AllocError>
 }
 
 fn put_compare_literal(out: &mut Vec<u8>, number: u32, relation: u8) -> Result<(), AllocError>
-    ensures bytes { OnOk result (out.new.items ≡ out.old.items ++ (41 ∷ (short_bytes number ++ relation ∷ []))) }
+    ensures bytes { OnOk result
+        (out.new.items ≡ out.old.items ++ (41 ∷ (short_bytes number ++ relation ∷ []))) }
     ensures fits { FitsFourBytes number }
 {
     put_byte(out, COMPARE_LITERAL)?;

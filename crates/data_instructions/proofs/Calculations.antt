@@ -12,14 +12,16 @@ use Rattle.data_instructions.specs.Shapes.{taken_by, put_by}
 
 -- There are numbers then, so many less and so many more.
 abbrev LeavesNumbers : Option (List ArithmeticValue) → List ArithmeticValue → ℕ → ℕ → Type 0
-LeavesNumbers after ns less more = (ms : List ArithmeticValue) × (after ≡ Some ms) × (length ms ≡ length ns - less + more)
+LeavesNumbers after ns less more =
+    (ms : List ArithmeticValue) × (after ≡ Some ms) × (length ms ≡ length ns - less + more)
 
 two_there : (one : Operator) (ns : List ArithmeticValue) → 2 ≤ length ns → LeavesNumbers (by_two one ns) ns 2 1
 two_there one [] enough = absurd (omega (arith, enough))
 two_there one (y ∷ []) enough = absurd (omega (arith, enough))
 two_there one (y ∷ x ∷ ns) enough = (_, refl, omega arith)
 
-one_there : (change : ArithmeticValue → ArithmeticValue) (ns : List ArithmeticValue) → 1 ≤ length ns → LeavesNumbers (by_one change ns) ns 1 1
+one_there : (change : ArithmeticValue → ArithmeticValue) (ns : List ArithmeticValue) → 1 ≤ length ns
+    → LeavesNumbers (by_one change ns) ns 1 1
 one_there change [] enough = absurd (omega (arith, enough))
 one_there change (x ∷ ns) enough = (_, refl, omega arith)
 
@@ -27,17 +29,20 @@ newest_there : (ns : List ArithmeticValue) → 1 ≤ length ns → LeavesNumbers
 newest_there [] enough = absurd (omega (arith, enough))
 newest_there (x ∷ ns) enough = (ns, refl, omega arith)
 
-number_there : (ns : List ArithmeticValue) (depth : ℕ) → depth + 1 ≤ length ns → (x : ArithmeticValue) × (slice_get ns depth ≡ Some x)
+number_there : (ns : List ArithmeticValue) (depth : ℕ) → depth + 1 ≤ length ns
+    → (x : ArithmeticValue) × (slice_get ns depth ≡ Some x)
 number_there [] depth enough = absurd (omega (arith, enough))
 number_there (x ∷ ns) zero enough = (x, refl)
 number_there (x ∷ ns) (suc depth) enough = number_there ns depth (omega (arith, enough))
 
-copy_there : (ns : List ArithmeticValue) (depth : ℕ) → depth + 1 ≤ length ns → LeavesNumbers (with_copy (slice_get ns depth) ns) ns (depth + 1) (depth + 2)
+copy_there : (ns : List ArithmeticValue) (depth : ℕ) → depth + 1 ≤ length ns
+    → LeavesNumbers (with_copy (slice_get ns depth) ns) ns (depth + 1) (depth + 2)
 copy_there ns depth enough =
     let found = number_there ns depth enough in
     (found.0 ∷ ns, ap (λ o. with_copy o ns) found.1, omega (arith, enough))
 
-pub calculated_there : (one : Calculation) (ns : List ArithmeticValue) → taken_by one ≤ length ns → LeavesNumbers (calculated_numbers one ns) ns (taken_by one) (put_by one)
+pub calculated_there : (one : Calculation) (ns : List ArithmeticValue) → taken_by one ≤ length ns
+    → LeavesNumbers (calculated_numbers one ns) ns (taken_by one) (put_by one)
 calculated_there c.Add ns enough = two_there operator.Add ns enough
 calculated_there c.Subtract ns enough = two_there operator.Subtract ns enough
 calculated_there c.Multiply ns enough = two_there operator.Multiply ns enough

@@ -29,7 +29,10 @@ use Rattle.data_instructions.specs.Codes.{works}
 use Rattle.data_instructions.specs.ConditionCodes.{negation}
 
 abbrev number_item : ℕ → ℕ → Item
-number_item digits scale = record { kind = kind.Numeric (record { digits = digits; scale = scale; usage = usage.Display operational.Unsigned }); length = digits }
+number_item digits scale = record {
+  kind = kind.Numeric (record { digits = digits; scale = scale; usage = usage.Display operational.Unsigned });
+  length = digits;
+}
 
 abbrev text_item : ℕ → Item
 text_item length = record { kind = kind.Alphanumeric false; length = length }
@@ -48,9 +51,11 @@ computing = tt
 abbrev tables : DataTables
 tables = record {
   areas = codes "07" ∷ codes "x3" ∷ codes "0150" ∷ codes "Ab " ∷ [];
-  items = at_area (number_item 2 0) 0 ∷ at_area (number_item 2 0) 1 ∷ at_area (number_item 4 2) 2 ∷ at_area (text_item 3) 3 ∷ [];
+  items = at_area (number_item 2 0) 0 ∷ at_area (number_item 2 0) 1 ∷ at_area (number_item 4 2) 2
+      ∷ at_area (text_item 3) 3 ∷ [];
   numbers = record { coefficient = pos 15; scale = 1 } ∷ record { coefficient = pos 0; scale = 0 } ∷ [];
-  senders = digit (codes "5") ∷ digit (codes "7") ∷ digit (codes "8") ∷ digit (codes "9") ∷ record { taken = kept.Item (text_item 2); bytes = codes "Ab" } ∷ [];
+  senders = digit (codes "5") ∷ digit (codes "7") ∷ digit (codes "8") ∷ digit (codes "9")
+      ∷ record { taken = kept.Item (text_item 2); bytes = codes "Ab" } ∷ [];
   texts = [];
   inspections = [];
 }
@@ -149,7 +154,8 @@ item_greater : asked (item 0 ∷ i.Take ∷ item 2 ∷ i.Test (t.Compare relatio
 unfolding computing
 item_greater = refl
 
-no_number_beside : works tables (item 0 ∷ i.Take ∷ item 1 ∷ i.Test (t.Compare relation.Greater) ∷ []) begun ≡ Faulted Data
+no_number_beside : works tables (item 0 ∷ i.Take ∷ item 1 ∷ i.Test (t.Compare relation.Greater) ∷ []) begun
+    ≡ Faulted Data
 unfolding computing
 no_number_beside = refl
 
@@ -180,11 +186,13 @@ unfolding computing
 newest_is_right = refl
 
 -- By zero there is no number to compare.
-size_error_on_the_left : works tables (number 0 ∷ number 1 ∷ i.Calculate calculation.Divide ∷ number 0 ∷ i.Test (t.CompareNumbers relation.Equal) ∷ []) begun ≡ Faulted Data
+size_error_on_the_left : works tables (number 0 ∷ number 1 ∷ i.Calculate calculation.Divide ∷ number 0
+    ∷ i.Test (t.CompareNumbers relation.Equal) ∷ []) begun ≡ Faulted Data
 unfolding computing
 size_error_on_the_left = refl
 
-size_error_on_the_right : works tables (number 0 ∷ number 0 ∷ number 1 ∷ i.Calculate calculation.Divide ∷ i.Test (t.CompareNumbers relation.NotEqual) ∷ []) begun ≡ Faulted Data
+size_error_on_the_right : works tables (number 0 ∷ number 0 ∷ number 1 ∷ i.Calculate calculation.Divide
+    ∷ i.Test (t.CompareNumbers relation.NotEqual) ∷ []) begun ≡ Faulted Data
 unfolding computing
 size_error_on_the_right = refl
 
@@ -204,8 +212,10 @@ no_literal_behind = refl
 no_sender_known : effect tables (equal 0) empty ≡ None
 no_sender_known = refl
 
-two_numbers_known : effect tables (i.Test (t.CompareNumbers relation.Equal)) (record empty { stacks = record { numbers = 2; places = [] } }) ≡ Some empty
+two_numbers_known : effect tables (i.Test (t.CompareNumbers relation.Equal))
+    (record empty { stacks = record { numbers = 2; places = [] } }) ≡ Some empty
 two_numbers_known = refl
 
-one_number_known : effect tables (i.Test (t.CompareNumbers relation.Equal)) (record empty { stacks = record { numbers = 1; places = [] } }) ≡ None
+one_number_known : effect tables (i.Test (t.CompareNumbers relation.Equal))
+    (record empty { stacks = record { numbers = 1; places = [] } }) ≡ None
 one_number_known = refl

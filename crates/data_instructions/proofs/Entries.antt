@@ -10,7 +10,8 @@ use Rattle.data_instructions.specs.declared.tables.Inspection.{Inspection}
 use Rattle.data_instructions.specs.declared.tables.DataTables.{DataTables}
 use Rattle.data_instructions.specs.Tables.{IsTables, IsDataItem, IsInspection}
 
-pub more_entries : {X : Type 0} (P : X → Type 0) (xs : List X) (i : ℕ) (x : X) → slice_get xs i ≡ Some x → P x → ((k : ℕ) (one : X) → k < i → slice_get xs k ≡ Some one → P one)
+pub more_entries : {X : Type 0} (P : X → Type 0) (xs : List X) (i : ℕ) (x : X) → slice_get xs i ≡ Some x → P x
+    → ((k : ℕ) (one : X) → k < i → slice_get xs k ≡ Some one → P one)
     → (k : ℕ) (one : X) → k < i + 1 → slice_get xs k ≡ Some one → P one
 more_entries P xs i x here holds before k one within found = by_test (nat_lt k i) refl
   where
@@ -33,21 +34,28 @@ EachSender senders = (k : ℕ) (one : LiteralSender) → slice_get senders k ≡
 abbrev pub EachInspection : List Inspection → Type 0
 EachInspection inspections = (k : ℕ) (one : Inspection) → slice_get inspections k ≡ Some one → IsInspection one
 
-pub in_order : (tables : DataTables) (areas others : List (List ℕ)) (items : List DataItem) (senders : List LiteralSender) (inspections : List Inspection)
-    → areas ≡ tables.areas → others ≡ tables.areas → items ≡ tables.items → senders ≡ tables.senders → inspections ≡ tables.inspections
+pub in_order : (tables : DataTables) (areas others : List (List ℕ)) (items : List DataItem)
+    (senders : List LiteralSender) (inspections : List Inspection)
+    → areas ≡ tables.areas → others ≡ tables.areas → items ≡ tables.items → senders ≡ tables.senders
+    → inspections ≡ tables.inspections
     → EachArea areas → EachItem others items → EachSender senders → EachInspection inspections → IsTables tables
-in_order tables areas others items senders inspections is_areas is_others is_items is_senders is_inspections a i s n = record {
-  areas = subst EachArea is_areas a;
-  items = subst (EachItem tables.areas) is_items (subst (λ xs. EachItem xs items) is_others i);
-  senders = subst EachSender is_senders s;
-  inspections = subst EachInspection is_inspections n;
-}
+in_order tables areas others items senders inspections is_areas is_others is_items is_senders is_inspections a i s n =
+    record {
+      areas = subst EachArea is_areas a;
+      items = subst (EachItem tables.areas) is_items (subst (λ xs. EachItem xs items) is_others i);
+      senders = subst EachSender is_senders s;
+      inspections = subst EachInspection is_inspections n;
+    }
 
-pub items_in_order : (tables : DataTables) (areas : List (List ℕ)) (items : List DataItem) → areas ≡ tables.areas → items ≡ tables.items → IsTables tables → EachItem areas items
-items_in_order tables areas items is_areas is_items order = subst (λ xs. EachItem xs items) (sym is_areas) (subst (EachItem tables.areas) (sym is_items) order.items)
+pub items_in_order : (tables : DataTables) (areas : List (List ℕ)) (items : List DataItem) → areas ≡ tables.areas
+    → items ≡ tables.items → IsTables tables → EachItem areas items
+items_in_order tables areas items is_areas is_items order =
+    subst (λ xs. EachItem xs items) (sym is_areas) (subst (EachItem tables.areas) (sym is_items) order.items)
 
-pub senders_in_order : (tables : DataTables) (senders : List LiteralSender) → senders ≡ tables.senders → IsTables tables → EachSender senders
+pub senders_in_order : (tables : DataTables) (senders : List LiteralSender) → senders ≡ tables.senders → IsTables tables
+    → EachSender senders
 senders_in_order tables senders is order = subst EachSender (sym is) order.senders
 
-pub inspections_in_order : (tables : DataTables) (inspections : List Inspection) → inspections ≡ tables.inspections → IsTables tables → EachInspection inspections
+pub inspections_in_order : (tables : DataTables) (inspections : List Inspection) → inspections ≡ tables.inspections
+    → IsTables tables → EachInspection inspections
 inspections_in_order tables inspections is order = subst EachInspection (sym is) order.inspections

@@ -1,5 +1,5 @@
--- Instructions on a table of three numbers, 01 T with N PIC 9(2) OCCURS 3, all of it, M PIC 9(3), Q PIC 9, and R PIC S9(2)V9 SIGN
--- TRAILING SEPARATE, computed.
+-- Instructions on a table of three numbers, 01 T with N PIC 9(2) OCCURS 3, all of it, M PIC 9(3), Q PIC 9, and R PIC
+-- S9(2)V9 SIGN TRAILING SEPARATE, computed.
 use Rattle.std.proofs.Common.{◌≡◌, ℕ, List, [], ◌∷◌, ◌++◌, refl, pos, negsuc, Option, Some, None}
 use Rattle.std.specs.Prelude.{Bool, true, false, codes, slice_index_or}
 use Rattle.decimal18.specs.Fraction.{Fraction}
@@ -29,20 +29,35 @@ abbrev at_area : Item → ℕ → DataItem
 at_area item area = record { item = item; editing = None; area = area; offset = 0 }
 
 computing : Unit {0}
-unfolding low_digits fitted_decimal truncated_decimal value_of bytes_of shown_bytes moves.moved_bytes sum difference product greatest quotient
+unfolding low_digits fitted_decimal truncated_decimal value_of bytes_of shown_bytes moves.moved_bytes sum difference
+    product greatest quotient
 computing = tt
 
 abbrev tables : DataTables
 tables = record {
   areas = codes "0102x3" ∷ codes "005" ∷ codes "7" ∷ codes "000+" ∷ [];
-  items = at_area (record { kind = kind.Numeric (record { digits = 2; scale = 0; usage = usage.Display operational.Unsigned }); length = 2 }) 0
+  items = at_area (record {
+    kind = kind.Numeric (record { digits = 2; scale = 0; usage = usage.Display operational.Unsigned });
+    length = 2;
+  }) 0
       ∷ at_area (record { kind = kind.Group; length = 6 }) 0
-      ∷ at_area (record { kind = kind.Numeric (record { digits = 3; scale = 0; usage = usage.Display operational.Unsigned }); length = 3 }) 1
-      ∷ at_area (record { kind = kind.Numeric (record { digits = 1; scale = 0; usage = usage.Display operational.Unsigned }); length = 1 }) 2
-      ∷ at_area (record { kind = kind.Numeric (record { digits = 3; scale = 1; usage = usage.Display operational.TrailingSeparate }); length = 4 }) 3
+      ∷ at_area (record {
+        kind = kind.Numeric (record { digits = 3; scale = 0; usage = usage.Display operational.Unsigned });
+        length = 3;
+      }) 1
+      ∷ at_area (record {
+        kind = kind.Numeric (record { digits = 1; scale = 0; usage = usage.Display operational.Unsigned });
+        length = 1;
+      }) 2
+      ∷ at_area (record {
+        kind = kind.Numeric (record { digits = 3; scale = 1; usage = usage.Display operational.TrailingSeparate });
+        length = 4;
+      }) 3
       ∷ [];
-  numbers = record { coefficient = pos 2; scale = 0 } ∷ record { coefficient = pos 4; scale = 0 } ∷ record { coefficient = pos 15; scale = 1 } ∷ record { coefficient = pos 3; scale = 0 }
-      ∷ record { coefficient = pos 40; scale = 0 } ∷ record { coefficient = pos 25; scale = 2 } ∷ record { coefficient = pos 0; scale = 0 } ∷ [];
+  numbers = record { coefficient = pos 2; scale = 0 } ∷ record { coefficient = pos 4; scale = 0 }
+      ∷ record { coefficient = pos 15; scale = 1 } ∷ record { coefficient = pos 3; scale = 0 }
+      ∷ record { coefficient = pos 40; scale = 0 } ∷ record { coefficient = pos 25; scale = 2 }
+      ∷ record { coefficient = pos 0; scale = 0 } ∷ [];
   senders = [];
   texts = codes "N=" ∷ [];
   inspections = [];
@@ -61,7 +76,8 @@ element subscript = item 0 ∷ number subscript ∷ i.Index 2 3 ∷ []
 abbrev begun : Scratch
 begun = initial_scratch tables
 
-second_place : works tables (element 0) begun ≡ Continues (record begun { places = record { item = record { number = 0 }; offset = 2; length = 2 } ∷ [] })
+second_place : works tables (element 0) begun
+    ≡ Continues (record begun { places = record { item = record { number = 0 }; offset = 2; length = 2 } ∷ [] })
 second_place = refl
 
 fourth_place : works tables (element 1) begun ≡ Faulted Subscript
@@ -86,7 +102,8 @@ abbrev line_of : Step → List ℕ
 line_of (Continues s) = s.line
 line_of _ = []
 
-second_number : numbers_of (works tables (element 0 ++ i.Push ∷ []) begun) ≡ Some (record { coefficient = pos 2; scale = 0 }) ∷ []
+second_number : numbers_of (works tables (element 0 ++ i.Push ∷ []) begun)
+    ≡ Some (record { coefficient = pos 2; scale = 0 }) ∷ []
 unfolding computing
 second_number = refl
 
@@ -94,7 +111,8 @@ no_number : works tables (element 3 ++ i.Push ∷ []) begun ≡ Faulted Data
 unfolding computing
 no_number = refl
 
-difference_of_two : numbers_of (works tables (number 0 ∷ number 1 ∷ i.Calculate calculation.Subtract ∷ []) begun) ≡ Some (record { coefficient = negsuc 1; scale = 0 }) ∷ []
+difference_of_two : numbers_of (works tables (number 0 ∷ number 1 ∷ i.Calculate calculation.Subtract ∷ []) begun)
+    ≡ Some (record { coefficient = negsuc 1; scale = 0 }) ∷ []
 unfolding computing
 difference_of_two = refl
 
@@ -112,7 +130,8 @@ nothing_taken : works tables (item 2 ∷ i.Move ∷ []) begun ≡ Stuck
 nothing_taken = refl
 
 -- DISPLAY "N=" N (2), up to its end
-shown_line : line_of (works tables (i.AppendLiteral (record { number = 0 }) ∷ element 0 ++ i.Append ∷ []) begun) ≡ codes "N=02"
+shown_line : line_of (works tables (i.AppendLiteral (record { number = 0 }) ∷ element 0 ++ i.Append ∷ []) begun)
+    ≡ codes "N=02"
 unfolding computing
 shown_line = refl
 
@@ -125,14 +144,18 @@ unfolding computing
 day_moved = refl
 
 -- what is known of N (I): its last occurrence lies in the area; a fourth wouldn't
-last_place : effect tables (i.Index 2 3) (record empty { stacks = record { numbers = 1; places = record { item = record { number = 0 }; reach = 0 } ∷ [] } })
-    ≡ Some (record empty { stacks = record { numbers = 0; places = record { item = record { number = 0 }; reach = 4 } ∷ [] } })
+last_place : effect tables (i.Index 2 3)
+    (record empty { stacks = record { numbers = 1; places = record { item = record { number = 0 }; reach = 0 } ∷ [] } })
+    ≡ Some
+    (record empty { stacks = record { numbers = 0; places = record { item = record { number = 0 }; reach = 4 } ∷ [] } })
 last_place = refl
 
-past_the_area : effect tables (i.Index 2 4) (record empty { stacks = record { numbers = 1; places = record { item = record { number = 0 }; reach = 0 } ∷ [] } }) ≡ None
+past_the_area : effect tables (i.Index 2 4) (record empty
+    { stacks = record { numbers = 1; places = record { item = record { number = 0 }; reach = 0 } ∷ [] } }) ≡ None
 past_the_area = refl
 
-no_sender_known : effect tables i.Move (record empty { stacks = record { numbers = 0; places = record { item = record { number = 2 }; reach = 0 } ∷ [] } }) ≡ None
+no_sender_known : effect tables i.Move (record empty
+    { stacks = record { numbers = 0; places = record { item = record { number = 2 }; reach = 0 } ∷ [] } }) ≡ None
 no_sender_known = refl
 
 -- whether a size error arose
@@ -144,8 +167,10 @@ truth_of _ = None
 abbrev divided : Bool → ℕ → ℕ → Step
 divided keep dividend divisor =
     works tables
-    ((i.ClearTruth ∷ number dividend ∷ number divisor ∷ duplicate 1 ∷ duplicate 1 ∷ i.Calculate calculation.Divide ∷ duplicate 0 ∷ item 3 ∷ i.Store false keep ∷ [])
-    ++ (i.Calculate (calculation.Truncate 0) ∷ i.Calculate calculation.Multiply ∷ i.Calculate calculation.Subtract ∷ (kept_code [] tables keep keep ++ (item 2 ∷ i.Store false keep ∷ []))))
+    ((i.ClearTruth ∷ number dividend ∷ number divisor ∷ duplicate 1 ∷ duplicate 1 ∷ i.Calculate calculation.Divide
+    ∷ duplicate 0 ∷ item 3 ∷ i.Store false keep ∷ [])
+    ++ (i.Calculate (calculation.Truncate 0) ∷ i.Calculate calculation.Multiply ∷ i.Calculate calculation.Subtract
+    ∷ (kept_code [] tables keep keep ++ (item 2 ∷ i.Store false keep ∷ []))))
     begun
 
 -- 4 by 1.5 is 2, and 1 remains
@@ -196,7 +221,8 @@ no_remainder_by_zero = refl
 abbrev negative : List DataInstruction
 negative = number 5 ∷ number 0 ∷ i.Calculate calculation.Subtract ∷ []
 
-cut_towards_zero : numbers_of (works tables (negative ++ i.Calculate (calculation.Truncate 1) ∷ []) begun) ≡ Some (record { coefficient = negsuc 16; scale = 1 }) ∷ []
+cut_towards_zero : numbers_of (works tables (negative ++ i.Calculate (calculation.Truncate 1) ∷ []) begun)
+    ≡ Some (record { coefficient = negsuc 16; scale = 1 }) ∷ []
 unfolding computing
 cut_towards_zero = refl
 
@@ -213,25 +239,29 @@ absolute_stored : area_of 1 (works tables (negative ++ item 2 ∷ i.Store false 
 unfolding computing
 absolute_stored = refl
 
-sign_changed : numbers_of (works tables (number 5 ∷ i.Calculate calculation.Negate ∷ []) begun) ≡ Some (record { coefficient = negsuc 24; scale = 2 }) ∷ []
+sign_changed : numbers_of (works tables (number 5 ∷ i.Calculate calculation.Negate ∷ []) begun)
+    ≡ Some (record { coefficient = negsuc 24; scale = 2 }) ∷ []
 sign_changed = refl
 
 -- the number below the newest once more
 number_copied : numbers_of (works tables (number 0 ∷ number 1 ∷ duplicate 1 ∷ []) begun)
-    ≡ Some (record { coefficient = pos 2; scale = 0 }) ∷ Some (record { coefficient = pos 4; scale = 0 }) ∷ Some (record { coefficient = pos 2; scale = 0 }) ∷ []
+    ≡ Some (record { coefficient = pos 2; scale = 0 }) ∷ Some (record { coefficient = pos 4; scale = 0 })
+    ∷ Some (record { coefficient = pos 2; scale = 0 }) ∷ []
 number_copied = refl
 
 nothing_below : works tables (number 0 ∷ duplicate 1 ∷ []) begun ≡ Stuck
 nothing_below = refl
 
-newest_discarded : numbers_of (works tables (number 0 ∷ number 1 ∷ discard ∷ []) begun) ≡ Some (record { coefficient = pos 2; scale = 0 }) ∷ []
+newest_discarded : numbers_of (works tables (number 0 ∷ number 1 ∷ discard ∷ []) begun)
+    ≡ Some (record { coefficient = pos 2; scale = 0 }) ∷ []
 newest_discarded = refl
 
 no_number_to_store : works tables (item 2 ∷ i.Store false false ∷ []) begun ≡ Stuck
 no_number_to_store = refl
 
 -- what is known of a copy: two numbers are wanted for the one below the newest
-copy_known : effect tables (duplicate 1) (record empty { stacks = record { numbers = 2; places = [] } }) ≡ Some (record empty { stacks = record { numbers = 3; places = [] } })
+copy_known : effect tables (duplicate 1) (record empty { stacks = record { numbers = 2; places = [] } })
+    ≡ Some (record empty { stacks = record { numbers = 3; places = [] } })
 copy_known = refl
 
 no_copy_known : effect tables (duplicate 1) (record empty { stacks = record { numbers = 1; places = [] } }) ≡ None

@@ -1,5 +1,6 @@
 -- The code of INSPECT does what it means.
-use Rattle.std.proofs.Common.{◌≡◌, ℕ, suc, ◌+◌, length, List, [], ◌∷◌, ◌++◌, map, refl, sym, ◌∙◌, ap, subst, arith, Option, Some, None}
+use Rattle.std.proofs.Common.{◌≡◌, ℕ, suc, ◌+◌, length, List, [], ◌∷◌, ◌++◌, map, refl, sym, ◌∙◌, ap, subst, arith}
+use Rattle.std.proofs.Common.{Option, Some, None}
 use Rattle.std.specs.Prelude.{slice_get, Ok, Err}
 use Rattle.std.proofs.lemmas.List.{append_assoc, append-nil, length-append}
 use Rattle.items.specs.Texts.{padded_text}
@@ -14,7 +15,10 @@ use Rattle.source_tree.specs.References.{ItemPlace, part_of, place_after, place_
 use Rattle.source_tree.specs.References as tree
 use Rattle.source_tree.specs.InspectLayout as layout
 use Rattle.source_tree.specs.Inspecting.{text_at}
-use Rattle.source_tree.specs.InspectLayout.{Source, Bytes, Characters, InspectArgument, Counter, Text, InspectTaken, found_size, taken_size, tallying_takings, entries_texts, counter_entries, entry_counts, takings, inspection, inspected_size, with_counter, with_text, take_each, inspect_at, inspect_by_spans}
+use Rattle.source_tree.specs.InspectLayout.{Source, Bytes, Characters, InspectArgument, Counter, Text, InspectTaken}
+use Rattle.source_tree.specs.InspectLayout.{found_size, taken_size, tallying_takings, entries_texts, counter_entries}
+use Rattle.source_tree.specs.InspectLayout.{entry_counts, takings, inspection, inspected_size, with_counter, with_text}
+use Rattle.source_tree.specs.InspectLayout.{take_each, inspect_at, inspect_by_spans}
 use Rattle.data_instructions.specs.declared.index.InspectionIndex.{InspectionIndex}
 use Rattle.data_instructions.specs.declared.place.Place.{Place}
 use Rattle.data_instructions.specs.declared.tables.Inspection.{Inspection}
@@ -27,7 +31,8 @@ use Rattle.data_instructions.specs.Scratch.{Scratch, Step, Continues, step_with,
 use Rattle.data_instructions.specs.Table.{at_place, at_places, append_step, place_at, inspected_at, work}
 use Rattle.data_instructions.specs.Codes.{go_on, works}
 use Rattle.data_instructions.specs.InspectCodes.{AreTakenCode, HasInspection, IsInspectCode}
-use Rattle.data_instructions.proofs.Codes.{go_with, with_same, with_bind, works_append, nothing_more, taking_works, text_works, reference_works}
+use Rattle.data_instructions.proofs.Codes.{go_with, with_same, with_bind, works_append, nothing_more, taking_works}
+use Rattle.data_instructions.proofs.Codes.{text_works, reference_works}
 use Rattle.data_instructions.proofs.Lengths.{padded_long, padded_whole}
 
 -- ---- how many counters there are, and how long texts are
@@ -37,29 +42,37 @@ counters_in [] = 0
 counters_in (Counter one ∷ more) = suc (counters_in more)
 counters_in (Text one ∷ more) = counters_in more
 
-texts_behind : (texts : List Source) (more : List InspectArgument) → counters_in (map Text texts ++ more) ≡ counters_in more
+texts_behind : (texts : List Source) (more : List InspectArgument)
+    → counters_in (map Text texts ++ more) ≡ counters_in more
 texts_behind [] more = refl
 texts_behind (one ∷ others) more = texts_behind others more
 
-each_counter : (tallying : List Tallying) (more : List InspectArgument) → counters_in more ≡ 0 → counters_in (tallying_takings tallying ++ more) ≡ length (entry_counts tallying)
+each_counter : (tallying : List Tallying) (more : List InspectArgument) → counters_in more ≡ 0
+    → counters_in (tallying_takings tallying ++ more) ≡ length (entry_counts tallying)
 each_counter [] more none = none
 each_counter (one ∷ others) more none =
-    ap suc (ap counters_in (append_assoc (map Text (entries_texts (counter_entries one))) (tallying_takings others) more)
-    ∙ texts_behind (entries_texts (counter_entries one)) (tallying_takings others ++ more) ∙ each_counter others more none)
+    ap suc
+    (ap counters_in (append_assoc (map Text (entries_texts (counter_entries one))) (tallying_takings others) more)
+    ∙ texts_behind (entries_texts (counter_entries one)) (tallying_takings others ++ more)
+    ∙ each_counter others more none)
 
-pub counters_are : (items : List LocatedItem) (one : InspectStatement) → counters_in (takings items one) ≡ length (inspection items one).counters
+pub counters_are : (items : List LocatedItem) (one : InspectStatement)
+    → counters_in (takings items one) ≡ length (inspection items one).counters
 counters_are items one =
-    each_counter one.tallying (map Text replacing) (ap counters_in (sym (append-nil (map Text replacing))) ∙ texts_behind replacing [])
+    each_counter one.tallying (map Text replacing) (ap counters_in (sym (append-nil (map Text replacing)))
+    ∙ texts_behind replacing [])
   where
     replacing : List Source
     replacing = entries_texts (layout.all_replaced items one)
 
 -- what is found out, where it is
-with_known : {A : Type 0} (r : Evaluation A) (f g : A → Step) → ((x : A) → r ≡ Ok x → f x ≡ g x) → step_with r f ≡ step_with r g
+with_known : {A : Type 0} (r : Evaluation A) (f g : A → Step) → ((x : A) → r ≡ Ok x → f x ≡ g x)
+    → step_with r f ≡ step_with r g
 with_known (Ok x) f g same = same x refl
 with_known (Err fault) f g same = refl
 
-bound : {A B : Type 0} (r : Evaluation A) (f : A → Evaluation B) (y : B) → r >>= f ≡ Ok y → (x : A) × (r ≡ Ok x) × (f x ≡ Ok y)
+bound : {A B : Type 0} (r : Evaluation A) (f : A → Evaluation B) (y : B) → r >>= f ≡ Ok y
+    → (x : A) × (r ≡ Ok x) × (f x ≡ Ok y)
 bound (Ok x) f y e = (x, refl, e)
 bound (Err fault) f y e = absurd cc
 
@@ -74,18 +87,25 @@ needed_is None x e = absurd cc
 needed_is (Some y) x e = ap Some (same_Ok y x e)
 
 module _ (items : List LocatedItem) where
-  place_long : (one : Reference) (storage : Storage) (place : ItemPlace) → place_of items one storage ≡ Ok place → place.item.length ≡ found_size (first (items_named items one.item))
+  place_long : (one : Reference) (storage : Storage) (place : ItemPlace) → place_of items one storage ≡ Ok place
+      → place.item.length ≡ found_size (first (items_named items one.item))
   place_long one storage place e =
-      let found = bound (evaluation_of (first (items_named items one.item))) (λ it. occurrence items one.subscripts it storage) place e in
-      let behind = bound (tree.bytes_before items found.0.dimensions one.subscripts storage) (λ more. Ok (place_after found.0 more)) place found.2 in
-      sym (ap (λ (p : ItemPlace). p.item.length) (same_Ok (place_after found.0 behind.0) place behind.2)) ∙ sym (ap found_size (needed_is (first (items_named items one.item)) found.0 found.1))
+      let found = bound (evaluation_of (first (items_named items one.item)))
+      (λ it. occurrence items one.subscripts it storage) place e in
+      let behind = bound (tree.bytes_before items found.0.dimensions one.subscripts storage)
+      (λ more. Ok (place_after found.0 more)) place found.2 in
+      sym (ap (λ (p : ItemPlace). p.item.length) (same_Ok (place_after found.0 behind.0) place behind.2))
+      ∙ sym (ap found_size (needed_is (first (items_named items one.item)) found.0 found.1))
 
-  taken_long : (all : List InspectArgument) (storage : Storage) (taken : InspectTaken) → take_each items all storage ≡ Ok taken → length taken.texts ≡ taken_size items all
-  taken_long [] storage taken e = sym (ap (λ (t : InspectTaken). length t.texts) (same_Ok (record { counters = []; texts = [] }) taken e))
+  taken_long : (all : List InspectArgument) (storage : Storage) (taken : InspectTaken)
+      → take_each items all storage ≡ Ok taken → length taken.texts ≡ taken_size items all
+  taken_long [] storage taken e =
+      sym (ap (λ (t : InspectTaken). length t.texts) (same_Ok (record { counters = []; texts = [] }) taken e))
   taken_long (Counter one ∷ more) storage taken e =
       let place = bound (place_of items one storage) _ taken e in
       let rest = bound (take_each items more storage) (λ t. Ok (with_counter place.0 t)) taken place.2 in
-      sym (ap (λ (t : InspectTaken). length t.texts) (same_Ok (with_counter place.0 rest.0) taken rest.2)) ∙ taken_long more storage rest.0 rest.1
+      sym (ap (λ (t : InspectTaken). length t.texts) (same_Ok (with_counter place.0 rest.0) taken rest.2))
+      ∙ taken_long more storage rest.0 rest.1
   taken_long (Text (Bytes one) ∷ more) storage taken e =
       let place = bound (place_of items one storage) _ taken e in
       let rest = bound (take_each items more storage) (λ t. Ok (with_text (text_at storage place.0) t)) taken place.2 in
@@ -93,12 +113,15 @@ module _ (items : List LocatedItem) where
       let front = padded_long place.0.item.length (part_of storage place.0) in
       let size = place_long one storage place.0 place.1 in
       let back = taken_long more storage rest.0 rest.1 in
-      sym (ap (λ (t : InspectTaken). length t.texts) (same_Ok (with_text (text_at storage place.0) rest.0) taken rest.2)) ∙ omega (arith, whole, front, size, back)
+      sym
+      (ap (λ (t : InspectTaken). length t.texts) (same_Ok (with_text (text_at storage place.0) rest.0) taken rest.2))
+      ∙ omega (arith, whole, front, size, back)
   taken_long (Text (Characters text) ∷ more) storage taken e =
       let rest = bound (take_each items more storage) (λ t. Ok (with_text text t)) taken e in
       let whole = length-append text rest.0.texts in
       let back = taken_long more storage rest.0 rest.1 in
-      sym (ap (λ (t : InspectTaken). length t.texts) (same_Ok (with_text text rest.0) taken rest.2)) ∙ omega (arith, whole, back)
+      sym (ap (λ (t : InspectTaken). length t.texts) (same_Ok (with_text text rest.0) taken rest.2))
+      ∙ omega (arith, whole, back)
 
 -- ---- places on the stack, the newest first, and what they are
 
@@ -114,72 +137,99 @@ oldest [] others = others
 oldest (r ∷ rs) others = oldest rs (r ∷ others)
 
 module _ (tables : DataTables) where
-  one_at : (p : Place) (r : ItemPlace) (go : ItemPlace → Step) → place_at p (slice_get tables.items p.item.number) ≡ Some r → step_at (slice_get tables.items p.item.number) (λ one. go (item_place (shortened_item one p.length) p.offset)) ≡ go r
+  one_at : (p : Place) (r : ItemPlace) (go : ItemPlace → Step)
+      → place_at p (slice_get tables.items p.item.number) ≡ Some r → step_at (slice_get tables.items p.item.number)
+      (λ one. go (item_place (shortened_item one p.length) p.offset)) ≡ go r
   one_at p r go e = by_entry (slice_get tables.items p.item.number) e
     where
-      by_entry : (o : Option _) → place_at p o ≡ Some r → step_at o (λ one. go (item_place (shortened_item one p.length) p.offset)) ≡ go r
+      by_entry : (o : Option _) → place_at p o ≡ Some r
+          → step_at o (λ one. go (item_place (shortened_item one p.length) p.offset)) ≡ go r
       by_entry None none = absurd cc
       by_entry (Some one) some = let same : item_place (shortened_item one p.length) p.offset ≡ r = cc in ap go same
 
-  places_found : (ps : List Place) (rs others : List ItemPlace) (go : List ItemPlace → Scratch → Step) (rest : List Place) (s : Scratch) → AreAt tables ps rs
+  places_found : (ps : List Place) (rs others : List ItemPlace) (go : List ItemPlace → Scratch → Step)
+      (rest : List Place) (s : Scratch) → AreAt tables ps rs
       → at_places tables (length rs) others go (ps ++ rest) s ≡ go (oldest rs others) (record s { places = rest })
   places_found [] [] others go rest s are = refl
   places_found [] (r ∷ rs) others go rest s are = absurd are
   places_found (p ∷ ps) [] others go rest s are = absurd are
   places_found (p ∷ ps) (r ∷ rs) others go rest s are =
-      one_at p r (λ place. at_places tables (length rs) (place ∷ others) go (ps ++ rest) s) are.0 ∙ places_found ps rs (r ∷ others) go rest s are.1
+      one_at p r (λ place. at_places tables (length rs) (place ∷ others) go (ps ++ rest) s) are.0
+      ∙ places_found ps rs (r ∷ others) go rest s are.1
 
 module _ (items : List LocatedItem) (tables : DataTables) (order : IsTables tables) where
   -- INSPECT, with counters and texts
   abbrev ends : layout.Inspection → ItemPlace → Scratch → List ItemPlace → List ℕ → Step
-  ends how subject s counters texts = step_with (inspect_at how texts counters subject s.storage) (λ after. Continues (record s { storage = after; line = [] }))
+  ends how subject s counters texts = step_with (inspect_at how texts counters subject s.storage)
+      (λ after. Continues (record s { storage = after; line = [] }))
 
   abbrev standing : List Place → Place → List ℕ → Scratch → Scratch
   standing ps p line s = record s { places = ps ++ (p ∷ s.places); line = line }
 
   -- with the counters' places on the stack, above the subject's
-  inspect_works : (index : InspectionIndex) (how : layout.Inspection) (size : ℕ) (has : HasInspection items tables how size index) (p : Place) (subject : ItemPlace) → place_at p (slice_get tables.items p.item.number) ≡ Some subject
-      → (ps : List Place) (rs : List ItemPlace) → AreAt tables ps rs → length rs ≡ length how.counters → (line : List ℕ) (s : Scratch)
-      → works tables (i.Inspect index ∷ []) (standing ps p line s) ≡ ends how subject s (oldest rs []) (padded_text size line)
+  inspect_works : (index : InspectionIndex) (how : layout.Inspection)
+      (size : ℕ) (has : HasInspection items tables how size index) (p : Place) (subject : ItemPlace)
+      → place_at p (slice_get tables.items p.item.number) ≡ Some subject
+      → (ps : List Place) (rs : List ItemPlace) → AreAt tables ps rs → length rs ≡ length how.counters
+      → (line : List ℕ) (s : Scratch)
+      → works tables (i.Inspect index ∷ []) (standing ps p line s)
+      ≡ ends how subject s (oldest rs []) (padded_text size line)
   inspect_works index how size has p subject at ps rs are many line s =
       let t : Scratch = standing ps p line s in
       let u : Scratch = record s { line = line } in
-      let count : length has.one.counters ≡ length rs = ap (λ (x : layout.Inspection). length x.counters) has.is ∙ sym many in
+      let count : length has.one.counters ≡ length rs =
+      ap (λ (x : layout.Inspection). length x.counters) has.is ∙ sym many in
       nothing_more items tables order (work tables (i.Inspect index) t)
-      ∙ ap (λ o. step_at o (λ (x : Inspection). at_places tables (length x.counters) [] (λ counters v. at_place tables (inspected_at x counters) v) (ps ++ (p ∷ s.places)) t)) has.entry
-      ∙ ap (λ n. at_places tables n [] (λ counters v. at_place tables (inspected_at has.one counters) v) (ps ++ (p ∷ s.places)) t) count
-      ∙ places_found tables ps rs [] (λ counters v. at_place tables (inspected_at has.one counters) v) (p ∷ s.places) t are
+      ∙ ap (λ o. step_at o (λ (x : Inspection). at_places tables (length x.counters) []
+      (λ counters v. at_place tables (inspected_at x counters) v) (ps ++ (p ∷ s.places)) t)) has.entry
+      ∙ ap (λ n. at_places tables n [] (λ counters v. at_place tables (inspected_at has.one counters) v)
+      (ps ++ (p ∷ s.places)) t) count
+      ∙ places_found tables ps rs [] (λ counters v. at_place tables (inspected_at has.one counters) v) (p ∷ s.places) t
+      are
       ∙ one_at tables p subject (λ place. inspected_at has.one (oldest rs []) place u) at
-      ∙ ap (λ x. step_with (inspect_at x (padded_text has.one.size line) (oldest rs []) subject s.storage) (λ after. Continues (record s { storage = after; line = [] }))) has.is
+      ∙ ap (λ x. step_with (inspect_at x (padded_text has.one.size line) (oldest rs []) subject s.storage)
+      (λ after. Continues (record s { storage = after; line = [] }))) has.is
       ∙ ap (λ n. ends how subject s (oldest rs []) (padded_text n line)) has.size_is
 
   -- behind a text that was added to the line
-  further : (index : InspectionIndex) (how : layout.Inspection) (size : ℕ) (p : Place) (subject : ItemPlace) (more : List InspectArgument) (back : List DataInstruction) (ps : List Place) (rs : List ItemPlace) (line text : List ℕ) (s : Scratch)
+  further : (index : InspectionIndex) (how : layout.Inspection) (size : ℕ) (p : Place) (subject : ItemPlace)
+      (more : List InspectArgument) (back : List DataInstruction) (ps : List Place) (rs : List ItemPlace)
+      (line text : List ℕ) (s : Scratch)
       → works tables (back ++ (i.Inspect index ∷ [])) (standing ps p (line ++ text) s)
-      ≡ step_with (take_each items more s.storage) (λ taken. ends how subject s (oldest rs taken.counters) (padded_text size ((line ++ text) ++ taken.texts)))
+      ≡ step_with (take_each items more s.storage)
+      (λ taken. ends how subject s (oldest rs taken.counters) (padded_text size ((line ++ text) ++ taken.texts)))
       → works tables (back ++ (i.Inspect index ∷ [])) (standing ps p (line ++ text) s)
-      ≡ step_with (take_each items more s.storage >>= (λ taken. Ok (with_text text taken))) (λ taken. ends how subject s (oldest rs taken.counters) (padded_text size (line ++ taken.texts)))
+      ≡ step_with (take_each items more s.storage >>= (λ taken. Ok (with_text text taken)))
+      (λ taken. ends how subject s (oldest rs taken.counters) (padded_text size (line ++ taken.texts)))
   further index how size p subject more back ps rs line text s rest =
       rest
-      ∙ with_same (take_each items more s.storage) _ _ (λ taken. ap (λ l. ends how subject s (oldest rs taken.counters) (padded_text size l)) (append_assoc line text taken.texts))
-      ∙ sym (with_bind (take_each items more s.storage) (λ taken. Ok (with_text text taken)) (λ taken. ends how subject s (oldest rs taken.counters) (padded_text size (line ++ taken.texts))))
+      ∙ with_same (take_each items more s.storage) _ _ (λ taken.
+      ap (λ l. ends how subject s (oldest rs taken.counters) (padded_text size l)) (append_assoc line text taken.texts))
+      ∙ sym (with_bind (take_each items more s.storage) (λ taken. Ok (with_text text taken))
+      (λ taken. ends how subject s (oldest rs taken.counters) (padded_text size (line ++ taken.texts))))
 
   -- what is taken, and then INSPECT
-  takings_work : (index : InspectionIndex) (how : layout.Inspection) (size : ℕ) (has : HasInspection items tables how size index) (p : Place) (subject : ItemPlace) → place_at p (slice_get tables.items p.item.number) ≡ Some subject
+  takings_work : (index : InspectionIndex) (how : layout.Inspection)
+      (size : ℕ) (has : HasInspection items tables how size index) (p : Place) (subject : ItemPlace)
+      → place_at p (slice_get tables.items p.item.number) ≡ Some subject
       → (all : List InspectArgument) (code : List DataInstruction) → AreTakenCode items tables all code
-      → (ps : List Place) (rs : List ItemPlace) → AreAt tables ps rs → length rs + counters_in all ≡ length how.counters → (line : List ℕ) (s : Scratch)
+      → (ps : List Place) (rs : List ItemPlace) → AreAt tables ps rs → length rs + counters_in all ≡ length how.counters
+      → (line : List ℕ) (s : Scratch)
       → works tables (code ++ (i.Inspect index ∷ [])) (standing ps p line s)
-      ≡ step_with (take_each items all s.storage) (λ taken. ends how subject s (oldest rs taken.counters) (padded_text size (line ++ taken.texts)))
+      ≡ step_with (take_each items all s.storage)
+      (λ taken. ends how subject s (oldest rs taken.counters) (padded_text size (line ++ taken.texts)))
   takings_work index how size has p subject at [] code is ps rs are many line s =
       ap (λ c. works tables (c ++ (i.Inspect index ∷ [])) (standing ps p line s)) is
       ∙ inspect_works index how size has p subject at ps rs are (omega (arith, many)) line s
       ∙ ap (λ l. ends how subject s (oldest rs []) (padded_text size l)) (sym (append-nil line))
-  takings_work index how size has p subject at (Counter one ∷ more) code (front, r, back, are_back, is) ps rs are many line s =
+  takings_work index how size has p subject at (Counter one ∷ more) code (front, r, back, are_back, is) ps rs are many
+      line s =
       let t : Scratch = standing ps p line s in
       let later : List DataInstruction = back ++ (i.Inspect index ∷ []) in
       let behind : Evaluation ℕ = tree.bytes_before items r.found.dimensions one.subscripts s.storage in
       let new : ℕ → Place = λ n. record { item = r.index; offset = r.found.offset + n; length = r.found.item.length } in
-      let done : ItemPlace → InspectTaken → Step = λ place taken. ends how subject s (oldest rs (place ∷ taken.counters)) (padded_text size (line ++ taken.texts)) in
+      let done : ItemPlace → InspectTaken → Step =
+      λ place taken. ends how subject s (oldest rs (place ∷ taken.counters)) (padded_text size (line ++ taken.texts)) in
       let puts : ItemPlace → Step = λ place. step_with (take_each items more s.storage) (done place) in
       ap (λ c. works tables (c ++ (i.Inspect index ∷ [])) t) is
       ∙ ap (λ c. works tables c t) (append_assoc front back (i.Inspect index ∷ []))
@@ -187,35 +237,51 @@ module _ (items : List LocatedItem) (tables : DataTables) (order : IsTables tabl
       ∙ ap (λ step. go_on step (works tables later)) (reference_works items tables order one front r t)
       ∙ go_with behind (λ n. Continues (standing (new n ∷ ps) p line s)) (works tables later)
       ∙ with_same behind _ _ (λ n.
-      takings_work index how size has p subject at more back are_back (new n ∷ ps) (place_after r.found n ∷ rs) (ap (place_at (new n)) r.has.entry, are) (omega (arith, many)) line s)
+      takings_work index how size has p subject at more back are_back (new n ∷ ps) (place_after r.found n ∷ rs)
+      (ap (place_at (new n)) r.has.entry, are) (omega (arith, many)) line s)
       ∙ sym (with_bind behind (λ n. Ok (place_after r.found n)) puts)
-      ∙ ap (λ o. step_with (evaluation_of o >>= (λ found. occurrence items one.subscripts found s.storage)) puts) (sym r.has.named)
-      ∙ with_same (place_of items one s.storage) _ _ (λ place. sym (with_bind (take_each items more s.storage) (λ taken. Ok (with_counter place taken)) (λ taken. ends how subject s (oldest rs taken.counters) (padded_text size (line ++ taken.texts)))))
-      ∙ sym (with_bind (place_of items one s.storage) (λ place. take_each items more s.storage >>= (λ taken. Ok (with_counter place taken))) (λ taken. ends how subject s (oldest rs taken.counters) (padded_text size (line ++ taken.texts))))
-  takings_work index how size has p subject at (Text (Bytes one) ∷ more) code (front, taking, back, are_back, is) ps rs are many line s =
+      ∙ ap (λ o. step_with (evaluation_of o >>= (λ found. occurrence items one.subscripts found s.storage)) puts)
+      (sym r.has.named)
+      ∙ with_same (place_of items one s.storage)
+      _ _ (λ place. sym (with_bind (take_each items more s.storage) (λ taken. Ok (with_counter place taken))
+      (λ taken. ends how subject s (oldest rs taken.counters) (padded_text size (line ++ taken.texts)))))
+      ∙ sym (with_bind (place_of items one s.storage)
+      (λ place. take_each items more s.storage >>= (λ taken. Ok (with_counter place taken)))
+      (λ taken. ends how subject s (oldest rs taken.counters) (padded_text size (line ++ taken.texts))))
+  takings_work index how size has p subject at (Text (Bytes one) ∷ more) code (front, taking, back, are_back, is) ps rs
+      are many line s =
       let t : Scratch = standing ps p line s in
       let later : List DataInstruction = back ++ (i.Inspect index ∷ []) in
-      let last : InspectTaken → Step = λ taken. ends how subject s (oldest rs taken.counters) (padded_text size (line ++ taken.texts)) in
+      let last : InspectTaken → Step =
+      λ taken. ends how subject s (oldest rs taken.counters) (padded_text size (line ++ taken.texts)) in
       ap (λ c. works tables (c ++ (i.Inspect index ∷ [])) t) is
       ∙ ap (λ c. works tables c t) (append_assoc front back (i.Inspect index ∷ []))
       ∙ works_append tables front later t
-      ∙ ap (λ step. go_on step (works tables later)) (taking_works items tables order (i.Gather g.Sized) (λ place u. append_step (text_at u.storage place) u) (λ u. refl) one front taking t)
+      ∙ ap (λ step. go_on step (works tables later)) (taking_works items tables order (i.Gather g.Sized)
+      (λ place u. append_step (text_at u.storage place) u) (λ u. refl) one front taking t)
       ∙ go_with (place_of items one s.storage) (λ place. append_step (text_at s.storage place) t) (works tables later)
-      ∙ with_same (place_of items one s.storage) _ _ (λ place. further index how size p subject more back ps rs line (text_at s.storage place) s
-      (takings_work index how size has p subject at more back are_back ps rs are many (line ++ text_at s.storage place) s))
-      ∙ sym (with_bind (place_of items one s.storage) (λ place. take_each items more s.storage >>= (λ taken. Ok (with_text (text_at s.storage place) taken))) last)
-  takings_work index how size has p subject at (Text (Characters text) ∷ more) code (front, is_text, back, are_back, is) ps rs are many line s =
+      ∙ with_same (place_of items one s.storage) _ _
+      (λ place. further index how size p subject more back ps rs line (text_at s.storage place) s
+      (takings_work index how size has p subject at more back are_back ps rs are many (line ++ text_at s.storage place)
+      s))
+      ∙ sym (with_bind (place_of items one s.storage)
+      (λ place. take_each items more s.storage >>= (λ taken. Ok (with_text (text_at s.storage place) taken))) last)
+  takings_work index how size has p subject at (Text (Characters text) ∷ more) code (front, is_text, back, are_back, is)
+      ps rs are many line s =
       let t : Scratch = standing ps p line s in
       let later : List DataInstruction = back ++ (i.Inspect index ∷ []) in
       ap (λ c. works tables (c ++ (i.Inspect index ∷ [])) t) is
       ∙ ap (λ c. works tables c t) (append_assoc front back (i.Inspect index ∷ []))
       ∙ works_append tables front later t
       ∙ ap (λ step. go_on step (works tables later)) (text_works items tables order text front is_text t)
-      ∙ further index how size p subject more back ps rs line text s (takings_work index how size has p subject at more back are_back ps rs are many (line ++ text) s)
+      ∙ further index how size p subject more back ps rs line text s
+      (takings_work index how size has p subject at more back are_back ps rs are many (line ++ text) s)
 
   -- with nothing in the line
-  inspect_from_nothing : (one : InspectStatement) (code : List DataInstruction) → IsInspectCode items tables one code → (s : Scratch)
-      → works tables code (record s { line = [] }) ≡ step_with (inspect_by_spans items one s.storage) (λ after. Continues (record s { storage = after; line = [] }))
+  inspect_from_nothing : (one : InspectStatement) (code : List DataInstruction) → IsInspectCode items tables one code
+      → (s : Scratch)
+      → works tables code (record s { line = [] })
+      ≡ step_with (inspect_by_spans items one s.storage) (λ after. Continues (record s { storage = after; line = [] }))
   inspect_from_nothing one code (subject, r, parts, are, index, has, is) s =
       let u : Scratch = record s { line = [] } in
       let how : layout.Inspection = inspection items one in
@@ -223,23 +289,35 @@ module _ (items : List LocatedItem) (tables : DataTables) (order : IsTables tabl
       let later : List DataInstruction = parts ++ (i.Inspect index ∷ []) in
       let behind : Evaluation ℕ = tree.bytes_before items r.found.dimensions one.subject.subscripts s.storage in
       let new : ℕ → Place = λ n. record { item = r.index; offset = r.found.offset + n; length = r.found.item.length } in
-      let last : ItemPlace → InspectTaken → Step = λ place taken. step_with (inspect_at how taken.texts taken.counters place s.storage) (λ after. Continues (record s { storage = after; line = [] })) in
+      let last : ItemPlace → InspectTaken → Step =
+      λ place taken. step_with (inspect_at how taken.texts taken.counters place s.storage)
+      (λ after. Continues (record s { storage = after; line = [] })) in
       let puts : ItemPlace → Step = λ place. step_with (take_each items (takings items one) s.storage) (last place) in
       ap (λ c. works tables c u) is
       ∙ works_append tables subject later u
       ∙ ap (λ step. go_on step (works tables later)) (reference_works items tables order one.subject subject r u)
       ∙ go_with behind (λ n. Continues (standing [] (new n) [] s)) (works tables later)
       ∙ with_same behind _ _ (λ n.
-      takings_work index how size has (new n) (place_after r.found n) (ap (place_at (new n)) r.has.entry) (takings items one) parts are [] [] tt (omega (arith, counters_are items one)) [] s
+      takings_work index how size has (new n) (place_after r.found n) (ap (place_at (new n)) r.has.entry)
+      (takings items one) parts are [] [] tt (omega (arith, counters_are items one)) [] s
       ∙ with_known (take_each items (takings items one) s.storage) _ _ (λ taken known.
-      ap (λ l. ends how (place_after r.found n) s taken.counters l) (padded_whole size taken.texts (taken_long items (takings items one) s.storage taken known))))
+      ap (λ l. ends how (place_after r.found n) s taken.counters l)
+      (padded_whole size taken.texts (taken_long items (takings items one) s.storage taken known))))
       ∙ sym (with_bind behind (λ n. Ok (place_after r.found n)) puts)
-      ∙ ap (λ o. step_with (evaluation_of o >>= (λ found. occurrence items one.subject.subscripts found s.storage)) puts) (sym r.has.named)
-      ∙ with_same (place_of items one.subject s.storage) _ _ (λ place. sym (with_bind (take_each items (takings items one) s.storage) (λ taken. inspect_at how taken.texts taken.counters place s.storage) (λ after. Continues (record s { storage = after; line = [] }))))
-      ∙ sym (with_bind (place_of items one.subject s.storage) (λ place. take_each items (takings items one) s.storage >>= (λ taken. inspect_at how taken.texts taken.counters place s.storage)) (λ after. Continues (record s { storage = after; line = [] })))
+      ∙ ap (λ o. step_with (evaluation_of o >>= (λ found. occurrence items one.subject.subscripts found s.storage))
+      puts) (sym r.has.named)
+      ∙ with_same (place_of items one.subject s.storage)
+      _ _ (λ place. sym (with_bind (take_each items (takings items one) s.storage) (λ taken. inspect_at how taken.texts
+      taken.counters place s.storage) (λ after. Continues (record s { storage = after; line = [] }))))
+      ∙ sym (with_bind (place_of items one.subject s.storage) (λ place. take_each
+      items (takings items one) s.storage >>= (λ taken. inspect_at how taken.texts taken.counters place s.storage))
+      (λ after. Continues (record s { storage = after; line = [] })))
 
-  pub inspect_does : (one : InspectStatement) (code : List DataInstruction) → IsInspectCode items tables one code → (s : Scratch) → s.line ≡ []
-      → works tables code s ≡ step_with (inspect_by_spans items one s.storage) (λ after. Continues (record s { storage = after }))
+  pub inspect_does : (one : InspectStatement) (code : List DataInstruction) → IsInspectCode items tables one code
+      → (s : Scratch) → s.line ≡ []
+      → works tables code s
+      ≡ step_with (inspect_by_spans items one s.storage) (λ after. Continues (record s { storage = after }))
   inspect_does one code is s empty =
-      subst (λ (l : List ℕ). works tables code (record s { line = l }) ≡ step_with (inspect_by_spans items one s.storage) (λ after. Continues (record s { storage = after; line = l })))
+      subst (λ (l : List ℕ). works tables code (record s { line = l })
+      ≡ step_with (inspect_by_spans items one s.storage) (λ after. Continues (record s { storage = after; line = l })))
       (sym empty) (inspect_from_nothing one code is s)

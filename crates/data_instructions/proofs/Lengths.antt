@@ -1,5 +1,6 @@
 -- How long what DISPLAY shows is.
-use Rattle.std.proofs.Common.{◌≡◌, ℕ, zero, suc, ◌+◌, ◌-◌, ◌≤◌, length, List, [], ◌∷◌, ◌++◌, take, drop, refl, ap, ◌∙◌, subst, arith, Option, Some, None}
+use Rattle.std.proofs.Common.{◌≡◌, ℕ, zero, suc, ◌+◌, ◌-◌, ◌≤◌, length, List, [], ◌∷◌, ◌++◌, take, drop, refl, ap, ◌∙◌}
+use Rattle.std.proofs.Common.{subst, arith, Option, Some, None}
 use Rattle.std.specs.Prelude.{Bool, true, false, ◌==◌, if◌then◌else◌, slice_range, unsigned_abs}
 use Rattle.std.specs.Option.{option_map}
 use Rattle.std.specs.Prelude.{replicate}
@@ -26,7 +27,8 @@ sign_long : (b : Bool) (c : ℕ) → length (if b then c ∷ [] else []) ≤ 1
 sign_long true c = omega arith
 sign_long false c = omega arith
 
-point_long : (b : Bool) (at : ℕ) (text : List ℕ) → length (if b then text else take at text ++ point ∷ drop at text) ≤ length text + 1
+point_long : (b : Bool) (at : ℕ) (text : List ℕ)
+    → length (if b then text else take at text ++ point ∷ drop at text) ≤ length text + 1
 point_long true at text = omega arith
 point_long false at text =
     let whole = length-append (take at text) (point ∷ drop at text) in
@@ -43,24 +45,35 @@ number_long n x =
     omega (arith, whole, sign, digits, long)
 
 -- What is shown of an item takes no more than the room for it.
-pub shown_long : (kind : Kind) (bytes text : List ℕ) → shown_bytes kind bytes ≡ Some text → (size : ℕ) → length bytes ≤ size → length text ≤ shown_length kind size
+pub shown_long : (kind : Kind) (bytes text : List ℕ) → shown_bytes kind bytes ≡ Some text → (size : ℕ)
+    → length bytes ≤ size → length text ≤ shown_length kind size
 unfolding shown_bytes
 shown_long (k.Numeric n) bytes text e size within = by_value (value_of n bytes) e
   where
     by_value : (o : Option Fraction) → option_map (number_text n) o ≡ Some text → length text ≤ n.digits + 2
     by_value None e = absurd cc
-    by_value (Some x) e = let is = ap length (same_Some (number_text n x) text e) in let long = number_long n x in omega (arith, is, long)
+    by_value (Some x) e = let is = ap length (same_Some (number_text n x) text e) in let long =
+        number_long n x in omega (arith, is, long)
 shown_long k.Group bytes text e size within = let is = ap length (same_Some bytes text e) in omega (arith, is, within)
-shown_long (k.Alphabetic right) bytes text e size within = let is = ap length (same_Some bytes text e) in omega (arith, is, within)
-shown_long (k.Alphanumeric right) bytes text e size within = let is = ap length (same_Some bytes text e) in omega (arith, is, within)
-shown_long k.AlphanumericEdited bytes text e size within = let is = ap length (same_Some bytes text e) in omega (arith, is, within)
-shown_long (k.NumericEdited blank) bytes text e size within = let is = ap length (same_Some bytes text e) in omega (arith, is, within)
+shown_long (k.Alphabetic right) bytes text e size within = let is =
+    ap length (same_Some bytes text e) in omega (arith, is, within)
+shown_long (k.Alphanumeric right) bytes text e size within = let is =
+    ap length (same_Some bytes text e) in omega (arith, is, within)
+shown_long k.AlphanumericEdited bytes text e size within = let is =
+    ap length (same_Some bytes text e) in omega (arith, is, within)
+shown_long (k.NumericEdited blank) bytes text e size within = let is =
+    ap length (same_Some bytes text e) in omega (arith, is, within)
 
 pub range_long : (xs : List ℕ) (at size : ℕ) → length (slice_range xs at (at + size)) ≤ size
 range_long xs at size = let h = length-take (at + size - at) (drop at xs) in omega (arith, h)
 
 pub padded_long : (size : ℕ) (text : List ℕ) → length (padded_text size text) ≡ size
-padded_long size text = omega (arith, length-append (take size text) (replicate (size - length text) 32), length-take size text, length-replicate {A = ℕ} (size - length text) 32)
+padded_long size text = omega (
+  arith,
+  length-append (take size text) (replicate (size - length text) 32),
+  length-take size text,
+  length-replicate {A = ℕ} (size - length text) 32,
+)
 
 -- a text of this size
 pub padded_whole : (size : ℕ) (text : List ℕ) → length text ≡ size → padded_text size text ≡ text
@@ -70,4 +83,5 @@ padded_whole size text is =
     whole : padded_text (length text) text ≡ text
     whole =
         let none : length text - length text ≡ 0 = omega arith in
-        ap (λ n. take (length text) text ++ replicate n 32) none ∙ append-nil (take (length text) text) ∙ take-length text
+        ap (λ n. take (length text) text ++ replicate n 32) none ∙ append-nil (take (length text) text)
+        ∙ take-length text

@@ -164,7 +164,8 @@ fn placing(
     index: ItemIndex,
     stacks: Stacks,
 ) -> Result<Option<Stacks>, AllocError>
-    ensures { IfOk result (λ after. after ≡ spec.and_then (slice_get tables.now.items index.number) (λ one. spec.stacks_with_place index one stacks)) }
+    ensures { IfOk result (λ after. after ≡ spec.and_then (slice_get tables.now.items index.number)
+        (λ one. spec.stacks_with_place index one stacks)) }
 {
     let Some(one) = item(tables, index) else {
         return Ok(None);
@@ -187,7 +188,8 @@ fn indexing(
     count: u32,
     stacks: Stacks,
 ) -> Result<Option<Stacks>, AllocError>
-    ensures { IfOk result (λ after. after ≡ spec.with_place (spec.stacks_with_subscript tables.now stride count) stacks.places stacks) }
+    ensures { IfOk result (λ after. after ≡ spec.with_place
+        (spec.stacks_with_subscript tables.now stride count) stacks.places stacks) }
 {
     let Stacks {
         numbers,
@@ -358,7 +360,8 @@ fn stacks_inspected(tables: &DataTables, index: InspectionIndex, stacks: Stacks)
 
 /// The stacks after bytes were laid over others, where both texts are there.
 fn stacks_overlaid(tables: &DataTables, text: TextIndex, stacks: Stacks) -> Option<Stacks>
-    ensures { result ≡ spec.with_text tables.now text.number (spec.with_text tables.now (text.number + 1) (spec.without_place stacks)) }
+    ensures { result ≡ spec.with_text tables.now text.number
+        (spec.with_text tables.now (text.number + 1) (spec.without_place stacks)) }
 {
     let text = text.number as usize;
     let rest = without_place(stacks);
@@ -434,7 +437,8 @@ fn longer_by_text(
     text: usize,
     line: usize,
 ) -> Result<Option<usize>, AllocError>
-    ensures { IfOk result (λ after. after ≡ spec.and_then (slice_get tables.now.texts text) (λ bytes. Some (line + length bytes))) }
+    ensures { IfOk result (λ after. after
+        ≡ spec.and_then (slice_get tables.now.texts text) (λ bytes. Some (line + length bytes))) }
 {
     match tables.texts.get(text) {
         Some(bytes) => longer(line, bytes.len()),
@@ -487,7 +491,8 @@ fn sender_after_move(
     newest: Option<PlaceShape>,
     sender: Option<Taken>,
 ) -> Option<Option<Taken>>
-    ensures { result ≡ spec.and_then sender (λ sent. spec.and_then (spec.item_at tables.now newest) (spec.moving_to sent)) }
+    ensures { result ≡ spec.and_then sender
+        (λ sent. spec.and_then (spec.item_at tables.now newest) (spec.moving_to sent)) }
 {
     let sent = sender?;
     let one = item_at(tables, newest)?;

@@ -10,7 +10,8 @@ use text_ops::{Entry, Fit, Span};
 
 /// Each inspection has its texts within those that are taken, and the entries of its counters.
 pub fn has_inspections(inspections: &[Inspection]) -> bool
-    ensures { IsTrue result ↔ ((k : ℕ) (one : Inspection) → slice_get inspections.now k ≡ Some one → IsInspection one) }
+    ensures { IsTrue result
+        ↔ ((k : ℕ) (one : Inspection) → slice_get inspections.now k ≡ Some one → IsInspection one) }
 {
     for one in inspections {
         if !is_inspection(one) {

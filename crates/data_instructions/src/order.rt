@@ -113,7 +113,8 @@ fn is_taken(taken: Taken, bytes: &[u8]) -> bool
 }
 
 fn has_areas(areas: &[Items<u8>]) -> bool
-    ensures { IsTrue result ↔ ((k : ℕ) (area : List ℕ) → slice_get areas.now k ≡ Some area → length area < 2 ^ 32) }
+    ensures { IsTrue result
+        ↔ ((k : ℕ) (area : List ℕ) → slice_get areas.now k ≡ Some area → length area < 2 ^ 32) }
 {
     for area in areas {
         if area.len() > u32::MAX as usize {
@@ -124,7 +125,8 @@ fn has_areas(areas: &[Items<u8>]) -> bool
 }
 
 fn has_items(areas: &[Items<u8>], items: &[DataItem]) -> bool
-    ensures { IsTrue result ↔ ((k : ℕ) (one : DataItem) → slice_get items.now k ≡ Some one → IsDataItem areas.now one) }
+    ensures { IsTrue result
+        ↔ ((k : ℕ) (one : DataItem) → slice_get items.now k ≡ Some one → IsDataItem areas.now one) }
 {
     for one in items {
         if !is_data_item(areas, one) {
@@ -135,7 +137,8 @@ fn has_items(areas: &[Items<u8>], items: &[DataItem]) -> bool
 }
 
 fn has_senders(senders: &[LiteralSender]) -> bool
-    ensures { IsTrue result ↔ ((k : ℕ) (one : LiteralSender) → slice_get senders.now k ≡ Some one → IsTaken one.taken one.bytes) }
+    ensures { IsTrue result ↔ ((k : ℕ) (one : LiteralSender) → slice_get senders.now k ≡ Some one
+        → IsTaken one.taken one.bytes) }
 {
     for one in senders {
         if !is_taken(one.taken, one.bytes.as_slice()) {

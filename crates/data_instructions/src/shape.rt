@@ -42,7 +42,8 @@ impl PlaceShapes {
     }
 
     pub fn pop(&mut self) -> Option<PlaceShape>
-        ensures { MatchOption result ((self.old ≡ []) × (self.new ≡ [])) (λ newest. self.old ≡ newest ∷ self.new) }
+        ensures { MatchOption result ((self.old ≡ []) × (self.new ≡ []))
+            (λ newest. self.old ≡ newest ∷ self.new) }
     {
         self.shapes.pop()
     }

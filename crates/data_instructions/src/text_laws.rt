@@ -17,14 +17,37 @@ ghost use Rattle.data_instructions.specs.declared.instruction.DataInstruction.{D
 /// The code of INITIALIZE, SET, STRING, up to its phrases, and INSPECT does what they mean, from whatever stands on the stacks, faults too;
 /// and it leaves the stacks as they were, where each occurrence of what is named lies in its area.
 pub fn text_law()
-    ensures initializes { (items : List LocatedItem) (tables : DataTables) (receivers : List Reference) (code : List DataInstruction) → IsTables tables → AreInitializedCode items tables receivers code → DoesInitialize items tables receivers code }
-    ensures sets { (items : List LocatedItem) (tables : DataTables) (conditions : List Reference) (code : List DataInstruction) → IsTables tables → AreSetCode items tables conditions code → DoesSet items tables conditions code }
-    ensures sends { (items : List LocatedItem) (tables : DataTables) (sendings : List Sending) (code : List DataInstruction) → IsTables tables → AreSendingsCode items tables sendings code → DoesSend items tables sendings code }
-    ensures strings { (items : List LocatedItem) (tables : DataTables) (one : StringStatement Statement) (code : List DataInstruction) → IsTables tables → IsStringCode items tables one code → DoesString items tables one code }
-    ensures inspects { (items : List LocatedItem) (tables : DataTables) (one : InspectStatement) (code : List DataInstruction) → IsTables tables → IsInspectCode items tables one code → DoesInspect items tables one code }
-    ensures knows_initialize { (items : List LocatedItem) (tables : DataTables) (receivers : List Reference) (code : List DataInstruction) → AreInitializedCode items tables receivers code → LieEach items tables receivers → KnowsAll items tables code }
-    ensures knows_set { (items : List LocatedItem) (tables : DataTables) (conditions : List Reference) (code : List DataInstruction) → AreSetCode items tables conditions code → LieConditions items tables conditions → KnowsAll items tables code }
-    ensures knows_send { (items : List LocatedItem) (tables : DataTables) (sendings : List Sending) (code : List DataInstruction) → AreSendingsCode items tables sendings code → LieSendings items tables sendings → KnowsDisplay items tables code }
-    ensures knows_string { (items : List LocatedItem) (tables : DataTables) (one : StringStatement Statement) (code : List DataInstruction) → IsStringCode items tables one code → LiesString items tables one → KnowsString items tables code }
-    ensures knows_inspect { (items : List LocatedItem) (tables : DataTables) (one : InspectStatement) (code : List DataInstruction) → IsInspectCode items tables one code → LiesInspect items tables one → KnowsInspect items tables code }
+    ensures initializes { (items : List LocatedItem)
+        (tables : DataTables) (receivers : List Reference) (code : List DataInstruction)
+        → IsTables tables → AreInitializedCode items tables receivers code
+        → DoesInitialize items tables receivers code }
+    ensures sets { (items : List LocatedItem) (tables : DataTables) (conditions : List Reference)
+        (code : List DataInstruction) → IsTables tables → AreSetCode items tables conditions code
+        → DoesSet items tables conditions code }
+    ensures sends { (items : List LocatedItem) (tables : DataTables) (sendings : List Sending)
+        (code : List DataInstruction) → IsTables tables → AreSendingsCode items tables sendings code
+        → DoesSend items tables sendings code }
+    ensures strings { (items : List LocatedItem) (tables : DataTables)
+        (one : StringStatement Statement) (code : List DataInstruction) → IsTables tables
+        → IsStringCode items tables one code → DoesString items tables one code }
+    ensures inspects { (items : List LocatedItem) (tables : DataTables) (one : InspectStatement)
+        (code : List DataInstruction) → IsTables tables → IsInspectCode items tables one code
+        → DoesInspect items tables one code }
+    ensures knows_initialize { (items : List LocatedItem)
+        (tables : DataTables) (receivers : List Reference) (code : List DataInstruction)
+        → AreInitializedCode items tables receivers code → LieEach items tables receivers
+        → KnowsAll items tables code }
+    ensures knows_set { (items : List LocatedItem) (tables : DataTables) (conditions :
+        List Reference) (code : List DataInstruction) → AreSetCode items tables conditions code
+        → LieConditions items tables conditions → KnowsAll items tables code }
+    ensures knows_send { (items : List LocatedItem) (tables : DataTables) (sendings : List Sending)
+        (code : List DataInstruction) → AreSendingsCode items tables sendings code
+        → LieSendings items tables sendings → KnowsDisplay items tables code }
+    ensures knows_string { (items : List LocatedItem)
+        (tables : DataTables) (one : StringStatement Statement) (code : List DataInstruction)
+        → IsStringCode items tables one code → LiesString items tables one
+        → KnowsString items tables code }
+    ensures knows_inspect { (items : List LocatedItem) (tables : DataTables)
+        (one : InspectStatement) (code : List DataInstruction) → IsInspectCode items tables one code
+        → LiesInspect items tables one → KnowsInspect items tables code }
 {}

@@ -1,5 +1,7 @@
 -- The number in a RELATIVE KEY item.
-use Rattle.std.proofs.Common.{◌≡◌, ◌<◌, ◌≤◌, ℕ, ◌*◌, ◌/◌, ◌%◌, ◌^◌, Bool, true, false, not, ◌&&◌, ◌||◌, ◌==◌, List, length, Some, None, refl, sym, ◌∙◌, ap, subst, arith, ℤ, pos, unsigned_abs, int_div, if◌then◌else◌}
+use Rattle.std.proofs.Common.{◌≡◌, ◌<◌, ◌≤◌, ℕ, ◌*◌, ◌/◌, ◌%◌, ◌^◌, Bool, true, false, not, ◌&&◌, ◌||◌, ◌==◌, List}
+use Rattle.std.proofs.Common.{length, Some, None, refl, sym, ◌∙◌, ap, subst, arith, ℤ, pos, unsigned_abs, int_div}
+use Rattle.std.proofs.Common.{if◌then◌else◌}
 use Rattle.std.proofs.lemmas.Bool.Decides.{nat_tests}
 use Rattle.decimal18.specs.Fraction.{Fraction, is_negative}
 use Rattle.decimal18.specs.Digits.{integer_of}
@@ -32,17 +34,20 @@ shorter z unit =
 whole_is : (x : Fraction) (z : ℤ) → integer_of x ≡ Some z → z ≡ int_div x.coefficient (pos (10 ^ x.scale))
 whole_is x z e = by (unsigned_abs x.coefficient % 10 ^ x.scale == 0) e
   where
-    by : (b : Bool) → (if b then Some (int_div x.coefficient (pos (10 ^ x.scale))) else None) ≡ Some z → z ≡ int_div x.coefficient (pos (10 ^ x.scale))
+    by : (b : Bool) → (if b then Some (int_div x.coefficient (pos (10 ^ x.scale))) else None) ≡ Some z
+        → z ≡ int_div x.coefficient (pos (10 ^ x.scale))
     by true e = cc
     by false e = absurd cc
 
 -- An integer that an item holds fits 64 bits.
-pub held_below : (k : Kind) (bytes : List ℕ) (x : Fraction) (z : ℤ) → IsOfLength k (length bytes) → number_in k bytes ≡ Some x → integer_of x ≡ Some z
+pub held_below : (k : Kind) (bytes : List ℕ) (x : Fraction) (z : ℤ) → IsOfLength k (length bytes)
+    → number_in k bytes ≡ Some x → integer_of x ≡ Some z
     → unsigned_abs z < 10 ^ 18
 held_below (kind.Numeric n) bytes x z form is e =
     let held = held_number n bytes x is in
     let most = below (unsigned_abs x.coefficient) n.digits 18 held.digits form.0.most in
-    let less = subst (λ y. unsigned_abs y ≤ unsigned_abs x.coefficient) (sym (whole_is x z e)) (shorter x.coefficient (10 ^ x.scale)) in
+    let less = subst (λ y. unsigned_abs y ≤ unsigned_abs x.coefficient) (sym (whole_is x z e))
+    (shorter x.coefficient (10 ^ x.scale)) in
     omega (arith, most, less)
 held_below kind.Group bytes x z form is e = absurd cc
 held_below (kind.Alphabetic justified) bytes x z form is e = absurd cc
@@ -56,7 +61,8 @@ times_one : (n : ℕ) → n * 1 ≡ n
 times_one n = omega arith
 
 -- the low digits of an integer
-pub low_is : (n digits : ℕ) → low_digits (record { coefficient = pos n; scale = 0 }) digits 0 Truncated ≡ record { coefficient = pos (n % 10 ^ digits); scale = 0 }
+pub low_is : (n digits : ℕ) → low_digits (record { coefficient = pos n; scale = 0 }) digits 0
+    Truncated ≡ record { coefficient = pos (n % 10 ^ digits); scale = 0 }
 low_is n digits =
     low_by (record { coefficient = pos n; scale = 0 }) digits 0 Truncated
     ∙ ap (λ m. record { coefficient = pos (m % 10 ^ digits); scale = 0 }) (times_one n)

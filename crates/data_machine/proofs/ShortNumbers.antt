@@ -1,5 +1,7 @@
 -- Numbers of 64 bits: their order with integers, their whole parts, and what items keep of them.
-use Rattle.std.proofs.Common.{◌≡◌, ℕ, suc, ◌+◌, ◌-◌, ◌*◌, ◌/◌, ◌^◌, ◌<◌, Bool, false, sym, ◌∙◌, ap, subst, arith, ℤ, pos, negsuc, neg_ℤ, ◌*ℤ◌, unsigned_abs, if◌then◌else◌, nat_lt, Result, Ok, ◌%◌, ◌==◌, int_div, Some, None}
+use Rattle.std.proofs.Common.{◌≡◌, ℕ, suc, ◌+◌, ◌-◌, ◌*◌, ◌/◌, ◌^◌, ◌<◌, Bool, false, sym, ◌∙◌, ap, subst, arith, ℤ}
+use Rattle.std.proofs.Common.{pos, negsuc, neg_ℤ, ◌*ℤ◌, unsigned_abs, if◌then◌else◌, nat_lt, Result, Ok, ◌%◌, ◌==◌}
+use Rattle.std.proofs.Common.{int_div, Some, None}
 use Rattle.std.specs.Ordering.{int_cmp}
 use Rattle.std.specs.declared.cmp.Ordering.{Ordering}
 use Rattle.std.proofs.lemmas.Bool.{le-leb, lt-ltb}
@@ -24,7 +26,8 @@ use Rattle.items.specs.declared.item.Kind.{Kind}
 use Rattle.source_tree.specs.Evaluated.{◌>>=◌, evaluation_of}
 use Rattle.source_tree.specs.References.{ItemPlace, storage_with}
 use Rattle.source_tree.specs.Computed.{ArithmeticValue}
-use Rattle.source_tree.specs.Arithmetic.{NumberReceiver, StoreResult, held_by, receiver_of, rounding_of, storing_fitted, storing_computed}
+use Rattle.source_tree.specs.Arithmetic.{NumberReceiver, StoreResult, held_by, receiver_of, rounding_of, storing_fitted}
+use Rattle.source_tree.specs.Arithmetic.{storing_computed}
 use Rattle.data_instructions.specs.Scratch.{Scratch, Step, Continues}
 use Rattle.data_instructions.specs.Table.{stored_number}
 use Rattle.data_machine.specs.Superinstructions.{storing_number}
@@ -35,7 +38,8 @@ times_one (pos n) = let same : n * 1 ≡ n = omega arith in ap pos same
 times_one (negsuc n) = let same : suc n * 1 ≡ suc n = omega arith in ap (λ m. neg_ℤ (pos m)) same
 
 -- the order of a number and an integer, at the scale of the number
-pub order_by : (x y : Fraction) (a b : ℤ) (o : Ordering) → a ≡ x.coefficient → y.scale ≡ 0 → b ≡ aligned_coefficient y x.scale → o ≡ int_cmp a b → o ≡ order x y
+pub order_by : (x y : Fraction) (a b : ℤ) (o : Ordering) → a ≡ x.coefficient → y.scale ≡ 0
+    → b ≡ aligned_coefficient y x.scale → o ≡ int_cmp a b → o ≡ order x y
 unfolding order
 order_by x y a b o first none second is =
     let zeros : x.scale - y.scale ≡ x.scale = omega arith in
@@ -48,23 +52,29 @@ own_digits : (m scale : ℕ) (rounding : Rounding) → digits_at m scale scale r
 own_digits m scale rounding =
     let none : scale - scale ≡ 0 = omega arith in
     let once : m * 1 ≡ m = omega arith in
-    ap (λ (b : Bool). if b then m * 10 ^ (scale - scale) else m / 10 ^ (scale - scale) + carry rounding m (scale - scale)) (le-leb scale scale (omega arith))
+    ap (λ (b : Bool). if b then m * 10 ^ (scale - scale)
+    else m / 10 ^ (scale - scale) + carry rounding m (scale - scale)) (le-leb scale scale (omega arith))
     ∙ ap (λ n. m * 10 ^ n) none ∙ once
 
 -- What a receiver of a number's own scale holds, where it has no more digits, is that number.
-pub fitted_same : (x : Fraction) (n : ℤ) (digits scale : ℕ) (rounding : Rounding) → n ≡ x.coefficient → x.scale ≡ scale → unsigned_abs n < 10 ^ digits
+pub fitted_same : (x : Fraction) (n : ℤ) (digits scale : ℕ) (rounding : Rounding) → n ≡ x.coefficient → x.scale ≡ scale
+    → unsigned_abs n < 10 ^ digits
     → fitted_decimal x digits scale rounding ≡ Ok (record { coefficient = n; scale = scale })
 fitted_same x n digits scale rounding same own small =
-    let held : ℕ → Result Fraction Size = λ m. if nat_lt m (10 ^ digits) then Ok (record { coefficient = signed_integer (is_negative x.coefficient) m; scale = scale }) else size_error in
+    let held : ℕ → Result Fraction Size = λ m. if nat_lt m (10 ^ digits)
+    then Ok (record { coefficient = signed_integer (is_negative x.coefficient) m; scale = scale }) else size_error in
     let m : ℕ = unsigned_abs x.coefficient in
     let less : m < 10 ^ digits = subst (λ (z : ℤ). unsigned_abs z < 10 ^ digits) same small in
     fitted_by x digits scale rounding
     ∙ ap held (ap (λ from. digits_at m from scale rounding) own ∙ own_digits m scale rounding)
-    ∙ ap (λ (b : Bool). if b then Ok (record { coefficient = signed_integer (is_negative x.coefficient) m; scale = scale }) else size_error) (lt-ltb m (10 ^ digits) less)
+    ∙ ap (λ (b : Bool). if b
+    then Ok (record { coefficient = signed_integer (is_negative x.coefficient) m; scale = scale }) else size_error)
+    (lt-ltb m (10 ^ digits) less)
     ∙ ap (λ (z : ℤ). Ok (record { coefficient = z; scale = scale })) (signed_itself x.coefficient ∙ sym same)
 
 -- What an unsigned item in DISPLAY usage holds is digits alone.
-pub unsigned_bytes : (n : Numeric) (z : ℤ) → n.usage ≡ usage.Display sign.Unsigned → bytes_of n (held_by n (at_scale n z)) ≡ digit_text n.digits (unsigned_abs z)
+pub unsigned_bytes : (n : Numeric) (z : ℤ) → n.usage ≡ usage.Display sign.Unsigned
+    → bytes_of n (held_by n (at_scale n z)) ≡ digit_text n.digits (unsigned_abs z)
 unfolding bytes_of
 unsigned_bytes n z is =
     let x = at_scale n z in
@@ -72,30 +82,43 @@ unsigned_bytes n z is =
     ∙ ap (λ (u : Usage). spelled_in u n.digits false (unsigned_abs z)) is
 
 pub unsigned_length : (n : Numeric) → n.usage ≡ usage.Display sign.Unsigned → length_of n ≡ n.digits
-unsigned_length n is = let none : n.digits + 0 ≡ n.digits = omega arith in ap (λ (u : Usage). usage_length u n.digits) is ∙ none
+unsigned_length n is = let none : n.digits + 0 ≡ n.digits =
+    omega arith in ap (λ (u : Usage). usage_length u n.digits) is ∙ none
 
 -- What is kept as it is of a number of an item's own scale is stored, with no size error.
-module _ (place : ItemPlace) (rounded keep : Bool) (x : ArithmeticValue) (n : ℤ) (kept : KeepsAs place.item.kind rounded x n) where
+module _ (place : ItemPlace) (rounded keep : Bool) (x : ArithmeticValue) (n : ℤ)
+    (kept : KeepsAs place.item.kind rounded x n) where
   abbrev receiver : NumberReceiver
-  receiver = record { digits = kept.item.digits; scale = kept.item.scale; bytes = λ y. bytes_of kept.item (held_by kept.item y) }
+  receiver = record {
+    digits = kept.item.digits;
+    scale = kept.item.scale;
+    bytes = λ y. bytes_of kept.item (held_by kept.item y);
+  }
 
   pub kept_digits : FitsDigits place.item.kind n
   kept_digits = subst (λ (k : Kind). FitsDigits k n) (sym kept.numeric) kept.digits
 
-  pub stored_as : (s : Scratch) → storing_number rounded keep x place s ≡ Continues (record s { storage = storage_with place (bytes_at_scale place.item.kind n) s.storage })
+  pub stored_as : (s : Scratch) → storing_number rounded keep x place s ≡ Continues
+      (record s { storage = storage_with place (bytes_at_scale place.item.kind n) s.storage })
   stored_as s =
       let before : StoreResult = record { storage = s.storage; size_error = s.truth } in
-      let by : ArithmeticValue → Step = λ y. stored_number (Ok (storing_computed keep (rounding_of rounded) place receiver y before)) s in
-      ap (λ to. stored_number (evaluation_of to >>= (λ to. Ok (storing_computed keep (rounding_of rounded) place to x before))) s) (ap (λ (k : Kind). receiver_of k place.editing) kept.numeric)
+      let by : ArithmeticValue → Step =
+      λ y. stored_number (Ok (storing_computed keep (rounding_of rounded) place receiver y before)) s in
+      ap (λ to.
+      stored_number (evaluation_of to >>= (λ to. Ok (storing_computed keep (rounding_of rounded) place to x before))) s)
+      (ap (λ (k : Kind). receiver_of k place.editing) kept.numeric)
       ∙ ap by kept.some
-      ∙ ap (λ fit. stored_number (Ok (storing_fitted keep (rounding_of rounded) place receiver kept.number fit before)) s) kept.fits
-      ∙ ap (λ (k : Kind). Continues (record s { storage = storage_with place (bytes_at_scale k n) s.storage })) (sym kept.numeric)
+      ∙ ap (λ fit.
+      stored_number (Ok (storing_fitted keep (rounding_of rounded) place receiver kept.number fit before)) s) kept.fits
+      ∙ ap (λ (k : Kind). Continues (record s { storage = storage_with place (bytes_at_scale k n) s.storage }))
+      (sym kept.numeric)
 
 -- an integer is its own whole part
 pub whole_integer : (x : Fraction) (z : ℤ) → z ≡ x.coefficient → x.scale ≡ 0 → integer_of x ≡ Some z
 whole_integer x z same none =
     let least : unsigned_abs x.coefficient % 1 < 1 = mod_below (unsigned_abs x.coefficient) 1 (omega arith) in
     let rest : unsigned_abs x.coefficient % 1 ≡ 0 = omega arith in
-    ap (λ n. if unsigned_abs x.coefficient % 10 ^ n == 0 then Some (int_div x.coefficient (pos (10 ^ n))) else None) none
+    ap (λ n. if unsigned_abs x.coefficient % 10 ^ n == 0 then Some (int_div x.coefficient (pos (10 ^ n))) else None)
+    none
     ∙ ap (λ (r : ℕ). if r == 0 then Some (int_div x.coefficient (pos 1)) else None) rest
     ∙ ap Some (div_one x.coefficient ∙ sym same)

@@ -28,9 +28,11 @@ last_of false true c d h is = refl
 last_of false false c d h is = h is
 
 -- A sender that is no longer than a short one is short.
-pub short_sender : (to : Item) (taken known : Taken) → NoLonger taken known → is_short to known ≡ true → is_short to taken ≡ true
+pub short_sender : (to : Item) (taken known : Taken) → NoLonger taken known → is_short to known ≡ true
+    → is_short to taken ≡ true
 short_sender to (t.Item one) (t.Item known) (kind, less) is =
-    last_of (not (needs_number to.kind)) (is_group_kind one.kind) (is_readable one.kind known.length) (is_readable one.kind one.length)
+    last_of (not (needs_number to.kind)) (is_group_kind one.kind) (is_readable one.kind known.length)
+    (is_readable one.kind one.length)
     (readable one.kind one.length known.length less)
     (ap (λ (x : Kind). not (needs_number to.kind) || is_group_kind x || is_readable x known.length) kind ∙ is)
 short_sender to (t.Item one) (t.Figurative constant) same is = ap (is_short to) same ∙ is

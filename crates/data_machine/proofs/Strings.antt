@@ -1,6 +1,8 @@
 -- Texts put into receivers.
-use Rattle.std.proofs.Common.{◌≡◌, ℕ, zero, suc, ◌+◌, ◌-◌, ◌<◌, ◌≤◌, ◌⊎◌, inl, inr, length, map, List, [], ◌∷◌, refl, sym, ◌∙◌, ap, subst, arith, drop}
-use Rattle.std.specs.Prelude.{Bool, true, false, ◌||◌, if◌then◌else◌, nat_lt, pos, slice_get, slice_index_or, Option, Some, Result, Ok, Err}
+use Rattle.std.proofs.Common.{◌≡◌, ℕ, zero, suc, ◌+◌, ◌-◌, ◌<◌, ◌≤◌, ◌⊎◌, inl, inr, length, map, List, [], ◌∷◌, refl}
+use Rattle.std.proofs.Common.{sym, ◌∙◌, ap, subst, arith, drop}
+use Rattle.std.specs.Prelude.{Bool, true, false, ◌||◌, if◌then◌else◌, nat_lt, pos, slice_get, slice_index_or, Option}
+use Rattle.std.specs.Prelude.{Some, Result, Ok, Err}
 use Rattle.std.proofs.lemmas.Bool.Decides.{nat_tests}
 use Rattle.std.proofs.lemmas.List.{length-take, length-drop}
 use Rattle.text_ops.specs.Strings.{string_of_senders}
@@ -22,11 +24,15 @@ use Rattle.data_machine.specs.Comes.{IsStepOf}
 use Rattle.data_machine.specs.Stringing.{put_from, strung_with}
 
 -- areas of the same lengths
-same_lengths : (xs ys : Storage) (i : ℕ) → map length xs ≡ map length ys → (length xs ≡ length ys) × (length (slice_index_or xs i []) ≡ length (slice_index_or ys i []))
+same_lengths : (xs ys : Storage) (i : ℕ) → map length xs ≡ map length ys
+    → (length xs ≡ length ys) × (length (slice_index_or xs i []) ≡ length (slice_index_or ys i []))
 same_lengths [] [] i e = (refl, refl)
 same_lengths [] (y ∷ ys) i e = absurd cc
 same_lengths (x ∷ xs) [] i e = absurd cc
-same_lengths (x ∷ xs) (y ∷ ys) zero e = (ap suc (same_lengths xs ys zero (tails (length x) (length y) (map length xs) (map length ys) e)).0, heads (length x) (length y) (map length xs) (map length ys) e)
+same_lengths (x ∷ xs) (y ∷ ys) zero e = (
+  ap suc (same_lengths xs ys zero (tails (length x) (length y) (map length xs) (map length ys) e)).0,
+  heads (length x) (length y) (map length xs) (map length ys) e,
+)
   where
     heads : (m n : ℕ) (ms ns : List ℕ) → m ∷ ms ≡ n ∷ ns → m ≡ n
     heads m n ms ns e = cc
@@ -34,21 +40,29 @@ same_lengths (x ∷ xs) (y ∷ ys) zero e = (ap suc (same_lengths xs ys zero (ta
     tails : (m n : ℕ) (ms ns : List ℕ) → m ∷ ms ≡ n ∷ ns → ms ≡ ns
     tails m n ms ns e = cc
 same_lengths (x ∷ xs) (y ∷ ys) (suc i) e =
-    let rest = same_lengths xs ys i (tails (length x) (length y) (map length xs) (map length ys) e) in (ap suc rest.0, rest.1)
+    let rest =
+    same_lengths xs ys i (tails (length x) (length y) (map length xs) (map length ys) e) in (ap suc rest.0, rest.1)
   where
     tails : (m n : ℕ) (ms ns : List ℕ) → m ∷ ms ≡ n ∷ ns → ms ≡ ns
     tails m n ms ns e = cc
 
 -- where areas keep their lengths an item still stands
-pub stands_still : (one : DataItem) (old new : Storage) (offset : ℕ) → map length new ≡ map length old → IsAtOffset one old offset → IsAtOffset one new offset
+pub stands_still : (one : DataItem) (old new : Storage) (offset : ℕ) → map length new ≡ map length old
+    → IsAtOffset one old offset → IsAtOffset one new offset
 stands_still one old new offset e at =
     let same = same_lengths new old one.area e in
     let count = same.0 in
     let size = same.1 in
-    record { form = at.form; editing = at.editing; area = omega (arith, count, at.area); within = omega (arith, size, at.within) }
+    record {
+      form = at.form;
+      editing = at.editing;
+      area = omega (arith, count, at.area);
+      within = omega (arith, size, at.within);
+    }
 
 -- an item that stands has all its bytes
-pub part_long : (one : DataItem) (storage : Storage) (offset : ℕ) → IsAtOffset one storage offset → length (part_of storage (item_place one offset)) ≡ one.item.length
+pub part_long : (one : DataItem) (storage : Storage) (offset : ℕ) → IsAtOffset one storage offset
+    → length (part_of storage (item_place one offset)) ≡ one.item.length
 part_long one storage offset at =
     let area : List ℕ = slice_index_or storage one.area [] in
     let front = length-take (offset + one.item.length - offset) (drop offset area) in
@@ -79,36 +93,53 @@ module _ (receiver : ItemPlace) (pointer : Option ItemPlace) (text : List ℕ) (
       else store_strung receiver pointer (string_of_senders at text (part_of storage receiver)) storage
 
   -- outside of the receiver nothing is stored
-  pub put_outside : (at size : ℕ) → length (part_of storage receiver) ≡ size → (at < 1) ⊎ (size < at) → put_text receiver pointer at text storage ≡ Ok (record { storage = storage; overflow = true })
+  pub put_outside : (at size : ℕ) → length (part_of storage receiver) ≡ size → (at < 1) ⊎ (size < at)
+      → put_text receiver pointer at text storage ≡ Ok (record { storage = storage; overflow = true })
   put_outside at size long h = ap (either at) (ap (λ n. nat_lt at 1 || nat_lt n at) long ∙ is_outside at size h)
 
-  pub put_within : (at size : ℕ) → length (part_of storage receiver) ≡ size → 1 ≤ at → at ≤ size → put_text receiver pointer at text storage ≡ store_strung receiver pointer (string_of_senders at text (part_of storage receiver)) storage
-  put_within at size long some most = ap (either at) (ap (λ n. nat_lt at 1 || nat_lt n at) long ∙ is_within at size some most)
+  pub put_within : (at size : ℕ) → length (part_of storage receiver) ≡ size → 1 ≤ at
+      → at ≤ size → put_text receiver pointer at text storage ≡ store_strung receiver pointer
+      (string_of_senders at text (part_of storage receiver)) storage
+  put_within at size long some most =
+      ap (either at) (ap (λ n. nat_lt at 1 || nat_lt n at) long ∙ is_within at size some most)
 
 module _ (receiver pointer : ItemPlace) (text : List ℕ) (old : Storage) where
   abbrev from : ℕ → Evaluation Strings
   from at = put_text receiver (Some pointer) at text old
 
   abbrev stored_pointer : ℕ → Storage → Evaluation StoreResult
-  stored_pointer next storage = store false false pointer (Some (record { coefficient = pos next; scale = 0 })) (before_stores storage)
+  stored_pointer next storage =
+      store false false pointer (Some (record { coefficient = pos next; scale = 0 })) (before_stores storage)
 
   abbrev ends : Bool → StoreResult → Evaluation Strings
   ends overflow after = Ok (record { storage = after.storage; overflow = overflow })
 
   -- what comes of the text within, by what comes of the pointer
-  pub put_by_pointer : (at size next : ℕ) (overflow : Bool) (mid : Storage) → held_position old pointer ≡ Ok at → length (part_of old receiver) ≡ size → 1 ≤ at → at ≤ size
-      → mid ≡ storage_with receiver (string_of_senders at text (part_of old receiver)).receiver old → next ≡ (string_of_senders at text (part_of old receiver)).pointer → overflow ≡ (string_of_senders at text (part_of old receiver)).overflow
-      → put_from receiver pointer text old ≡ (stored_pointer next mid >>= (λ after. Ok after.storage)) >>= (λ after. Ok (record { storage = after; overflow = overflow }))
+  pub put_by_pointer : (at size next : ℕ) (overflow : Bool) (mid : Storage) → held_position old pointer ≡ Ok at
+      → length (part_of old receiver) ≡ size → 1 ≤ at → at ≤ size
+      → mid ≡ storage_with receiver (string_of_senders at text (part_of old receiver)).receiver old
+      → next ≡ (string_of_senders at text (part_of old receiver)).pointer
+      → overflow ≡ (string_of_senders at text (part_of old receiver)).overflow
+      → put_from receiver pointer text old ≡ (stored_pointer next mid >>= (λ after. Ok after.storage)) >>=
+      (λ after. Ok (record { storage = after; overflow = overflow }))
   put_by_pointer at size next overflow mid held long some most middle behind over =
       ap (λ (e : Evaluation ℕ). e >>= from) held
       ∙ put_within receiver (Some pointer) text old at size long some most
-      ∙ ap (λ (s : Storage). (stored_pointer (string_of_senders at text (part_of old receiver)).pointer s >>= (λ after. Ok after.storage)) >>= (λ after. Ok (record { storage = after; overflow = (string_of_senders at text (part_of old receiver)).overflow }))) (sym middle)
-      ∙ ap (λ n. (stored_pointer n mid >>= (λ after. Ok after.storage)) >>= (λ after. Ok (record { storage = after; overflow = (string_of_senders at text (part_of old receiver)).overflow }))) (sym behind)
-      ∙ ap (λ (b : Bool). (stored_pointer next mid >>= (λ after. Ok after.storage)) >>= (λ after. Ok (record { storage = after; overflow = b }))) (sym over)
+      ∙ ap (λ (s : Storage). (stored_pointer
+      (string_of_senders at text (part_of old receiver)).pointer s >>= (λ after. Ok after.storage)) >>= (λ after.
+      Ok (record { storage = after; overflow = (string_of_senders at text (part_of old receiver)).overflow })))
+      (sym middle)
+      ∙ ap (λ n. (stored_pointer n mid >>= (λ after. Ok after.storage)) >>= (λ after.
+      Ok (record { storage = after; overflow = (string_of_senders at text (part_of old receiver)).overflow })))
+      (sym behind)
+      ∙ ap (λ (b : Bool). (stored_pointer next mid >>= (λ after. Ok after.storage)) >>=
+      (λ after. Ok (record { storage = after; overflow = b }))) (sym over)
 
   -- the pointer is outside, or no integer
-  pub put_nowhere : (at size : ℕ) → held_position old pointer ≡ Ok at → length (part_of old receiver) ≡ size → (at < 1) ⊎ (size < at) → put_from receiver pointer text old ≡ Ok (record { storage = old; overflow = true })
-  put_nowhere at size held long outside = ap (λ (e : Evaluation ℕ). e >>= from) held ∙ put_outside receiver (Some pointer) text old at size long outside
+  pub put_nowhere : (at size : ℕ) → held_position old pointer ≡ Ok at → length (part_of old receiver) ≡ size
+      → (at < 1) ⊎ (size < at) → put_from receiver pointer text old ≡ Ok (record { storage = old; overflow = true })
+  put_nowhere at size held long outside =
+      ap (λ (e : Evaluation ℕ). e >>= from) held ∙ put_outside receiver (Some pointer) text old at size long outside
 
 -- ---- the table's step
 
@@ -127,21 +158,32 @@ module _ (tables : DataTables) (s : Scratch) (p q : Place) (rest : List Place) (
   joined (Ok at) = refl
   joined (Err fault) = refl
 
-  found : s.places ≡ p ∷ (q ∷ rest) → slice_get tables.items p.item.number ≡ Some to → slice_get tables.items q.item.number ≡ Some one
+  found : s.places ≡ p ∷ (q ∷ rest) → slice_get tables.items p.item.number ≡ Some to
+      → slice_get tables.items q.item.number ≡ Some one
       → strung_by tables true s ≡ step_with (put_from received pointed s.line s.storage) (strung_with below)
   found is here there =
-      ap (λ (ps : List Place). at_newest tables ps (λ pointer t. step_with (held_position t.storage pointer) (λ at. at_place tables (strung_to (Some pointer) at) t)) s) is
-      ∙ ap (λ (o : Option DataItem). step_at o (λ to. step_with (held_position s.storage (item_place (shortened_item to p.length) p.offset)) (λ at. at_place tables (strung_to (Some (item_place (shortened_item to p.length) p.offset)) at) (record s { places = q ∷ rest })))) here
-      ∙ ap (λ (o : Option DataItem). step_with (held_position s.storage pointed) (λ at. step_at o (λ one. strung_to (Some pointed) at (item_place (shortened_item one q.length) q.offset) below))) there
+      ap (λ (ps : List Place). at_newest tables ps (λ pointer t.
+      step_with (held_position t.storage pointer) (λ at. at_place tables (strung_to (Some pointer) at) t)) s) is
+      ∙ ap (λ (o : Option DataItem). step_at o (λ to.
+      step_with (held_position s.storage (item_place (shortened_item to p.length) p.offset)) (λ at. at_place tables
+      (strung_to (Some (item_place (shortened_item to p.length) p.offset)) at) (record s { places = q ∷ rest })))) here
+      ∙ ap (λ (o : Option DataItem). step_with (held_position s.storage pointed) (λ at.
+      step_at o (λ one. strung_to (Some pointed) at (item_place (shortened_item one q.length) q.offset) below))) there
       ∙ joined (held_position s.storage pointed)
 
   -- the items as they were seen
-  pub strung_as : {A : Type 0} (r : Result A ProgramFault) (now : Scratch) (seen_to seen_one : DataItem) → seen_to ≡ shortened_item to p.length → seen_one ≡ shortened_item one q.length
-      → s.places ≡ p ∷ (q ∷ rest) → slice_get tables.items p.item.number ≡ Some to → slice_get tables.items q.item.number ≡ Some one
-      → IsStepOf r now (step_with (put_from (item_place seen_one q.offset) (item_place seen_to p.offset) s.line s.storage) (strung_with below)) → IsStepOf r now (strung_by tables true s)
+  pub strung_as : {A : Type 0} (r : Result A ProgramFault) (now : Scratch) (seen_to seen_one : DataItem)
+      → seen_to ≡ shortened_item to p.length → seen_one ≡ shortened_item one q.length
+      → s.places ≡ p ∷ (q ∷ rest) → slice_get tables.items p.item.number ≡ Some to
+      → slice_get tables.items q.item.number ≡ Some one
+      → IsStepOf r now (step_with
+      (put_from (item_place seen_one q.offset) (item_place seen_to p.offset) s.line s.storage) (strung_with below))
+      → IsStepOf r now (strung_by tables true s)
   strung_as r now seen_to seen_one to_is one_is is here there comes =
       subst (IsStepOf r now)
-      (ap (λ (o : DataItem). step_with (put_from (item_place o q.offset) (item_place seen_to p.offset) s.line s.storage) (strung_with below)) one_is
-      ∙ ap (λ (o : DataItem). step_with (put_from received (item_place o p.offset) s.line s.storage) (strung_with below)) to_is
+      (ap (λ (o : DataItem). step_with (put_from (item_place o q.offset) (item_place seen_to p.offset) s.line s.storage)
+      (strung_with below)) one_is
+      ∙ ap (λ (o : DataItem).
+      step_with (put_from received (item_place o p.offset) s.line s.storage) (strung_with below)) to_is
       ∙ sym (found is here there))
       comes

@@ -83,7 +83,8 @@ impl Areas {
     ) -> Result<(), DataFault>
         requires stands { IsAtOffset one.now self.old offset }
         requires sender { Receives one.now (record { taken = taken; bytes = from.now }) }
-        ensures stores { Stores result self.old self.new (move_to (record { taken = taken; bytes = from.now }) (item_place one.now offset) self.old) }
+        ensures stores { Stores result self.old self.new (move_to
+            (record { taken = taken; bytes = from.now }) (item_place one.now offset) self.old) }
         ensures lengths { map length self.new ≡ map length self.old }
     {
         self.receive_from(one, offset, &taken, from)
@@ -100,7 +101,8 @@ impl Areas {
     ) -> Result<(), DataFault>
         requires stands { IsAtOffset one.now self.old offset }
         requires sender { Receives one.now (record { taken = taken.now; bytes = from.now }) }
-        ensures stores { Stores result self.old self.new (move_to (record { taken = taken.now; bytes = from.now }) (item_place one.now offset) self.old) }
+        ensures stores { Stores result self.old self.new (move_to
+            (record { taken = taken.now; bytes = from.now }) (item_place one.now offset) self.old) }
         ensures lengths { map length self.new ≡ map length self.old }
     {
         let area = &mut self.areas[one.area as usize];
@@ -119,7 +121,8 @@ impl Areas {
         keep: bool,
     ) -> Result<bool, DataFault>
         requires { IsAtOffset one.now self.old offset }
-        ensures stores { StoresNumber result self.old self.new (arithmetic.store keep rounded (item_place one.now offset) number) }
+        ensures stores { StoresNumber result self.old self.new
+            (arithmetic.store keep rounded (item_place one.now offset) number) }
         ensures lengths { map length self.new ≡ map length self.old }
     {
         let area = &mut self.areas[one.area as usize];
@@ -131,7 +134,8 @@ impl Areas {
     pub(crate) fn store_short(&mut self, one: &DataItem, offset: usize, coefficient: i64)
         requires stands { IsAtOffset one.now self.old offset }
         requires digits { FitsDigits one.now.item.kind coefficient }
-        ensures stores { self.new ≡ storage_with (item_place one.now offset) (bytes_at_scale one.now.item.kind coefficient) self.old }
+        ensures stores { self.new ≡ storage_with (item_place one.now offset)
+            (bytes_at_scale one.now.item.kind coefficient) self.old }
         ensures lengths { map length self.new ≡ map length self.old }
     {
         let area = &mut self.areas[one.area as usize];
@@ -141,7 +145,8 @@ impl Areas {
     /// Stores characters in an item that stands at an offset, cut or padded with spaces.
     pub fn pad(&mut self, one: &DataItem, offset: usize, text: &[u8])
         requires { IsAtOffset one.now self.old offset }
-        ensures stores { self.new ≡ storage_with (item_place one.now offset) (padded_text one.now.item.length text.now) self.old }
+        ensures stores { self.new ≡ storage_with (item_place one.now offset)
+            (padded_text one.now.item.length text.now) self.old }
         ensures lengths { map length self.new ≡ map length self.old }
     {
         let area = &mut self.areas[one.area as usize];
@@ -151,7 +156,8 @@ impl Areas {
     /// Lays bytes over those of an item that stands at an offset, where their marks aren't 0.
     pub fn overlay(&mut self, one: &DataItem, offset: usize, bytes: &[u8], marks: &[u8])
         requires { IsAtOffset one.now self.old offset }
-        ensures stores { self.new ≡ overlaid_storage (pattern_of bytes.now marks.now) (item_place one.now offset) self.old }
+        ensures stores { self.new ≡ overlaid_storage (pattern_of bytes.now marks.now)
+            (item_place one.now offset) self.old }
         ensures lengths { map length self.new ≡ map length self.old }
     {
         let area = &mut self.areas[one.area as usize];
@@ -168,9 +174,12 @@ impl Areas {
         at: usize,
     ) -> (usize, bool)
         requires { IsAtOffset one.now self.old offset }
-        ensures stores { self.new ≡ storage_with (item_place one.now offset) (string_of_senders at text.now (part_of self.old (item_place one.now offset))).receiver self.old }
-        ensures next { result.0 ≡ (string_of_senders at text.now (part_of self.old (item_place one.now offset))).pointer }
-        ensures overflow { result.1 ≡ (string_of_senders at text.now (part_of self.old (item_place one.now offset))).overflow }
+        ensures stores { self.new ≡ storage_with (item_place one.now offset) (string_of_senders at
+            text.now (part_of self.old (item_place one.now offset))).receiver self.old }
+        ensures next { result.0 ≡ (string_of_senders at text.now
+            (part_of self.old (item_place one.now offset))).pointer }
+        ensures overflow { result.1 ≡ (string_of_senders at text.now
+            (part_of self.old (item_place one.now offset))).overflow }
         ensures lengths { map length self.new ≡ map length self.old }
     {
         let area = &mut self.areas[one.area as usize];
@@ -189,7 +198,8 @@ impl Areas {
     pub fn put_number(&mut self, one: &DataItem, offset: usize, number: u64)
         requires stands { IsAtOffset one.now self.old offset }
         requires kind { is_unsigned_integer one.now.item.kind ≡ true }
-        ensures stores { self.new ≡ number_stored one.now.item.kind (item_place one.now offset) (number % 10 ^ digits_in one.now.item.kind) self.old }
+        ensures stores { self.new ≡ number_stored one.now.item.kind (item_place one.now offset)
+            (number % 10 ^ digits_in one.now.item.kind) self.old }
         ensures lengths { map length self.new ≡ map length self.old }
     {
         if let Kind::Numeric(item) = one.item.kind {

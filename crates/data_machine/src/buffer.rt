@@ -29,7 +29,8 @@ impl Model for Buffer {
 
     ghost coded = { coded_filled };
 
-    ghost view = { λ it. record { room = length it.room.items; bytes = take it.used it.room.items } };
+    ghost view = { λ it.
+        record { room = length it.room.items; bytes = take it.used it.room.items } };
 
     ghost invariant = { λ it. it.used ≤ length it.room.items };
 }
@@ -74,7 +75,8 @@ impl Buffer {
     /// Cut or padded with spaces to so many bytes.
     pub fn fit(&mut self, size: usize)
         requires { size ≤ self.old.room }
-        ensures { self.new ≡ record { room = self.old.room; bytes = padded_text size self.old.bytes } }
+        ensures { self.new
+            ≡ record { room = self.old.room; bytes = padded_text size self.old.bytes } }
     {
         if self.used < size {
             let room = self.room.as_mut_slice();
@@ -87,7 +89,10 @@ impl Buffer {
     pub fn replace(&mut self, texts: &[u8], entries: &[Entry], progress: &mut [Progress])
         requires within { AreWithin entries.now (length texts.now) }
         requires progress { length entries.now ≤ length progress.old }
-        ensures value { self.new ≡ record { room = self.old.room; bytes = replaced_subject texts.now entries.now self.old.bytes } }
+        ensures value { self.new ≡ record {
+          room = self.old.room;
+          bytes = replaced_subject texts.now entries.now self.old.bytes;
+        } }
         ensures size { length self.new.bytes ≡ length self.old.bytes }
     {
         replace_front(
@@ -102,7 +107,8 @@ impl Buffer {
     /// Adds what DISPLAY shows of an item at the end. Where a numeric item holds no number, nothing changes.
     pub fn append_shown(&mut self, item: Item, bytes: &[u8]) -> Result<(), DataFault>
         requires item { HasLengthOf item bytes.now }
-        requires room { length self.old.bytes + shown_length item.kind (length bytes.now) ≤ self.old.room }
+        requires room { length self.old.bytes + shown_length item.kind (length bytes.now)
+            ≤ self.old.room }
         ensures { Appends result self.old self.new (shown_bytes item.kind bytes.now) }
     {
         self.used = put_shown(item, bytes, self.used, self.room.as_mut_slice())?;

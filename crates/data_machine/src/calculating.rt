@@ -75,7 +75,8 @@ fn cut(number: Option<Dec>, scale: u8) -> Option<Dec>
 fn combine(numbers: &mut Stack<Option<Dec>>, operator: Operator)
     requires operands { 2 ≤ length numbers.old.newest_first }
     requires room { length numbers.old.newest_first ≤ numbers.old.room + 1 }
-    ensures numbers { spec.by_two operator numbers.old.newest_first ≡ Some numbers.new.newest_first }
+    ensures numbers { spec.by_two operator numbers.old.newest_first
+        ≡ Some numbers.new.newest_first }
     ensures room { numbers.new.room ≡ numbers.old.room }
 {
     let right = numbers.pop();
@@ -87,7 +88,8 @@ fn combine(numbers: &mut Stack<Option<Dec>>, operator: Operator)
 fn calculate(numbers: &mut Stack<Option<Dec>>, one: Calculation)
     requires operands { taken_by one ≤ length numbers.old.newest_first }
     requires room { length numbers.old.newest_first + put_by one ≤ numbers.old.room + taken_by one }
-    ensures numbers { spec.calculated_numbers one numbers.old.newest_first ≡ Some numbers.new.newest_first }
+    ensures numbers { spec.calculated_numbers one numbers.old.newest_first
+        ≡ Some numbers.new.newest_first }
     ensures room { numbers.new.room ≡ numbers.old.room }
 {
     match one {
@@ -117,8 +119,10 @@ impl Data {
     /// Computes with numbers of the stack.
     pub fn calculate(&mut self, one: Calculation) -> Result<(), ProgramFault>
         requires operands { taken_by one ≤ length self.old.numbers.newest_first }
-        requires room { length self.old.numbers.newest_first + put_by one ≤ self.old.numbers.room + taken_by one }
-        ensures does { IsStepOf result (scratch_of self.new) (step_at (spec.calculated_numbers one self.old.numbers.newest_first) (spec.with_numbers (scratch_of self.old))) }
+        requires room { length self.old.numbers.newest_first + put_by one
+            ≤ self.old.numbers.room + taken_by one }
+        ensures does { IsStepOf result (scratch_of self.new) (step_at (spec.calculated_numbers one
+            self.old.numbers.newest_first) (spec.with_numbers (scratch_of self.old))) }
         ensures keeps { KeepsRoom self.old self.new }
     {
         calculate(&mut self.numbers, one);

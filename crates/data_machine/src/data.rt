@@ -55,7 +55,8 @@ pub struct Data {
 
 /// The greatest length of an item, in bytes.
 fn longest_of(items: &[DataItem]) -> usize
-    ensures { (k : ℕ) (one : DataItem) → slice_get items.now k ≡ Some one → one.item.length ≤ result }
+    ensures { (k : ℕ) (one : DataItem) → slice_get items.now k ≡ Some one
+        → one.item.length ≤ result }
 {
     let mut longest = 0;
     for one in items {
@@ -66,7 +67,8 @@ fn longest_of(items: &[DataItem]) -> usize
 
 /// The greatest length of a literal that is sent, in bytes.
 fn longest_literal(senders: &[LiteralSender]) -> usize
-    ensures { (k : ℕ) (one : LiteralSender) → slice_get senders.now k ≡ Some one → length one.bytes ≤ result }
+    ensures { (k : ℕ) (one : LiteralSender) → slice_get senders.now k ≡ Some one
+        → length one.bytes ≤ result }
 {
     let mut longest = 0;
     for one in senders {
@@ -125,7 +127,8 @@ impl Data {
     /// An instruction. It takes no memory.
     pub fn work(&mut self, tables: &DataTables, one: DataInstruction) -> Result<(), ProgramFault>
         requires { IsReady tables.now self.old one }
-        ensures does { IsStepOf result (scratch_of self.new) (spec.work tables.now one (scratch_of self.old)) }
+        ensures does { IsStepOf result (scratch_of self.new)
+            (spec.work tables.now one (scratch_of self.old)) }
         ensures keeps { KeepsRoom self.old self.new }
     {
         match one {

@@ -58,7 +58,9 @@ pub fn store_part(
     requires form { IsItem one.now.item }
     requires editing { IsEditing one.now.item one.now.editing }
     requires within { offset + one.now.item.length ≤ length area.old }
-    ensures { StoresIn keep (rounding_of rounded) number (receiver_of one.now.item.kind one.now.editing) (λ to x. with_part area.old offset one.now.item.length (to.bytes x)) result area.old area.new }
+    ensures { StoresIn keep
+        (rounding_of rounded) number (receiver_of one.now.item.kind one.now.editing) (λ to x.
+        with_part area.old offset one.now.item.length (to.bytes x)) result area.old area.new }
 {
     let end = offset + one.item.length as usize;
     store_item(one, number, rounded, keep, &mut area[offset..end])
@@ -116,8 +118,10 @@ fn store_numeric(
 ) -> bool
     requires item { IsNumeric item }
     requires length { length bytes.old ≡ length_of item }
-    ensures bytes { bytes.new ≡ after_kept (kept_of keep (rounding_of rounded) item.digits item.scale number).number (λ x. bytes_of item (held_by item x)) bytes.old }
-    ensures size { result ≡ (kept_of keep (rounding_of rounded) item.digits item.scale number).size_error }
+    ensures bytes { bytes.new ≡ after_kept (kept_of keep (rounding_of rounded) item.digits
+        item.scale number).number (λ x. bytes_of item (held_by item x)) bytes.old }
+    ensures size { result
+        ≡ (kept_of keep (rounding_of rounded) item.digits item.scale number).size_error }
 {
     let kept = fitted_of(number, item.digits, item.scale, rounded, keep);
     if let Some(number) = kept.number {
@@ -145,8 +149,10 @@ fn store_edited(
 ) -> bool
     requires category { IsOfNumber picture.now }
     requires length { length bytes.old ≡ picture.now.size }
-    ensures bytes { bytes.new ≡ after_kept (kept_of keep (rounding_of rounded) picture.now.digits picture.now.scale number).number (edited_or_blank blank_when_zero picture.now) bytes.old }
-    ensures size { result ≡ (kept_of keep (rounding_of rounded) picture.now.digits picture.now.scale number).size_error }
+    ensures bytes { bytes.new ≡ after_kept (kept_of keep (rounding_of rounded) picture.now.digits
+        picture.now.scale number).number (edited_or_blank blank_when_zero picture.now) bytes.old }
+    ensures size { result ≡ (kept_of keep (rounding_of rounded) picture.now.digits picture.now.scale
+        number).size_error }
 {
     has_places(picture);
     let kept = fitted_of(number, picture.digits(), picture.scale(), rounded, keep);
@@ -168,7 +174,8 @@ fn store_item(
     requires form { IsItem one.now.item }
     requires editing { IsEditing one.now.item one.now.editing }
     requires length { length bytes.old ≡ one.now.item.length }
-    ensures { StoresIn keep (rounding_of rounded) number (receiver_of one.now.item.kind one.now.editing) (λ to x. to.bytes x) result bytes.old bytes.new }
+    ensures { StoresIn keep (rounding_of rounded) number (receiver_of one.now.item.kind
+        one.now.editing) (λ to x. to.bytes x) result bytes.old bytes.new }
 {
     match (one.item.kind, &one.editing) {
         (Kind::Numeric(numeric), _) => Ok(store_numeric(numeric, number, rounded, keep, bytes)),

@@ -22,8 +22,10 @@ impl Data {
     /// `gather bytes`: those at the newest place.
     pub fn gather_bytes(&mut self, tables: &DataTables) -> Result<(), ProgramFault>
         requires operand { FindsItem tables.now self.old.areas self.old.places.newest_first }
-        requires room { HasPartRoom tables.now self.old.places.newest_first (length self.old.line.bytes) self.old.line.room }
-        ensures does { IsStepOf result (scratch_of self.new) (spec.gather_step tables.now gathers.Bytes (scratch_of self.old)) }
+        requires room { HasPartRoom tables.now self.old.places.newest_first
+            (length self.old.line.bytes) self.old.line.room }
+        ensures does { IsStepOf result (scratch_of self.new)
+            (spec.gather_step tables.now gathers.Bytes (scratch_of self.old)) }
         ensures keeps { KeepsRoom self.old self.new }
     {
         let place = self.places.pop();
@@ -39,8 +41,10 @@ impl Data {
         requires operand { FindsItem tables.now self.old.areas self.old.places.newest_first }
         requires delimiter { FindsNext tables.now self.old.areas self.old.places.newest_first }
         requires places { length self.old.places.newest_first ≤ self.old.places.room }
-        requires room { HasPartRoom tables.now self.old.places.newest_first (length self.old.line.bytes) self.old.line.room }
-        ensures does { IsStepOf result (scratch_of self.new) (spec.gather_step tables.now gathers.UpToPlace (scratch_of self.old)) }
+        requires room { HasPartRoom tables.now self.old.places.newest_first
+            (length self.old.line.bytes) self.old.line.room }
+        ensures does { IsStepOf result (scratch_of self.new)
+            (spec.gather_step tables.now gathers.UpToPlace (scratch_of self.old)) }
         ensures keeps { KeepsRoom self.old self.new }
     {
         let place = self.places.pop();
@@ -67,8 +71,10 @@ impl Data {
     ) -> Result<(), ProgramFault>
         requires operand { FindsItem tables.now self.old.areas self.old.places.newest_first }
         requires delimiter { delimiter.number < length tables.now.texts }
-        requires room { HasPartRoom tables.now self.old.places.newest_first (length self.old.line.bytes) self.old.line.room }
-        ensures does { IsStepOf result (scratch_of self.new) (spec.gather_step tables.now (gathers.UpToText delimiter) (scratch_of self.old)) }
+        requires room { HasPartRoom tables.now self.old.places.newest_first
+            (length self.old.line.bytes) self.old.line.room }
+        ensures does { IsStepOf result (scratch_of self.new)
+            (spec.gather_step tables.now (gathers.UpToText delimiter) (scratch_of self.old)) }
         ensures keeps { KeepsRoom self.old self.new }
     {
         let delimiter = tables.texts.as_slice()[delimiter.number as usize].as_slice();
@@ -86,8 +92,10 @@ impl Data {
         requires delimiter { FindsItem tables.now self.old.areas self.old.places.newest_first }
         requires text { text.number < length tables.now.texts }
         requires places { length self.old.places.newest_first ≤ self.old.places.room }
-        requires room { HasTextRoom tables.now text (length self.old.line.bytes) self.old.line.room }
-        ensures does { IsStepOf result (scratch_of self.new) (spec.gather_step tables.now (gathers.TextUpToPlace text) (scratch_of self.old)) }
+        requires room { HasTextRoom tables.now text (length self.old.line.bytes)
+            self.old.line.room }
+        ensures does { IsStepOf result (scratch_of self.new)
+            (spec.gather_step tables.now (gathers.TextUpToPlace text) (scratch_of self.old)) }
         ensures keeps { KeepsRoom self.old self.new }
     {
         let bytes = tables.texts.as_slice()[text.number as usize].as_slice();
@@ -104,8 +112,10 @@ impl Data {
     /// `gather sized`: the bytes at the newest place, as many as its item has.
     pub fn gather_sized(&mut self, tables: &DataTables) -> Result<(), ProgramFault>
         requires operand { FindsItem tables.now self.old.areas self.old.places.newest_first }
-        requires room { HasPartRoom tables.now self.old.places.newest_first (length self.old.line.bytes) self.old.line.room }
-        ensures does { IsStepOf result (scratch_of self.new) (spec.gather_step tables.now gathers.Sized (scratch_of self.old)) }
+        requires room { HasPartRoom tables.now self.old.places.newest_first
+            (length self.old.line.bytes) self.old.line.room }
+        ensures does { IsStepOf result (scratch_of self.new)
+            (spec.gather_step tables.now gathers.Sized (scratch_of self.old)) }
         ensures keeps { KeepsRoom self.old self.new }
     {
         let place = self.places.pop();
@@ -120,7 +130,8 @@ impl Data {
     /// What is added to the line. It takes no memory.
     pub fn gather(&mut self, tables: &DataTables, one: Gather) -> Result<(), ProgramFault>
         requires { IsReady tables.now self.old (instructions.Gather one) }
-        ensures does { IsStepOf result (scratch_of self.new) (spec.gather_step tables.now one (scratch_of self.old)) }
+        ensures does { IsStepOf result (scratch_of self.new)
+            (spec.gather_step tables.now one (scratch_of self.old)) }
         ensures keeps { KeepsRoom self.old self.new }
     {
         match one {

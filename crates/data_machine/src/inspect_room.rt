@@ -33,8 +33,10 @@ pub struct InspectRoom {
 
 /// The most entries of a phrase.
 pub fn most_entries(inspections: &[Inspection]) -> usize
-    ensures tallying { (k : ℕ) (one : Inspection) → slice_get inspections.now k ≡ Some one → length one.tallying ≤ result }
-    ensures replacing { (k : ℕ) (one : Inspection) → slice_get inspections.now k ≡ Some one → length one.replacing ≤ result }
+    ensures tallying { (k : ℕ) (one : Inspection) → slice_get inspections.now k ≡ Some one
+        → length one.tallying ≤ result }
+    ensures replacing { (k : ℕ) (one : Inspection) → slice_get inspections.now k ≡ Some one
+        → length one.replacing ≤ result }
 {
     let mut most = 0;
     for one in inspections {
@@ -55,7 +57,8 @@ fn count_each(
     requires size { length texts.now ≡ one.now.size }
     requires progress { length one.now.tallying ≤ length progress.old }
     requires counts { length one.now.tallying ≤ length counts.old }
-    ensures { (k : ℕ) → k < length one.now.tallying → slice_index counts.new k ≡ tally texts.now one.now.tallying subject.now k }
+    ensures { (k : ℕ) → k < length one.now.tallying
+        → slice_index counts.new k ≡ tally texts.now one.now.tallying subject.now k }
 {
     let entries = one.tallying.as_slice();
     let (counts, _) = counts.split_at_mut(entries.len());
@@ -87,8 +90,10 @@ impl InspectRoom {
         requires replacing { length one.now.replacing ≤ length self.old.progress.items }
         requires counts { length one.now.tallying ≤ length self.old.counts.items }
         requires text { length subject.now ≤ self.old.text.room }
-        ensures counts { (k : ℕ) → k < length one.now.tallying → slice_index self.new.counts.items k ≡ tally texts.now one.now.tallying subject.now k }
-        ensures text { self.new.text.bytes ≡ replaced_subject texts.now one.now.replacing subject.now }
+        ensures counts { (k : ℕ) → k < length one.now.tallying
+            → slice_index self.new.counts.items k ≡ tally texts.now one.now.tallying subject.now k }
+        ensures text { self.new.text.bytes
+            ≡ replaced_subject texts.now one.now.replacing subject.now }
         ensures size { length self.new.text.bytes ≡ length subject.now }
         ensures room { SameRoom self.old self.new }
     {

@@ -27,13 +27,15 @@ impl Data {
     /// places are the newest, and stores the text at the place below them. Fault 90 where a counter holds no number.
     fn inspect_by(&mut self, tables: &DataTables, one: &Inspection) -> Result<(), ProgramFault>
         requires form { IsInspection one.now }
-        requires places { FindsPlaces tables.now self.old.areas (length one.now.counters) self.old.places.newest_first }
+        requires places { FindsPlaces tables.now self.old.areas (length one.now.counters)
+            self.old.places.newest_first }
         requires line { one.now.size ≤ self.old.line.room }
         requires tallying { length one.now.tallying ≤ length self.old.inspecting.progress.items }
         requires replacing { length one.now.replacing ≤ length self.old.inspecting.progress.items }
         requires counts { length one.now.tallying ≤ length self.old.inspecting.counts.items }
         requires text { HasItemRoom tables.now self.old.inspecting.text.room }
-        ensures does { IsStepOf result (scratch_of self.new) (inspected_with tables.now one.now (scratch_of self.old)) }
+        ensures does { IsStepOf result (scratch_of self.new)
+            (inspected_with tables.now one.now (scratch_of self.old)) }
         ensures keeps { KeepsRoom self.old self.new }
     {
         let counters = one.counters.as_slice();
@@ -60,7 +62,8 @@ impl Data {
         inspection: InspectionIndex,
     ) -> Result<(), ProgramFault>
         requires { IsReady tables.now self.old (instructions.Inspect inspection) }
-        ensures does { IsStepOf result (scratch_of self.new) (spec.inspected_by tables.now inspection (scratch_of self.old)) }
+        ensures does { IsStepOf result (scratch_of self.new)
+            (spec.inspected_by tables.now inspection (scratch_of self.old)) }
         ensures keeps { KeepsRoom self.old self.new }
     {
         let one = &tables.inspections.as_slice()[inspection.number as usize];
@@ -92,7 +95,8 @@ fn add_fits(
 ) -> Result<(), ProgramFault>
     requires stands { IsAtOffset one.now areas.old offset }
     requires counts { from + entries ≤ length counts.now }
-    ensures adds { IsAddedStorage result areas.new (meaning.add_fits (item_place one.now offset) (layout.fits_together (slice_index counts.now) from entries) areas.old) }
+    ensures adds { IsAddedStorage result areas.new (meaning.add_fits (item_place one.now offset)
+        (layout.fits_together (slice_index counts.now) from entries) areas.old) }
     ensures lengths { map length areas.new ≡ map length areas.old }
 {
     let old = number_in(one.item.kind, areas.bytes(one, offset)).ok_or(ProgramFault::Data)?;
@@ -113,7 +117,8 @@ fn add_at(
 ) -> Result<(), ProgramFault>
     requires stands { IsItemAt tables.now areas.old place }
     requires counts { from + entries ≤ length counts.now }
-    ensures adds { IsAddedStorage result areas.new (meaning.add_fits (there tables.now place) (layout.fits_together (slice_index counts.now) from entries) areas.old) }
+    ensures adds { IsAddedStorage result areas.new (meaning.add_fits (there tables.now place)
+        (layout.fits_together (slice_index counts.now) from entries) areas.old) }
     ensures lengths { map length areas.new ≡ map length areas.old }
 {
     let one = &tables.items.as_slice()[place.item.number as usize];
@@ -132,7 +137,8 @@ fn add_each(
     requires stand { StandEach tables.now areas.old places.now }
     requires counters { length places.now ≡ length counters.now }
     requires counts { total_length counters.now ≤ length counts.now }
-    ensures adds { IsAddedStorage result areas.new (meaning.add_each (map (there tables.now) places.now) (layout.counted_fits (slice_index counts.now) 0 counters.now) areas.old) }
+    ensures adds { IsAddedStorage result areas.new (meaning.add_each (map (there tables.now)
+        places.now) (layout.counted_fits (slice_index counts.now) 0 counters.now) areas.old) }
     ensures lengths { map length areas.new ≡ map length areas.old }
 {
     let mut from = 0;
@@ -150,7 +156,8 @@ fn add_each(
 fn store_text(areas: &mut Areas, one: &DataItem, offset: usize, replacing: &[Entry], text: &[u8])
     requires stands { IsAtOffset one.now areas.old offset }
     requires size { length text.now ≡ one.now.item.length }
-    ensures stores { areas.new ≡ stored_by replacing.now (item_place one.now offset) text.now areas.old }
+    ensures stores { areas.new
+        ≡ stored_by replacing.now (item_place one.now offset) text.now areas.old }
     ensures lengths { map length areas.new ≡ map length areas.old }
 {
     match replacing {
@@ -175,7 +182,9 @@ fn add_and_store(
     requires counts { total_length one.now.counters ≤ length counts.now }
     requires stands { IsAtOffset to.now areas.old offset }
     requires size { length text.now ≡ to.now.item.length }
-    ensures adds { IsAddedStorage result areas.new (added_and_stored (map (there tables.now) places.now) (layout.counted_fits (slice_index counts.now) 0 one.now.counters) one.now.replacing (item_place to.now offset) text.now areas.old) }
+    ensures adds { IsAddedStorage result areas.new (added_and_stored (map (there tables.now)
+        places.now) (layout.counted_fits (slice_index counts.now) 0 one.now.counters)
+        one.now.replacing (item_place to.now offset) text.now areas.old) }
     ensures lengths { map length areas.new ≡ map length areas.old }
 {
     match add_each(areas, tables, places, one.counters.as_slice(), counts) {

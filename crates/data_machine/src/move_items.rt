@@ -30,7 +30,8 @@ pub fn move_numbers(
     requires receiver { IsNumeric receiver.now }
     requires from { length from.now ≡ length_of sender.now }
     requires length { length bytes.old ≡ length_of receiver.now }
-    ensures { Writes result bytes.old bytes.new (option_map (λ x. bytes_of receiver.now (received_number receiver.now x)) (value_of sender.now from.now)) }
+    ensures { Writes result bytes.old bytes.new (option_map (λ x.
+        bytes_of receiver.now (received_number receiver.now x)) (value_of sender.now from.now)) }
 {
     let Some(x) = number(*sender, from) else {
         return Err(DataFault);
@@ -58,7 +59,8 @@ pub fn put_text(text: &[u8], bytes: &mut [u8])
 pub fn move_digits(sender: &Numeric, from: &[u8], bytes: &mut [u8]) -> Result<(), DataFault>
     requires sender { IsNumeric sender.now }
     requires from { length from.now ≡ length_of sender.now }
-    ensures { Writes result bytes.old bytes.new (option_map (padded_text (length bytes.old)) (option_map (digits_of sender.now) (value_of sender.now from.now))) }
+    ensures { Writes result bytes.old bytes.new (option_map (padded_text (length bytes.old))
+        (option_map (digits_of sender.now) (value_of sender.now from.now))) }
 {
     let Some(value) = number(*sender, from) else {
         return Err(DataFault);
@@ -89,7 +91,8 @@ pub fn move_constant(constant: Figurative, from: &[u8], receiver: &Item, bytes: 
 #[inline(always)]
 #[tactic(auto, unfolding(edited_move::specs::Moves::moved_bytes))]
 pub fn is_copy(from: &Item, receiver: &Item) -> bool
-    ensures { IsTrue result → (bytes : List ℕ) → moved_bytes receiver.now (sender.Item from.now) bytes ≡ Some (padded_text receiver.now.length bytes) }
+    ensures { IsTrue result → (bytes : List ℕ) → moved_bytes receiver.now (sender.Item from.now)
+        bytes ≡ Some (padded_text receiver.now.length bytes) }
 {
     match (from.kind, receiver.kind) {
         (

@@ -33,7 +33,8 @@ pub(crate) fn bytes_before(
     stride: u32,
     count: u32,
 ) -> Result<usize, ProgramFault>
-    ensures { IsEvaluated result (spec.bytes_before (record { stride = stride; count = count }) subscript) }
+    ensures { IsEvaluated result
+        (spec.bytes_before (record { stride = stride; count = count }) subscript) }
 {
     let integer = subscript
         .and_then(|number| number.to_integer())
@@ -49,7 +50,8 @@ impl Data {
     pub fn literal(&mut self, tables: &DataTables, literal: NumberIndex) -> Result<(), ProgramFault>
         requires literal { literal.number < length tables.now.numbers }
         requires room { length self.old.numbers.newest_first < self.old.numbers.room }
-        ensures does { IsStepOf result (scratch_of self.new) (step_at (slice_get tables.now.numbers literal.number) (λ x. spec.push_step (Some x) (scratch_of self.old))) }
+        ensures does { IsStepOf result (scratch_of self.new) (step_at (slice_get tables.now.numbers
+            literal.number) (λ x. spec.push_step (Some x) (scratch_of self.old))) }
         ensures keeps { KeepsRoom self.old self.new }
     {
         let number = tables.numbers.as_slice()[literal.number as usize];
@@ -61,7 +63,8 @@ impl Data {
     pub fn push(&mut self, tables: &DataTables) -> Result<(), ProgramFault>
         requires operand { FindsItem tables.now self.old.areas self.old.places.newest_first }
         requires room { length self.old.numbers.newest_first < self.old.numbers.room }
-        ensures does { IsStepOf result (scratch_of self.new) (spec.at_place tables.now spec.read_step (scratch_of self.old)) }
+        ensures does { IsStepOf result (scratch_of self.new)
+            (spec.at_place tables.now spec.read_step (scratch_of self.old)) }
         ensures keeps { KeepsRoom self.old self.new }
     {
         let place = self.places.pop();
@@ -80,7 +83,9 @@ impl Data {
         requires subscript { 1 ≤ length self.old.numbers.newest_first }
         requires place { ReachesWithin (2 ^ 64) stride count self.old.places.newest_first }
         requires room { length self.old.places.newest_first ≤ self.old.places.room }
-        ensures does { IsStepOf result (scratch_of self.new) (spec.index_step (record { stride = stride; count = count }) self.old.numbers.newest_first self.old.places.newest_first (scratch_of self.old)) }
+        ensures does { IsStepOf result
+            (scratch_of self.new) (spec.index_step (record { stride = stride; count = count })
+            self.old.numbers.newest_first self.old.places.newest_first (scratch_of self.old)) }
         ensures keeps { KeepsRoom self.old self.new }
     {
         let subscript = self.numbers.pop();

@@ -17,7 +17,8 @@ use data_instructions::{DataItem, DataTables, ProgramFault, TextIndex};
 /// The same in an item at an offset in its area: the other bytes stay.
 pub fn overlay_part(one: &DataItem, area: &mut [u8], offset: usize, bytes: &[u8], marks: &[u8])
     requires within { offset + one.now.item.length ≤ length area.old }
-    ensures { area.new ≡ with_part area.old offset one.now.item.length (overlaid (spec.pattern_of bytes.now marks.now) (slice_range area.old offset (offset + one.now.item.length))) }
+    ensures { area.new ≡ with_part area.old offset one.now.item.length (overlaid (spec.pattern_of
+        bytes.now marks.now) (slice_range area.old offset (offset + one.now.item.length))) }
 {
     let end = offset + one.item.length as usize;
     overlay(bytes, marks, &mut area[offset..end]);
@@ -47,7 +48,8 @@ impl Data {
     pub fn overlay(&mut self, tables: &DataTables, text: TextIndex) -> Result<(), ProgramFault>
         requires operand { FindsItem tables.now self.old.areas self.old.places.newest_first }
         requires texts { text.number + 1 < length tables.now.texts }
-        ensures does { IsStepOf result (scratch_of self.new) (spec.overlaid_by tables.now text (scratch_of self.old)) }
+        ensures does { IsStepOf result (scratch_of self.new)
+            (spec.overlaid_by tables.now text (scratch_of self.old)) }
         ensures keeps { KeepsRoom self.old self.new }
     {
         let texts = tables.texts.as_slice();
@@ -64,7 +66,8 @@ impl Data {
     /// `drop place`: without the newest place.
     pub fn drop_place(&mut self, _tables: &DataTables) -> Result<(), ProgramFault>
         requires { FindsItem _tables.now self.old.areas self.old.places.newest_first }
-        ensures does { IsStepOf result (scratch_of self.new) (spec.at_place _tables.now (λ place t. Continues t) (scratch_of self.old)) }
+        ensures does { IsStepOf result (scratch_of self.new)
+            (spec.at_place _tables.now (λ place t. Continues t) (scratch_of self.old)) }
         ensures keeps { KeepsRoom self.old self.new }
     {
         let _ = self.places.pop();

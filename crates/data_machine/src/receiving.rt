@@ -28,7 +28,8 @@ pub fn move_part(
     requires editing { IsEditing one.now.item one.now.editing }
     requires sender { Receives one.now (record { taken = taken.now; bytes = from.now }) }
     requires within { offset + one.now.item.length ≤ length area.old }
-    ensures { WritesPart result area.old area.new offset one.now.item.length (moved_by one.now.editing one.now.item (record { taken = taken.now; bytes = from.now })) }
+    ensures { WritesPart result area.old area.new offset one.now.item.length
+        (moved_by one.now.editing one.now.item (record { taken = taken.now; bytes = from.now })) }
 {
     let end = offset + one.item.length as usize;
     move_item(one, taken, from, &mut area[offset..end])
@@ -37,7 +38,8 @@ pub fn move_part(
 /// Stores characters in an item at an offset in its area, cut or padded with spaces.
 pub fn pad_part(one: &DataItem, area: &mut [u8], offset: usize, text: &[u8])
     requires within { offset + one.now.item.length ≤ length area.old }
-    ensures { area.new ≡ with_part area.old offset one.now.item.length (padded_text one.now.item.length text.now) }
+    ensures { area.new
+        ≡ with_part area.old offset one.now.item.length (padded_text one.now.item.length text.now) }
 {
     let end = offset + one.item.length as usize;
     put_padded(text, &mut area[offset..end]);
@@ -88,7 +90,8 @@ fn move_item(one: &DataItem, taken: &Taken, from: &[u8], bytes: &mut [u8]) -> Re
     requires editing { IsEditing one.now.item one.now.editing }
     requires sender { Receives one.now (record { taken = taken.now; bytes = from.now }) }
     requires length { length bytes.old ≡ one.now.item.length }
-    ensures { Writes result bytes.old bytes.new (moved_by one.now.editing one.now.item (record { taken = taken.now; bytes = from.now })) }
+    ensures { Writes result bytes.old bytes.new
+        (moved_by one.now.editing one.now.item (record { taken = taken.now; bytes = from.now })) }
 {
     match &one.editing {
         None => move_plain(taken, from, &one.item, bytes),

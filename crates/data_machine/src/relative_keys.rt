@@ -44,7 +44,8 @@ fn put_low_digits(item: Numeric, number: u64, bytes: &mut [u8])
     requires item { IsNumeric item }
     requires kind { is_unsigned_integer (kind.Numeric item) ≡ true }
     requires length { length bytes.old ≡ length_of item }
-    ensures { bytes.new ≡ bytes_of item (record { coefficient = pos (number % 10 ^ item.digits); scale = 0 }) }
+    ensures { bytes.new
+        ≡ bytes_of item (record { coefficient = pos (number % 10 ^ item.digits); scale = 0 }) }
 {
     let low = decimal(number).cut(item.digits, 0, Rounding::Truncated);
     store(item, low, bytes);
@@ -55,7 +56,8 @@ pub fn put_number_part(item: Numeric, area: &mut [u8], offset: usize, number: u6
     requires item { IsNumeric item }
     requires kind { is_unsigned_integer (kind.Numeric item) ≡ true }
     requires within { offset + length_of item ≤ length area.old }
-    ensures { area.new ≡ with_part area.old offset (length_of item) (bytes_of item (record { coefficient = pos (number % 10 ^ item.digits); scale = 0 })) }
+    ensures { area.new ≡ with_part area.old offset (length_of item)
+        (bytes_of item (record { coefficient = pos (number % 10 ^ item.digits); scale = 0 })) }
 {
     let end = offset + item.length();
     put_low_digits(item, number, &mut area[offset..end]);

@@ -19,7 +19,8 @@ pub struct Sender {
 impl Sender {
     /// Room for so many bytes, with nothing taken.
     pub fn new(alloc: Global, room: usize) -> Result<Sender, AllocError>
-        ensures { IfOk result (λ sender. sender ≡ record { taken = None; bytes = record { room = room; bytes = [] } }) }
+        ensures { IfOk result (λ sender. sender
+            ≡ record { taken = None; bytes = record { room = room; bytes = [] } }) }
     {
         let bytes = Buffer::new(alloc, room)?;
         Ok(Sender { taken: None, bytes })
@@ -29,7 +30,10 @@ impl Sender {
     #[inline(always)]
     pub fn keep(&mut self, taken: Taken, bytes: &[u8])
         requires room { length bytes.now ≤ self.old.bytes.room }
-        ensures { self.new ≡ record { taken = Some taken; bytes = record { room = self.old.bytes.room; bytes = bytes.now } } }
+        ensures { self.new ≡ record {
+          taken = Some taken;
+          bytes = record { room = self.old.bytes.room; bytes = bytes.now };
+        } }
     {
         self.bytes.clear();
         self.bytes.append(bytes);
@@ -40,7 +44,8 @@ impl Sender {
     #[inline]
     pub fn operand(&self) -> Taken
         requires { HasTaken (sender_of self.now) }
-        ensures value { sender_of self.now ≡ Some (record { taken = result; bytes = self.now.bytes.bytes }) }
+        ensures value { sender_of self.now
+            ≡ Some (record { taken = result; bytes = self.now.bytes.bytes }) }
         ensures form { IsTaken result self.now.bytes.bytes }
     {
         let Some(taken) = self.taken else {

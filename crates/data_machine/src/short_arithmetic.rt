@@ -143,7 +143,8 @@ pub(crate) fn short_result(operator: Operator, left: Short, right: Short) -> Opt
 #[inline(never)]
 fn long_order(coefficient: i64, scale: u8, integer: u32) -> Ordering
     requires { scale ≤ 18 }
-    ensures { result ≡ order (record { coefficient = coefficient; scale = scale }) (record { coefficient = pos integer; scale = 0 }) }
+    ensures { result ≡ order (record { coefficient = coefficient; scale = scale })
+        (record { coefficient = pos integer; scale = 0 }) }
 {
     Dec::short(coefficient, scale).cmp(&Dec::short(i64::from(integer), 0))
 }

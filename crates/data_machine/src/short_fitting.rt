@@ -38,7 +38,9 @@ fn rescaled(coefficient: i64, from: u8, digits: u8, scale: u8, rounded: bool) ->
     requires from { from ≤ 18 }
     requires digits { digits ≤ 18 }
     requires decimals { scale ≤ digits }
-    ensures fits { IfSome result (λ n. fitted_decimal (record { coefficient = coefficient; scale = from }) digits scale (rounding_of rounded) ≡ Ok (record { coefficient = n; scale = scale })) }
+    ensures fits { IfSome result
+        (λ n. fitted_decimal (record { coefficient = coefficient; scale = from }) digits scale
+        (rounding_of rounded) ≡ Ok (record { coefficient = n; scale = scale })) }
     ensures digits { IfSome result (λ n. unsigned_abs n < 10 ^ digits) }
 {
     match Dec::short(coefficient, from).fit(digits, scale, rounding(rounded)) {
@@ -53,7 +55,8 @@ fn rescaled(coefficient: i64, from: u8, digits: u8, scale: u8, rounded: bool) ->
 fn short_fitted(x: Short, digits: u8, scale: u8, rounded: bool) -> Option<i64>
     requires digits { digits ≤ 18 }
     requires decimals { scale ≤ digits }
-    ensures fits { IfSome result (λ n. fitted_decimal x digits scale (rounding_of rounded) ≡ Ok (record { coefficient = n; scale = scale })) }
+    ensures fits { IfSome result (λ n. fitted_decimal x digits scale (rounding_of rounded)
+        ≡ Ok (record { coefficient = n; scale = scale })) }
     ensures digits { IfSome result (λ n. unsigned_abs n < 10 ^ digits) }
 {
     let coefficient = x.coefficient();
@@ -89,7 +92,8 @@ pub(crate) fn result_fitted_as(
     rounded: bool,
 ) -> Option<i64>
     requires form { IsItem one.now.item }
-    ensures { IfSome result (λ n. KeepsAs one.now.item.kind rounded (computed.operate operator (Some left) (Some right)) n) }
+    ensures { IfSome result (λ n.
+        KeepsAs one.now.item.kind rounded (computed.operate operator (Some left) (Some right)) n) }
 {
     match short_result(operator, left, right) {
         Some(x) => fitted_as(one, x, rounded),
@@ -149,7 +153,8 @@ pub(crate) fn put_short_part(one: &DataItem, area: &mut [u8], offset: usize, coe
     requires form { IsItem one.now.item }
     requires digits { FitsDigits one.now.item.kind coefficient }
     requires within { offset + one.now.item.length ≤ length area.old }
-    ensures { area.new ≡ with_part area.old offset one.now.item.length (bytes_at_scale one.now.item.kind coefficient) }
+    ensures { area.new ≡ with_part area.old offset one.now.item.length
+        (bytes_at_scale one.now.item.kind coefficient) }
 {
     if let Kind::Numeric(item) = one.item.kind {
         let end = offset + one.item.length as usize;

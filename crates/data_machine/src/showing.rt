@@ -16,8 +16,10 @@ impl Data {
     /// `append`: what DISPLAY shows of the newest place is added to the line, or fault 90.
     pub fn append(&mut self, tables: &DataTables) -> Result<(), ProgramFault>
         requires operand { FindsItem tables.now self.old.areas self.old.places.newest_first }
-        requires room { HasLineRoom tables.now self.old.places.newest_first (length self.old.line.bytes) self.old.line.room }
-        ensures does { IsStepOf result (scratch_of self.new) (spec.at_place tables.now spec.shown_at (scratch_of self.old)) }
+        requires room { HasLineRoom tables.now self.old.places.newest_first
+            (length self.old.line.bytes) self.old.line.room }
+        ensures does { IsStepOf result (scratch_of self.new)
+            (spec.at_place tables.now spec.shown_at (scratch_of self.old)) }
         ensures keeps { KeepsRoom self.old self.new }
     {
         let place = self.places.pop();
@@ -36,8 +38,10 @@ impl Data {
         text: TextIndex,
     ) -> Result<(), ProgramFault>
         requires text { text.number < length tables.now.texts }
-        requires room { HasTextRoom tables.now text (length self.old.line.bytes) self.old.line.room }
-        ensures does { IsStepOf result (scratch_of self.new) (step_at (slice_get tables.now.texts text.number) (λ bytes. spec.append_step bytes (scratch_of self.old))) }
+        requires room { HasTextRoom tables.now text (length self.old.line.bytes)
+            self.old.line.room }
+        ensures does { IsStepOf result (scratch_of self.new) (step_at (slice_get tables.now.texts
+            text.number) (λ bytes. spec.append_step bytes (scratch_of self.old))) }
         ensures keeps { KeepsRoom self.old self.new }
     {
         let bytes = &tables.texts.as_slice()[text.number as usize];

@@ -21,7 +21,10 @@ impl<T> Model for Stack<T> {
 
     ghost coded = { coded_held T.code };
 
-    ghost view = { λ it. record { room = length it.room.items; newest_first = reverse (take it.used it.room.items) } };
+    ghost view = { λ it. record {
+      room = length it.room.items;
+      newest_first = reverse (take it.used it.room.items);
+    } };
 
     ghost invariant = { λ it. it.used ≤ length it.room.items };
 }
@@ -38,7 +41,8 @@ impl<T: Copy> Stack<T> {
     #[inline]
     pub fn push(&mut self, item: T)
         requires { length self.old.newest_first < self.old.room }
-        ensures { self.new ≡ record { room = self.old.room; newest_first = item ∷ self.old.newest_first } }
+        ensures { self.new
+            ≡ record { room = self.old.room; newest_first = item ∷ self.old.newest_first } }
     {
         self.room[self.used] = item;
         self.used += 1;
@@ -66,7 +70,8 @@ impl<T: Copy> Stack<T> {
     pub fn newest(&self, count: usize) -> &[T]
         requires { count ≤ length self.now.newest_first }
         ensures length { length result.now ≡ count }
-        ensures value { self.now.newest_first ≡ reverse result.now ++ drop count self.now.newest_first }
+        ensures value { self.now.newest_first
+            ≡ reverse result.now ++ drop count self.now.newest_first }
     {
         &self.room.as_slice()[self.used - count..self.used]
     }
@@ -74,7 +79,8 @@ impl<T: Copy> Stack<T> {
     /// Without so many of the newest.
     pub fn leave(&mut self, count: usize)
         requires { count ≤ length self.old.newest_first }
-        ensures { self.new ≡ record { room = self.old.room; newest_first = drop count self.old.newest_first } }
+        ensures { self.new
+            ≡ record { room = self.old.room; newest_first = drop count self.old.newest_first } }
     {
         self.used -= count;
     }

@@ -22,7 +22,8 @@ impl Data {
     ) -> Result<(), ProgramFault>
         requires operand { FindsItem tables.now self.old.areas self.old.places.newest_first }
         requires number { 1 ≤ length self.old.numbers.newest_first }
-        ensures does { IsStepOf result (scratch_of self.new) (spec.at_place tables.now (spec.put_number rounded keep) (scratch_of self.old)) }
+        ensures does { IsStepOf result (scratch_of self.new)
+            (spec.at_place tables.now (spec.put_number rounded keep) (scratch_of self.old)) }
         ensures keeps { KeepsRoom self.old self.new }
     {
         let place = self.places.pop();
@@ -39,7 +40,8 @@ impl Data {
 
     /// `clear truth`: no size error arose.
     pub fn clear_truth(&mut self) -> Result<(), ProgramFault>
-        ensures does { IsStepOf result (scratch_of self.new) (Continues (record (scratch_of self.old) { truth = false })) }
+        ensures does { IsStepOf result (scratch_of self.new)
+            (Continues (record (scratch_of self.old) { truth = false })) }
         ensures keeps { KeepsRoom self.old self.new }
     {
         self.truth = false;
@@ -50,7 +52,8 @@ impl Data {
     pub fn void_if_true(&mut self) -> Result<(), ProgramFault>
         requires number { 1 ≤ length self.old.numbers.newest_first }
         requires room { length self.old.numbers.newest_first ≤ self.old.numbers.room }
-        ensures does { IsStepOf result (scratch_of self.new) (spec.at_number spec.void_step self.old.numbers.newest_first (scratch_of self.old)) }
+        ensures does { IsStepOf result (scratch_of self.new)
+            (spec.at_number spec.void_step self.old.numbers.newest_first (scratch_of self.old)) }
         ensures keeps { KeepsRoom self.old self.new }
     {
         if self.truth {

@@ -36,9 +36,12 @@ pub fn string_part(
     at: usize,
 ) -> (usize, bool)
     requires within { offset + one.now.item.length ≤ length area.old }
-    ensures bytes { area.new ≡ with_part area.old offset one.now.item.length (string_of_senders at text.now (slice_range area.old offset (offset + one.now.item.length))).receiver }
-    ensures next { result.0 ≡ (string_of_senders at text.now (slice_range area.old offset (offset + one.now.item.length))).pointer }
-    ensures overflow { result.1 ≡ (string_of_senders at text.now (slice_range area.old offset (offset + one.now.item.length))).overflow }
+    ensures bytes { area.new ≡ with_part area.old offset one.now.item.length (string_of_senders at
+        text.now (slice_range area.old offset (offset + one.now.item.length))).receiver }
+    ensures next { result.0 ≡ (string_of_senders at text.now
+        (slice_range area.old offset (offset + one.now.item.length))).pointer }
+    ensures overflow { result.1 ≡ (string_of_senders at text.now
+        (slice_range area.old offset (offset + one.now.item.length))).overflow }
 {
     let end = offset + one.item.length as usize;
     string_into(text, at, &mut area[offset..end])
@@ -69,7 +72,8 @@ fn position_in(integer: i128, size: u32) -> Option<usize>
 /// Puts a text into an item from its first byte on, and answers whether there was an overflow.
 fn put_from_first(areas: &mut Areas, one: &DataItem, offset: usize, text: &[u8]) -> bool
     requires stands { IsAtOffset one.now areas.old offset }
-    ensures puts { meaning.put_text (item_place one.now offset) None 1 text.now areas.old ≡ Ok (record { storage = areas.new; overflow = result }) }
+    ensures puts { meaning.put_text (item_place one.now offset) None 1 text.now areas.old
+        ≡ Ok (record { storage = areas.new; overflow = result }) }
     ensures lengths { map length areas.new ≡ map length areas.old }
 {
     if one.item.length < 1 {
@@ -90,7 +94,8 @@ fn put_from_pointer(
 ) -> Result<bool, ProgramFault>
     requires stands { IsAtOffset one.now areas.old offset }
     requires pointer { IsAtOffset pointer.now areas.old held }
-    ensures puts { PutsText result areas.new (put_from (item_place one.now offset) (item_place pointer.now held) text.now areas.old) }
+    ensures puts { PutsText result areas.new
+        (put_from (item_place one.now offset) (item_place pointer.now held) text.now areas.old) }
     ensures lengths { map length areas.new ≡ map length areas.old }
 {
     let number = number_in(pointer.item.kind, areas.bytes(pointer, held));
@@ -108,7 +113,8 @@ impl Data {
     /// empty then.
     pub fn string_from_first(&mut self, tables: &DataTables) -> Result<(), ProgramFault>
         requires operand { FindsItem tables.now self.old.areas self.old.places.newest_first }
-        ensures does { IsStepOf result (scratch_of self.new) (spec.strung_by tables.now false (scratch_of self.old)) }
+        ensures does { IsStepOf result (scratch_of self.new)
+            (spec.strung_by tables.now false (scratch_of self.old)) }
         ensures keeps { KeepsRoom self.old self.new }
     {
         let place = self.places.pop();
@@ -130,7 +136,9 @@ impl Data {
     ) -> Result<(), ProgramFault>
         requires stands { IsAtOffset one.now self.old.areas offset }
         requires pointer { IsAtOffset pointer.now self.old.areas held }
-        ensures does { IsStepOf result (scratch_of self.new) (step_with (put_from (item_place one.now offset) (item_place pointer.now held) self.old.line.bytes self.old.areas) (strung_with (scratch_of self.old))) }
+        ensures does { IsStepOf result (scratch_of self.new)
+            (step_with (put_from (item_place one.now offset) (item_place pointer.now held)
+            self.old.line.bytes self.old.areas) (strung_with (scratch_of self.old))) }
         ensures keeps { KeepsRoom self.old self.new }
     {
         let text = self.line.bytes();
@@ -143,7 +151,8 @@ impl Data {
     pub fn string_from_pointer(&mut self, tables: &DataTables) -> Result<(), ProgramFault>
         requires pointer { FindsItem tables.now self.old.areas self.old.places.newest_first }
         requires receiver { FindsNext tables.now self.old.areas self.old.places.newest_first }
-        ensures does { IsStepOf result (scratch_of self.new) (spec.strung_by tables.now true (scratch_of self.old)) }
+        ensures does { IsStepOf result (scratch_of self.new)
+            (spec.strung_by tables.now true (scratch_of self.old)) }
         ensures keeps { KeepsRoom self.old self.new }
     {
         let pointer = self.places.pop();
@@ -163,7 +172,8 @@ impl Data {
     /// `string`, with a pointer or without. It takes no memory.
     pub fn string(&mut self, tables: &DataTables, pointer: bool) -> Result<(), ProgramFault>
         requires { IsReady tables.now self.old (instructions.String pointer) }
-        ensures does { IsStepOf result (scratch_of self.new) (spec.strung_by tables.now pointer (scratch_of self.old)) }
+        ensures does { IsStepOf result (scratch_of self.new)
+            (spec.strung_by tables.now pointer (scratch_of self.old)) }
         ensures keeps { KeepsRoom self.old self.new }
     {
         if pointer {

@@ -11,10 +11,12 @@ use Rattle.layout.specs.Placing.{placed_item}
 use Rattle.name_table.specs.declared.conditions.DeclaredCondition.{DeclaredCondition}
 use Rattle.name_table.specs.Conditions.{found_at}
 
-module _ (items : List LocatedItem) (declared : List DeclaredCondition) (found : map (found_at items) declared ≡ map Some (all_conditions items))
+module _ (items : List LocatedItem) (declared : List DeclaredCondition)
+    (found : map (found_at items) declared ≡ map Some (all_conditions items))
     (n : ℕ) (one : NamedCondition) (is : slice_get (all_conditions items) n ≡ Some one) where
   told : option_map (found_at items) (slice_get declared n) ≡ Some (Some one)
-  told = sym (slice_get-map (found_at items) declared n) ∙ ap (λ l. slice_get l n) found ∙ slice_get-map Some (all_conditions items) n ∙ ap (option_map Some) is
+  told = sym (slice_get-map (found_at items) declared n) ∙ ap (λ l. slice_get l n) found
+      ∙ slice_get-map Some (all_conditions items) n ∙ ap (option_map Some) is
 
   -- a condition name has its place among those that are declared
   pub number_within : n < length declared
@@ -26,9 +28,12 @@ module _ (items : List LocatedItem) (declared : List DeclaredCondition) (found :
       omega arith
 
   of_item : (d : DeclaredCondition) → slice_get declared n ≡ Some d → found_at items d ≡ Some one
-  of_item d at = let e : Some (found_at items d) ≡ Some (Some one) = sym (ap (option_map (found_at items)) at) ∙ told in cc
+  of_item d at = let e : Some (found_at items d) ≡ Some (Some one) =
+      sym (ap (option_map (found_at items)) at) ∙ told in cc
 
-  by_item : (d : DeclaredCondition) (item : Option LocatedItem) → option_map (λ (p : LocatedItem). record { condition = d.condition.now; item = p }) item ≡ Some one → item ≡ Some one.item
+  by_item : (d : DeclaredCondition) (item : Option LocatedItem)
+      → option_map (λ (p : LocatedItem). record { condition = d.condition.now; item = p }) item ≡ Some one
+      → item ≡ Some one.item
   by_item d None e = cc
   by_item d (Some item) e =
       let same : (record { condition = d.condition.now; item = item }) ≡ one = (cc) in
@@ -37,6 +42,8 @@ module _ (items : List LocatedItem) (declared : List DeclaredCondition) (found :
   pub item_is : (d : DeclaredCondition) → slice_get declared n ≡ Some d → slice_get items d.item ≡ Some one.item
   item_is d at = by_item d (slice_get items d.item) (of_item d at)
 
-  pub placed_is : (d : DeclaredCondition) (placed : List PlacedItem) → slice_get declared n ≡ Some d → placed ≡ map placed_item items
+  pub placed_is : (d : DeclaredCondition) (placed : List PlacedItem) → slice_get declared n ≡ Some d
+      → placed ≡ map placed_item items
       → slice_get placed d.item ≡ Some (placed_item one.item)
-  placed_is d placed at e = ap (λ l. slice_get l d.item) e ∙ slice_get-map placed_item items d.item ∙ ap (option_map placed_item) (item_is d at)
+  placed_is d placed at e = ap (λ l. slice_get l d.item) e ∙ slice_get-map placed_item items d.item
+      ∙ ap (option_map placed_item) (item_is d at)

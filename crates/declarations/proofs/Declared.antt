@@ -49,12 +49,15 @@ module _ (program : Program) (all : Declarations) (h : Declares program all) whe
       ap with_files same_data ∙ ap with_procedures h.procedures
 
   -- What is so of the program's data is so of what is declared.
-  pub declared_by : IsTable all.names → calls_in all.names ≡ map called_item (program_items program) → all.layout.items ≡ map placed_item (program_items program)
+  pub declared_by : IsTable all.names → calls_in all.names ≡ map called_item (program_items program)
+      → all.layout.items ≡ map placed_item (program_items program)
       → AreConditions (program_items program) all.conditions → AreFiles (program_items program) program all.files
-      → program_file_rules (program_items program) program ≡ [] → AreProcedures (procedures_of program.sections) all.procedures → IsDeclared all
+      → program_file_rules (program_items program) program ≡ []
+      → AreProcedures (procedures_of program.sections) all.procedures → IsDeclared all
   declared_by table calls items conditions files rules procedures =
       let own_data : Program = with_data program.selects program.files program.storage in
-      let own : AreFiles (program_items own_data) own_data all.files = record { files = files.files; numbers = files.numbers; names = files.names } in
+      let own : AreFiles (program_items own_data) own_data all.files =
+      record { files = files.files; numbers = files.numbers; names = files.names } in
       record {
         table = table;
         calls = calls ∙ ap (map called_item) (sym same_items);
@@ -66,6 +69,8 @@ module _ (program : Program) (all : Declarations) (h : Declares program all) whe
       }
 
   -- The statements of the program keep the rules, where they do so by what is declared.
-  pub kept_by : (sections : List Section) → sections ≡ program.sections → sections_rules (scope_in all) all_permitted sections ≡ [] → sections_rules (scope program) all_permitted program.sections ≡ []
+  pub kept_by : (sections : List Section) → sections ≡ program.sections → sections_rules (scope_in all) all_permitted
+      sections ≡ [] → sections_rules (scope program) all_permitted program.sections ≡ []
   kept_by sections same kept =
-      ap (sections_rules (scope program) all_permitted) (sym same) ∙ ap (λ (found : Scope). sections_rules found all_permitted sections) (sym same_scope) ∙ kept
+      ap (sections_rules (scope program) all_permitted) (sym same)
+      ∙ ap (λ (found : Scope). sections_rules found all_permitted sections) (sym same_scope) ∙ kept

@@ -7,7 +7,8 @@ use Rattle.source_tree.specs.declared.phrases.Phrases.{Phrases}
 use Rattle.source_tree.specs.declared.phrases.FilePhrases.{FilePhrases}
 use Rattle.source_tree.specs.declared.phrases.FilePhrases.TheVariants.{Absent, AtEnd, InvalidKey}
 use Rattle.source_tree.specs.declared.file_statement.FileStatement.{FileStatement}
-use Rattle.source_tree.specs.declared.file_statement.FileStatement.TheVariants.{Open, Close, Read, Write, Rewrite, Delete, Start}
+use Rattle.source_tree.specs.declared.file_statement.FileStatement.TheVariants.{Open, Close, Read, Write, Rewrite}
+use Rattle.source_tree.specs.declared.file_statement.FileStatement.TheVariants.{Delete, Start}
 use Rattle.source_tree.specs.declared.statement.Verb.TheVariants as verb
 use Rattle.source_tree.specs.declared.statement.Statement.TheFolds.{map-Statement}
 use Rattle.source_tree.specs.Filing.{phrases_of}
@@ -20,8 +21,10 @@ abbrev pair : {S : Type 0} → Option (List S) → Option (List S) → Phrases S
 pair arose did_not = record { arose = arose; did_not = did_not }
 
 by_form : {S : Type 0} (P : FilePhrases S → Type 0) → P Absent
-    → P (AtEnd (pair None None)) → ((x : List S) → P (AtEnd (pair (Some x) None))) → ((y : List S) → P (AtEnd (pair None (Some y)))) → ((x y : List S) → P (AtEnd (pair (Some x) (Some y))))
-    → P (InvalidKey (pair None None)) → ((x : List S) → P (InvalidKey (pair (Some x) None))) → ((y : List S) → P (InvalidKey (pair None (Some y)))) → ((x y : List S) → P (InvalidKey (pair (Some x) (Some y))))
+    → P (AtEnd (pair None None)) → ((x : List S) → P (AtEnd (pair (Some x) None)))
+    → ((y : List S) → P (AtEnd (pair None (Some y)))) → ((x y : List S) → P (AtEnd (pair (Some x) (Some y))))
+    → P (InvalidKey (pair None None)) → ((x : List S) → P (InvalidKey (pair (Some x) None)))
+    → ((y : List S) → P (InvalidKey (pair None (Some y)))) → ((x y : List S) → P (InvalidKey (pair (Some x) (Some y))))
     → (phrases : FilePhrases S) → P phrases
 by_form {S} P absent a b c d e f g h phrases = form phrases
   where
@@ -58,22 +61,30 @@ module _ {A B : Type 0} (f : A → B) where
   mapped_filing (Start file key phrases) = Start file key (mapped_phrases phrases)
 
   abbrev IsMapped : Place → FileStatement A → Type 0
-  IsMapped place one = (map-Statement A B f (record { place = place; verb = verb.FileStatement one })).verb ≡ verb.FileStatement (mapped_filing one)
+  IsMapped place one = (map-Statement A B f (record { place = place; verb = verb.FileStatement one })).verb
+      ≡ verb.FileStatement (mapped_filing one)
 
   -- where the statements in it are mapped
-  pub filing_mapped : (place : Place) (one : FileStatement A) → (map-Statement A B f (record { place = place; verb = verb.FileStatement one })).verb ≡ verb.FileStatement (mapped_filing one)
+  pub filing_mapped : (place : Place) (one : FileStatement A)
+      → (map-Statement A B f (record { place = place; verb = verb.FileStatement one })).verb ≡ verb.FileStatement
+      (mapped_filing one)
   filing_mapped place (Open all) = refl
   filing_mapped place (Close all) = refl
   filing_mapped place (Read file next into key phrases) =
-      by_form (λ p. IsMapped place (Read file next into key p)) refl refl (λ x. refl) (λ y. refl) (λ x y. refl) refl (λ x. refl) (λ y. refl) (λ x y. refl) phrases
+      by_form (λ p. IsMapped place (Read file next into key p)) refl refl (λ x. refl) (λ y. refl) (λ x y. refl) refl
+      (λ x. refl) (λ y. refl) (λ x y. refl) phrases
   filing_mapped place (Write one from phrases) =
-      by_form (λ p. IsMapped place (Write one from p)) refl refl (λ x. refl) (λ y. refl) (λ x y. refl) refl (λ x. refl) (λ y. refl) (λ x y. refl) phrases
+      by_form (λ p. IsMapped place (Write one from p)) refl refl (λ x. refl) (λ y. refl) (λ x y. refl) refl (λ x. refl)
+      (λ y. refl) (λ x y. refl) phrases
   filing_mapped place (Rewrite one from phrases) =
-      by_form (λ p. IsMapped place (Rewrite one from p)) refl refl (λ x. refl) (λ y. refl) (λ x y. refl) refl (λ x. refl) (λ y. refl) (λ x y. refl) phrases
+      by_form (λ p. IsMapped place (Rewrite one from p)) refl refl (λ x. refl) (λ y. refl) (λ x y. refl) refl
+      (λ x. refl) (λ y. refl) (λ x y. refl) phrases
   filing_mapped place (Delete file phrases) =
-      by_form (λ p. IsMapped place (Delete file p)) refl refl (λ x. refl) (λ y. refl) (λ x y. refl) refl (λ x. refl) (λ y. refl) (λ x y. refl) phrases
+      by_form (λ p. IsMapped place (Delete file p)) refl refl (λ x. refl) (λ y. refl) (λ x y. refl) refl (λ x. refl)
+      (λ y. refl) (λ x y. refl) phrases
   filing_mapped place (Start file key phrases) =
-      by_form (λ p. IsMapped place (Start file key p)) refl refl (λ x. refl) (λ y. refl) (λ x y. refl) refl (λ x. refl) (λ y. refl) (λ x y. refl) phrases
+      by_form (λ p. IsMapped place (Start file key p)) refl refl (λ x. refl) (λ y. refl) (λ x y. refl) refl (λ x. refl)
+      (λ y. refl) (λ x y. refl) phrases
 
   pub phrases_mapped : (one : FileStatement A) → phrases_of (mapped_filing one) ≡ mapped_phrases (phrases_of one)
   phrases_mapped (Open all) = refl
@@ -85,7 +96,8 @@ module _ {A B : Type 0} (f : A → B) where
   phrases_mapped (Start file key phrases) = refl
 
   -- Its own rules look at no statement in it.
-  pub own_rules_same : (items : List LocatedItem) (files : List ProgramFile) (one : FileStatement A) → filing_rules items files (mapped_filing one) ≡ filing_rules items files one
+  pub own_rules_same : (items : List LocatedItem) (files : List ProgramFile) (one : FileStatement A)
+      → filing_rules items files (mapped_filing one) ≡ filing_rules items files one
   own_rules_same items files (Open all) = refl
   own_rules_same items files (Close all) = refl
   own_rules_same items files (Read file next into key Absent) = refl

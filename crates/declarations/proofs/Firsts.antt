@@ -1,5 +1,6 @@
 -- The first of rules that are looked for in order.
-use Rattle.std.proofs.Common.{◌≡◌, ℕ, ◌<◌, ◌+◌, List, [], ◌∷◌, ◌++◌, None, Some, length, drop, get_or, refl, sym, ap, ◌∙◌, subst, add-one, drop-cons}
+use Rattle.std.proofs.Common.{◌≡◌, ℕ, ◌<◌, ◌+◌, List, [], ◌∷◌, ◌++◌, None, Some, length, drop, get_or, refl, sym, ap}
+use Rattle.std.proofs.Common.{◌∙◌, subst, add-one, drop-cons}
 use Rattle.std.specs.Prelude.{Option, Result, Ok, Err}
 use Rattle.source_tree.specs.Broken.{RuleBreach, each}
 use Rattle.source_tree.specs.LookUp.{first}
@@ -21,19 +22,26 @@ pub right_none : (xs ys : List RuleBreach) → xs ++ ys ≡ [] → ys ≡ []
 right_none [] ys e = e
 right_none (x ∷ xs) ys e = absurd cc
 
-pub first_back : (xs ys : List RuleBreach) (one : RuleBreach) → xs ≡ [] → first ys ≡ Some one → first (xs ++ ys) ≡ Some one
+pub first_back : (xs ys : List RuleBreach) (one : RuleBreach) → xs ≡ [] → first ys ≡ Some one
+    → first (xs ++ ys) ≡ Some one
 first_back xs ys one e h = ap first (front_none xs ys e) ∙ h
 
 -- What was found of one rule is the first of all.
-pub finds_first : {A : Type 0} (result : Result A BrokenRule) (one : RuleBreach) (all : List RuleBreach) → IsFirstBreach result (one ∷ []) → first all ≡ Some one → IsFirstBreach result all
+pub finds_first : {A : Type 0} (result : Result A BrokenRule) (one : RuleBreach) (all : List RuleBreach)
+    → IsFirstBreach result (one ∷ []) → first all ≡ Some one → IsFirstBreach result all
 finds_first (Ok value) one all h e = absurd cc
 finds_first (Err broken) one all h e = e ∙ h
 
-each_at : {A : Type 0} (rules : A → List RuleBreach) (xs : List A) (i : ℕ) (d : A) → i < length xs → each rules (drop i xs) ≡ rules (get_or xs i d) ++ each rules (drop (i + 1) xs)
-each_at rules xs i d h = ap (each rules) (drop-cons xs i d h) ∙ ap (λ k. rules (get_or xs i d) ++ each rules (drop k xs)) (sym (add-one i))
+each_at : {A : Type 0} (rules : A → List RuleBreach) (xs : List A) (i : ℕ) (d : A) → i < length xs
+    → each rules (drop i xs) ≡ rules (get_or xs i d) ++ each rules (drop (i + 1) xs)
+each_at rules xs i d h =
+    ap (each rules) (drop-cons xs i d h) ∙ ap (λ k. rules (get_or xs i d) ++ each rules (drop k xs)) (sym (add-one i))
 
-pub each_found : {A : Type 0} (rules : A → List RuleBreach) (xs : List A) (i : ℕ) (d : A) (all : List RuleBreach) (one : RuleBreach) → i < length xs → all ≡ each rules (drop i xs) → first (rules (get_or xs i d)) ≡ Some one → first all ≡ Some one
-each_found rules xs i d all one h e found = ap first (e ∙ each_at rules xs i d h) ∙ first_front (rules (get_or xs i d)) (each rules (drop (i + 1) xs)) one found
+pub each_found : {A : Type 0} (rules : A → List RuleBreach) (xs : List A) (i : ℕ) (d : A) (all : List RuleBreach)
+    (one : RuleBreach) → i < length xs → all ≡ each rules (drop i xs) → first (rules (get_or xs i d)) ≡ Some one
+    → first all ≡ Some one
+each_found rules xs i d all one h e found =
+    ap first (e ∙ each_at rules xs i d h) ∙ first_front (rules (get_or xs i d)) (each rules (drop (i + 1) xs)) one found
 
 -- What the rules in front tell is told of all.
 pub is_first_front : (fault : Option RuleBreach) (xs ys : List RuleBreach) → IsFirst fault xs → IsFirst fault (xs ++ ys)
@@ -41,7 +49,8 @@ is_first_front None xs ys h = tt
 is_first_front (Some one) xs ys h = first_front xs ys one h
 
 -- What is looked for behind rules that are kept is the first of all.
-pub is_first_behind : (fault : Option RuleBreach) (xs ys : List RuleBreach) → xs ≡ [] → IsFirst fault ys → IsFirst fault (xs ++ ys)
+pub is_first_behind : (fault : Option RuleBreach) (xs ys : List RuleBreach) → xs ≡ [] → IsFirst fault ys
+    → IsFirst fault (xs ++ ys)
 is_first_behind fault xs ys e h = subst (IsFirst fault) (sym (front_none xs ys e)) h
 
 pub both_none : {A : Type 0} (xs ys : List A) → xs ≡ [] → ys ≡ [] → xs ++ ys ≡ []

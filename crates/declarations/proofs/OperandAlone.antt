@@ -9,10 +9,14 @@ use Rattle.source_tree.specs.declared.expression.Expression.TheOpen.{Expression-
 use Rattle.source_tree.specs.Conditions.{alone}
 
 pub alone_operand : (one : Operand) → alone (out-Expression (expression.Operand one)) ≡ Some one
-alone_operand one = ap (λ (e : Expression). alone (out-Expression e)) (sym (rolls-Operand one)) ∙ ap alone (out-roll-Expression (Expression-F.Operand one))
+alone_operand one = ap (λ (e : Expression). alone (out-Expression e)) (sym (rolls-Operand one))
+    ∙ ap alone (out-roll-Expression (Expression-F.Operand one))
 
 pub alone_negated : (inner : Expression) → alone (out-Expression (expression.Negated inner)) ≡ None
-alone_negated inner = ap (λ (e : Expression). alone (out-Expression e)) (sym (rolls-Negated inner)) ∙ ap alone (out-roll-Expression (Expression-F.Negated inner))
+alone_negated inner = ap (λ (e : Expression). alone (out-Expression e)) (sym (rolls-Negated inner))
+    ∙ ap alone (out-roll-Expression (Expression-F.Negated inner))
 
-pub alone_chain : (one : Expression) (more : List (Operator × Expression)) → alone (out-Expression (expression.Chain one more)) ≡ None
-alone_chain one more = ap (λ (e : Expression). alone (out-Expression e)) (sym (rolls-Chain one more)) ∙ ap alone (out-roll-Expression (Expression-F.Chain one more))
+pub alone_chain : (one : Expression) (more : List (Operator × Expression))
+    → alone (out-Expression (expression.Chain one more)) ≡ None
+alone_chain one more = ap (λ (e : Expression). alone (out-Expression e)) (sym (rolls-Chain one more))
+    ∙ ap alone (out-roll-Expression (Expression-F.Chain one more))

@@ -59,7 +59,8 @@ impl<'a> Declarations<'a> {
         requires files { program_file_rules (items_of items) items.program.now ≡ [] }
         ensures declared { IfOk result IsDeclared }
         ensures program { IfOk result (Declares items.entry.program.now) }
-        ensures names { IsFirstFault result (procedure_name_rules items.entry.program.now.sections) }
+        ensures names { IsFirstFault result
+            (procedure_name_rules items.entry.program.now.sections) }
     {
         let DeclaredItems {
             program,
@@ -90,7 +91,8 @@ impl<'a> Declarations<'a> {
     /// The item that a name names: rule 40 where there is none, 41 where there are several.
     pub fn item_named(&self, name: &QualifiedName) -> Result<&PlacedItem, BrokenRule>
         requires { IsDeclared self.now }
-        ensures { IsItemNamed name.now.name.place (spec.result_now result) (items_named (items_in self.now) name.now) }
+        ensures { IsItemNamed name.now.name.place (spec.result_now result)
+            (items_named (items_in self.now) name.now) }
     {
         let number = item_number(&self.names, name)?;
         Ok(&self.layout.items.as_slice()[number])
@@ -99,7 +101,8 @@ impl<'a> Declarations<'a> {
     /// The number of the item that a name names, and the item: rule 40 where there is none, 41 where there are several.
     pub fn numbered_item(&self, name: &QualifiedName) -> Result<(usize, &PlacedItem), BrokenRule>
         requires { IsDeclared self.now }
-        ensures { IsNumberedItem (items_in self.now) (calls_in self.now.names) name.now.name.place result (items_named (items_in self.now) name.now) }
+        ensures { IsNumberedItem (items_in self.now) (calls_in self.now.names) name.now.name.place
+            result (items_named (items_in self.now) name.now) }
     {
         let number = item_number(&self.names, name)?;
         Ok((number, &self.layout.items.as_slice()[number]))

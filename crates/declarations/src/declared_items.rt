@@ -42,7 +42,8 @@ impl<'a> DeclaredItems<'a> {
         ensures program { IfOk result (λ all. all.program.now ≡ program.now) }
         ensures rules { IsFirstFault result (declaring.item_rules program.now) }
         ensures storage { OnOk result (entry_rules program.now.storage ≡ []) }
-        ensures files { OnOk result (program_file_rules (program_items program.now) program.now ≡ []) }
+        ensures files { OnOk result
+            (program_file_rules (program_items program.now) program.now ≡ []) }
     {
         let lengths = data_rules(alloc, program)?;
         let items = DeclaredItems::of(alloc, program)?;
@@ -70,7 +71,8 @@ impl<'a> DeclaredItems<'a> {
     /// The item that a name names: rule 40 where there is none, 41 where there are several.
     pub(crate) fn item_named(&self, name: &QualifiedName) -> Result<&PlacedItem, BrokenRule>
         requires { AreDeclared self.now }
-        ensures { IsItemNamed name.now.name.place (spec.result_now result) (items_named (spec.items_of self.now) name.now) }
+        ensures { IsItemNamed name.now.name.place (spec.result_now result)
+            (items_named (spec.items_of self.now) name.now) }
     {
         let number = item_number(&self.names, name)?;
         Ok(&self.layout.items.as_slice()[number])
@@ -80,7 +82,8 @@ impl<'a> DeclaredItems<'a> {
 /// The number of the item that a name names: rule 40 where there is none, 41 where there are several.
 pub(crate) fn item_number(names: &NameTable<'_>, name: &QualifiedName) -> Result<usize, BrokenRule>
     requires { IsTable names.now }
-    ensures { (items : List LocatedItem) → calls_in names.now ≡ map called_item items → IsNumbered items name.now.name.place result (items_named items name.now) }
+    ensures { (items : List LocatedItem) → calls_in names.now ≡ map called_item items
+        → IsNumbered items name.now.name.place result (items_named items name.now) }
 {
     name_table::items_named();
     let place = name.name.place;

@@ -16,7 +16,8 @@ const MOST_FILES: usize = 15;
 
 /// The names of a program's files.
 pub(crate) fn file_name_rules(alloc: Global, program: &Program) -> Result<(), CheckError>
-    ensures { IsFirstFault result (spec.file_name_rules (spec.select_names program.now.selects) (spec.description_names program.now.files)) }
+    ensures { IsFirstFault result (spec.file_name_rules (spec.select_names program.now.selects)
+        (spec.description_names program.now.files)) }
 {
     let selected = select_names(alloc, program.selects.as_slice())?;
     let described = description_names(alloc, program.files.as_slice())?;
@@ -38,7 +39,8 @@ fn description_names(
     alloc: Global,
     descriptions: &[FileDescription],
 ) -> Result<Vec<&Name>, AllocError>
-    ensures { IfOk result (λ names. names_of names.items ≡ spec.description_names descriptions.now) }
+    ensures { IfOk result
+        (λ names. names_of names.items ≡ spec.description_names descriptions.now) }
 {
     let mut names = Vec::new(alloc);
     for one in descriptions {
@@ -60,7 +62,8 @@ fn is_among(name: &Name, others: &[&Name]) -> bool
 
 /// There are no more files than may be.
 fn count_rules(names: &[&Name]) -> Result<(), BrokenRule>
-    ensures { IsFirstBreach result (each (spec.broken_at 69) (drop spec.most_files (names_of names.now))) }
+    ensures { IsFirstBreach result
+        (each (spec.broken_at 69) (drop spec.most_files (names_of names.now))) }
 {
     match names.get(MOST_FILES) {
         Some(one) => Rule::Limit.broken_if(true, one.place),
@@ -81,7 +84,8 @@ fn once_rules(names: &[&Name]) -> Result<(), BrokenRule>
 
 /// Each name is among the others.
 fn matched_rules(names: &[&Name], others: &[&Name]) -> Result<(), BrokenRule>
-    ensures { IsFirstBreach result (each (spec.broken_match_rule (names_of others.now)) (names_of names.now)) }
+    ensures { IsFirstBreach result
+        (each (spec.broken_match_rule (names_of others.now)) (names_of names.now)) }
 {
     for one in names {
         Rule::UnmatchedFile.broken_if(!is_among(one, others), one.place)?;
@@ -91,7 +95,8 @@ fn matched_rules(names: &[&Name], others: &[&Name]) -> Result<(), BrokenRule>
 
 /// The names of SELECTs and of FDs.
 fn name_rules(selected: &[&Name], described: &[&Name]) -> Result<(), BrokenRule>
-    ensures { IsFirstBreach result (spec.file_name_rules (names_of selected.now) (names_of described.now)) }
+    ensures { IsFirstBreach result
+        (spec.file_name_rules (names_of selected.now) (names_of described.now)) }
 {
     count_rules(selected)?;
     once_rules(selected)?;

@@ -23,7 +23,8 @@ impl<'a> Declarations<'a> {
     /// The item of the condition name that a name names: rule 40 where there is none, 41 where there are several.
     pub fn condition_named(&self, name: &QualifiedName) -> Result<&PlacedItem, BrokenRule>
         requires { IsDeclared self.now }
-        ensures { IsConditionNamed name.now.name.place (result_now result) (conditions_named (items_in self.now) name.now) }
+        ensures { IsConditionNamed name.now.name.place (result_now result)
+            (conditions_named (items_in self.now) name.now) }
     {
         name_table::conditions_named();
         let place = name.name.place;

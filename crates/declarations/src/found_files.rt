@@ -14,7 +14,8 @@ impl<'a> Declarations<'a> {
     /// The file of that name.
     pub fn file_named(&self, name: &Name) -> Result<&ProgramFile<'a>, BrokenRule>
         requires { IsDeclared self.now }
-        ensures { IsFileFound (items_in self.now) name.now.place result (files_named (files_in self.now) name.now) }
+        ensures { IsFileFound (items_in self.now) name.now.place result
+            (files_named (files_in self.now) name.now) }
     {
         name_table::files_named_once();
         match self.files.file_named(name) {
@@ -29,7 +30,8 @@ impl<'a> Declarations<'a> {
     /// The file whose records have that area, where one of them is named at that place.
     pub fn file_with(&self, place: Place, area: u32) -> Result<&ProgramFile<'a>, BrokenRule>
         requires { IsDeclared self.now }
-        ensures { IsFileFound (items_in self.now) place result (files_with (files_in self.now) area) }
+        ensures { IsFileFound (items_in self.now) place result
+            (files_with (files_in self.now) area) }
     {
         let mut found = None;
         for file in &self.files.files {

@@ -65,7 +65,8 @@ fn is_one_of(offset: u32, before: &[u32]) -> bool
 
 /// It is the item of a key of that file, of which these are the first bytes of the keys before it.
 fn is_key(there: RecordArea<'_>, before: &[u32], reference: &Reference, one: &PlacedItem) -> bool
-    ensures { result ≡ selecting.is_key_item (selecting.described_of there.entry) before.now reference.now one.now }
+    ensures { result ≡ selecting.is_key_item (selecting.described_of there.entry) before.now
+        reference.now one.now }
 {
     let end = u64::from(one.offset) + u64::from(one.item.length);
     is_plain(reference, one)
@@ -83,8 +84,10 @@ impl<'a> DeclaredItems<'a> {
         key: &Reference,
     ) -> Result<u32, BrokenRule>
         requires { AreDeclared self.now }
-        ensures rules { IsFirstBreach result (spec.clause_item (items_of self.now) (spec.key_item (selecting.described_of there.entry) before.now) key.now) }
-        ensures offset { IfOk result (λ offset. offset ≡ (key_place (items_of self.now) key.now).offset) }
+        ensures rules { IsFirstBreach result (spec.clause_item (items_of self.now)
+            (spec.key_item (selecting.described_of there.entry) before.now) key.now) }
+        ensures offset { IfOk result
+            (λ offset. offset ≡ (key_place (items_of self.now) key.now).offset) }
     {
         let place = key.item.name.place;
         let found = self.item_named(&key.item)?;
@@ -101,7 +104,8 @@ impl<'a> DeclaredItems<'a> {
         key: &Reference,
     ) -> Result<(), BrokenRule>
         requires { AreDeclared self.now }
-        ensures { IsFirstBreach result (spec.clause_item (items_of self.now) (spec.relative_item (selecting.described_of there.entry)) key.now) }
+        ensures { IsFirstBreach result (spec.clause_item (items_of self.now)
+            (spec.relative_item (selecting.described_of there.entry)) key.now) }
     {
         let found = self.item_named(&key.item)?;
         let is_number = is_plain(key, found)
@@ -117,7 +121,8 @@ impl<'a> DeclaredItems<'a> {
         status: &Option<Reference>,
     ) -> Result<(), BrokenRule>
         requires { AreDeclared self.now }
-        ensures { IsFirstBreach result (spec.in_clause (spec.clause_item (items_of self.now) (spec.status_item areas)) status.now) }
+        ensures { IsFirstBreach result (spec.in_clause
+            (spec.clause_item (items_of self.now) (spec.status_item areas)) status.now) }
     {
         let Some(one) = status else {
             return Ok(());

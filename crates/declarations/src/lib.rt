@@ -10,10 +10,10 @@ mod found_conditions;
 mod found_files;
 mod keys;
 mod listed;
-mod resolved;
 mod procedures;
 mod record_area;
 mod record_entries;
+mod resolved;
 mod selects;
 
 pub use alone::operand_alone;
@@ -21,4 +21,4 @@ pub use checked::Checked;
 pub use declarations::Declarations;
 pub use keys::is_plain;
 pub use listed::Procedure;
-pub use resolved::{AskedCondition, ResolvedObject, ResolvedSubject, Question, ObjectRange};
+pub use resolved::{AskedCondition, ObjectRange, Question, ResolvedObject, ResolvedSubject};

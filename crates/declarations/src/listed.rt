@@ -23,7 +23,8 @@ fn list_paragraphs<'a>(
     out: &mut Vec<Procedure<'a>>,
 ) -> Result<(), AllocError>
     requires { first + length paragraphs.now < 2 ^ 64 }
-    ensures { OnOk result (map procedure_of out.new.items ≡ map procedure_of out.old.items ++ paragraph_procedures first paragraphs.now) }
+    ensures { OnOk result (map procedure_of out.new.items
+        ≡ map procedure_of out.old.items ++ paragraph_procedures first paragraphs.now) }
 {
     for (i, paragraph) in paragraphs.iter().enumerate() {
         let number = first + i;
@@ -44,7 +45,8 @@ fn list_some<'a>(
     out: &mut Vec<Procedure<'a>>,
 ) -> Result<(), AllocError>
     requires { first + length (paragraphs_or_one paragraphs.now) < 2 ^ 64 }
-    ensures { OnOk result (map procedure_of out.new.items ≡ map procedure_of out.old.items ++ paragraph_procedures first (paragraphs_or_one paragraphs.now)) }
+    ensures { OnOk result (map procedure_of out.new.items ≡ map procedure_of out.old.items
+        ++ paragraph_procedures first (paragraphs_or_one paragraphs.now)) }
 {
     match paragraphs {
         [] => {
@@ -62,8 +64,10 @@ fn list_section<'a>(
     first: usize,
     out: &mut Vec<Procedure<'a>>,
 ) -> Result<usize, AllocError>
-    ensures next { IfOk result (λ next. next ≡ first + length (paragraphs_or_one section.now.paragraphs)) }
-    ensures listed { OnOk result (map procedure_of out.new.items ≡ map procedure_of out.old.items ++ section_procedures first section.now) }
+    ensures next { IfOk result
+        (λ next. next ≡ first + length (paragraphs_or_one section.now.paragraphs)) }
+    ensures listed { OnOk result (map procedure_of out.new.items
+        ≡ map procedure_of out.old.items ++ section_procedures first section.now) }
 {
     let paragraphs = section.paragraphs.as_slice();
     let Some(next) = first.checked_add(paragraphs.len().max(1)) else {

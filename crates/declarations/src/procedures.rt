@@ -35,8 +35,10 @@ impl<'a> Declarations<'a> {
     /// The paragraphs of the procedure of that name: rule 40 where there is none.
     pub fn procedure_named(&self, name: &Name) -> Result<ParagraphRange, BrokenRule>
         requires { IsDeclared self.now }
-        ensures rules { IsFirstBreach result (spec.procedure_named (procedures_in self.now) name.now) }
-        ensures range { IfOk result (λ range. range_named (procedures_in self.now) name.now ≡ Some (range_at range)) }
+        ensures rules { IsFirstBreach result
+            (spec.procedure_named (procedures_in self.now) name.now) }
+        ensures range { IfOk result
+            (λ range. range_named (procedures_in self.now) name.now ≡ Some (range_at range)) }
     {
         match self.procedures.range_named(name) {
             Some(range) => Ok(range),

@@ -19,7 +19,8 @@ const INDEPENDENT: u32 = 77;
 impl<'a> Declarations<'a> {
     /// The item of that number is a record of a file, or one that stands by itself.
     pub fn is_record(&self, number: usize) -> bool
-        ensures { (one : LocatedItem) → slice_get (items_in self.now) number ≡ Some one → result ≡ (level_of one.entry == 1) }
+        ensures { (one : LocatedItem) → slice_get (items_in self.now) number ≡ Some one
+            → result ≡ (level_of one.entry == 1) }
     {
         let behind = match item_among(self.storage, number) {
             Ok(one) => return is_outermost(one),

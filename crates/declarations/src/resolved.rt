@@ -86,8 +86,10 @@ fn item_alone(one: &Side) -> Option<&Reference>
 
 /// What an object asks of its subject, when both are looked up.
 fn question_of<'a>(subject: ResolvedSubject<'a>, object: ResolvedObject<'a>) -> Question<'a>
-    ensures asked { spec.question_meant result ≡ spec.optional_condition (spec.subject_meant subject.entry) (spec.object_meant object.entry) }
-    ensures fit { spec.is_fit result ≡ spec.fits_optional (spec.subject_meant subject.entry) (spec.object_meant object.entry) }
+    ensures asked { spec.question_meant result ≡ spec.optional_condition
+        (spec.subject_meant subject.entry) (spec.object_meant object.entry) }
+    ensures fit { spec.is_fit result
+        ≡ spec.fits_optional (spec.subject_meant subject.entry) (spec.object_meant object.entry) }
 {
     match (subject, object) {
         (_, ResolvedObject::Any) => Question::Nothing,
@@ -95,8 +97,12 @@ fn question_of<'a>(subject: ResolvedSubject<'a>, object: ResolvedObject<'a>) -> 
             Question::Within { value, wanted }
         }
         (ResolvedSubject::Truth(one), ResolvedObject::Truth(other)) => Question::Truths(one, other),
-        (ResolvedSubject::Truth(truth), ResolvedObject::Condition(one)) => Question::Told(truth, one),
-        (ResolvedSubject::Condition(one), ResolvedObject::Truth(truth)) => Question::Told(truth, one),
+        (ResolvedSubject::Truth(truth), ResolvedObject::Condition(one)) => Question::Told(
+            truth, one,
+        ),
+        (ResolvedSubject::Condition(one), ResolvedObject::Truth(truth)) => Question::Told(
+            truth, one,
+        ),
         (ResolvedSubject::Condition(one), ResolvedObject::Condition(other)) => {
             Question::Alike(one, other)
         }
@@ -121,7 +127,8 @@ impl<'a> Declarations<'a> {
     /// The condition name that a side is, if it is one alone.
     fn condition_alone<'b>(&self, one: &'b Side) -> Option<&'b Reference>
         requires { IsDeclared self.now }
-        ensures { option_copied result ≡ spec.condition_alone (items_in self.now) (conditions.alone_side one.now) }
+        ensures { option_copied result
+            ≡ spec.condition_alone (items_in self.now) (conditions.alone_side one.now) }
     {
         match item_alone(one) {
             Some(reference) if self.is_condition(&reference.item) => Some(reference),
@@ -154,7 +161,8 @@ impl<'a> Declarations<'a> {
     #[tactic(auto, using(crate::proofs::Looking::operand_is))]
     fn resolved_values<'b>(&self, one: ObjectRange<'b>) -> ResolvedObject<'b>
         requires { IsDeclared self.now }
-        ensures { spec.object_meant result ≡ spec.optional_values (items_in self.now) (spec.values_meant one.entry) }
+        ensures { spec.object_meant result
+            ≡ spec.optional_values (items_in self.now) (spec.values_meant one.entry) }
     {
         match (one.last, self.condition_alone(one.first)) {
             (None, Some(reference)) => ResolvedObject::Condition(AskedCondition::Name {
@@ -192,7 +200,8 @@ impl<'a> Declarations<'a> {
     #[tactic(auto, using(crate::proofs::Looking::asked_is, crate::proofs::Looking::fits_is))]
     pub fn question<'b>(&self, subject: &'b Subject, choice: &'b Choice) -> Question<'b>
         requires { IsDeclared self.now }
-        ensures asked { spec.question_meant result ≡ tree.selection_condition (items_in self.now) subject.now choice.now }
+        ensures asked { spec.question_meant result
+            ≡ tree.selection_condition (items_in self.now) subject.now choice.now }
         ensures fit { spec.is_fit result ≡ tree.fits (items_in self.now) subject.now choice.now }
     {
         question_of(self.resolved_subject(subject), self.resolved_object(choice))

@@ -34,7 +34,8 @@ impl<'a> DeclaredItems<'a> {
     /// With random or dynamic access a relative file has RELATIVE KEY.
     fn relative_rules(&self, there: RecordArea<'_>, one: &Select) -> Result<(), BrokenRule>
         requires { AreDeclared self.now }
-        ensures { IsFirstBreach result (spec.relative_rules (items_of self.now) (selecting.described_of there.entry) one.now one.now.relative_key) }
+        ensures { IsFirstBreach result (spec.relative_rules (items_of self.now)
+            (selecting.described_of there.entry) one.now one.now.relative_key) }
     {
         match &one.relative_key {
             None => Rule::RelativeKey.broken_if(!is_sequential(one.access), one.name.place),
@@ -45,7 +46,8 @@ impl<'a> DeclaredItems<'a> {
     /// A relative file has no other keys.
     fn relative_file_rules(&self, there: RecordArea<'_>, one: &Select) -> Result<(), BrokenRule>
         requires { AreDeclared self.now }
-        ensures { IsFirstBreach result (selecting.relative_file_rules (items_of self.now) (selecting.described_of there.entry) one.now) }
+        ensures { IsFirstBreach result (selecting.relative_file_rules (items_of self.now)
+            (selecting.described_of there.entry) one.now) }
     {
         self.relative_rules(there, one)?;
         other_clause_rules(&one.record_key)?;
@@ -61,7 +63,8 @@ impl<'a> DeclaredItems<'a> {
         all: &[AlternateKeyClause],
     ) -> Result<(), CheckError>
         requires { AreDeclared self.now }
-        ensures { IsFirstFault result (spec.alternate_rules (items_of self.now) (selecting.described_of there.entry) (first ∷ []) all.now) }
+        ensures { IsFirstFault result (spec.alternate_rules (items_of self.now)
+            (selecting.described_of there.entry) (first ∷ []) all.now) }
     {
         let mut before = Vec::new(alloc);
         before.push(first)?;
@@ -81,7 +84,8 @@ impl<'a> DeclaredItems<'a> {
         alternates: &[AlternateKeyClause],
     ) -> Result<(), CheckError>
         requires { AreDeclared self.now }
-        ensures { IsFirstFault result (selecting.keys_rules (items_of self.now) (selecting.described_of there.entry) prime.now alternates.now) }
+        ensures { IsFirstFault result (selecting.keys_rules (items_of self.now)
+            (selecting.described_of there.entry) prime.now alternates.now) }
     {
         let first = self.key_rules(there, &[], prime)?;
         self.alternates_rules(alloc, there, first, alternates)
@@ -95,7 +99,9 @@ impl<'a> DeclaredItems<'a> {
         one: &Select,
     ) -> Result<(), CheckError>
         requires { AreDeclared self.now }
-        ensures { IsFirstFault result (spec.indexed_rules (items_of self.now) (selecting.described_of there.entry) one.now.name one.now.record_key one.now.alternate_keys) }
+        ensures { IsFirstFault
+            result (spec.indexed_rules (items_of self.now) (selecting.described_of there.entry)
+            one.now.name one.now.record_key one.now.alternate_keys) }
     {
         match &one.record_key {
             None => Ok(Rule::FileKey.broken_if(true, one.name.place)?),
@@ -111,7 +117,8 @@ impl<'a> DeclaredItems<'a> {
         one: &Select,
     ) -> Result<(), CheckError>
         requires { AreDeclared self.now }
-        ensures { IsFirstFault result (selecting.indexed_file_rules (items_of self.now) (selecting.described_of there.entry) one.now) }
+        ensures { IsFirstFault result (selecting.indexed_file_rules (items_of self.now)
+            (selecting.described_of there.entry) one.now) }
     {
         other_clause_rules(&one.relative_key)?;
         self.indexed_rules(alloc, there, one)
@@ -125,7 +132,8 @@ impl<'a> DeclaredItems<'a> {
         one: &Select,
     ) -> Result<(), CheckError>
         requires { AreDeclared self.now }
-        ensures { IsFirstFault result (spec.organization_rules (items_of self.now) (selecting.described_of there.entry) one.now.organization one.now) }
+        ensures { IsFirstFault result (spec.organization_rules (items_of self.now)
+            (selecting.described_of there.entry) one.now.organization one.now) }
     {
         match one.organization {
             OrganizationClause::Sequential => Ok(sequential_rules(one)?),
@@ -152,7 +160,8 @@ impl<'a> DeclaredItems<'a> {
         one: &Select,
     ) -> Result<(), CheckError>
         requires { AreDeclared self.now }
-        ensures { IsFirstFault result (selecting.select_rules_in (items_of self.now) areas (selecting.described_of there.entry) one.now) }
+        ensures { IsFirstFault result (selecting.select_rules_in (items_of self.now) areas
+            (selecting.described_of there.entry) one.now) }
     {
         let assigned = &one.assigned;
         Rule::AssignedName.broken_if(!is_name(assigned.characters.as_slice()), assigned.place)?;
@@ -165,9 +174,12 @@ impl<'a> DeclaredItems<'a> {
     pub(crate) fn selects_rules(&self, alloc: Global, lengths: &[u32]) -> Result<(), CheckError>
         requires declared { AreDeclared self.now }
         requires storage { entry_rules self.now.program.now.storage ≡ [] }
-        requires files { spec.descriptions_rules self.now.program.now.storage self.now.program.now.files ≡ [] }
+        requires files { spec.descriptions_rules self.now.program.now.storage
+            self.now.program.now.files ≡ [] }
         requires lengths { lengths.now ≡ map length_of self.now.program.now.files }
-        ensures { IsFirstFault result (each (spec.select_rules (items_of self.now) (storage_areas self.now.program.now.storage) self.now.program.now.files) self.now.program.now.selects) }
+        ensures { IsFirstFault result (each (spec.select_rules (items_of self.now)
+            (storage_areas self.now.program.now.storage) self.now.program.now.files)
+            self.now.program.now.selects) }
     {
         let areas = storage_areas(self.program.storage.as_slice());
         let descriptions = self.program.files.as_slice();

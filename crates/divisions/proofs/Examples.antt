@@ -69,17 +69,24 @@ main_para = 77 ∷ 65 ∷ 73 ∷ 78 ∷ 45 ∷ 80 ∷ 65 ∷ 82 ∷ 65 ∷ []
 -- every step of reading, so that a program's tree is computed
 unfoldable computing : Unit {0}
 unfolding
-    same_word read.after_word read.past_word read.expect read.left_out read.period read.heading_reader read.end_reader read.here read.one_token read.name
+    same_word read.after_word read.past_word read.expect read.left_out read.period read.heading_reader read.end_reader
+    read.here read.one_token read.name
     read.several_from read.several read.any
-    literals.literal_reader subscripts.integer_reader subscripts.qualified_reader references.subscripts_reader references.reference_reader operands.literal_operand_reader operands.operand_reader
+    literals.literal_reader subscripts.integer_reader subscripts.qualified_reader references.subscripts_reader
+    references.reference_reader operands.literal_operand_reader operands.operand_reader
     display_rule.after_no_advancing display_rule.display_reader exiting_rule.exit_reader stop_run_rule.stop_run_reader
-    performing_rule.perform_reader performing_rule.procedures_reader performing_rule.through_name_reader performing_rule.through_reader
+    performing_rule.perform_reader performing_rule.procedures_reader performing_rule.through_name_reader
+    performing_rule.through_reader
     performing_rule.in_line_reader turning_rule.turns_reader turning_rule.times_reader turning_rule.counted_reader
     statements.statements statements.verb statements.line statements.statement statements.sentence
-    environment.configuration_reader environment.environment_sections_reader environment.environment_reader selects.input_output_reader
-    files.file_section_reader division.working_storage_reader division.sections_reader division.data_division_reader forms.first_formless
-    r.program r.identification r.procedure r.all_sections r.outer_body r.after_body r.sections_after r.sections r.section r.section_paragraphs
-    r.body r.first_paragraphs_reader r.sentences r.any_sentences r.paragraph r.paragraphs r.any_paragraphs r.optional_end_reader
+    environment.configuration_reader environment.environment_sections_reader environment.environment_reader
+    selects.input_output_reader
+    files.file_section_reader division.working_storage_reader division.sections_reader division.data_division_reader
+    forms.first_formless
+    r.program r.identification r.procedure r.all_sections r.outer_body r.after_body r.sections_after r.sections
+    r.section r.section_paragraphs
+    r.body r.first_paragraphs_reader r.sentences r.any_sentences r.paragraph r.paragraphs r.any_paragraphs
+    r.optional_end_reader
 computing = tt
 
 -- the six lines of HELLO
@@ -120,7 +127,8 @@ section_after_sentences = refl
 
 -- a section after a paragraph that belongs to none: at its name
 section_after_a_paragraph :
-    parse_of (identified (letter 4 8 80 ∷ period 4 9 ∷ section_tokens 5 81)) ≡ Err (record { kind = UnexpectedToken; place = place 5 8 })
+    parse_of (identified (letter 4 8 80 ∷ period 4 9 ∷ section_tokens 5 81))
+    ≡ Err (record { kind = UnexpectedToken; place = place 5 8 })
 unfolding computing
 section_after_a_paragraph = refl
 
@@ -131,7 +139,8 @@ statement line column one = roll-Statement (record { place = place line column; 
 
 -- PERFORM 2 TIMES PERFORM P THRU Q EXIT END-PERFORM STOP RUN.
 nested_statements :
-    parse_of (identified (word 4 12 w.Perform ∷ at 4 20 (k.Numeric (record { sign = sign.Unsigned; whole = 50 ∷ []; decimals = [] })) ∷ word 4 22 w.Times
+    parse_of (identified (word 4 12 w.Perform
+    ∷ at 4 20 (k.Numeric (record { sign = sign.Unsigned; whole = 50 ∷ []; decimals = [] })) ∷ word 4 22 w.Times
     ∷ word 5 16 w.Perform ∷ letter 5 24 80 ∷ word 5 26 w.Thru ∷ letter 5 31 81
     ∷ word 6 16 w.Exit ∷ word 7 12 w.EndPerform
     ∷ stop_tokens 8))
@@ -142,7 +151,8 @@ nested_statements :
           statements =
               statement 4 12 (verb.PerformStatement (record {
                 performed = Statements (
-                    statement 5 16 (verb.PerformStatement (record { performed = Procedures (named 5 24 80) (Some (named 5 31 81)); turns = Once }))
+                    statement 5 16 (verb.PerformStatement
+                    (record { performed = Procedures (named 5 24 80) (Some (named 5 31 81)); turns = Once }))
                     ∷ statement 6 16 (verb.ControlStatement ending.Exit) ∷ []);
                 turns = Times (record { digits = 50 ∷ []; place = place 4 20 });
               }))

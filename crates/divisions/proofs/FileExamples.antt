@@ -50,22 +50,26 @@ use Rattle.divisions.proofs.Examples.{place, at, word, period, stop_tokens, lett
 -- every step of reading, so that a program's tree is computed
 unfoldable computing : Unit {0}
 unfolding
-    same_word read.after_word read.past_word read.expect read.skip read.presence_reader read.period read.heading_reader read.end_reader read.here read.one_token read.name
+    same_word read.after_word read.past_word read.expect read.skip read.presence_reader read.period read.heading_reader
+    read.end_reader read.here read.one_token read.name
     read.several_from read.several read.any phrases.two_sided_reader phrases.phrase_reader
     subscripts.integer_reader subscripts.qualified_reader references.subscripts_reader references.reference_reader
     operands.item_reader operands.number_literal_reader operands.number_operand_reader
-    receivers_rule.numbers_reader receivers_rule.receiver_reader receivers_rule.receivers_reader receivers_rule.receivers_alone_reader receivers_rule.target_reader
+    receivers_rule.numbers_reader receivers_rule.receiver_reader receivers_rule.receivers_reader
+    receivers_rule.receivers_alone_reader receivers_rule.target_reader
     adding_rule.adding_to_reader adding_rule.added_reader adding_rule.add_reader arithmetic_rule.arithmetic_reader
     continuing_rule.continue_reader stop_run_rule.stop_run_reader
     file_phrases.key_phrases_reader file_phrases.read_phrases_reader
     filing_rule.item_after_reader filing_rule.after_key_is filing_rule.read_reader filing_rule.file_reader
     statements.statements statements.verb statements.line statements.statement statements.sentence
-    gathering.gathering_turns gathering.gathering_reader stated.stated_reader entries.given_reader entries.named_reader entries.item_reader
+    gathering.gathering_turns gathering.gathering_reader stated.stated_reader entries.given_reader entries.named_reader
+    entries.item_reader
     entries.by_level entries.entry_reader files.file_reader files.described_reader files.file_section_reader
     division.working_storage_reader division.sections_reader division.data_division_reader forms.first_formless
     selects.assigned_reader selects.select_reader selects.file_control_reader selects.input_output_reader
     environment.configuration_reader environment.environment_sections_reader environment.environment_reader
-    r.program r.identification r.procedure r.all_sections r.outer_body r.after_body r.body r.first_paragraphs_reader r.sentences r.any_paragraphs r.optional_end_reader
+    r.program r.identification r.procedure r.all_sections r.outer_body r.after_body r.body r.first_paragraphs_reader
+    r.sentences r.any_paragraphs r.optional_end_reader
 computing = tt
 
 -- 1 at a line and column
@@ -80,9 +84,12 @@ level_at line column = at line column (k.Numeric (record { sign = sign.Unsigned;
 -- DATA DIVISION. FILE SECTION. FD F. 01 A. PROCEDURE DIVISION.
 abbrev headings : List Token → List Token
 headings more =
-    word 1 8 w.Identification ∷ word 1 23 w.Division ∷ period 1 31 ∷ word 2 8 w.ProgramId ∷ period 2 18 ∷ letter 2 20 80 ∷ period 2 21
-    ∷ word 3 8 w.Environment ∷ word 3 20 w.Division ∷ period 3 28 ∷ word 4 8 w.InputOutput ∷ word 4 21 w.Section ∷ period 4 28
-    ∷ word 5 8 w.FileControl ∷ period 5 20 ∷ word 6 12 w.Select ∷ letter 6 19 70 ∷ word 6 21 w.Assign ∷ letter 6 28 88 ∷ period 6 29
+    word 1 8 w.Identification ∷ word 1 23 w.Division ∷ period 1 31 ∷ word 2 8 w.ProgramId ∷ period 2 18 ∷ letter 2 20 80
+    ∷ period 2 21
+    ∷ word 3 8 w.Environment ∷ word 3 20 w.Division ∷ period 3 28 ∷ word 4 8 w.InputOutput ∷ word 4 21 w.Section
+    ∷ period 4 28
+    ∷ word 5 8 w.FileControl ∷ period 5 20 ∷ word 6 12 w.Select ∷ letter 6 19 70 ∷ word 6 21 w.Assign ∷ letter 6 28 88
+    ∷ period 6 29
     ∷ word 7 8 w.Data ∷ word 7 13 w.Division ∷ period 7 21 ∷ word 8 8 w.File ∷ word 8 13 w.Section ∷ period 8 20
     ∷ word 9 8 w.Fd ∷ letter 9 12 70 ∷ period 9 13 ∷ level_at 10 8 ∷ letter 10 12 65 ∷ period 10 13
     ∷ word 11 8 w.Procedure ∷ word 11 18 w.Division ∷ period 11 26 ∷ more
@@ -130,12 +137,19 @@ with_file all = record {
 -- ADD 1 TO N
 abbrev add : Statement
 add = statement 13 16 (verb.Arithmetic (record {
-  operation = Add (operand.Literal (record { value = value.Numeric (record { sign = sign.Unsigned; whole = 49 ∷ []; decimals = [] }); place = place 13 20 }) ∷ [])
-      (record { item = record { item = record { name = named 13 25 78; qualifiers = [] }; subscripts = [] }; rounded = false } ∷ []);
+  operation = Add (operand.Literal (record {
+    value = value.Numeric (record { sign = sign.Unsigned; whole = 49 ∷ []; decimals = [] });
+    place = place 13 20;
+  }) ∷ [])
+      (record {
+        item = record { item = record { name = named 13 25 78; qualifiers = [] }; subscripts = [] };
+        rounded = false;
+      } ∷ []);
   phrases = neither;
 }))
 
--- READ F AT END ADD 1 TO N NOT AT END CONTINUE END-READ STOP RUN.: NOT AT END can't belong to the ADD, which is still open
+-- READ F AT END ADD 1 TO N NOT AT END CONTINUE END-READ STOP RUN.: NOT AT END can't belong to the ADD, which is still
+-- open
 not_behind_an_add :
     parse_of (headings (word 12 12 w.Read ∷ letter 12 17 70 ∷ word 12 19 w.At ∷ word 12 22 w.End
     ∷ word 13 16 w.Add ∷ one_at 13 20 ∷ word 13 22 w.To ∷ letter 13 25 78
@@ -153,6 +167,7 @@ not_behind_an_add = refl
 -- READ F STOP RUN.: without phrases they are absent
 without_phrases :
     parse_of (headings (word 12 12 w.Read ∷ letter 12 17 70 ∷ stop_tokens 13))
-    ≡ Ok (with_file (statement 12 12 (verb.FileStatement (Read (named 12 17 70) false None None Absent)) ∷ stop_run (place 13 12) ∷ []))
+    ≡ Ok (with_file
+    (statement 12 12 (verb.FileStatement (Read (named 12 17 70) false None None Absent)) ∷ stop_run (place 13 12) ∷ []))
 unfolding computing
 without_phrases = refl

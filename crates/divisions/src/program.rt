@@ -33,7 +33,8 @@ pub fn parse(alloc: Global, tokens: &[Token]) -> Result<Program, ParseError>
     // Its pictures have forms.
     ensures forms { IfOk result (λ tree. HasForms (program_entries tree)) }
     // What spells the tokens is answered, unless it nests too deep, has a picture without a form, or memory runs out.
-    ensures only { (depth : ℕ) (tree : Program) → SpellsProgram depth tree tokens.now → IsAnswer depth tree result }
+    ensures only { (depth : ℕ) (tree : Program) → SpellsProgram depth tree tokens.now
+        → IsAnswer depth tree result }
     // A picture without a form is one of a tree that spells the tokens.
     ensures formless { FormlessInTree tokens.now result }
     // The tree or the fault, with its place, is what reading gives.
@@ -48,7 +49,8 @@ pub fn parse(alloc: Global, tokens: &[Token]) -> Result<Program, ParseError>
 
 /// No tokens are spelled by two trees, however deep they nest.
 pub fn one_tree()
-    ensures { (depth depth' : ℕ) (tree tree' : Program) (tokens : List Token) → SpellsProgram depth tree tokens → SpellsProgram depth' tree' tokens → tree ≡ tree' }
+    ensures { (depth depth' : ℕ) (tree tree' : Program) (tokens : List Token)
+        → SpellsProgram depth tree tokens → SpellsProgram depth' tree' tokens → tree ≡ tree' }
 {}
 
 /// A program that is all of the tokens.

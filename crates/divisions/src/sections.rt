@@ -109,7 +109,8 @@ fn outside(
     paragraphs: Items<Paragraph>,
     more: Items<Section>,
 ) -> Result<Items<Section>, ReadFault>
-    ensures { Gives (λ (all : List Section). all) halt_of result (Ok (spec.outside paragraphs ∷ more)) }
+    ensures { Gives (λ (all : List Section). all) halt_of result
+        (Ok (spec.outside paragraphs ∷ more)) }
 {
     let mut found = Items::new(alloc);
     found.push(Section {

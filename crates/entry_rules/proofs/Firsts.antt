@@ -1,5 +1,6 @@
 -- The first of rules that are looked for in order.
-use Rattle.std.proofs.Common.{◌≡◌, ℕ, ◌<◌, ◌+◌, List, [], ◌∷◌, ◌++◌, None, Some, length, drop, get_or, refl, sym, ap, subst, ◌∙◌, add-one, drop-cons}
+use Rattle.std.proofs.Common.{◌≡◌, ℕ, ◌<◌, ◌+◌, List, [], ◌∷◌, ◌++◌, None, Some, length, drop, get_or, refl, sym, ap}
+use Rattle.std.proofs.Common.{subst, ◌∙◌, add-one, drop-cons}
 use Rattle.std.specs.Prelude.{Option}
 use Rattle.source_tree.specs.Broken.{RuleBreach, each}
 use Rattle.source_tree.specs.LookUp.{first}
@@ -31,11 +32,18 @@ none_first (x ∷ xs) e = cc
 
 -- ---- rules of each of a list, as a loop goes along it
 
-pub each_at : {A : Type 0} (rules : A → List RuleBreach) (xs : List A) (i : ℕ) (d : A) → i < length xs → each rules (drop i xs) ≡ rules (get_or xs i d) ++ each rules (drop (i + 1) xs)
-each_at rules xs i d h = ap (each rules) (drop-cons xs i d h) ∙ ap (λ k. rules (get_or xs i d) ++ each rules (drop k xs)) (sym (add-one i))
+pub each_at : {A : Type 0} (rules : A → List RuleBreach) (xs : List A) (i : ℕ) (d : A) → i < length xs
+    → each rules (drop i xs) ≡ rules (get_or xs i d) ++ each rules (drop (i + 1) xs)
+each_at rules xs i d h =
+    ap (each rules) (drop-cons xs i d h) ∙ ap (λ k. rules (get_or xs i d) ++ each rules (drop k xs)) (sym (add-one i))
 
-pub each_next : {A : Type 0} (rules : A → List RuleBreach) (xs : List A) (i : ℕ) (d : A) (all : List RuleBreach) → i < length xs → all ≡ each rules (drop i xs) → rules (get_or xs i d) ≡ [] → all ≡ each rules (drop (i + 1) xs)
-each_next rules xs i d all h e none = e ∙ each_at rules xs i d h ∙ front_none (rules (get_or xs i d)) (each rules (drop (i + 1) xs)) none
+pub each_next : {A : Type 0} (rules : A → List RuleBreach) (xs : List A) (i : ℕ) (d : A) (all : List RuleBreach)
+    → i < length xs → all ≡ each rules (drop i xs) → rules (get_or xs i d) ≡ [] → all ≡ each rules (drop (i + 1) xs)
+each_next rules xs i d all h e none =
+    e ∙ each_at rules xs i d h ∙ front_none (rules (get_or xs i d)) (each rules (drop (i + 1) xs)) none
 
-pub each_found : {A : Type 0} (rules : A → List RuleBreach) (xs : List A) (i : ℕ) (d : A) (all : List RuleBreach) (one : RuleBreach) → i < length xs → all ≡ each rules (drop i xs) → first (rules (get_or xs i d)) ≡ Some one → first all ≡ Some one
-each_found rules xs i d all one h e found = ap first (e ∙ each_at rules xs i d h) ∙ first_front (rules (get_or xs i d)) (each rules (drop (i + 1) xs)) one found
+pub each_found : {A : Type 0} (rules : A → List RuleBreach) (xs : List A) (i : ℕ) (d : A) (all : List RuleBreach)
+    (one : RuleBreach) → i < length xs → all ≡ each rules (drop i xs) → first (rules (get_or xs i d)) ≡ Some one
+    → first all ≡ Some one
+each_found rules xs i d all one h e found =
+    ap first (e ∙ each_at rules xs i d h) ∙ first_front (rules (get_or xs i d)) (each rules (drop (i + 1) xs)) one found

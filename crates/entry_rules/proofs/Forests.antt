@@ -1,5 +1,6 @@
 -- The rules of a forest whose first item is known.
-use Rattle.std.proofs.Common.{◌≡◌, ℕ, ◌+◌, ◌<◌, Bool, true, false, if◌then◌else◌, List, [], ◌++◌, None, sym, ap, subst, ◌∙◌, append_assoc}
+use Rattle.std.proofs.Common.{◌≡◌, ℕ, ◌+◌, ◌<◌, Bool, true, false, if◌then◌else◌, List, [], ◌++◌, None, sym, ap, subst}
+use Rattle.std.proofs.Common.{◌∙◌, append_assoc}
 use Rattle.std.specs.Prelude.{Option}
 use Rattle.items.specs.declared.item.Item.{Item}
 use Rattle.source_tree.specs.declared.entry.Around.{Around}
@@ -21,40 +22,58 @@ use Rattle.entry_rules.proofs.Firsts.{front_none, same_front, same_along}
 four : (a b c d : List RuleBreach) → (a ++ (b ++ c)) ++ d ≡ a ++ (b ++ (c ++ d))
 four a b c d = append_assoc a (b ++ c) d ∙ ap (λ l. a ++ l) (append_assoc b c d)
 
-pub forest_tree : (at : Position) (last : Option Redefinable) (F : Forest) (one : ItemEntry) (conditions : List ConditionEntry) (inner next : Forest) → F ≡ Tree one conditions inner next
-    → forest_rules (at_of at) last F ≡ item_rules at one conditions inner last ++ forest_rules (at_of at) (redefinable_after one (extent at.around one inner) last) next
+pub forest_tree : (at : Position) (last : Option Redefinable) (F : Forest) (one : ItemEntry)
+    (conditions : List ConditionEntry) (inner next : Forest) → F ≡ Tree one conditions inner next
+    → forest_rules (at_of at) last F ≡ item_rules at one conditions inner last
+    ++ forest_rules (at_of at) (redefinable_after one (extent at.around one inner) last) next
 forest_tree at last F one conditions inner next e =
     let item : Item = item_with at.around one inner in
     ap (forest_rules (at_of at) last) e
-    ∙ sym (four (forest_rules (below (at_of at) one inner) None inner) (own_rules (at_of at) one item inner last) (each (condition_rules item) conditions)
+    ∙ sym (four (forest_rules (below (at_of at) one inner) None inner) (own_rules (at_of at) one item inner last)
+    (each (condition_rules item) conditions)
     (forest_rules (at_of at) (redefinable_after one (extent at.around one inner) last) next))
 
-pub found_in : (at : Position) (last : Option Redefinable) (F : Forest) (one : ItemEntry) (conditions : List ConditionEntry) (inner next : Forest) (all : List RuleBreach) (o : Option RuleBreach)
-    → F ≡ Tree one conditions inner next → all ≡ forest_rules (at_of at) last F → IsFirst o (item_rules at one conditions inner last) → IsFirst o all
+pub found_in : (at : Position) (last : Option Redefinable) (F : Forest) (one : ItemEntry)
+    (conditions : List ConditionEntry) (inner next : Forest) (all : List RuleBreach) (o : Option RuleBreach)
+    → F ≡ Tree one conditions inner next → all ≡ forest_rules (at_of at) last F
+    → IsFirst o (item_rules at one conditions inner last) → IsFirst o all
 found_in at last F one conditions inner next all o e before h =
-    let rest : List RuleBreach = forest_rules (at_of at) (redefinable_after one (extent at.around one inner) last) next in
-    same_along o (item_rules at one conditions inner last ++ rest) all (before ∙ forest_tree at last F one conditions inner next e) (same_front o (item_rules at one conditions inner last) rest h)
+    let rest : List RuleBreach =
+    forest_rules (at_of at) (redefinable_after one (extent at.around one inner) last) next in
+    same_along o (item_rules at one conditions inner last ++ rest) all (before
+    ∙ forest_tree at last F one conditions inner next e) (same_front o (item_rules at one conditions inner last) rest h)
 
-pub none_in : (at : Position) (last new : Option Redefinable) (F : Forest) (one : ItemEntry) (conditions : List ConditionEntry) (inner next : Forest) (all : List RuleBreach) (bytes : ℕ)
-    → F ≡ Tree one conditions inner next → all ≡ forest_rules (at_of at) last F → item_rules at one conditions inner last ≡ [] → bytes ≡ extent at.around one inner → new ≡ redefinable_after one bytes last
+pub none_in : (at : Position) (last new : Option Redefinable) (F : Forest) (one : ItemEntry)
+    (conditions : List ConditionEntry) (inner next : Forest) (all : List RuleBreach) (bytes : ℕ)
+    → F ≡ Tree one conditions inner next → all ≡ forest_rules (at_of at) last F
+    → item_rules at one conditions inner last ≡ [] → bytes ≡ extent at.around one inner
+    → new ≡ redefinable_after one bytes last
     → all ≡ forest_rules (at_of at) new next
 none_in at last new F one conditions inner next all bytes e before none is known =
     before ∙ forest_tree at last F one conditions inner next e
-    ∙ front_none (item_rules at one conditions inner last) (forest_rules (at_of at) (redefinable_after one (extent at.around one inner) last) next) none
-    ∙ ap (λ n. forest_rules (at_of at) (redefinable_after one n last) next) (sym is) ∙ ap (λ r. forest_rules (at_of at) r next) (sym known)
+    ∙ front_none (item_rules at one conditions inner last)
+    (forest_rules (at_of at) (redefinable_after one (extent at.around one inner) last) next) none
+    ∙ ap (λ n. forest_rules (at_of at) (redefinable_after one n last) next) (sym is)
+    ∙ ap (λ r. forest_rules (at_of at) r next) (sym known)
 
-known_if : (b : Bool) (last new : Option Redefinable) → HasKnownLevel last → HasKnownLevel new → HasKnownLevel (if b then last else new)
+known_if : (b : Bool) (last new : Option Redefinable) → HasKnownLevel last → HasKnownLevel new
+    → HasKnownLevel (if b then last else new)
 known_if true last new l n = l
 known_if false last new l n = n
 
-pub known_remembered : (one : ItemEntry) (bytes : ℕ) (last new : Option Redefinable) → number_of one.level < 100000 → HasKnownLevel last → new ≡ redefinable_after one bytes last → HasKnownLevel new
+pub known_remembered : (one : ItemEntry) (bytes : ℕ) (last new : Option Redefinable) → number_of one.level < 100000
+    → HasKnownLevel last → new ≡ redefinable_after one bytes last → HasKnownLevel new
 known_remembered one bytes last new h l e = subst HasKnownLevel (sym e) (known_if (redefines one) last _ l h)
 
-pub room_tree : (around : Around) (F : Forest) (one : ItemEntry) (conditions : List ConditionEntry) (inner next : Forest) → F ≡ Tree one conditions inner next → room around F ≡ own_bytes one (extent around one inner) + room around next
+pub room_tree :
+    (around : Around) (F : Forest) (one : ItemEntry) (conditions : List ConditionEntry) (inner next : Forest)
+    → F ≡ Tree one conditions inner next → room around F ≡ own_bytes one (extent around one inner) + room around next
 room_tree around F one conditions inner next e = ap (room around) e
 
-pub item_within : (at under : Position) (one : ItemEntry) (conditions : List ConditionEntry) (inner : Forest) (last : Option Redefinable) (o : Option RuleBreach) → at_of under ≡ below (at_of at) one inner
+pub item_within : (at under : Position) (one : ItemEntry) (conditions : List ConditionEntry) (inner : Forest)
+    (last : Option Redefinable) (o : Option RuleBreach) → at_of under ≡ below (at_of at) one inner
     → IsFirst o (forest_rules (at_of under) None inner) → IsFirst o (item_rules at one conditions inner last)
 item_within at under one conditions inner last o e h =
     let item : Item = item_with at.around one inner in
-    same_front o (forest_rules (below (at_of at) one inner) None inner) (own_rules (at_of at) one item inner last ++ each (condition_rules item) conditions) (subst (λ p. IsFirst o (forest_rules p None inner)) e h)
+    same_front o (forest_rules (below (at_of at) one inner) None inner) (own_rules (at_of at) one item inner last
+    ++ each (condition_rules item) conditions) (subst (λ p. IsFirst o (forest_rules p None inner)) e h)

@@ -1,5 +1,6 @@
 -- Levels that are told as they are.
-use Rattle.std.proofs.Common.{◌≡◌, ℕ, ◌<◌, ◌==◌, Bool, true, false, not, ◌&&◌, ◌||◌, nat_lt, nat_le, if◌then◌else◌, List, [], ◌∷◌, ◌++◌, refl, subst, lit<, arith}
+use Rattle.std.proofs.Common.{◌≡◌, ℕ, ◌<◌, ◌==◌, Bool, true, false, not, ◌&&◌, ◌||◌, nat_lt, nat_le, if◌then◌else◌}
+use Rattle.std.proofs.Common.{List, [], ◌∷◌, ◌++◌, refl, subst, lit<, arith}
 use Rattle.lexical.specs.declared.place.Place.{Place}
 use Rattle.source_tree.specs.declared.entry.ItemEntry.{ItemEntry}
 use Rattle.source_tree.specs.declared.entry.ConditionEntry.{ConditionEntry}
@@ -19,12 +20,14 @@ levels_if false F G f g = g
 levels_deeper : (level : ℕ) (F : Forest) → HasLevels F → HasLevels (deeper level F)
 levels_deeper level End h = tt
 levels_deeper level (Tree one conditions inner next) h =
-    levels_if (nat_lt level (level_of one)) (Tree one conditions inner (deeper level next)) End (h.0, h.1, levels_deeper level next h.2) tt
+    levels_if (nat_lt level (level_of one)) (Tree one conditions inner (deeper level next)) End
+    (h.0, h.1, levels_deeper level next h.2) tt
 
 levels_beyond : (level : ℕ) (F : Forest) → HasLevels F → HasLevels (beyond level F)
 levels_beyond level End h = tt
 levels_beyond level (Tree one conditions inner next) h =
-    levels_if (nat_lt level (level_of one)) (beyond level next) (Tree one conditions inner next) (levels_beyond level next h.2) h
+    levels_if (nat_lt level (level_of one)) (beyond level next) (Tree one conditions inner next)
+    (levels_beyond level next h.2) h
 
 second_of : (d c : Bool) → ((d && c) || false) ≡ true → c ≡ true
 second_of true true e = refl
@@ -59,21 +62,27 @@ true_where false e = cc
 
 known : (one : ItemEntry) → level_rules (Item one) ≡ [] → number_of one.level < 100000
 known one e =
-    known_by (number_of one.level == 77) (number_of one.level) refl (true_where (is_level (number_of one.level)) (kept (not (is_level (number_of one.level))) 43 one.level.place e))
+    known_by (number_of one.level == 77) (number_of one.level) refl
+    (true_where (is_level (number_of one.level)) (kept (not (is_level (number_of one.level))) 43 one.level.place e))
 
 -- Entries whose level numbers are some have levels that are told as they are.
 pub levels : (entries : List Entry) → each level_rules entries ≡ [] → HasLevels (forest_of entries)
 levels [] e = tt
 levels (Item one ∷ more) e =
-    let rest = levels more (back_nil (level_rules (Item one)) (each level_rules more) e) in
-    (known one (front_nil (level_rules (Item one)) (each level_rules more) e), levels_deeper (level_of one) (forest_of more) rest, levels_beyond (level_of one) (forest_of more) rest)
+    let rest = levels more (back_nil (level_rules (Item one)) (each level_rules more) e) in (
+      known one (front_nil (level_rules (Item one)) (each level_rules more) e),
+      levels_deeper (level_of one) (forest_of more) rest,
+      levels_beyond (level_of one) (forest_of more) rest,
+    )
 levels (Condition one ∷ more) e = levels more e
 
 pub first_levels : (F : Forest) → HasLevels F → HasFirstLevel F
 first_levels End h = tt
 first_levels (Tree one conditions inner next) h = h.0
 
-pub levels_tree : (F : Forest) (one : ItemEntry) (conditions : List ConditionEntry) (inner next : Forest) → F ≡ Tree one conditions inner next → HasLevels F → (number_of one.level < 100000) × HasLevels inner × HasLevels next
+pub levels_tree : (F : Forest) (one : ItemEntry) (conditions : List ConditionEntry) (inner next : Forest)
+    → F ≡ Tree one conditions inner next → HasLevels F → (number_of one.level < 100000) × HasLevels inner
+    × HasLevels next
 levels_tree F one conditions inner next e h = subst HasLevels e h
 
 outer_by : (b : Bool) (n : ℕ) → n < 100000 → (if b then 1 else n) < 100000

@@ -17,11 +17,17 @@ use Rattle.entry_rules.specs.Walk.{is_outermost}
 use Rattle.entry_rules.specs.Own.{form_rules, later_rules, entry_rules}
 use Rattle.entry_rules.proofs.Firsts.{first_front}
 
-pub own_found : (at : Position) (one : ItemEntry) (item : Item) (inner : Forest) (last : Option Redefinable) (b : RuleBreach) → first (form_rules at one item inner) ≡ Some b → first (later_rules at one item inner last) ≡ Some b
+pub own_found :
+    (at : Position) (one : ItemEntry) (item : Item) (inner : Forest) (last : Option Redefinable) (b : RuleBreach)
+    → first (form_rules at one item inner) ≡ Some b → first (later_rules at one item inner last) ≡ Some b
 own_found at one item inner last b h =
-    let redefinition : List RuleBreach = redefinition_rules (is_outermost at && at.in_file) one (occurrences one * item.length) one.redefines last in
-    first_front (form_rules at one item inner ++ redefinition) (value_rules (at.in_file || at.has_no_value || redefines one) item one.value) b (first_front (form_rules at one item inner) redefinition b h)
+    let redefinition : List RuleBreach =
+    redefinition_rules (is_outermost at && at.in_file) one (occurrences one * item.length) one.redefines last in
+    first_front (form_rules at one item inner ++ redefinition) (value_rules (at.in_file || at.has_no_value
+    || redefines one) item one.value) b (first_front (form_rules at one item inner) redefinition b h)
 
-pub entry_found : (at : Position) (one : ItemEntry) (conditions : List ConditionEntry) (item : Item) (inner : Forest) (last : Option Redefinable) (b : RuleBreach) → first (later_rules at one item inner last) ≡ Some b
+pub entry_found : (at : Position) (one : ItemEntry) (conditions : List ConditionEntry) (item : Item) (inner : Forest)
+    (last : Option Redefinable) (b : RuleBreach) → first (later_rules at one item inner last) ≡ Some b
     → first (entry_rules at one conditions item inner last) ≡ Some b
-entry_found at one conditions item inner last b h = first_front (later_rules at one item inner last) (each (condition_rules item) conditions) b h
+entry_found at one conditions item inner last b h =
+    first_front (later_rules at one item inner last) (each (condition_rules item) conditions) b h

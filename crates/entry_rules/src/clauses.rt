@@ -18,7 +18,8 @@ const MOST_DIMENSIONS: u32 = 7;
 /// A clause is wrong where it stands.
 pub fn wrong_clause(at: Position, one: &Described<'_>) -> bool
     requires { one.now.picture ≡ picture_in one.now.entry.now }
-    ensures { result ≡ spec.wrong_clause (is_outermost at) at.nesting at.around one.now.entry.now one.now.item }
+    ensures { result
+        ≡ spec.wrong_clause (is_outermost at) at.nesting at.around one.now.entry.now one.now.item }
 {
     wrong_occurs(at.is_outermost(), at.nesting, one.entry)
         || (one.entry.justified && !may_be_justified(one.item.kind))

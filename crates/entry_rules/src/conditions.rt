@@ -27,7 +27,8 @@ use text_ops::compare;
 /// The values of an item's condition names, which stand at the front of the entries behind it.
 pub fn conditions_rules(item: Item, entries: &[Entry]) -> Result<(), BrokenRule>
     requires { IsKind item.kind }
-    ensures { IsFirstBreach result (each (spec.condition_rules item) (leading_conditions entries.now)) }
+    ensures { IsFirstBreach result
+        (each (spec.condition_rules item) (leading_conditions entries.now)) }
 {
     let mut rest = entries;
     'conditions: while let [Entry::Condition(one), more @ ..] = rest {
@@ -52,7 +53,8 @@ fn number(value: &LiteralValue) -> Dec
 fn is_greater_number(first: &LiteralValue, last: &LiteralValue) -> bool
     requires first { IsNumeral first.now }
     requires last { IsNumeral last.now }
-    ensures { result ≡ spec.is_greater (spec.literals_order (literals.literal_sender first.now) (literals.literal_sender last.now)) }
+    ensures { result ≡ spec.is_greater (spec.literals_order (literals.literal_sender first.now)
+        (literals.literal_sender last.now)) }
 {
     items::numbers_come_back();
     number(first) > number(last)
@@ -132,7 +134,8 @@ fn operand(value: &LiteralValue) -> (Taken, &[u8])
 fn is_greater_literal(first: &LiteralValue, last: &LiteralValue) -> bool
     requires first { IsText first.now }
     requires last { IsText last.now }
-    ensures { result ≡ spec.is_greater (spec.literals_order (literals.literal_sender first.now) (literals.literal_sender last.now)) }
+    ensures { result ≡ spec.is_greater (spec.literals_order (literals.literal_sender first.now)
+        (literals.literal_sender last.now)) }
 {
     if let (Some(ones), Some(others)) = (once(first), once(last)) {
         return is_greater_text(text(ones), ones, text(others), others);
@@ -146,7 +149,8 @@ fn is_greater_literal(first: &LiteralValue, last: &LiteralValue) -> bool
 fn is_backwards(item: Item, first: &LiteralValue, last: &LiteralValue) -> bool
     requires first { spec.wrong_value item.kind item.length first.now ≡ false }
     requires last { spec.wrong_value item.kind item.length last.now ≡ false }
-    ensures { result ≡ spec.is_greater (spec.literals_order (literals.literal_sender first.now) (literals.literal_sender last.now)) }
+    ensures { result ≡ spec.is_greater (spec.literals_order (literals.literal_sender first.now)
+        (literals.literal_sender last.now)) }
 {
     match item.kind {
         Kind::Numeric(_) => is_greater_number(first, last),

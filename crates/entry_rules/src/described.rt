@@ -55,7 +55,8 @@ fn item(around: Around, entry: &ItemEntry, picture: &Option<Picture>, within: u6
 
 /// How often an entry occurs, and how many bytes its item has.
 fn sizes(entry: &ItemEntry, length: u128) -> Result<(), BrokenRule>
-    ensures rules { IsFirstBreach result (where_so (too_many entry.now) 69 entry.now.level.place ++ where_so (spec.is_above most_item_bytes length) 48 entry.now.level.place) }
+    ensures rules { IsFirstBreach result (where_so (too_many entry.now) 69 entry.now.level.place
+        ++ where_so (spec.is_above most_item_bytes length) 48 entry.now.level.place) }
     ensures times { OnOk result (clauses.occurrences entry.now ≤ most_occurrences) }
     ensures bytes { OnOk result (length ≤ most_item_bytes) }
 {
@@ -72,10 +73,12 @@ impl<'a> Described<'a> {
         picture: Option<Picture>,
         within: u64,
     ) -> Result<Described<'a>, BrokenRule>
-        ensures rules { IsFirstBreach result (spec.size_rules entry.now (clauses.item_by around entry.now picture within)) }
+        ensures rules { IsFirstBreach result
+            (spec.size_rules entry.now (clauses.item_by around entry.now picture within)) }
         ensures item { IfOk result (λ one. spec.IsDescribed around entry.now picture within one) }
         ensures times { OnOk result (clauses.occurrences entry.now ≤ most_occurrences) }
-        ensures bytes { OnOk result ((clauses.item_by around entry.now picture within).length ≤ most_item_bytes) }
+        ensures bytes { OnOk result
+            ((clauses.item_by around entry.now picture within).length ≤ most_item_bytes) }
     {
         sizes(entry, length(around, entry, &picture, within))?;
         let item = item(around, entry, &picture, within);

@@ -50,7 +50,8 @@ pub fn check_descriptions(
 
 /// There are no more entries than may be, those of all files together.
 fn excess_rules(most: usize, descriptions: &[FileDescription]) -> Result<(), BrokenRule>
-    ensures rules { IsFirstBreach result (each rules.excess (drop most (spec.file_entries descriptions.now))) }
+    ensures rules { IsFirstBreach result
+        (each rules.excess (drop most (spec.file_entries descriptions.now))) }
     ensures few { OnOk result (length (spec.file_entries descriptions.now) ≤ most) }
 {
     let mut left = most;
@@ -66,7 +67,8 @@ fn excess_rules(most: usize, descriptions: &[FileDescription]) -> Result<(), Bro
 fn check_records(alloc: Global, entries: &[Entry]) -> Result<u64, CheckError>
     requires levels { HasLevels (forest_of entries.now) }
     requires few { length entries.now ≤ rules.most_entries }
-    ensures rules { IsFirstFault result (rules.forest_rules (rules.outermost true) None (forest_of entries.now)) }
+    ensures rules { IsFirstFault result
+        (rules.forest_rules (rules.outermost true) None (forest_of entries.now)) }
     ensures bytes { IfOk result (λ bytes. bytes ≡ longest nothing_around (forest_of entries.now)) }
     ensures bound { IfOk result (λ bytes. bytes ≤ most_extent) }
 {
@@ -105,7 +107,8 @@ fn check_files(
 ) -> Result<Vec<u32>, CheckError>
     requires few { length (spec.file_entries descriptions.now) ≤ rules.most_entries }
     requires within { storage ≤ rules.most_storage }
-    ensures rules { IsFirstFault result (each spec.description_rules descriptions.now ++ spec.record_storage_rules storage descriptions.now) }
+    ensures rules { IsFirstFault result (each spec.description_rules descriptions.now
+        ++ spec.record_storage_rules storage descriptions.now) }
     ensures lengths { IfOk result (λ lengths. lengths.items ≡ map length_of descriptions.now) }
 {
     let mut areas = RecordAreas::after(storage);

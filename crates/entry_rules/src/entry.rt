@@ -33,7 +33,8 @@ pub fn entry_rules(
     requires kind { IsKind one.now.item.kind }
     requires times { occurrences one.now.entry.now ≤ most_occurrences }
     requires bytes { one.now.item.length ≤ most_item_bytes }
-    ensures { IsFirstBreach result (spec.entry_rules at one.now.entry.now (leading_conditions inner.now) one.now.item (forest_of inner.now) (redefinable_of last.entry)) }
+    ensures { IsFirstBreach result (spec.entry_rules at one.now.entry.now (leading_conditions
+        inner.now) one.now.item (forest_of inner.now) (redefinable_of last.entry)) }
 {
     own_rules(at, one, inner, last)?;
     conditions_rules(one.item, inner)
@@ -55,7 +56,8 @@ fn is_wrong_picture(one: &Described<'_>, inner: &[Entry]) -> bool
 fn form_rules(at: Position, one: &Described<'_>, inner: &[Entry]) -> Result<(), BrokenRule>
     requires level { number_of one.now.entry.now.level < 100000 }
     requires picture { one.now.picture ≡ picture_in one.now.entry.now }
-    ensures { IsFirstBreach result (spec.form_rules at one.now.entry.now one.now.item (forest_of inner.now)) }
+    ensures { IsFirstBreach result
+        (spec.form_rules at one.now.entry.now one.now.item (forest_of inner.now)) }
 {
     let place = one.entry.level.place;
     let wrong_level = at.is_wrong_level(number(&one.entry.level), inner);
@@ -77,7 +79,8 @@ fn own_rules(
     requires kind { IsKind one.now.item.kind }
     requires times { occurrences one.now.entry.now ≤ most_occurrences }
     requires bytes { one.now.item.length ≤ most_item_bytes }
-    ensures { IsFirstBreach result (spec.later_rules at one.now.entry.now one.now.item (forest_of inner.now) (redefinable_of last.entry)) }
+    ensures { IsFirstBreach result (spec.later_rules at one.now.entry.now one.now.item
+        (forest_of inner.now) (redefinable_of last.entry)) }
 {
     form_rules(at, one, inner)?;
     redefinition_rules(at.is_of_record(), one.entry, one.extent(), last)?;

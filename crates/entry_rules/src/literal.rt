@@ -20,7 +20,8 @@ const MOST_CHARACTERS: usize = 160;
 
 /// The number of a literal that has the form of one.
 pub fn literal_number(one: &NumericLiteral) -> Option<Dec>
-    ensures { result ≡ (if spec.has_form (literal.Numeric one.now) then Some (literals.literal_number one.now) else None) }
+    ensures { result ≡ (if spec.has_form (literal.Numeric one.now)
+        then Some (literals.literal_number one.now) else None) }
 {
     let (whole, decimals) = (one.whole.as_slice(), one.decimals.as_slice());
     if !is_digit_count(whole.len(), decimals.len()) {
@@ -61,7 +62,8 @@ pub fn is_integer(one: &Integer) -> bool
 /// The number that 1 to 18 digits write, if they are digits.
 fn digits_number(whole: &[u8], decimals: &[u8]) -> Option<u64>
     requires { length whole.now + length decimals.now ≤ 18 }
-    ensures value { result ≡ (if list_all is_ascii_digit whole.now && list_all is_ascii_digit decimals.now then Some (digits_after 0 (whole.now ++ decimals.now)) else None) }
+    ensures value { result ≡ (if list_all is_ascii_digit whole.now && list_all is_ascii_digit
+        decimals.now then Some (digits_after 0 (whole.now ++ decimals.now)) else None) }
     ensures bound { IfSome result (λ n. n < 10 ^ 18) }
 {
     let front = number_after(0, whole)?;

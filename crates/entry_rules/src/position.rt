@@ -103,7 +103,8 @@ impl Position {
     pub fn below(self, group: &ItemEntry, inner: &[Entry]) -> Position
         requires level { spec.HasFirstLevel (forest_of inner.now) }
         requires nesting { self.nesting < 5000 }
-        ensures value { spec.at_of result ≡ rules.below (spec.at_of self) group.now (forest_of inner.now) }
+        ensures value { spec.at_of result
+            ≡ rules.below (spec.at_of self) group.now (forest_of inner.now) }
         ensures nesting { spec.IsBelow self.nesting result.nesting }
     {
         Position {

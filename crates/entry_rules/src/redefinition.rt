@@ -29,7 +29,8 @@ pub fn remembered<'a>(
     bytes: u64,
     last: Option<Redefinable<'a>>,
 ) -> Option<Redefinable<'a>>
-    ensures { redefinable_of result ≡ spec.redefinable_after entry.now bytes (redefinable_of last.entry) }
+    ensures { redefinable_of result
+        ≡ spec.redefinable_after entry.now bytes (redefinable_of last.entry) }
 {
     if entry.redefines.is_some() {
         last
@@ -72,7 +73,8 @@ pub fn redefinition_rules(
 ) -> Result<(), BrokenRule>
     requires own { number_of entry.now.level < 100000 }
     requires level { HasLevelLast last }
-    ensures { IsFirstBreach result (redefinition_rules is_record entry.now bytes entry.now.redefines (redefinable_of last.entry)) }
+    ensures { IsFirstBreach result (redefinition_rules is_record entry.now bytes entry.now.redefines
+        (redefinable_of last.entry)) }
 {
     match &entry.redefines {
         Some(name) => {

@@ -144,7 +144,8 @@ impl Areas {
 fn check_storage(alloc: Global, entries: &[Entry]) -> Result<u64, CheckError>
     requires levels { HasLevels (forest_of entries.now) }
     requires few { length entries.now ≤ rules.most_entries }
-    ensures rules { IsFirstFault result (rules.forest_rules (rules.outermost false) None (forest_of entries.now) ++ rules.storage_rules 0 (forest_of entries.now)) }
+    ensures rules { IsFirstFault result (rules.forest_rules (rules.outermost false) None
+        (forest_of entries.now) ++ rules.storage_rules 0 (forest_of entries.now)) }
     ensures bytes { IfOk result (λ bytes. bytes ≡ sum (area_lengths (forest_of entries.now))) }
 {
     let mut areas = Areas::none();

@@ -49,7 +49,8 @@ fn is_cut(numeric: Numeric, x: Dec) -> bool
 /// A numeric literal has no form, or the item can't hold its number.
 fn wrong_numeral(numeric: Numeric, one: &NumericLiteral) -> bool
     requires { IsNumeric numeric }
-    ensures { result ≡ (not (spec.has_form (literal.Numeric one.now)) || spec.wrong_number numeric (literal.Numeric one.now)) }
+    ensures { result ≡ (not (spec.has_form (literal.Numeric one.now))
+        || spec.wrong_number numeric (literal.Numeric one.now)) }
 {
     match literal_number(one) {
         Some(x) => is_cut(numeric, x) || (!numeric.is_signed() && x.is_negative()),

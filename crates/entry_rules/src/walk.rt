@@ -32,8 +32,10 @@ pub fn check_item(
     requires levels { HasLevels (forest_of one.inner.now) }
     requires last { HasLevelLast last }
     requires nesting { at.nesting + length one.inner.now < 5000 }
-    ensures rules { IsFirstFault result (spec.item_rules at one.entry.entry.now (leading_conditions one.entry.inner.now) (forest_of one.entry.inner.now) (redefinable_of last.entry)) }
-    ensures bytes { IfOk result (λ bytes. bytes ≡ spec.extent at.around one.entry.entry.now (forest_of one.entry.inner.now)) }
+    ensures rules { IsFirstFault result (spec.item_rules at one.entry.entry.now (leading_conditions
+        one.entry.inner.now) (forest_of one.entry.inner.now) (redefinable_of last.entry)) }
+    ensures bytes { IfOk result (λ bytes. bytes
+        ≡ spec.extent at.around one.entry.entry.now (forest_of one.entry.inner.now)) }
     ensures bound { IfOk result (λ bytes. bytes ≤ spec.most_extent) }
 {
     let within = check_group(alloc, at.below(one.entry, one.inner), one.inner)?;
@@ -58,8 +60,10 @@ fn describe<'a>(
     within: u64,
 ) -> Result<Described<'a>, CheckError>
     requires { within ≡ rooms.room (inside around one.entry.now) (forest_of one.inner.now) }
-    ensures rules { IsFirstFault result (size_rules one.entry.entry.now (rooms.item_with around one.entry.entry.now (forest_of one.entry.inner.now))) }
-    ensures described { IfOk result (λ described. spec.DescribesEntry around one.entry.entry.now (forest_of one.entry.inner.now) described) }
+    ensures rules { IsFirstFault result (size_rules one.entry.entry.now
+        (rooms.item_with around one.entry.entry.now (forest_of one.entry.inner.now))) }
+    ensures described { IfOk result (λ described.
+        spec.DescribesEntry around one.entry.entry.now (forest_of one.entry.inner.now) described) }
 {
     let picture = picture_of(alloc, one.entry)?;
     let described = Described::of(around, one.entry, picture, within)?;

@@ -5,7 +5,8 @@ use Rattle.tokens.specs.declared.reserved.Reserved.TheVariants as w
 use Rattle.tokens.specs.declared.token.Token.{Token}
 use Rattle.grammar.specs.Parts.{is_told, begins_telling, name_in, begins_name}
 use Rattle.grammar.specs.Reading as read
-use Rattle.grammar.specs.Reading.{Outcome, Parser, Words, and_then, rest_of, tokens_past, and_past, outcome_of_rest, begins_word, is_word, after_word, one_token, past_any, past_several}
+use Rattle.grammar.specs.Reading.{Outcome, Parser, Words, and_then, rest_of, tokens_past, and_past, outcome_of_rest}
+use Rattle.grammar.specs.Reading.{begins_word, is_word, after_word, one_token, past_any, past_several}
 use Rattle.grammar.proofs.Past.{past_then, past_if, any_passes, several_passes}
 use Rattle.expressions.specs.Marks.{left_in, right_in, begins_left, sign_in, begins_sign}
 use Rattle.expressions.specs.Subscripts as s
@@ -22,7 +23,8 @@ abbrev pub past_in_or_of : Option (List Token) → List Token → Option (List T
 past_in_or_of None i = and_past (after_word w.Of i) (tokens_past read.name)
 past_in_or_of (Some j) i = tokens_past read.name j
 
-needed_passes : (o : Option (List Token)) (i : List Token) → rest_of (and_then (outcome_of_rest o i) (λ u. read.name)) ≡ and_past o (tokens_past read.name)
+needed_passes : (o : Option (List Token)) (i : List Token)
+    → rest_of (and_then (outcome_of_rest o i) (λ u. read.name)) ≡ and_past o (tokens_past read.name)
 needed_passes None i = refl
 needed_passes (Some j) i = refl
 
@@ -32,20 +34,24 @@ qualifier_passes [] = refl
 qualifier_passes (first ∷ more) = go (is_word w.In first) refl
   where
     go : (b : Bool) → is_word w.In first ≡ b
-        → rest_of (if b then and_then (outcome_of_rest (if b then Some more else None) (first ∷ more)) (λ u. read.name) else and_then (outcome_of_rest (after_word w.Of (first ∷ more)) (first ∷ more)) (λ u. read.name))
+        → rest_of (if b then and_then (outcome_of_rest (if b then Some more else None) (first ∷ more)) (λ u. read.name)
+        else and_then (outcome_of_rest (after_word w.Of (first ∷ more)) (first ∷ more)) (λ u. read.name))
         ≡ past_in_or_of (if b then Some more else None) (first ∷ more)
     go true is = refl
     go false is = needed_passes (after_word w.Of (first ∷ more)) (first ∷ more)
 
-pub qualified_passes : (i : List Token) → tokens_past s.qualified_reader i ≡ and_past (tokens_past read.name i) (past_any (tokens_past s.qualifier_reader) s.begins_qualifier)
+pub qualified_passes : (i : List Token) → tokens_past s.qualified_reader i ≡ and_past (tokens_past read.name i)
+    (past_any (tokens_past s.qualifier_reader) s.begins_qualifier)
 unfolding s.qualified_reader
 qualified_passes i =
     past_then (read.name i) _ _ (λ given j.
-    pure_passes (read.any s.qualifier_reader s.begins_qualifier j) _ ∙ any_passes s.qualifier_reader s.begins_qualifier j)
+    pure_passes (read.any s.qualifier_reader s.begins_qualifier j) _
+    ∙ any_passes s.qualifier_reader s.begins_qualifier j)
 
 -- ---- one token
 
-pub token_passes : {A : Type 0} (tells : Token → Option A) (i : List Token) → tokens_past (one_token tells) i ≡ past_first (begins_telling tells i) i
+pub token_passes : {A : Type 0} (tells : Token → Option A) (i : List Token)
+    → tokens_past (one_token tells) i ≡ past_first (begins_telling tells i) i
 unfolding one_token
 token_passes tells [] = refl
 token_passes {A = A} tells (first ∷ more) = go (tells first)
@@ -64,18 +70,22 @@ integer_passes i = token_passes s.integer_in i
 
 -- ---- subscripts
 
-pub adjustment_passes : (i : List Token) → tokens_past s.adjustment_reader i ≡ (if begins_sign i then and_past (past_first (begins_sign i) i) (tokens_past s.integer_reader) else Some i)
+pub adjustment_passes : (i : List Token) → tokens_past s.adjustment_reader
+    i ≡ (if begins_sign i then and_past (past_first (begins_sign i) i) (tokens_past s.integer_reader) else Some i)
 unfolding s.adjustment_reader s.signed_integer_reader
 adjustment_passes i = past_if (begins_sign i) _ _ _ _
-    (past_then (one_token sign_in i) _ (tokens_past s.integer_reader) (λ sign j. pure_passes (s.integer_reader j) _) ∙ ap (λ o. and_past o (tokens_past s.integer_reader)) (token_passes sign_in i))
+    (past_then (one_token sign_in i) _ (tokens_past s.integer_reader) (λ sign j. pure_passes (s.integer_reader j) _)
+    ∙ ap (λ o. and_past o (tokens_past s.integer_reader)) (token_passes sign_in i))
     refl
 
 pub subscript_passes : (i : List Token)
-    → tokens_past s.subscript_reader i ≡ (if s.begins_integer i then tokens_past s.integer_reader i else and_past (tokens_past s.qualified_reader i) (tokens_past s.adjustment_reader))
+    → tokens_past s.subscript_reader i ≡ (if s.begins_integer i then tokens_past s.integer_reader i
+    else and_past (tokens_past s.qualified_reader i) (tokens_past s.adjustment_reader))
 unfolding s.subscript_reader s.literal_subscript_reader s.item_subscript_reader
 subscript_passes i = past_if (s.begins_integer i) _ _ _ _
     (pure_passes (s.integer_reader i) _)
-    (past_then (s.qualified_reader i) _ (tokens_past s.adjustment_reader) (λ item j. pure_passes (s.adjustment_reader j) _))
+    (past_then (s.qualified_reader i) _ (tokens_past s.adjustment_reader)
+    (λ item j. pure_passes (s.adjustment_reader j) _))
 
 abbrev pub past_right : Words
 past_right i = past_first (begins_telling right_in i) i
@@ -84,7 +94,8 @@ abbrev pub past_listed : Words
 past_listed = past_several (tokens_past s.subscript_reader) s.begins_subscript
 
 pub subscripts_pass : (i : List Token)
-    → tokens_past g.subscripts_reader i ≡ (if begins_left i then and_past (and_past (past_first (begins_left i) i) past_listed) past_right else Some i)
+    → tokens_past g.subscripts_reader i
+    ≡ (if begins_left i then and_past (and_past (past_first (begins_left i) i) past_listed) past_right else Some i)
 unfolding g.subscripts_reader g.enclosed_subscripts_reader
 subscripts_pass i = past_if (begins_left i) _ _ _ _ (
     past_then (one_token left_in i) _ (λ j. and_past (past_listed j) past_right) (λ u j.
@@ -95,12 +106,15 @@ subscripts_pass i = past_if (begins_left i) _ _ _ _ (
     ∙ joined (past_first (begins_left i) i))
     refl
   where
-    joined : (o : Option (List Token)) → and_past o (λ j. and_past (past_listed j) past_right) ≡ and_past (and_past o past_listed) past_right
+    joined : (o : Option (List Token))
+        → and_past o (λ j. and_past (past_listed j) past_right) ≡ and_past (and_past o past_listed) past_right
     joined None = refl
     joined (Some j) = refl
 
 -- ---- references
 
-pub reference_passes : (i : List Token) → tokens_past g.reference_reader i ≡ and_past (tokens_past s.qualified_reader i) (tokens_past g.subscripts_reader)
+pub reference_passes : (i : List Token)
+    → tokens_past g.reference_reader i ≡ and_past (tokens_past s.qualified_reader i) (tokens_past g.subscripts_reader)
 unfolding g.reference_reader
-reference_passes i = past_then (s.qualified_reader i) _ (tokens_past g.subscripts_reader) (λ item j. pure_passes (g.subscripts_reader j) _)
+reference_passes i = past_then (s.qualified_reader i) _ (tokens_past g.subscripts_reader)
+    (λ item j. pure_passes (g.subscripts_reader j) _)

@@ -45,9 +45,11 @@ impl<F: Fn(Global, &mut Tokens<'_>, usize) -> Result<Expression, ReadFault>> Par
     ghost use Rattle.expressions.specs.Expressions as spec;
     ghost use Rattle.expressions.specs.Nests.{Nests};
 
-    ghost ready = { λ n. Nests n.factors.now.depth (F.pre n.factors.now.factor) (F.post n.factors.now.factor) };
+    ghost ready = { λ n.
+        Nests n.factors.now.depth (F.pre n.factors.now.factor) (F.post n.factors.now.factor) };
 
-    ghost reading = { λ n. spec.further_operand_reader product_in (spec.factor_reader n.factors.now.depth) };
+    ghost reading = { λ n.
+        spec.further_operand_reader product_in (spec.factor_reader n.factors.now.depth) };
 
     ghost beginning = { λ _. begins_telling product_in };
 
@@ -75,9 +77,11 @@ impl<F: Fn(Global, &mut Tokens<'_>, usize) -> Result<Expression, ReadFault>> Par
     ghost use Rattle.expressions.specs.Expressions as spec;
     ghost use Rattle.expressions.specs.Nests.{Nests};
 
-    ghost ready = { λ n. Nests n.factors.now.depth (F.pre n.factors.now.factor) (F.post n.factors.now.factor) };
+    ghost ready = { λ n.
+        Nests n.factors.now.depth (F.pre n.factors.now.factor) (F.post n.factors.now.factor) };
 
-    ghost reading = { λ n. spec.further_operand_reader sum_in (spec.product_reader (spec.factor_reader n.factors.now.depth)) };
+    ghost reading = { λ n. spec.further_operand_reader sum_in
+        (spec.product_reader (spec.factor_reader n.factors.now.depth)) };
 
     ghost beginning = { λ _. begins_telling sum_in };
 
@@ -124,7 +128,8 @@ impl<F: Fn(Global, &mut Tokens<'_>, usize) -> Result<Expression, ReadFault>> Fac
     #[tactic(auto, unfolding(crate::specs::Expressions::product_reader, crate::specs::Expressions::level_reader))]
     fn product(&self, tokens: &mut Tokens<'_>) -> Result<Expression, ReadFault>
         requires { Nests self.now.depth (F.pre self.now.factor) (F.post self.now.factor) }
-        ensures { Reads (spec.product_reader (spec.factor_reader self.now.depth) tokens.old) result tokens.new }
+        ensures { Reads (spec.product_reader (spec.factor_reader self.now.depth) tokens.old) result
+            tokens.new }
     {
         let first = self.factor(tokens)?;
         let more = any(&FurtherFactors { factors: self }, self.alloc, tokens);
@@ -136,7 +141,8 @@ impl<F: Fn(Global, &mut Tokens<'_>, usize) -> Result<Expression, ReadFault>> Fac
     #[tactic(auto, unfolding(crate::specs::Expressions::sum_reader, crate::specs::Expressions::level_reader))]
     pub fn sum(&self, tokens: &mut Tokens<'_>) -> Result<Expression, ReadFault>
         requires { Nests self.now.depth (F.pre self.now.factor) (F.post self.now.factor) }
-        ensures { Reads (spec.sum_reader (spec.factor_reader self.now.depth) tokens.old) result tokens.new }
+        ensures { Reads (spec.sum_reader (spec.factor_reader self.now.depth) tokens.old) result
+            tokens.new }
     {
         let first = self.product(tokens)?;
         let more = any(&FurtherProducts { factors: self }, self.alloc, tokens);
@@ -148,7 +154,8 @@ impl<F: Fn(Global, &mut Tokens<'_>, usize) -> Result<Expression, ReadFault>> Fac
     #[tactic(auto, unfolding(crate::specs::Expressions::signed_reader))]
     fn signed(&self, tokens: &mut Tokens<'_>) -> Result<Expression, ReadFault>
         requires { Nests self.now.depth (F.pre self.now.factor) (F.post self.now.factor) }
-        ensures { Reads (spec.signed_reader (spec.factor_reader self.now.depth) tokens.old) result tokens.new }
+        ensures { Reads (spec.signed_reader (spec.factor_reader self.now.depth) tokens.old) result
+            tokens.new }
     {
         let sign = sign(tokens)?;
         let inner = self.factor(tokens)?;
@@ -162,7 +169,8 @@ impl<F: Fn(Global, &mut Tokens<'_>, usize) -> Result<Expression, ReadFault>> Fac
     #[tactic(auto, unfolding(crate::specs::Expressions::enclosed_reader))]
     fn enclosed(&self, tokens: &mut Tokens<'_>) -> Result<Expression, ReadFault>
         requires { Nests self.now.depth (F.pre self.now.factor) (F.post self.now.factor) }
-        ensures { Reads (spec.enclosed_reader (spec.factor_reader self.now.depth) tokens.old) result tokens.new }
+        ensures { Reads (spec.enclosed_reader (spec.factor_reader self.now.depth) tokens.old) result
+            tokens.new }
     {
         left(tokens)?;
         let inner = self.sum(tokens)?;
@@ -174,7 +182,8 @@ impl<F: Fn(Global, &mut Tokens<'_>, usize) -> Result<Expression, ReadFault>> Fac
     #[tactic(auto, unfolding(crate::specs::Expressions::nested_reader))]
     pub fn nested(&self, tokens: &mut Tokens<'_>) -> Result<Expression, ReadFault>
         requires { Nests self.now.depth (F.pre self.now.factor) (F.post self.now.factor) }
-        ensures { Reads (spec.nested_reader (spec.factor_reader self.now.depth) tokens.old) result tokens.new }
+        ensures { Reads (spec.nested_reader (spec.factor_reader self.now.depth) tokens.old) result
+            tokens.new }
     {
         if begins_left(tokens) {
             self.enclosed(tokens)

@@ -32,7 +32,8 @@ pub fn operand_law()
 
 /// Arithmetic expressions, to each depth.
 pub fn expression_law()
-    ensures spelled { (depth : ℕ) → IsSoundReader (expression_rule depth) (expression_reader depth) }
+    ensures spelled { (depth : ℕ)
+        → IsSoundReader (expression_rule depth) (expression_reader depth) }
     ensures only { OnlyToDepth }
 {}
 

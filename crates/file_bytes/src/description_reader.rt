@@ -33,7 +33,9 @@ pub fn read_description(
 ) -> Result<Option<FileSpec>, StoreFault>
     requires { 43 ≤ length bytes.now }
     ensures keys { IfOk result (λ found. IfSome found (λ f. length f.alternates.items ≤ 7)) }
-    ensures spec { (name : List ℕ) (spec : Spec) (more : List ℕ) → is_name name ≡ true → is_spec spec ≡ true → padded.now ≡ padded_name name → bytes.now ≡ spec_bytes spec ++ more →
+    ensures spec { (name : List ℕ) (spec : Spec) (more : List ℕ) → is_name name ≡ true
+        → is_spec spec ≡ true → padded.now ≡ padded_name name → bytes.now ≡ spec_bytes spec ++ more
+        →
         IfRead result (λ f. (f.name.items ≡ name) × (spec_of f ≡ spec)) }
     ensures memory { IsOkUnless result StoreFault.Memory }
 {

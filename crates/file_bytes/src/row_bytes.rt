@@ -18,7 +18,8 @@ pub fn row_key(
     number: u64,
     bytes: &[u8],
 ) -> Result<Vec<u8>, StoreFault>
-    ensures key { IfOk result (λ key. key.items ≡ prime_key organization (named_pair organization number bytes.now)) }
+    ensures key { IfOk result
+        (λ key. key.items ≡ prime_key organization (named_pair organization number bytes.now)) }
     ensures memory { IsOkUnless result StoreFault.Memory }
 {
     let mut out = Vec::new(alloc);
@@ -33,7 +34,8 @@ pub fn push_row_key(
     number: u64,
     bytes: &[u8],
 ) -> Result<(), StoreFault>
-    ensures bytes { OnOk result (out.new.items ≡ out.old.items ++ prime_key organization (named_pair organization number bytes.now)) }
+    ensures bytes { OnOk result (out.new.items
+        ≡ out.old.items ++ prime_key organization (named_pair organization number bytes.now)) }
     ensures memory { IsOkUnless result StoreFault.Memory }
 {
     match organization {
@@ -55,7 +57,8 @@ pub fn push_row_value(out: &mut Vec<u8>, row: &StoredRow) -> Result<(), StoreFau
 
 /// The arrivals of a row.
 fn push_arrivals(out: &mut Vec<u8>, arrivals: &[u64]) -> Result<(), StoreFault>
-    ensures bytes { OnOk result (out.new.items ≡ out.old.items ++ flat_map (big_bytes 8) arrivals.now) }
+    ensures bytes { OnOk result
+        (out.new.items ≡ out.old.items ++ flat_map (big_bytes 8) arrivals.now) }
     ensures memory { IsOkUnless result StoreFault.Memory }
 {
     for arrival in arrivals {

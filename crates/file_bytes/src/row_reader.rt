@@ -26,7 +26,8 @@ pub fn read_row(
     value: &[u8],
 ) -> Result<StoredRow, StoreFault>
     requires key { prime_key_length file.now.organization ≤ length key.now }
-    requires value { file.now.record_length + 8 * length file.now.alternates.items ≤ length value.now }
+    requires value { file.now.record_length + 8 * length file.now.alternates.items
+        ≤ length value.now }
     ensures row { IfOk result (λ row. row_of row ≡ row_in (spec_of file.now) key.now value.now) }
     ensures memory { IsOkUnless result StoreFault.Memory }
 {

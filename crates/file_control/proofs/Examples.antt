@@ -65,10 +65,13 @@ bare = record {
 -- every step of reading, so that a SELECT is computed
 unfoldable computing : Unit {0}
 unfolding
-    same_word read.after_word read.past_word read.expect read.skip read.presence_reader read.period read.heading_reader read.one_token read.name
+    same_word read.after_word read.past_word read.expect read.skip read.presence_reader read.period read.heading_reader
+    read.one_token read.name
     read.several_from read.several read.any
-    subscripts.qualified_reader references.subscripts_reader references.reference_reader words.skip_led gathering.gathering_turns gathering.gathering_reader
-    c.organization_reader c.access_reader c.key_reader c.relative_key_reader c.record_key_reader c.after_with_duplicates c.alternate_key_reader
+    subscripts.qualified_reader references.subscripts_reader references.reference_reader words.skip_led
+    gathering.gathering_turns gathering.gathering_reader
+    c.organization_reader c.access_reader c.key_reader c.relative_key_reader c.record_key_reader c.after_with_duplicates
+    c.alternate_key_reader
     c.status_reader c.clause_reader
     s.assigned_reader s.select_reader s.file_control_reader s.input_output_reader
 computing = tt
@@ -77,21 +80,28 @@ without_clauses : s.select_reader (head (period 28 ∷ [])) ≡ Ok (bare, [])
 unfolding computing
 without_clauses = refl
 
--- SELECT F ASSIGN TO X RELATIVE KEY K RELATIVE ACCESS RANDOM.: the first RELATIVE begins the key clause, the second is the organization
+-- SELECT F ASSIGN TO X RELATIVE KEY K RELATIVE ACCESS RANDOM.: the first RELATIVE begins the key clause, the second is
+-- the organization
 relative_twice :
-    s.select_reader (head (word 29 w.Relative ∷ word 38 w.Key ∷ letter 42 75 ∷ word 44 w.Relative ∷ word 53 w.Access ∷ word 60 w.Random ∷ period 66 ∷ []))
-    ≡ Ok (record bare { organization = organization.Relative; access = access.Random; relative_key = Some (item_at 42 75) }, [])
+    s.select_reader (head (word 29 w.Relative ∷ word 38 w.Key ∷ letter 42 75 ∷ word 44 w.Relative ∷ word 53 w.Access
+    ∷ word 60 w.Random ∷ period 66 ∷ []))
+    ≡ Ok (
+      record bare { organization = organization.Relative; access = access.Random; relative_key = Some (item_at 42 75) },
+      [],
+    )
 unfolding computing
 relative_twice = refl
 
 -- SELECT F ASSIGN TO X ALTERNATE RECORD A WITH DUPLICATES STATUS S ALTERNATE B INDEXED.
 alternate_keys_in_order :
-    s.select_reader (head (word 29 w.Alternate ∷ word 39 w.Record ∷ letter 46 65 ∷ word 48 w.With ∷ word 53 w.Duplicates ∷ word 64 w.Status ∷ letter 71 83
+    s.select_reader (head (word 29 w.Alternate ∷ word 39 w.Record ∷ letter 46 65 ∷ word 48 w.With ∷ word 53 w.Duplicates
+    ∷ word 64 w.Status ∷ letter 71 83
     ∷ word 8 w.Alternate ∷ letter 18 66 ∷ word 20 w.Indexed ∷ period 27 ∷ []))
     ≡ Ok (
       record bare {
         organization = organization.Indexed;
-        alternate_keys = record { key = item_at 46 65; duplicates = true } ∷ record { key = item_at 18 66; duplicates = false } ∷ [];
+        alternate_keys =
+            record { key = item_at 46 65; duplicates = true } ∷ record { key = item_at 18 66; duplicates = false } ∷ [];
         status = Some (item_at 71 83);
       },
       [],
@@ -100,13 +110,15 @@ unfolding computing
 alternate_keys_in_order = refl
 
 -- SELECT F ASSIGN TO X INDEXED RELATIVE.: refused at the second organization, two tokens before the end
-two_organizations : s.select_reader (head (word 29 w.Indexed ∷ word 37 w.Relative ∷ period 45 ∷ [])) ≡ Err (Unexpected 2)
+two_organizations : s.select_reader (head (word 29 w.Indexed ∷ word 37 w.Relative ∷ period 45 ∷ []))
+    ≡ Err (Unexpected 2)
 unfolding computing
 two_organizations = refl
 
 -- INPUT-OUTPUT SECTION. FILE-CONTROL. and a SELECT
 in_its_section :
-    s.input_output_reader (word 8 w.InputOutput ∷ word 21 w.Section ∷ period 28 ∷ word 8 w.FileControl ∷ period 20 ∷ head (period 28 ∷ word 8 w.Data ∷ []))
+    s.input_output_reader (word 8 w.InputOutput ∷ word 21 w.Section ∷ period 28 ∷ word 8 w.FileControl ∷ period 20
+    ∷ head (period 28 ∷ word 8 w.Data ∷ []))
     ≡ Ok (bare ∷ [], word 8 w.Data ∷ [])
 unfolding computing
 in_its_section = refl

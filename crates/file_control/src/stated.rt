@@ -74,7 +74,8 @@ impl Stated {
 
 /// Clauses up to where no more can begin. One that can't come a second time is refused where it does.
 pub fn stated_clauses(alloc: Global, tokens: &mut Tokens<'_>) -> Result<Stated, ReadFault>
-    ensures { Reads (gathering_reader spec.select_clauses clause_reader spec.no_clauses tokens.old) result tokens.new }
+    ensures { Reads (gathering_reader spec.select_clauses clause_reader spec.no_clauses tokens.old)
+        result tokens.new }
 {
     let mut stated = Stated::none(alloc);
     match gather(&mut stated, alloc, tokens) {

@@ -1,5 +1,6 @@
 -- The FD of a name, and its area.
-use Rattle.std.proofs.Common.{◌≡◌, ℕ, ◌+◌, ◌<◌, Bool, true, false, if◌then◌else◌, List, [], ◌∷◌, length, drop, get_or, sym, ap, ◌∙◌, drop-cons, add-one}
+use Rattle.std.proofs.Common.{◌≡◌, ℕ, ◌+◌, ◌<◌, Bool, true, false, if◌then◌else◌, List, [], ◌∷◌, length, drop, get_or}
+use Rattle.std.proofs.Common.{sym, ap, ◌∙◌, drop-cons, add-one}
 use Rattle.source_tree.specs.declared.name.Name.{Name}
 use Rattle.source_tree.specs.declared.select.FileDescription.{FileDescription}
 use Rattle.source_tree.specs.Names.{same}
@@ -8,14 +9,18 @@ use Rattle.source_tree.specs.FileRules.{description_rules}
 use Rattle.source_tree.specs.ProgramFiles.{DescribedFile, described_file}
 use Rattle.source_tree.proofs.SoundFiles.{left_none, right_none}
 
-pub rest_at : {A : Type 0} (xs : List A) (i : ℕ) (one : A) → i < length xs → one ≡ get_or xs i one → drop i xs ≡ one ∷ drop (i + 1) xs
-rest_at xs i one h is = drop-cons xs i one h ∙ ap (λ k. get_or xs i one ∷ drop k xs) (sym (add-one i)) ∙ ap (λ x. x ∷ drop (i + 1) xs) (sym is)
+pub rest_at : {A : Type 0} (xs : List A) (i : ℕ) (one : A) → i < length xs → one ≡ get_or xs i one
+    → drop i xs ≡ one ∷ drop (i + 1) xs
+rest_at xs i one h is = drop-cons xs i one h ∙ ap (λ k. get_or xs i one ∷ drop k xs) (sym (add-one i))
+    ∙ ap (λ x. x ∷ drop (i + 1) xs) (sym is)
 
-module _ (area : ℕ) (name : Name) (files more : List FileDescription) (one : FileDescription) (e : files ≡ one ∷ more) where
+module _ (area : ℕ) (name : Name) (files more : List FileDescription) (one : FileDescription)
+    (e : files ≡ one ∷ more) where
   chosen : Bool → DescribedFile
   chosen test = if test then record { area = area; entries = one.entries } else described_file (area + 1) name more
 
-  pub is_this : same name one.name ≡ true → described_file area name files ≡ record { area = area; entries = one.entries }
+  pub is_this : same name one.name ≡ true
+      → described_file area name files ≡ record { area = area; entries = one.entries }
   unfolding chosen
   is_this h = ap (described_file area name) e ∙ ap chosen h
 
@@ -24,7 +29,9 @@ module _ (area : ℕ) (name : Name) (files more : List FileDescription) (one : F
   is_later h = ap (described_file area name) e ∙ ap chosen h
 
   pub this_kept : each description_rules files ≡ [] → description_rules one ≡ []
-  this_kept h = left_none (description_rules one) (each description_rules more) (sym (ap (each description_rules) e) ∙ h)
+  this_kept h =
+      left_none (description_rules one) (each description_rules more) (sym (ap (each description_rules) e) ∙ h)
 
   pub others_kept : each description_rules files ≡ [] → each description_rules more ≡ []
-  others_kept h = right_none (description_rules one) (each description_rules more) (sym (ap (each description_rules) e) ∙ h)
+  others_kept h =
+      right_none (description_rules one) (each description_rules more) (sym (ap (each description_rules) e) ∙ h)

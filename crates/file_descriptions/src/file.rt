@@ -46,8 +46,11 @@ pub fn program_file<'a>(
     requires source { IsSource source }
     requires descriptions { KeepsDescriptions source.program.now }
     requires clauses { KeepsClauses (items_in source) select.now }
-    ensures file { IfOk result (λ one. spec.file_in (items_in source.entry) one ≡ meaning.file_by (items_in source.entry) number select.entry.now (described_in source.entry.program.now select.entry.now.name)) }
-    ensures numbers { IfOk result (λ one. spec.numbers_in one ≡ spec.clause_numbers (items_in source.entry) select.entry.now) }
+    ensures file { IfOk result
+        (λ one. spec.file_in (items_in source.entry) one ≡ meaning.file_by (items_in source.entry)
+        number select.entry.now (described_in source.entry.program.now select.entry.now.name)) }
+    ensures numbers { IfOk result (λ one. spec.numbers_in one
+        ≡ spec.clause_numbers (items_in source.entry) select.entry.now) }
 {
     let found = file_records(alloc, source.program, &select.name)?;
     let alternates = source.alternates(alloc, select.alternate_keys.as_slice())?;

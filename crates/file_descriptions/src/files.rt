@@ -43,8 +43,11 @@ fn put_files<'a>(
     requires source { IsSource source }
     requires descriptions { KeepsDescriptions source.program.now }
     requires clauses { AllByRecursion (KeepsClauses (items_in source)) selects.now }
-    ensures files { OnOk result (map (spec.file_in (items_in source.entry)) out.new.items ≡ map (spec.file_in (items_in source.entry)) out.old.items ++ spec.files_after source.entry.program.now 0 selects.entry.now) }
-    ensures numbers { OnOk result (map spec.numbers_in out.new.items ≡ map spec.numbers_in out.old.items ++ map (spec.clause_numbers (items_in source.entry)) selects.entry.now) }
+    ensures files { OnOk result (map (spec.file_in (items_in source.entry)) out.new.items
+        ≡ map (spec.file_in (items_in source.entry)) out.old.items
+        ++ spec.files_after source.entry.program.now 0 selects.entry.now) }
+    ensures numbers { OnOk result (map spec.numbers_in out.new.items ≡ map spec.numbers_in
+        out.old.items ++ map (spec.clause_numbers (items_in source.entry)) selects.entry.now) }
 {
     for (number, select) in selects.iter().enumerate() {
         out.push(program_file(alloc, source, number, select)?)?;
@@ -81,7 +84,10 @@ impl<'a> ProgramFiles<'a> {
 
     /// The first file of that name.
     pub fn file_named(&self, name: &Name) -> Option<&ProgramFile<'a>>
-        ensures { (items : List LocatedItem) (program : tree.Program) → AreFiles items program self.now → first (meaning.files_named (meaning.files_of items program) name.now) ≡ spec.found_in items result }
+        ensures { (items : List LocatedItem) (program : tree.Program)
+            → AreFiles items program self.now
+            → first (meaning.files_named (meaning.files_of items program) name.now) ≡ spec.found_in
+            items result }
     {
         let number = self.names.file_named(name)?;
         self.files.get(number)
@@ -89,7 +95,10 @@ impl<'a> ProgramFiles<'a> {
 
     /// The first file whose records have that area.
     pub fn file_with(&self, area: u32) -> Option<&ProgramFile<'a>>
-        ensures { (items : List LocatedItem) (program : tree.Program) → AreFiles items program self.now → first (meaning.files_with (meaning.files_of items program) area) ≡ spec.found_in items result }
+        ensures { (items : List LocatedItem) (program : tree.Program)
+            → AreFiles items program self.now
+            → first (meaning.files_with (meaning.files_of items program) area) ≡ spec.found_in items
+            result }
     {
         for file in &self.files {
             if file.area == area {

@@ -53,7 +53,8 @@ impl Source<'_, '_> {
     ) -> Result<Vec<AlternateKey>, AllocError>
         requires source { IsSource self.now }
         requires keys { AllByRecursion (IsKeyClause (items_in self.now)) clauses.now }
-        ensures { IfOk result (λ keys. keys.items ≡ meaning.alternates (items_in self.now) clauses.now) }
+        ensures { IfOk result
+            (λ keys. keys.items ≡ meaning.alternates (items_in self.now) clauses.now) }
     {
         let mut keys = Vec::new(alloc);
         let mut left = clauses.len();

@@ -12,7 +12,8 @@ use Rattle.data_image.specs.Reading.{byte_at, told_at}
 use Rattle.file_image.specs.declared.class.StatusClass.TheVariants.{Successful, AtEnd, InvalidKey}
 use Rattle.file_image.specs.declared.file.CodeFile.{CodeFile}
 use Rattle.file_image.specs.Classes.{has_class}
-use Rattle.file_image.specs.Spelling.{class_of, class_at, key_at, relation_of, plain_verb_of, verb_bytes, verb_at, alternate_bytes, file_bytes}
+use Rattle.file_image.specs.Spelling.{class_of, class_at, key_at, relation_of, plain_verb_of, verb_bytes, verb_at}
+use Rattle.file_image.specs.Spelling.{alternate_bytes, file_bytes}
 
 -- A status is of a class by its first character.
 no_more : has_class AtEnd status.AtEnd ≡ true
@@ -51,7 +52,8 @@ no_class : class_at (0 ∷ []) ≡ Err faults.Value
 unfolding told_at byte_at class_of
 no_class = refl
 
--- an indexed file F of 80 bytes a record, with its key at the front and an alternate key with duplicates, its record area the third
+-- an indexed file F of 80 bytes a record, with its key at the front and an alternate key with duplicates, its record
+-- area the third
 abbrev f : CodeFile
 f = record {
   name = 70 ∷ [];

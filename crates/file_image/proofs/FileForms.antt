@@ -10,14 +10,19 @@ use Rattle.records.specs.declared.select.Access.TheVariants as access
 use Rattle.records.specs.Spec.{Spec}
 use Rattle.data_instructions.specs.declared.index.ItemIndex.{ItemIndex}
 use Rattle.data_image.specs.declared.fault.ImageFault.TheVariants as faults
-use Rattle.data_image.specs.Spelling.{IsBytes, small_bytes, short_bytes, flag_byte, text_bytes, table_bytes, AreSpelled, IsAny}
+use Rattle.data_image.specs.Spelling.{IsBytes, small_bytes, short_bytes, flag_byte, text_bytes, table_bytes, AreSpelled}
+use Rattle.data_image.specs.Spelling.{IsAny}
 use Rattle.data_image.specs.Reading.{ReadResult, ◌>>=◌, byte_at, told_at, flag_of, small_at, short_at, table_at}
-use Rattle.data_image.proofs.Forms.{ok_is, failed, chosen, takes_then, IsForm, part, part_again, Took, form_of, first_took, byte_is, behind_took, alone_took, first_told, byte_told}
+use Rattle.data_image.proofs.Forms.{ok_is, failed, chosen, takes_then, IsForm, part, part_again, Took, form_of}
+use Rattle.data_image.proofs.Forms.{first_took, byte_is, behind_took, alone_took, first_told, byte_told}
 use Rattle.data_image.proofs.Numbers.{flag_form, small_form, short_form}
 use Rattle.data_image.proofs.TableForms.{table_form, text_form}
 use Rattle.file_image.specs.declared.file.CodeFile.{CodeFile}
 use Rattle.file_image.specs.Files.{spec_of}
-use Rattle.file_image.specs.Spelling.{organization_bytes, IsOrganizationSpelled, organization_from, organization_at, alternate_bytes, IsAlternateSpelled, alternate_at, spec_bytes, IsSpecSpelled, spec_at, access_byte, access_of, item_bytes, IfItemSpelled, item_from, item_at, file_bytes, IsFileSpelled, file_at}
+use Rattle.file_image.specs.Spelling.{organization_bytes, IsOrganizationSpelled, organization_from, organization_at}
+use Rattle.file_image.specs.Spelling.{alternate_bytes, IsAlternateSpelled, alternate_at, spec_bytes, IsSpecSpelled}
+use Rattle.file_image.specs.Spelling.{spec_at, access_byte, access_of, item_bytes, IfItemSpelled, item_from, item_at}
+use Rattle.file_image.specs.Spelling.{file_bytes, IsFileSpelled, file_at}
 use Rattle.file_image.proofs.Keys.{place_form, alternate_form}
 
 -- ---- organizations
@@ -25,31 +30,40 @@ use Rattle.file_image.proofs.Keys.{place_form, alternate_form}
 abbrev indexed : KeyPlace → Organization
 indexed place = organization.Indexed place
 
-organization_from_took : (n : ℕ) (rest : List ℕ) (x : Organization × List ℕ) → IsBytes rest → organization_from n rest ≡ Ok x → Took organization_bytes IsOrganizationSpelled (n ∷ rest) x
+organization_from_took : (n : ℕ) (rest : List ℕ) (x : Organization × List ℕ) → IsBytes rest
+    → organization_from n rest ≡ Ok x → Took organization_bytes IsOrganizationSpelled (n ∷ rest) x
 organization_from_took n rest x is e =
     elim (chosen (eqb n 1) _ _ _ e) [
-      | inl p ↦ byte_is organization_bytes IsOrganizationSpelled 1 n rest x p.0 (alone_took organization_bytes IsOrganizationSpelled 1 organization.Sequential rest x (refl, tt) is p.1)
+      | inl p ↦ byte_is organization_bytes IsOrganizationSpelled 1 n rest x p.0
+          (alone_took organization_bytes IsOrganizationSpelled 1 organization.Sequential rest x (refl, tt) is p.1)
       | inr q ↦ elim (chosen (eqb n 2) _ _ _ q.1) [
-        | inl p ↦ byte_is organization_bytes IsOrganizationSpelled 2 n rest x p.0 (alone_took organization_bytes IsOrganizationSpelled 2 organization.Relative rest x (refl, tt) is p.1)
+        | inl p ↦ byte_is organization_bytes IsOrganizationSpelled 2 n rest x p.0
+            (alone_took organization_bytes IsOrganizationSpelled 2 organization.Relative rest x (refl, tt) is p.1)
         | inr r ↦ elim (chosen (eqb n 3) _ _ _ r.1) [
-          | inl p ↦ byte_is organization_bytes IsOrganizationSpelled 3 n rest x p.0 (behind_took organization_bytes IsOrganizationSpelled place_form 3 indexed (λ a. refl) (λ a h. h) rest x is p.1)
+          | inl p ↦ byte_is organization_bytes IsOrganizationSpelled 3 n rest x p.0 (behind_took organization_bytes
+              IsOrganizationSpelled place_form 3 indexed (λ a. refl) (λ a h. h) rest x is p.1)
           | inr s ↦ absurd (failed faults.Value x s.1)
         ]
       ]
     ]
 
-organization_took : (bytes : List ℕ) (x : Organization × List ℕ) → IsBytes bytes → organization_at bytes ≡ Ok x → Took organization_bytes IsOrganizationSpelled bytes x
+organization_took : (bytes : List ℕ) (x : Organization × List ℕ) → IsBytes bytes → organization_at bytes ≡ Ok x
+    → Took organization_bytes IsOrganizationSpelled bytes x
 unfolding organization_at
-organization_took bytes x is e = first_took organization_bytes IsOrganizationSpelled organization_from organization_from_took bytes x is e
+organization_took bytes x is e =
+    first_took organization_bytes IsOrganizationSpelled organization_from organization_from_took bytes x is e
 
-organization_again : (one : Organization) (rest : List ℕ) → IsOrganizationSpelled one → organization_at (organization_bytes one ++ rest) ≡ Ok (one, rest)
+organization_again : (one : Organization) (rest : List ℕ) → IsOrganizationSpelled one
+    → organization_at (organization_bytes one ++ rest) ≡ Ok (one, rest)
 unfolding organization_at byte_at
 organization_again organization.Sequential rest h = refl
 organization_again organization.Relative rest h = refl
-organization_again (organization.Indexed place) rest h = part_again place_form place rest (λ place. Ok (indexed place.0, place.1)) h
+organization_again (organization.Indexed place) rest h =
+    part_again place_form place rest (λ place. Ok (indexed place.0, place.1)) h
 
 organization_form : IsForm organization_at organization_bytes IsOrganizationSpelled
-organization_form = form_of organization_at organization_bytes IsOrganizationSpelled organization_took organization_again
+organization_form =
+    form_of organization_at organization_bytes IsOrganizationSpelled organization_took organization_again
 
 -- ---- accesses
 
@@ -67,28 +81,34 @@ access_again access.Random = refl
 access_again access.Dynamic = refl
 
 access_form : IsForm (told_at access_of) (λ one. access_byte one ∷ []) IsAny
-access_form = byte_told (λ one. access_byte one ∷ []) access_of accesses ((refl, tt), ((refl, tt), ((refl, tt), tt))) access_told (λ one. (access_byte one, refl, access_again one))
+access_form = byte_told (λ one. access_byte one ∷ []) access_of accesses ((refl, tt), ((refl, tt), ((refl, tt), tt)))
+    access_told (λ one. (access_byte one, refl, access_again one))
 
 -- ---- items of the table
 
 abbrev some_item : ℕ → Option ItemIndex
 some_item number = Some (record { number = number })
 
-item_from_took : (n : ℕ) (rest : List ℕ) (x : Option ItemIndex × List ℕ) → IsBytes rest → item_from n rest ≡ Ok x → Took item_bytes IfItemSpelled (n ∷ rest) x
+item_from_took : (n : ℕ) (rest : List ℕ) (x : Option ItemIndex × List ℕ) → IsBytes rest → item_from n rest ≡ Ok x
+    → Took item_bytes IfItemSpelled (n ∷ rest) x
 item_from_took n rest x is e =
     elim (chosen (eqb n 0) _ _ _ e) [
-      | inl p ↦ byte_is item_bytes IfItemSpelled 0 n rest x p.0 (alone_took item_bytes IfItemSpelled 0 None rest x (refl, tt) is p.1)
+      | inl p ↦ byte_is item_bytes IfItemSpelled 0 n rest x p.0
+          (alone_took item_bytes IfItemSpelled 0 None rest x (refl, tt) is p.1)
       | inr q ↦ elim (chosen (eqb n 1) _ _ _ q.1) [
-        | inl p ↦ byte_is item_bytes IfItemSpelled 1 n rest x p.0 (behind_took item_bytes IfItemSpelled short_form 1 some_item (λ a. refl) (λ a h. h) rest x is p.1)
+        | inl p ↦ byte_is item_bytes IfItemSpelled 1 n rest x p.0
+            (behind_took item_bytes IfItemSpelled short_form 1 some_item (λ a. refl) (λ a h. h) rest x is p.1)
         | inr r ↦ absurd (failed faults.Value x r.1)
       ]
     ]
 
-item_took : (bytes : List ℕ) (x : Option ItemIndex × List ℕ) → IsBytes bytes → item_at bytes ≡ Ok x → Took item_bytes IfItemSpelled bytes x
+item_took : (bytes : List ℕ) (x : Option ItemIndex × List ℕ) → IsBytes bytes → item_at bytes ≡ Ok x
+    → Took item_bytes IfItemSpelled bytes x
 unfolding item_at
 item_took bytes x is e = first_took item_bytes IfItemSpelled item_from item_from_took bytes x is e
 
-item_again : (one : Option ItemIndex) (rest : List ℕ) → IfItemSpelled one → item_at (item_bytes one ++ rest) ≡ Ok (one, rest)
+item_again : (one : Option ItemIndex) (rest : List ℕ) → IfItemSpelled one
+    → item_at (item_bytes one ++ rest) ≡ Ok (one, rest)
 unfolding item_at byte_at
 item_again None rest h = refl
 item_again (Some item) rest h = part_again short_form item.number rest (λ number. Ok (some_item number.0, number.1)) h
@@ -106,7 +126,8 @@ alternate_table = table_form alternate_at alternate_bytes IsAlternateSpelled alt
 regroup : (a b c d : List ℕ) → a ++ b ++ c ++ d ≡ a ++ (b ++ (c ++ d))
 regroup a b c d = simp append_assoc
 
-spec_took : (bytes : List ℕ) (x : Spec × List ℕ) → IsBytes bytes → spec_at bytes ≡ Ok x → Took spec_bytes IsSpecSpelled bytes x
+spec_took : (bytes : List ℕ) (x : Spec × List ℕ) → IsBytes bytes → spec_at bytes ≡ Ok x
+    → Took spec_bytes IsSpecSpelled bytes x
 unfolding spec_at
 spec_took bytes x is e =
     let a = part organization_form bytes _ x is e in
@@ -124,10 +145,12 @@ abbrev alternates_from : Spec → List AlternateKey × List ℕ → ReadResult S
 alternates_from one alternates = Ok (record one { alternates = alternates.0 }, alternates.1)
 
 abbrev record_length_from : Spec → ℕ × List ℕ → ReadResult Spec
-record_length_from one record_length = table_at alternate_at record_length.1 >>= alternates_from (record one { record_length = record_length.0 })
+record_length_from one record_length =
+    table_at alternate_at record_length.1 >>= alternates_from (record one { record_length = record_length.0 })
 
 abbrev kind_from : Spec → Organization × List ℕ → ReadResult Spec
-kind_from one organization = small_at organization.1 >>= record_length_from (record one { organization = organization.0 })
+kind_from one organization =
+    small_at organization.1 >>= record_length_from (record one { organization = organization.0 })
 
 spec_again : (one : Spec) (rest : List ℕ) → IsSpecSpelled one → spec_at (spec_bytes one ++ rest) ≡ Ok (one, rest)
 unfolding spec_at
@@ -145,10 +168,12 @@ spec_form = form_of spec_at spec_bytes IsSpecSpelled spec_took spec_again
 
 -- ---- files of the table
 
-regroup_7 : (a b c d e f g h : List ℕ) → a ++ b ++ c ++ d ++ e ++ f ++ g ++ h ≡ a ++ (b ++ (c ++ (d ++ (e ++ (f ++ (g ++ h))))))
+regroup_7 : (a b c d e f g h : List ℕ)
+    → a ++ b ++ c ++ d ++ e ++ f ++ g ++ h ≡ a ++ (b ++ (c ++ (d ++ (e ++ (f ++ (g ++ h))))))
 regroup_7 a b c d e f g h = simp append_assoc
 
-file_took : (bytes : List ℕ) (x : CodeFile × List ℕ) → IsBytes bytes → file_at bytes ≡ Ok x → Took file_bytes IsFileSpelled bytes x
+file_took : (bytes : List ℕ) (x : CodeFile × List ℕ) → IsBytes bytes → file_at bytes ≡ Ok x
+    → Took file_bytes IsFileSpelled bytes x
 unfolding file_at
 file_took bytes x is e =
     let a = part text_form bytes _ x is e in
@@ -181,7 +206,8 @@ file_took bytes x is e =
     let five = takes_then bytes (ta ++ tb ++ tc ++ td) d.rest tf f.rest four f.takes in
     let six = takes_then bytes (ta ++ tb ++ tc ++ td ++ tf) f.rest tg g.rest five g.takes in
     let seven = takes_then bytes (ta ++ tb ++ tc ++ td ++ tf ++ tg) g.rest (item_bytes h.value) h.rest six h.takes in
-    let fits : IsFileSpelled made = record { name = a.sound; spec = b.sound; area = f.sound; relative_key = g.sound; status = h.sound } in
+    let fits : IsFileSpelled made =
+    record { name = a.sound; spec = b.sound; area = f.sound; relative_key = g.sound; status = h.sound } in
     subst (Took file_bytes IsFileSpelled bytes) {x = (made, h.rest)} (ok_is (made, h.rest) x h.goes) (seven, fits)
 
 -- reading from each part on
@@ -189,7 +215,8 @@ abbrev status_from : CodeFile → Option ItemIndex × List ℕ → ReadResult Co
 status_from one status = Ok (record one { status = status.0 }, status.1)
 
 abbrev relative_key_from : CodeFile → Option ItemIndex × List ℕ → ReadResult CodeFile
-relative_key_from one relative_key = item_at relative_key.1 >>= status_from (record one { relative_key = relative_key.0 })
+relative_key_from one relative_key =
+    item_at relative_key.1 >>= status_from (record one { relative_key = relative_key.0 })
 
 abbrev area_from : CodeFile → ℕ × List ℕ → ReadResult CodeFile
 area_from one area = item_at area.1 >>= relative_key_from (record one { area = area.0 })
@@ -203,7 +230,8 @@ access_from one access = told_at flag_of access.1 >>= optional_from (record one 
 abbrev spec_from : CodeFile → Spec × List ℕ → ReadResult CodeFile
 spec_from one spec =
     told_at access_of spec.1
-    >>= access_from (record one { organization = spec.0.organization; record_length = spec.0.record_length; alternates = spec.0.alternates })
+    >>= access_from (record one
+    { organization = spec.0.organization; record_length = spec.0.record_length; alternates = spec.0.alternates })
 
 abbrev name_from : CodeFile → List ℕ × List ℕ → ReadResult CodeFile
 name_from one name = spec_at name.1 >>= spec_from (record one { name = name.0 })

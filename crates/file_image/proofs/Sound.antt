@@ -16,20 +16,24 @@ use Rattle.data_instructions.specs.declared.tables.DataItem.{DataItem}
 use Rattle.data_instructions.specs.declared.tables.DataTables.{DataTables}
 use Rattle.data_instructions.specs.Tables.{IsTables}
 use Rattle.file_image.specs.declared.file.CodeFile.{CodeFile}
-use Rattle.file_image.specs.Files.{place_of_item, place_at, IsTwoCharacters, IsCodeFile, LiesIn, IsNumberPlace, IsStatusPlace}
+use Rattle.file_image.specs.Files.{place_of_item, place_at, IsTwoCharacters, IsCodeFile, LiesIn, IsNumberPlace}
+use Rattle.file_image.specs.Files.{IsStatusPlace}
 
-stood : (o : Option DataItem) (place : ItemPlace) → option_map place_of_item o ≡ Some place → (one : DataItem) × (o ≡ Some one) × (place_of_item one ≡ place)
+stood : (o : Option DataItem) (place : ItemPlace) → option_map place_of_item o ≡ Some place
+    → (one : DataItem) × (o ≡ Some one) × (place_of_item one ≡ place)
 stood None place e = absurd cc
 stood (Some one) place e = (one, refl, same_Some (place_of_item one) place e)
 
 -- An item of tables in order lies in its area.
-pub lies_at : (tables : DataTables) (item : Option ItemIndex) (place : ItemPlace) → IsTables tables → place_at tables item ≡ Some place
+pub lies_at : (tables : DataTables) (item : Option ItemIndex) (place : ItemPlace) → IsTables tables
+    → place_at tables item ≡ Some place
     → LiesIn tables.areas place
 lies_at tables None place order e = absurd cc
 lies_at tables (Some index) place order e =
     let s = stood (slice_get tables.items index.number) place e in
     let is = order.items index.number s.0 s.1 in
-    subst (LiesIn tables.areas) s.2 (record { form = is.form; area = is.lies.area; here = is.lies.here; within = is.lies.within })
+    subst (LiesIn tables.areas) s.2
+    (record { form = is.form; area = is.lies.area; here = is.lies.here; within = is.lies.within })
 
 both : (a b : Bool) → a && b ≡ true → (a ≡ true) × (b ≡ true)
 both true b e = (refl, e)
@@ -39,7 +43,8 @@ isnt : (a : Bool) → not a ≡ true → a ≡ false
 isnt true e = absurd cc
 isnt false e = refl
 
-unsigned : (kind : Kind) → is_unsigned_integer kind ≡ true → (n : Numeric) × (kind ≡ k.Numeric n) × (is_signed n ≡ false) × (n.scale ≡ 0)
+unsigned : (kind : Kind) → is_unsigned_integer kind ≡ true
+    → (n : Numeric) × (kind ≡ k.Numeric n) × (is_signed n ≡ false) × (n.scale ≡ 0)
 unsigned (k.Numeric n) e =
     let all = both (not (is_signed n)) (n.scale == 0) e in
     (n, refl, isnt (is_signed n) all.0, eqb-true n.scale 0 all.1)
@@ -61,7 +66,8 @@ two (k.Numeric n) size e = absurd cc
 of_some : {A : Type 0} (P : A → Type 0) (o : Option A) (x : A) → IfSome o P → o ≡ Some x → P x
 of_some {A = A} P o x all e = subst (λ (o : Option A). IfSome o P) e all
 
-pub number_place : (tables : DataTables) (one : CodeFile) (place : ItemPlace) → IsTables tables → IsCodeFile tables one → place_at tables one.relative_key ≡ Some place
+pub number_place : (tables : DataTables) (one : CodeFile) (place : ItemPlace) → IsTables tables → IsCodeFile tables one
+    → place_at tables one.relative_key ≡ Some place
     → IsNumberPlace tables.areas one.area place
 number_place tables one place order is e =
     let key = of_some (IsRelativeKey one.area) (place_at tables one.relative_key) place is.relative_key e in
@@ -75,7 +81,8 @@ number_place tables one place order is e =
       outside = isnt (place.area == one.area) key.outside;
     }
 
-pub status_place : (tables : DataTables) (one : CodeFile) (place : ItemPlace) → IsTables tables → IsCodeFile tables one → place_at tables one.status ≡ Some place
+pub status_place : (tables : DataTables) (one : CodeFile) (place : ItemPlace) → IsTables tables → IsCodeFile tables one
+    → place_at tables one.status ≡ Some place
     → IsStatusPlace tables.areas place
 status_place tables one place order is e =
     let kind = of_some IsTwoCharacters (place_at tables one.status) place is.status e in

@@ -90,7 +90,8 @@ fn read_alternate(bytes: &[u8]) -> Result<(AlternateKey, &[u8]), ImageError>
 
 /// Puts the count of the alternate keys, and each of them.
 pub fn put_alternates(out: &mut Vec<u8>, keys: &[AlternateKey]) -> Result<(), AllocError>
-    ensures bytes { OnOk result (out.new.items ≡ out.old.items ++ table_bytes alternate_bytes keys.now) }
+    ensures bytes { OnOk result
+        (out.new.items ≡ out.old.items ++ table_bytes alternate_bytes keys.now) }
     ensures count { OnOk result (IsCount (length keys.now)) }
     ensures fits { OnOk result (AllByRecursion IsAlternateSpelled keys.now) }
 {
@@ -106,7 +107,8 @@ fn read_so_many(
     count: usize,
     bytes: &[u8],
 ) -> Result<(Items<AlternateKey>, &[u8]), ImageError>
-    ensures { Gives (λ x. (x.0, x.1.now)) fault_of result (entries_at alternate_at count bytes.now) }
+    ensures { Gives (λ x. (x.0, x.1.now)) fault_of result
+        (entries_at alternate_at count bytes.now) }
 {
     let mut keys = Items::new(alloc);
     let mut rest = bytes;

@@ -81,7 +81,8 @@ fn is_unsigned_integer(kind: Kind) -> bool
 }
 
 fn has_relative_key(tables: &DataTables, file: &CodeFile) -> bool
-    ensures { IsTrue result ↔ IfSome (place_at tables.now file.now.relative_key) (IsRelativeKey file.now.area) }
+    ensures { IsTrue result
+        ↔ IfSome (place_at tables.now file.now.relative_key) (IsRelativeKey file.now.area) }
 {
     let Some(index) = file.relative_key else {
         return true;

@@ -15,8 +15,10 @@ use std::alloc::{AllocError, Global};
 
 /// Its name and its keys, where they are those of a file.
 pub(crate) fn file_spec(alloc: Global, file: &CodeFile) -> Result<Option<FileSpec>, AllocError>
-    ensures some { IfOk result (λ spec. is_some spec ≡ (is_name file.now.name && is_spec (spec_of file.now))) }
-    ensures file { IfOk result (λ spec. IfSome spec (λ one. (one.name.items ≡ file.now.name) × (stores.spec_of one ≡ spec_of file.now))) }
+    ensures some { IfOk result
+        (λ spec. is_some spec ≡ (is_name file.now.name && is_spec (spec_of file.now))) }
+    ensures file { IfOk result (λ spec. IfSome spec
+        (λ one. (one.name.items ≡ file.now.name) × (stores.spec_of one ≡ spec_of file.now))) }
 {
     let name = Vec::from_slice(alloc, file.name.as_slice())?;
     let alternates = Vec::from_slice(alloc, file.alternates.as_slice())?;

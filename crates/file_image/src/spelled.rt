@@ -128,7 +128,14 @@ fn put_spec(out: &mut Vec<u8>, file: &CodeFile) -> Result<(), AllocError>
 
 #[tactic(auto, unfolding(crate::specs::Spelling::spec_at))]
 fn read_spec(alloc: Global, bytes: &[u8]) -> Result<(SpecRead, &[u8]), ImageError>
-    ensures { Gives (λ x. (record { organization = x.0.organization; record_length = x.0.record_length; alternates = x.0.alternates }, x.1.now)) fault_of result (spec_at bytes.now) }
+    ensures { Gives (λ x. (
+      record {
+        organization = x.0.organization;
+        record_length = x.0.record_length;
+        alternates = x.0.alternates;
+      },
+      x.1.now,
+    )) fault_of result (spec_at bytes.now) }
 {
     let (organization, rest) = read_organization(bytes)?;
     let (record_length, rest) = read_small(rest)?;

@@ -112,7 +112,8 @@ fn put_start(
     key: KeyOfReference,
     count: u8,
 ) -> Result<(), AllocError>
-    ensures bytes { OnOk result (out.new.items ≡ out.old.items ++ (11 ∷ (spec.relation_byte relation ∷ [] ++ key_bytes key ++ count ∷ []))) }
+    ensures bytes { OnOk result (out.new.items ≡ out.old.items
+        ++ (11 ∷ (spec.relation_byte relation ∷ [] ++ key_bytes key ++ count ∷ []))) }
     ensures fits { IsKeySpelled key × IsByte count }
 {
     put_byte(out, START)?;

@@ -1,5 +1,6 @@
 -- A catalog and its files, whose pages are all that the map uses, are what the map holds.
-use Rattle.std.proofs.Common.{◌≡◌, ◌≢◌, ◌≤◌, ◌<◌, ◌^◌, ◌+◌, ◌*◌, ◌++◌, ⊎_elim, inl, inr, ℕ, Bool, true, false, List, [], ◌∷◌, length, take, drop, refl, sym, ap, subst, ◌∙◌, arith}
+use Rattle.std.proofs.Common.{◌≡◌, ◌≢◌, ◌≤◌, ◌<◌, ◌^◌, ◌+◌, ◌*◌, ◌++◌, ⊎_elim, inl, inr, ℕ, Bool, true, false, List, []}
+use Rattle.std.proofs.Common.{◌∷◌, length, take, drop, refl, sym, ap, subst, ◌∙◌, arith}
 use Rattle.std.specs.Prelude.{map, Option, None, Contains, slice_index_or}
 use Rattle.std.specs.List.{All, AllByRecursion, flat_map}
 use Rattle.std.specs.List.Sorted.{IsStrictlySortedBy}
@@ -23,7 +24,8 @@ use Rattle.records.specs.Files.{Files, IsNamed, names}
 use Rattle.volume_format.specs.Catalog.{listing_bytes, catalog_layout}
 use Rattle.volume_format.specs.Forest.{TreeLevels, IsTreeIn, IsForest, pages_under, pages_within}
 use Rattle.volume_format.specs.Trees.{layout_under}
-use Rattle.volume_format.specs.Volume.{FileTrees, IsKept, MapHolds, no_tree, trees_of, listing_of, catalog_entry, catalog_tree}
+use Rattle.volume_format.specs.Volume.{FileTrees, IsKept, MapHolds, no_tree, trees_of, listing_of, catalog_entry}
+use Rattle.volume_format.specs.Volume.{catalog_tree}
 use Rattle.volume_format.proofs.Forests.{all_left, all_right}
 use Rattle.volume_format.proofs.Listings.{spec_read, prime_read, root_read}
 use Rattle.volume_format.proofs.Roots.{root_small}
@@ -42,33 +44,44 @@ abbrev IsPage : List (Option Sector) → ℕ → Type 0
 IsPage pages page = (0 < page) × (page < length pages)
 
 -- the pages of trees are pages of the map
-low_under : (pages : List (Option Sector)) (tree : TreeLevels) → IsTreeIn pages tree → All (IsPage pages) (pages_under tree)
-low_under pages tree (inl none) = subst (λ (levels : List (List TreeNode)). All (IsPage pages) (pages_of levels)) (sym none.1) (All-nil (IsPage pages))
+low_under : (pages : List (Option Sector)) (tree : TreeLevels) → IsTreeIn pages tree
+    → All (IsPage pages) (pages_under tree)
+low_under pages tree (inl none) = subst (λ (levels : List (List TreeNode)). All (IsPage pages) (pages_of levels))
+    (sym none.1) (All-nil (IsPage pages))
 low_under pages tree (inr is) = is.1.numbers
 
-low_within : (pages : List (Option Sector)) (trees : List TreeLevels) → All (IsTreeIn pages) trees → All (IsPage pages) (pages_within trees)
+low_within : (pages : List (Option Sector)) (trees : List TreeLevels) → All (IsTreeIn pages) trees
+    → All (IsPage pages) (pages_within trees)
 low_within pages [] grow = All-nil (IsPage pages)
 low_within pages (tree ∷ trees) grow =
-    All-append (IsPage pages) (pages_under tree) (pages_within trees) (low_under pages tree (All-head (IsTreeIn pages) tree trees grow)) (low_within pages trees (All-tail (IsTreeIn pages) tree trees grow))
+    All-append (IsPage pages) (pages_under tree) (pages_within trees) (low_under pages tree
+    (All-head (IsTreeIn pages) tree trees grow)) (low_within pages trees (All-tail (IsTreeIn pages) tree trees grow))
 
 -- the pages of a forest can be marked where none was
-can_first : (pages : List (Option Sector)) (seen : List Bool) (trees : List TreeLevels) → length seen ≡ length pages → NoneMarked seen → IsForest pages trees → CanMark seen (pages_within trees)
+can_first : (pages : List (Option Sector)) (seen : List Bool) (trees : List TreeLevels) → length seen ≡ length pages
+    → NoneMarked seen → IsForest pages trees → CanMark seen (pages_within trees)
 can_first pages seen trees many none forest =
     let low = low_within pages trees forest.grow in
     record {
       some = λ k d within. (low k d within).0;
-      unmarked = λ k d within. (let here = low k d within in let below = here.1 in omega (arith, below, many), none (slice_index_or (pages_within trees) k d));
+      unmarked = λ k d within. (
+        let here = low k d within in let below = here.1 in omega (arith, below, many),
+        none (slice_index_or (pages_within trees) k d),
+      );
       once = forest.once;
     }
 
 -- marks that began from none, and cover what is used
-covers : (pages : List (Option Sector)) (trees : List TreeLevels) (old new : List Bool) → NoneMarked old → Marks old (pages_within trees) new → IsCovered pages new →
+covers : (pages : List (Option Sector)) (trees : List TreeLevels) (old new : List Bool) → NoneMarked old
+    → Marks old (pages_within trees) new → IsCovered pages new →
     (page : ℕ) → slice_index_or pages page None ≢ None → Contains (pages_within trees) page
 covers pages trees old new none marks covered page used =
-    ⊎_elim (λ has. has) (λ out. let clash : true ≡ false = sym (covered page used) ∙ marks.others page out ∙ none page in absurd {0} cc) (in_or_not (pages_within trees) page)
+    ⊎_elim (λ has. has) (λ out. let clash : true ≡ false =
+    sym (covered page used) ∙ marks.others page out ∙ none page in absurd {0} cc) (in_or_not (pages_within trees) page)
 
 -- what is held has a catalog
-pub held_catalog : (m : Map) (files : Files) (holds : MapHolds m files) → IsCatalog m m.generation holds.keeps.catalog holds.kept
+pub held_catalog : (m : Map) (files : Files) (holds : MapHolds m files)
+    → IsCatalog m m.generation holds.keeps.catalog holds.kept
 held_catalog m files holds = record {
   grow = holds.keeps.forest.grow;
   listed = holds.keeps.listed;
@@ -77,73 +90,96 @@ held_catalog m files holds = record {
   few =
       let many = length-map holds.kept (λ (one : FileTrees). one.named) in
       let count = holds.are.count in
-      let same : length (map (λ (one : FileTrees). one.named) holds.kept) ≡ length files = ap (λ (l : Files). length l) holds.named in
+      let same : length (map (λ (one : FileTrees). one.named) holds.kept) ≡ length files =
+      ap (λ (l : Files). length l) holds.named in
       omega (arith, many, count, same);
 }
 
 -- where no page was marked, and no catalog can be marked, nothing is held
-pub none_held : (m : Map) (old : List Bool) → length old ≡ length m.pages → NoneMarked old → NoCatalog m m.generation old → (files : Files) → MapHolds m files → ⊥
+pub none_held : (m : Map) (old : List Bool) → length old ≡ length m.pages → NoneMarked old
+    → NoCatalog m m.generation old → (files : Files) → MapHolds m files → ⊥
 none_held m old many none never files holds =
-    never holds.keeps.catalog holds.kept (held_catalog m files holds) (can_first m.pages old (catalog_tree m holds.keeps.catalog ∷ flat_map trees_of holds.kept) many none holds.keeps.forest)
+    never holds.keeps.catalog holds.kept (held_catalog m files holds) (can_first m.pages old
+    (catalog_tree m holds.keeps.catalog ∷ flat_map trees_of holds.kept) many none holds.keeps.forest)
 
 -- a catalog whose pages are all that is used is held
-pub catalog_held : (m : Map) (files : Files) (old new : List Bool) → NoneMarked old → FindsCatalog m m.generation files old new → IsCovered m.pages new → MapHolds m files
+pub catalog_held : (m : Map) (files : Files) (old new : List Bool) → NoneMarked old
+    → FindsCatalog m m.generation files old new → IsCovered m.pages new → MapHolds m files
 catalog_held m files old new none found covered =
     let is = found.is in
     let trees : List TreeLevels = catalog_tree m found.catalog ∷ flat_map trees_of found.kept in
-    let up : Ascend (keys_listed (entries_of catalog_layout found.catalog)) = tree_ascends catalog_layout m.pages m.catalog found.catalog (All-head (IsTreeIn m.pages) (catalog_tree m found.catalog) (flat_map trees_of found.kept) is.grow) in
+    let up : Ascend (keys_listed (entries_of catalog_layout found.catalog)) =
+    tree_ascends catalog_layout m.pages m.catalog found.catalog
+    (All-head (IsTreeIn m.pages) (catalog_tree m found.catalog) (flat_map trees_of found.kept) is.grow) in
     let named : AllByRecursion IsNamed files = subst (λ (l : Files). AllByRecursion IsNamed l) found.are is.named in
     let many = length-map found.kept (λ (one : FileTrees). one.named) in
     let few = is.few in
-    let same : length (map (λ (one : FileTrees). one.named) found.kept) ≡ length files = ap (λ (l : Files). length l) found.are in
+    let same : length (map (λ (one : FileTrees). one.named) found.kept) ≡ length files =
+    ap (λ (l : Files). length l) found.are in
     record {
       kept = found.kept;
       keeps = record {
         catalog = found.catalog;
-        forest = record { grow = is.grow; once = found.marks.can.once; covered = covers m.pages trees old new none found.marks covered };
+        forest = record {
+          grow = is.grow;
+          once = found.marks.can.once;
+          covered = covers m.pages trees old new none found.marks covered;
+        };
         listed = is.listed;
         each = is.each;
       };
       named = found.are;
       are = record {
         ascend = subst (λ (l : Files). IsStrictlySortedBy bytes_cmp (names l)) found.are
-            (names_ascend found.kept is.named (subst (λ (entries : List Entry). Ascend (keys_listed entries)) is.listed up));
+            (names_ascend found.kept is.named
+            (subst (λ (entries : List Entry). Ascend (keys_listed entries)) is.listed up));
         each = named;
         count = omega (arith, many, few, same);
       };
     }
 
 -- the trees of two files under one entry of the catalog
-roots_low : (pages : List (Option Sector)) (trees : List TreeLevels) → length pages ≤ 2 ^ 20 → All (IsTreeIn pages) trees → All (λ page. page < 2 ^ 32) (map (λ (tree : TreeLevels). tree.tree.root) trees)
-roots_low pages trees small grow = All-map (λ page. page < 2 ^ 32) (λ (tree : TreeLevels). tree.tree.root) trees (λ k d within. root_small pages (slice_index_or trees k d) small (grow k d within))
+roots_low : (pages : List (Option Sector)) (trees : List TreeLevels) → length pages ≤ 2 ^ 20
+    → All (IsTreeIn pages) trees → All (λ page. page < 2 ^ 32) (map (λ (tree : TreeLevels). tree.tree.root) trees)
+roots_low pages trees small grow = All-map (λ page. page < 2 ^ 32) (λ (tree : TreeLevels). tree.tree.root) trees
+    (λ k d within. root_small pages (slice_index_or trees k d) small (grow k d within))
 
-root_told : (pages : List (Option Sector)) (kept : FileTrees) → length pages ≤ 2 ^ 20 → IsNamed kept.named → All (IsTreeIn pages) kept.alternates → (i : ℕ) → i < length kept.alternates →
-    big_number 4 (drop (47 + 4 * i) (listing_bytes (listing_of kept))) ≡ (slice_index_or kept.alternates i no_tree).tree.root
+root_told : (pages : List (Option Sector)) (kept : FileTrees) → length pages ≤ 2 ^ 20 → IsNamed kept.named
+    → All (IsTreeIn pages) kept.alternates → (i : ℕ) → i < length kept.alternates →
+    big_number 4 (drop (47 + 4 * i) (listing_bytes (listing_of kept)))
+    ≡ (slice_index_or kept.alternates i no_tree).tree.root
 root_told pages kept small named grow i low =
     let many = length-map kept.alternates (λ (tree : TreeLevels). tree.tree.root) in
-    root_read (listing_of kept) i named.file.spec (roots_low pages kept.alternates small grow) (omega (arith, low, many)) ∙ get_or-map (λ (tree : TreeLevels). tree.tree.root) kept.alternates i no_tree 0 low
+    root_read (listing_of kept) i named.file.spec (roots_low pages kept.alternates small grow)
+    (omega (arith, low, many)) ∙ get_or-map (λ (tree : TreeLevels). tree.tree.root) kept.alternates i no_tree 0 low
 
 trees_with : TreeLevels → List TreeLevels → List TreeLevels
 trees_with prime alternates = prime ∷ alternates
 
 module _ (pages : List (Option Sector)) (generation : ℕ) (small : length pages ≤ 2 ^ 20) where
-  same_trees : (one two : FileTrees) → IsKept generation one → IsKept generation two → IsNamed one.named → IsNamed two.named → All (IsTreeIn pages) (trees_of one) → All (IsTreeIn pages) (trees_of two) → catalog_entry one ≡ catalog_entry two →
+  same_trees : (one two : FileTrees) → IsKept generation one → IsKept generation two → IsNamed one.named
+      → IsNamed two.named → All (IsTreeIn pages) (trees_of one) → All (IsTreeIn pages) (trees_of two)
+      → catalog_entry one ≡ catalog_entry two →
       trees_of one ≡ trees_of two
   unfolding trees_with
   same_trees one two is is_too named named_too grow grow_too same =
       let s : Spec = one.named.file.spec in
       let t : Spec = two.named.file.spec in
       let bytes : listing_bytes (listing_of one) ≡ listing_bytes (listing_of two) = ap (λ (e : Entry). e.value) same in
-      let spec : s ≡ t = one_spec s t named.file.spec named_too.file.spec (sym (spec_read (listing_of one) named.file.spec) ∙ ap (take 43) bytes ∙ spec_read (listing_of two) named_too.file.spec) in
+      let spec : s ≡ t =
+      one_spec s t named.file.spec named_too.file.spec (sym (spec_read (listing_of one) named.file.spec)
+      ∙ ap (take 43) bytes ∙ spec_read (listing_of two) named_too.file.spec) in
       let grows : IsTreeIn pages one.prime = All-head (IsTreeIn pages) one.prime one.alternates grow in
       let grows_too : IsTreeIn pages two.prime = All-head (IsTreeIn pages) two.prime two.alternates grow_too in
       let root : one.prime.tree.root ≡ two.prime.tree.root =
       sym (prime_read (listing_of one) named.file.spec (root_small pages one.prime small grows))
       ∙ ap (λ (b : List ℕ). big_number 4 (drop 43 b)) bytes
       ∙ prime_read (listing_of two) named_too.file.spec (root_small pages two.prime small grows_too) in
-      let prime : one.prime ≡ two.prime = one_planted pages one.prime two.prime small grows grows_too (is.layout ∙ ap (λ (x : Spec). layout_under x Prime) spec ∙ sym is_too.layout) root in
+      let prime : one.prime ≡ two.prime = one_planted pages one.prime two.prime small grows grows_too
+      (is.layout ∙ ap (λ (x : Spec). layout_under x Prime) spec ∙ sym is_too.layout) root in
       let rest : All (IsTreeIn pages) one.alternates = All-tail (IsTreeIn pages) one.prime one.alternates grow in
-      let rest_too : All (IsTreeIn pages) two.alternates = All-tail (IsTreeIn pages) two.prime two.alternates grow_too in
+      let rest_too : All (IsTreeIn pages) two.alternates =
+      All-tail (IsTreeIn pages) two.prime two.alternates grow_too in
       let keys : length s.alternates ≡ length t.alternates = ap (λ (x : Spec). length x.alternates) spec in
       let count = is.count in
       let count_too = is_too.count in
@@ -151,41 +187,60 @@ module _ (pages : List (Option Sector)) (generation : ℕ) (small : length pages
       let alternates : one.alternates ≡ two.alternates = ext_get_or no_tree one.alternates two.alternates many
       (λ i low.
       let low_too : i < length two.alternates = omega (arith, low, many) in
-      one_planted pages (slice_index_or one.alternates i no_tree) (slice_index_or two.alternates i no_tree) small (rest i no_tree low) (rest_too i no_tree low_too)
-      ((is.indexes i (omega (arith, low, count))).layout ∙ ap (λ (x : Spec). layout_under x (Alternate i)) spec ∙ sym (is_too.indexes i (omega (arith, low_too, count_too))).layout)
-      (sym (root_told pages one small named rest i low) ∙ ap (λ (b : List ℕ). big_number 4 (drop (47 + 4 * i) b)) bytes ∙ root_told pages two small named_too rest_too i low_too)) in
+      one_planted pages (slice_index_or one.alternates i no_tree) (slice_index_or two.alternates i no_tree) small
+      (rest i no_tree low) (rest_too i no_tree low_too)
+      ((is.indexes i (omega (arith, low, count))).layout ∙ ap (λ (x : Spec). layout_under x (Alternate i)) spec
+      ∙ sym (is_too.indexes i (omega (arith, low_too, count_too))).layout)
+      (sym (root_told pages one small named rest i low) ∙ ap (λ (b : List ℕ). big_number 4 (drop (47 + 4 * i) b)) bytes
+      ∙ root_told pages two small named_too rest_too i low_too)) in
       ap (λ (p : TreeLevels). trees_with p one.alternates) prime ∙ ap (trees_with two.prime) alternates
 
-  same_forest : (ones twos : List FileTrees) → All (IsKept generation) ones → All (IsKept generation) twos → AllByRecursion IsNamed (map (λ (k : FileTrees). k.named) ones) → AllByRecursion IsNamed (map (λ (k : FileTrees). k.named) twos) →
-      All (IsTreeIn pages) (flat_map trees_of ones) → All (IsTreeIn pages) (flat_map trees_of twos) → map catalog_entry ones ≡ map catalog_entry twos → flat_map trees_of ones ≡ flat_map trees_of twos
+  same_forest : (ones twos : List FileTrees) → All (IsKept generation) ones
+      → All (IsKept generation) twos → AllByRecursion IsNamed (map (λ (k : FileTrees). k.named) ones)
+      → AllByRecursion IsNamed (map (λ (k : FileTrees). k.named) twos) →
+      All (IsTreeIn pages) (flat_map trees_of ones) → All (IsTreeIn pages) (flat_map trees_of twos)
+      → map catalog_entry ones ≡ map catalog_entry twos → flat_map trees_of ones ≡ flat_map trees_of twos
   same_forest [] [] is is_too named named_too grow grow_too same = refl
   same_forest [] (two ∷ twos) is is_too named named_too grow grow_too same = cc
   same_forest (one ∷ ones) [] is is_too named named_too grow grow_too same = cc
   same_forest (one ∷ ones) (two ∷ twos) is is_too named named_too grow grow_too same =
       let head : catalog_entry one ≡ catalog_entry two = cc in
       let tail : map catalog_entry ones ≡ map catalog_entry twos = cc in
-      let first : trees_of one ≡ trees_of two = same_trees one two (All-head (IsKept generation) one ones is) (All-head (IsKept generation) two twos is_too) named.0 named_too.0
-      (all_left (IsTreeIn pages) (trees_of one) (flat_map trees_of ones) grow) (all_left (IsTreeIn pages) (trees_of two) (flat_map trees_of twos) grow_too) head in
-      let rest : flat_map trees_of ones ≡ flat_map trees_of twos = same_forest ones twos (All-tail (IsKept generation) one ones is) (All-tail (IsKept generation) two twos is_too) named.1 named_too.1
-      (all_right (IsTreeIn pages) (trees_of one) (flat_map trees_of ones) grow) (all_right (IsTreeIn pages) (trees_of two) (flat_map trees_of twos) grow_too) tail in
-      ap (λ (l : List TreeLevels). l ++ flat_map trees_of ones) first ∙ ap (λ (l : List TreeLevels). trees_of two ++ l) rest
+      let first : trees_of one ≡ trees_of two = same_trees one two (All-head (IsKept generation) one ones is)
+      (All-head (IsKept generation) two twos is_too) named.0 named_too.0
+      (all_left (IsTreeIn pages) (trees_of one) (flat_map trees_of ones) grow)
+      (all_left (IsTreeIn pages) (trees_of two) (flat_map trees_of twos) grow_too) head in
+      let rest : flat_map trees_of ones ≡ flat_map trees_of twos = same_forest ones twos
+      (All-tail (IsKept generation) one ones is) (All-tail (IsKept generation) two twos is_too) named.1 named_too.1
+      (all_right (IsTreeIn pages) (trees_of one) (flat_map trees_of ones) grow)
+      (all_right (IsTreeIn pages) (trees_of two) (flat_map trees_of twos) grow_too) tail in
+      ap (λ (l : List TreeLevels). l ++ flat_map trees_of ones) first
+      ∙ ap (λ (l : List TreeLevels). trees_of two ++ l) rest
 
 -- a map has one catalog, with one list of trees
-one_forest : (m : Map) (generation : ℕ) (one two : List (List TreeNode)) (ones twos : List FileTrees) → length m.pages ≤ 2 ^ 20 → IsCatalog m generation one ones → IsCatalog m generation two twos →
+one_forest : (m : Map) (generation : ℕ) (one two : List (List TreeNode)) (ones twos : List FileTrees)
+    → length m.pages ≤ 2 ^ 20 → IsCatalog m generation one ones → IsCatalog m generation two twos →
     catalog_tree m one ∷ flat_map trees_of ones ≡ catalog_tree m two ∷ flat_map trees_of twos
 one_forest m generation one two ones twos small is is_too =
     let first = All-head (IsTreeIn m.pages) (catalog_tree m one) (flat_map trees_of ones) is.grow in
     let second = All-head (IsTreeIn m.pages) (catalog_tree m two) (flat_map trees_of twos) is_too.grow in
     let levels : one ≡ two = one_tree catalog_layout m.pages m.catalog one two small first second in
-    let entries : map catalog_entry ones ≡ map catalog_entry twos = sym is.listed ∙ ap (entries_of catalog_layout) levels ∙ is_too.listed in
-    let trees : flat_map trees_of ones ≡ flat_map trees_of twos = same_forest m.pages generation small ones twos is.each is_too.each is.named is_too.named
-    (All-tail (IsTreeIn m.pages) (catalog_tree m one) (flat_map trees_of ones) is.grow) (All-tail (IsTreeIn m.pages) (catalog_tree m two) (flat_map trees_of twos) is_too.grow) entries in
-    ap (λ (l : List (List TreeNode)). catalog_tree m l ∷ flat_map trees_of ones) levels ∙ ap (λ (l : List TreeLevels). catalog_tree m two ∷ l) trees
+    let entries : map catalog_entry ones ≡ map catalog_entry twos =
+    sym is.listed ∙ ap (entries_of catalog_layout) levels ∙ is_too.listed in
+    let trees : flat_map trees_of ones ≡ flat_map trees_of twos =
+    same_forest m.pages generation small ones twos is.each is_too.each is.named is_too.named
+    (All-tail (IsTreeIn m.pages) (catalog_tree m one) (flat_map trees_of ones) is.grow)
+    (All-tail (IsTreeIn m.pages) (catalog_tree m two) (flat_map trees_of twos) is_too.grow) entries in
+    ap (λ (l : List (List TreeNode)). catalog_tree m l ∷ flat_map trees_of ones) levels
+    ∙ ap (λ (l : List TreeLevels). catalog_tree m two ∷ l) trees
 
 -- where a page is used that a catalog and its files haven't, nothing is held
-pub stray_held : (m : Map) (files : Files) (old new : List Bool) → length m.pages ≤ 2 ^ 20 → FindsCatalog m m.generation files old new → (IsCovered m.pages new → ⊥) → (others : Files) → MapHolds m others → ⊥
+pub stray_held : (m : Map) (files : Files) (old new : List Bool) → length m.pages ≤ 2 ^ 20
+    → FindsCatalog m m.generation files old new → (IsCovered m.pages new → ⊥) → (others : Files) → MapHolds m others → ⊥
 stray_held m files old new small found stray others holds =
     let trees : List TreeLevels = catalog_tree m found.catalog ∷ flat_map trees_of found.kept in
-    let same = one_forest m m.generation holds.keeps.catalog found.catalog holds.kept found.kept small (held_catalog m others holds) found.is in
-    stray (λ page used. All-contains (λ p. slice_index_or new p false ≡ true) (pages_within trees) page found.marks.marked
+    let same = one_forest m m.generation holds.keeps.catalog found.catalog holds.kept found.kept small
+    (held_catalog m others holds) found.is in
+    stray
+    (λ page used. All-contains (λ p. slice_index_or new p false ≡ true) (pages_within trees) page found.marks.marked
     (subst (λ (l : List TreeLevels). Contains (pages_within l) page) same (holds.keeps.forest.covered page used)))

@@ -12,17 +12,20 @@ use Rattle.file_bytes.specs.Rows.{row_value}
 entry_with : List ℕ → List ℕ → Entry
 entry_with key value = record { key = key; value = value }
 
-pub same_entry : (spec : Spec) (row : Row) (e : Entry) → key_under spec Prime (pair_under spec Prime row) ≡ e.key → row_value row ≡ e.value → entry_under spec Prime row ≡ e
+pub same_entry : (spec : Spec) (row : Row) (e : Entry) → key_under spec Prime (pair_under spec Prime row) ≡ e.key
+    → row_value row ≡ e.value → entry_under spec Prime row ≡ e
 unfolding entry_with
 same_entry spec row e key value = ap (λ k. entry_with k (row_value row)) key ∙ ap (entry_with e.key) value
 
-pub key_of : (spec : Spec) (row : Row) (e : Entry) → entry_under spec Prime row ≡ e → key_under spec Prime (pair_under spec Prime row) ≡ e.key
+pub key_of : (spec : Spec) (row : Row) (e : Entry) → entry_under spec Prime row ≡ e
+    → key_under spec Prime (pair_under spec Prime row) ≡ e.key
 key_of spec row e is = ap (λ (x : Entry). x.key) is
 
 pub value_of : (spec : Spec) (row : Row) (e : Entry) → entry_under spec Prime row ≡ e → row_value row ≡ e.value
 value_of spec row e is = ap (λ (x : Entry). x.value) is
 
-pub all_behind : {X : Type 0} (P : X → Type 0) (xs : List X) (x : X) → AllByRecursion P xs → P x → AllByRecursion P (xs ++ x ∷ [])
+pub all_behind : {X : Type 0} (P : X → Type 0) (xs : List X) (x : X) → AllByRecursion P xs → P x
+    → AllByRecursion P (xs ++ x ∷ [])
 all_behind P [] x all is = (is, tt)
 all_behind P (y ∷ xs) x all is = (all.0, all_behind P xs x all.1 is)
 

@@ -12,7 +12,8 @@ use Rattle.file_recovery.specs.Faults.{IsReadFault}
 use Rattle.file_recovery.specs.Rows.{IsOwnFault}
 
 -- why reading an unspent map is refused
-pub read_fault : (layout : RowLayout) (error : PagesError) → IsSearchRefusal layout error → (error ≡ pages.Spent → ⊥) → IsReadFault (fault_of error)
+pub read_fault : (layout : RowLayout) (error : PagesError) → IsSearchRefusal layout error → (error ≡ pages.Spent → ⊥)
+    → IsReadFault (fault_of error)
 read_fault layout pages.Device is never = tt
 read_fault layout pages.Full is never = absurd is
 read_fault layout pages.Damaged is never = tt
@@ -20,7 +21,8 @@ read_fault layout pages.Memory is never = tt
 read_fault layout pages.Spent is never = absurd (never refl)
 read_fault layout pages.ForeignMark is never = absurd is
 
-pub change_fault : (error : PagesError) → IsChangeRefusal error → (error ≡ pages.Spent → ⊥) → IsReadFault (fault_of error)
+pub change_fault : (error : PagesError) → IsChangeRefusal error → (error ≡ pages.Spent → ⊥)
+    → IsReadFault (fault_of error)
 change_fault pages.Device is never = tt
 change_fault pages.Full is never = absurd is
 change_fault pages.Damaged is never = tt

@@ -1,4 +1,5 @@
--- A search by halving among rows whose prime keys ascend: those before `low` have lesser ones, those from `high` on greater ones.
+-- A search by halving among rows whose prime keys ascend: those before `low` have lesser ones, those from `high` on
+-- greater ones.
 use Rattle.std.proofs.Common.{◌≡◌, ◌≤◌, ◌<◌, ◌+◌, ⊎_elim, ℕ, List, length, sym, ap, subst, ◌∙◌, arith}
 use Rattle.std.specs.Ordering.{ordering_reverse}
 use Rattle.std.specs.declared.cmp.Ordering.TheVariants.{Less, Equal, Greater}
@@ -19,11 +20,13 @@ module _ (spec : Spec) (rows : List Row) (value : List ℕ) where
     above = λ k from lt. absurd (omega (arith, from, lt, all));
   }
 
-  module _ (up : PrimesAscend spec rows) (low high middle : ℕ) (left : IsLeft low high) (within : middle < length rows) where
+  module _ (up : PrimesAscend spec rows) (low high middle : ℕ) (left : IsLeft low high)
+      (within : middle < length rows) where
     pub left_right : bytes_cmp (prime_at spec rows middle) value ≡ Less → IsLeft (middle + 1) high
     left_right less = record {
       below = λ k lt. ⊎_elim
-          (λ (under : k < middle). nat_list_cmp_total.trans (prime_at spec rows k) (prime_at spec rows middle) value (up k middle under within) less)
+          (λ (under : k < middle). nat_list_cmp_total.trans (prime_at spec rows k) (prime_at spec rows middle) value
+          (up k middle under within) less)
           (λ (from : middle ≤ k).
           let same : middle ≡ k = omega (arith, from, lt) in
           subst (λ (n : ℕ). bytes_cmp (prime_at spec rows n) value ≡ Less) same less)
@@ -38,7 +41,8 @@ module _ (spec : Spec) (rows : List Row) (value : List ℕ) where
           (λ (over : middle < k).
           let first : bytes_cmp value (prime_at spec rows middle) ≡ Less =
           nat_list_cmp_total.antisymm value (prime_at spec rows middle) ∙ ap ordering_reverse greater in
-          let second = nat_list_cmp_total.trans value (prime_at spec rows middle) (prime_at spec rows k) first (up middle k over lt) in
+          let second = nat_list_cmp_total.trans value (prime_at spec rows middle) (prime_at spec rows k) first
+          (up middle k over lt) in
           nat_list_cmp_total.antisymm (prime_at spec rows k) value ∙ ap ordering_reverse second)
           (λ (to : k ≤ middle).
           let same : middle ≡ k = omega (arith, from, to) in
@@ -46,10 +50,13 @@ module _ (spec : Spec) (rows : List Row) (value : List ℕ) where
           (cases_lt middle k);
     }
 
-  pub none_left : (low high : ℕ) → IsLeft low high → high ≤ low → (k : ℕ) → k < length rows → prime_at spec rows k ≡ value → ⊥
+  pub none_left : (low high : ℕ) → IsLeft low high → high ≤ low → (k : ℕ) → k < length rows
+      → prime_at spec rows k ≡ value → ⊥
   none_left low high left done k lt same =
-      let tied : bytes_cmp (prime_at spec rows k) value ≡ Equal = ap (λ (x : List ℕ). bytes_cmp x value) same ∙ tied_itself nat_list_cmp_total value in
+      let tied : bytes_cmp (prime_at spec rows k) value ≡ Equal =
+      ap (λ (x : List ℕ). bytes_cmp x value) same ∙ tied_itself nat_list_cmp_total value in
       ⊎_elim
       (λ (under : k < low). let clash : Equal ≡ Less = sym tied ∙ left.below k under in absurd {0} cc)
-      (λ (from : low ≤ k). let clash : Equal ≡ Greater = sym tied ∙ left.above k (omega (arith, from, done)) lt in absurd {0} cc)
+      (λ (from : low ≤ k). let clash : Equal ≡ Greater =
+      sym tied ∙ left.above k (omega (arith, from, done)) lt in absurd {0} cc)
       (cases_lt k low)

@@ -22,10 +22,13 @@ pub record IsHeading (generation : ℕ) (entry : Entry) (name : List ℕ) (spec 
 
 -- the file that was read of a key and a value
 module _ (entry : Entry) (key value : List ℕ) (key_is : key ≡ entry.key) (value_is : value ≡ entry.value) where
-  pub heading_read : (generation : ℕ) (found : Option FileSpec) (file : FileSpec) (next : ℕ) → found ≡ Some file → IfSome found (λ f. (key ≡ padded_name f.name.items) × (value ≡ listing_bytes (listing_in (spec_of f) value))) →
-      next ≡ big_number 8 (drop 75 value) → (1 ≤ next) × (next ≤ generation) → IsHeading generation entry file.name.items (spec_of file) next
+  pub heading_read : (generation : ℕ) (found : Option FileSpec) (file : FileSpec) (next : ℕ) → found ≡ Some file
+      → IfSome found (λ f. (key ≡ padded_name f.name.items) × (value ≡ listing_bytes (listing_in (spec_of f) value))) →
+      next ≡ big_number 8 (drop 75 value) → (1 ≤ next) × (next ≤ generation)
+      → IsHeading generation entry file.name.items (spec_of file) next
   heading_read generation found file next is read next_is fits =
-      let own = subst (λ (o : Option FileSpec). IfSome o (λ f. (key ≡ padded_name f.name.items) × (value ≡ listing_bytes (listing_in (spec_of f) value)))) is read in
+      let own = subst (λ (o : Option FileSpec). IfSome o
+      (λ f. (key ≡ padded_name f.name.items) × (value ≡ listing_bytes (listing_in (spec_of f) value)))) is read in
       record {
         name_is = file.named;
         spec_is = file.sound;

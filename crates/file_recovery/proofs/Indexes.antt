@@ -1,5 +1,6 @@
 -- The trees of alternate keys, one after the other.
-use Rattle.std.proofs.Common.{◌≡◌, ◌≤◌, ◌<◌, ◌+◌, ◌^◌, ◌++◌, ⊎_elim, ℕ, Bool, List, [], ◌∷◌, length, drop, length-append, append-nil, refl, sym, ap, subst, ◌∙◌, arith}
+use Rattle.std.proofs.Common.{◌≡◌, ◌≤◌, ◌<◌, ◌+◌, ◌^◌, ◌++◌, ⊎_elim, ℕ, Bool, List, [], ◌∷◌, length, drop}
+use Rattle.std.proofs.Common.{length-append, append-nil, refl, sym, ap, subst, ◌∙◌, arith}
 use Rattle.std.specs.Prelude.{Option, slice_index_or}
 use Rattle.std.proofs.lemmas.Bool.{cases_lt}
 use Rattle.std.proofs.lemmas.List.{drop_more, get_or_append_left, get_or_push}
@@ -19,14 +20,22 @@ module _ (pages : List (Option Sector)) (spec : Spec) (rows : List Row) (value :
   pub no_indexes : (seen : List Bool) → FindsIndexes pages spec rows value 0 seen seen
   no_indexes seen = record {
     trees = [];
-    are = record { many = refl; each = λ i low. absurd (omega (arith, low)); rooted = λ i low. absurd (omega (arith, low)); grow = All-nil (IsTreeIn pages) };
+    are = record {
+      many = refl;
+      each = λ i low. absurd (omega (arith, low));
+      rooted = λ i low. absurd (omega (arith, low));
+      grow = All-nil (IsTreeIn pages);
+    };
     marks = marks_none seen;
   }
 
-  within_more : (trees : List TreeLevels) (tree : TreeLevels) → pages_within (trees ++ tree ∷ []) ≡ pages_within trees ++ pages_under tree
-  within_more trees tree = flat_map-append pages_under trees (tree ∷ []) ∙ ap (λ (l : List ℕ). pages_within trees ++ l) (append-nil (pages_under tree))
+  within_more : (trees : List TreeLevels) (tree : TreeLevels)
+      → pages_within (trees ++ tree ∷ []) ≡ pages_within trees ++ pages_under tree
+  within_more trees tree = flat_map-append pages_under trees (tree ∷ [])
+      ∙ ap (λ (l : List ℕ). pages_within trees ++ l) (append-nil (pages_under tree))
 
-  pub one_more_index : (k : ℕ) (old mid new : List Bool) → FindsIndexes pages spec rows value k old mid → FindsIndex pages spec rows value k mid new → FindsIndexes pages spec rows value (k + 1) old new
+  pub one_more_index : (k : ℕ) (old mid new : List Bool) → FindsIndexes pages spec rows value k old mid
+      → FindsIndex pages spec rows value k mid new → FindsIndexes pages spec rows value (k + 1) old new
   one_more_index k old mid new before found =
       let trees : List TreeLevels = before.trees in
       let all : List TreeLevels = trees ++ found.tree ∷ [] in
@@ -34,10 +43,13 @@ module _ (pages : List (Option Sector)) (spec : Spec) (rows : List Row) (value :
       let more = length-append trees (found.tree ∷ []) in
       let last : slice_index_or all k no_tree ≡ found.tree = get_or_push trees found.tree no_tree k many in
       let Q : (ℕ → TreeLevels → Type 0) → Type 0 = λ P. (i : ℕ) → i < k + 1 → P i (slice_index_or all i no_tree) in
-      let each : (P : ℕ → TreeLevels → Type 0) → ((i : ℕ) → i < k → P i (slice_index_or trees i no_tree)) → P k found.tree → (i : ℕ) → i < k + 1 → P i (slice_index_or all i no_tree) =
+      let each : (P : ℕ → TreeLevels → Type 0) → ((i : ℕ) → i < k → P i (slice_index_or trees i no_tree))
+      → P k found.tree → (i : ℕ) → i < k + 1 → P i (slice_index_or all i no_tree) =
       λ P below here i low. ⊎_elim
-      (λ (less : i < k). subst (P i) (sym (get_or_append_left trees (found.tree ∷ []) no_tree i (omega (arith, less, many)))) (below i less))
-      (λ (least : k ≤ i). let same : k ≡ i = omega (arith, least, low) in subst (λ (n : ℕ). P n (slice_index_or all n no_tree)) same (subst (P k) (sym last) here))
+      (λ (less : i < k). subst (P i)
+      (sym (get_or_append_left trees (found.tree ∷ []) no_tree i (omega (arith, less, many)))) (below i less))
+      (λ (least : k ≤ i). let same : k ≡ i = omega (arith, least, low) in
+      subst (λ (n : ℕ). P n (slice_index_or all n no_tree)) same (subst (P k) (sym last) here))
       (cases_lt i k) in
       record {
         trees = all;
@@ -45,19 +57,24 @@ module _ (pages : List (Option Sector)) (spec : Spec) (rows : List Row) (value :
           many = omega (arith, many, more);
           each = each (λ i t. HasIndex spec rows i t) before.are.each found.is;
           rooted = each (λ i t. t.tree.root ≡ root_at value i) before.are.rooted found.rooted;
-          grow = All-append (IsTreeIn pages) trees (found.tree ∷ []) before.are.grow (λ i d low. let none : i ≡ 0 = omega (arith, low) in subst (λ n. IsTreeIn pages (slice_index_or (found.tree ∷ []) n d)) (sym none) found.grows);
+          grow = All-append (IsTreeIn pages) trees (found.tree ∷ []) before.are.grow (λ i d low. let none : i ≡ 0 =
+              omega (arith, low) in
+              subst (λ n. IsTreeIn pages (slice_index_or (found.tree ∷ []) n d)) (sym none) found.grows);
         };
-        marks = subst (λ (l : List ℕ). Marks old l new) (sym (within_more trees found.tree)) (marks_append old mid new (pages_within trees) (pages_under found.tree) before.marks found.marks);
+        marks = subst (λ (l : List ℕ). Marks old l new) (sym (within_more trees found.tree))
+            (marks_append old mid new (pages_within trees) (pages_under found.tree) before.marks found.marks);
       }
 
   -- what a list of such trees has behind a place can still be marked
   abbrev pub CanGoOn : ℕ → List Bool → ℕ → List Bool → Type 0
-  CanGoOn count old k seen = (trees : List TreeLevels) → AreIndexes pages spec rows value count trees → CanMark old (pages_within trees) → CanMark seen (pages_within (drop k trees))
+  CanGoOn count old k seen = (trees : List TreeLevels) → AreIndexes pages spec rows value count trees
+      → CanMark old (pages_within trees) → CanMark seen (pages_within (drop k trees))
 
   pub at_first : (count : ℕ) (seen : List Bool) → CanGoOn count seen 0 seen
   at_first count seen = λ trees are can. can
 
-  module _ (count k : ℕ) (low : k < count) (trees : List TreeLevels) (are : AreIndexes pages spec rows value count trees) where
+  module _ (count k : ℕ) (low : k < count) (trees : List TreeLevels)
+      (are : AreIndexes pages spec rows value count trees) where
     tree : TreeLevels
     tree = slice_index_or trees k no_tree
 
@@ -68,22 +85,29 @@ module _ (pages : List (Option Sector)) (spec : Spec) (rows : List Row) (value :
     split : drop k trees ≡ slice_index_or trees k no_tree ∷ drop (k + 1) trees
     split = drop_more trees k no_tree (let many = are.many in omega (arith, many, low))
 
-    pub can_here : (seen : List Bool) → CanMark seen (pages_within (drop k trees)) → CanMark seen (pages_under (slice_index_or trees k no_tree) ++ pages_within (drop (k + 1) trees))
+    pub can_here : (seen : List Bool) → CanMark seen (pages_within (drop k trees))
+        → CanMark seen (pages_under (slice_index_or trees k no_tree) ++ pages_within (drop (k + 1) trees))
     can_here seen can = subst (λ (l : List TreeLevels). CanMark seen (pages_within l)) split can
 
     pub grows_here : IsTreeIn pages (slice_index_or trees k no_tree)
     grows_here = are.grow k no_tree (let many = are.many in omega (arith, many, low))
 
-  pub goes_on : (count k : ℕ) (old mid new : List Bool) → length pages ≤ 2 ^ 20 → k < count → CanGoOn count old k mid → FindsIndex pages spec rows value k mid new → CanGoOn count old (k + 1) new
+  pub goes_on : (count k : ℕ) (old mid new : List Bool) → length pages ≤ 2 ^ 20 → k < count → CanGoOn count old k mid
+      → FindsIndex pages spec rows value k mid new → CanGoOn count old (k + 1) new
   goes_on count k old mid new small low before found = λ trees are can.
       let own : TreeLevels = slice_index_or trees k no_tree in
       let here = can_here count k low trees are mid (before trees are can) in
       let is = are.each k low in
-      let same : found.tree ≡ own = one_planted pages found.tree own small found.grows (grows_here count k low trees are) (found.is.layout ∙ sym is.layout) (found.rooted ∙ sym (are.rooted k low)) in
-      can_after mid new (pages_under own) (pages_within (drop (k + 1) trees)) (subst (λ (t : TreeLevels). Marks mid (pages_under t) new) same found.marks) here
+      let same : found.tree ≡ own = one_planted pages found.tree own small found.grows
+      (grows_here count k low trees are) (found.is.layout ∙ sym is.layout) (found.rooted ∙ sym (are.rooted k low)) in
+      can_after mid new (pages_under own) (pages_within (drop (k + 1) trees))
+      (subst (λ (t : TreeLevels). Marks mid (pages_under t) new) same found.marks) here
 
-  pub none_here : (count k : ℕ) (old mid : List Bool) → k < count → CanGoOn count old k mid → NoIndex pages spec rows value k mid → (trees : List TreeLevels) → AreIndexes pages spec rows value count trees → CanMark old (pages_within trees) → ⊥
+  pub none_here : (count k : ℕ) (old mid : List Bool) → k < count → CanGoOn count old k mid
+      → NoIndex pages spec rows value k mid → (trees : List TreeLevels) → AreIndexes pages spec rows value count trees
+      → CanMark old (pages_within trees) → ⊥
   none_here count k old mid low before never trees are can =
       let own : TreeLevels = slice_index_or trees k no_tree in
       let here = can_here count k low trees are mid (before trees are can) in
-      never own (are.each k low) (are.rooted k low) (grows_here count k low trees are) (can_left mid (pages_under own) (pages_within (drop (k + 1) trees)) here)
+      never own (are.each k low) (are.rooted k low) (grows_here count k low trees are)
+      (can_left mid (pages_under own) (pages_within (drop (k + 1) trees)) here)

@@ -1,5 +1,6 @@
 -- A file with its trees, by its entry in the catalog.
-use Rattle.std.proofs.Common.{◌≡◌, ◌≤◌, ◌<◌, ◌^◌, ⊎_elim, ℕ, Bool, zero, suc, List, [], ◌∷◌, length, take, drop, refl, sym, ap, subst, ◌∙◌, arith}
+use Rattle.std.proofs.Common.{◌≡◌, ◌≤◌, ◌<◌, ◌^◌, ⊎_elim, ℕ, Bool, zero, suc, List, [], ◌∷◌, length, take, drop, refl}
+use Rattle.std.proofs.Common.{sym, ap, subst, ◌∙◌, arith}
 use Rattle.std.specs.Prelude.{map, Option, slice_index_or}
 use Rattle.std.specs.List.{All, AllByRecursion}
 use Rattle.std.proofs.lemmas.List.{length-map, length-append, get_or-map, get_or_append_left, get_or_push, same_lists}
@@ -32,11 +33,15 @@ use Rattle.file_recovery.proofs.Marking.{marks_append}
 use Rattle.file_recovery.proofs.OneKept.{one_planted}
 
 -- the rows of a file have the lengths that its spec tells
-pub rows_sized : (spec : Spec) (next : ℕ) (rows : List Row) → AllByRecursion (IsRow spec next) rows → All (IsSized spec) rows
-rows_sized spec next rows are = λ k d low. let is = All-from_recursion (IsRow spec next) rows are k d low in (is.long, is.arrivals)
+pub rows_sized : (spec : Spec) (next : ℕ) (rows : List Row) → AllByRecursion (IsRow spec next) rows
+    → All (IsSized spec) rows
+rows_sized spec next rows are = λ k d low. let is =
+    All-from_recursion (IsRow spec next) rows are k d low in (is.long, is.arrivals)
 
 -- what the catalog says of a file whose trees are in the map
-listing_fits : (pages : List (Option Sector)) (generation : ℕ) (kept : FileTrees) → length pages ≤ 2 ^ 20 → generation < 2 ^ 63 → IsKept generation kept → IsNamed kept.named → All (IsTreeIn pages) (trees_of kept) → IsListing (listing_of kept)
+listing_fits : (pages : List (Option Sector)) (generation : ℕ) (kept : FileTrees) → length pages ≤ 2 ^ 20
+    → generation < 2 ^ 63 → IsKept generation kept → IsNamed kept.named → All (IsTreeIn pages) (trees_of kept)
+    → IsListing (listing_of kept)
 listing_fits pages generation kept small few is named grow =
     let arrivals = is.arrivals in
     let grows : All (IsTreeIn pages) kept.alternates = All-tail (IsTreeIn pages) kept.prime kept.alternates grow in
@@ -47,7 +52,9 @@ listing_fits pages generation kept small few is named grow =
           let many = length-map kept.alternates (λ (tree : TreeLevels). tree.tree.root) in
           let within : k < length kept.alternates = omega (arith, low, many) in
           let own : TreeLevels = slice_index_or kept.alternates k no_tree in
-          subst (λ (n : ℕ). n < 2 ^ 32) (sym (get_or-map (λ (tree : TreeLevels). tree.tree.root) kept.alternates k no_tree d within)) (root_small pages own small (grows k no_tree within));
+          subst (λ (n : ℕ). n < 2 ^ 32)
+          (sym (get_or-map (λ (tree : TreeLevels). tree.tree.root) kept.alternates k no_tree d within))
+          (root_small pages own small (grows k no_tree within));
       count = length-map kept.alternates (λ (tree : TreeLevels). tree.tree.root) ∙ is.count;
       next_arrival = omega (arith, arrivals, few);
     }
@@ -65,12 +72,17 @@ roots_at zero k value d low = absurd (omega (arith, low))
 roots_at (suc n) k value d low =
     let long = roots_long n value in
     ⊎_elim
-    (λ (less : k < n). get_or_append_left (roots_in n value) (root_at value n ∷ []) d k (omega (arith, less, long)) ∙ roots_at n k value d less)
-    (λ (least : n ≤ k). let same : n ≡ k = omega (arith, least, low) in subst (λ (j : ℕ). slice_index_or (roots_in (suc n) value) j d ≡ root_at value j) same (get_or_push (roots_in n value) (root_at value n) d n long))
+    (λ (less : k < n). get_or_append_left (roots_in n value) (root_at value n ∷ []) d k (omega (arith, less, long))
+    ∙ roots_at n k value d less)
+    (λ (least : n ≤ k). let same : n ≡ k =
+    omega (arith, least, low) in subst (λ (j : ℕ). slice_index_or (roots_in (suc n) value) j d ≡ root_at value j)
+    same (get_or_push (roots_in n value) (root_at value n) d n long))
     (cases_lt k n)
 
 -- trees with these roots
-roots_are : (trees : List TreeLevels) (n : ℕ) (value : List ℕ) → length trees ≡ n → ((i : ℕ) → i < n → (slice_index_or trees i no_tree).tree.root ≡ root_at value i) → map (λ (tree : TreeLevels). tree.tree.root) trees ≡ roots_in n value
+roots_are : (trees : List TreeLevels) (n : ℕ) (value : List ℕ)
+    → length trees ≡ n → ((i : ℕ) → i < n → (slice_index_or trees i no_tree).tree.root ≡ root_at value i)
+    → map (λ (tree : TreeLevels). tree.tree.root) trees ≡ roots_in n value
 roots_are trees n value many rooted =
     let long = length-map trees (λ (tree : TreeLevels). tree.tree.root) in
     let short = roots_long n value in
@@ -78,19 +90,27 @@ roots_are trees n value many rooted =
     (λ k d low.
     let within : k < length trees = omega (arith, low, long) in
     let below : k < n = omega (arith, within, many) in
-    get_or-map (λ (tree : TreeLevels). tree.tree.root) trees k no_tree d within ∙ rooted k below ∙ sym (roots_at n k value d below))
+    get_or-map (λ (tree : TreeLevels). tree.tree.root) trees k no_tree d within ∙ rooted k below
+    ∙ sym (roots_at n k value d below))
 
 entry_with : List ℕ → List ℕ → Entry
 entry_with key value = record { key = key; value = value }
 
 listing_with : Spec → ℕ → List ℕ → ℕ → Listing
-listing_with spec prime alternates next = record { spec = spec; prime = prime; alternates = alternates; next_arrival = next }
+listing_with spec prime alternates next =
+    record { spec = spec; prime = prime; alternates = alternates; next_arrival = next }
 
 -- what was read is a file with its trees
-module _ (pages : List (Option Sector)) (generation : ℕ) (entry : Entry) (name : List ℕ) (spec : Spec) (rows : List Row) (next : ℕ) (prime : TreeLevels) (old mid new : List Bool) where
-  pub finds_file : IsHeading generation entry name spec next → prime.tree.layout ≡ layout_under spec Prime → prime.tree.root ≡ big_number 4 (drop 43 entry.value) → IsTreeIn pages prime → Marks old (pages_under prime) mid →
-      entries_of prime.tree.layout prime.levels ≡ map (entry_under spec Prime) rows → AllByRecursion (IsRow spec next) rows → RowsAscend spec.organization rows → FindsIndexes pages spec rows entry.value (length spec.alternates) mid new →
-      FindsFile pages generation entry (record { name = name; file = record { spec = spec; rows = rows; next_arrival = next } }) old new
+module _ (pages : List (Option Sector)) (generation : ℕ) (entry : Entry) (name : List ℕ) (spec : Spec) (rows : List Row)
+    (next : ℕ) (prime : TreeLevels) (old mid new : List Bool) where
+  pub finds_file : IsHeading generation entry name spec next → prime.tree.layout ≡ layout_under spec Prime
+      → prime.tree.root ≡ big_number 4 (drop 43 entry.value) → IsTreeIn pages prime → Marks old (pages_under prime) mid
+      →
+      entries_of prime.tree.layout prime.levels ≡ map (entry_under spec Prime) rows
+      → AllByRecursion (IsRow spec next) rows → RowsAscend spec.organization rows
+      → FindsIndexes pages spec rows entry.value (length spec.alternates) mid new →
+      FindsFile pages generation entry
+      (record { name = name; file = record { spec = spec; rows = rows; next_arrival = next } }) old new
   unfolding listing_with entry_with
   finds_file heading layout root grows marks listed are ascend indexes =
       let one : NamedFile = record { name = name; file = record { spec = spec; rows = rows; next_arrival = next } } in
@@ -99,25 +119,38 @@ module _ (pages : List (Option Sector)) (generation : ℕ) (entry : Entry) (name
       let listing : listing_of kept ≡ listing_in spec entry.value =
       ap (λ n. listing_with spec n (map (λ (tree : TreeLevels). tree.tree.root) indexes.trees) next) root
       ∙ ap (λ l. listing_with spec (big_number 4 (drop 43 entry.value)) l next) roots
-      ∙ ap (listing_with spec (big_number 4 (drop 43 entry.value)) (roots_in (length spec.alternates) entry.value)) heading.next_is in
+      ∙ ap (listing_with spec (big_number 4 (drop 43 entry.value)) (roots_in (length spec.alternates) entry.value))
+      heading.next_is in
       record {
         kept = kept;
         found = record {
-          is = record { layout = layout; rows = listed; count = indexes.are.many; indexes = λ i low. let has = indexes.are.each i low in record { layout = has.layout; pairs = has.pairs }; arrivals = heading.few };
-          named = record { name = heading.name_is; file = record { spec = heading.spec_is; next = heading.some; ascend = ascend; rows = are } };
+          is = record {
+            layout = layout;
+            rows = listed;
+            count = indexes.are.many;
+            indexes = λ i low. let has = indexes.are.each i low in record { layout = has.layout; pairs = has.pairs };
+            arrivals = heading.few;
+          };
+          named = record {
+            name = heading.name_is;
+            file = record { spec = heading.spec_is; next = heading.some; ascend = ascend; rows = are };
+          };
           grow = λ k d low. grow_at k d low;
-          listed = ap (λ k. entry_with k (listing_bytes (listing_of kept))) (sym heading.key_is) ∙ ap (entry_with entry.key) (ap listing_bytes listing ∙ sym heading.value_is);
+          listed = ap (λ k. entry_with k (listing_bytes (listing_of kept))) (sym heading.key_is)
+              ∙ ap (entry_with entry.key) (ap listing_bytes listing ∙ sym heading.value_is);
         };
         is = refl;
         marks = marks_append old mid new (pages_under prime) (pages_within indexes.trees) marks indexes.marks;
       }
     where
-      grow_at : (k : ℕ) (d : TreeLevels) → k < length (prime ∷ indexes.trees) → IsTreeIn pages (slice_index_or (prime ∷ indexes.trees) k d)
+      grow_at : (k : ℕ) (d : TreeLevels) → k < length (prime ∷ indexes.trees)
+          → IsTreeIn pages (slice_index_or (prime ∷ indexes.trees) k d)
       grow_at zero d low = grows
       grow_at (suc k) d low = indexes.are.grow k d (omega (arith, low))
 
 -- a file with its trees that the entry tells of is what is read
-module _ (pages : List (Option Sector)) (generation : ℕ) (entry : Entry) (kept : FileTrees) (small : length pages ≤ 2 ^ 20) (few : generation < 2 ^ 63) (found : IsCatalogFile pages generation entry kept) where
+module _ (pages : List (Option Sector)) (generation : ℕ) (entry : Entry) (kept : FileTrees) (small : length pages
+    ≤ 2 ^ 20) (few : generation < 2 ^ 63) (found : IsCatalogFile pages generation entry kept) where
   pub own_listing : IsListing (listing_of kept)
   own_listing = listing_fits pages generation kept small few found.is found.named found.grow
 
@@ -128,16 +161,20 @@ module _ (pages : List (Option Sector)) (generation : ℕ) (entry : Entry) (kept
   own_value = sym (ap (λ (e : Entry). e.value) found.listed)
 
   pub own_next : kept.named.file.next_arrival ≡ big_number 8 (drop 75 entry.value)
-  own_next = sym (ap (λ (v : List ℕ). big_number 8 (drop 75 v)) own_value ∙ next_read (listing_of kept) own_listing.spec own_listing.count own_listing.next_arrival)
+  own_next = sym (ap (λ (v : List ℕ). big_number 8 (drop 75 v)) own_value
+      ∙ next_read (listing_of kept) own_listing.spec own_listing.count own_listing.next_arrival)
 
   pub own_root : kept.prime.tree.root ≡ big_number 4 (drop 43 entry.value)
-  own_root = sym (ap (λ (v : List ℕ). big_number 4 (drop 43 v)) own_value ∙ prime_read (listing_of kept) own_listing.spec own_listing.prime)
+  own_root = sym (ap (λ (v : List ℕ). big_number 4 (drop 43 v)) own_value
+      ∙ prime_read (listing_of kept) own_listing.spec own_listing.prime)
 
-  pub own_roots : (i : ℕ) → i < length kept.alternates → (slice_index_or kept.alternates i no_tree).tree.root ≡ root_at entry.value i
+  pub own_roots : (i : ℕ) → i < length kept.alternates
+      → (slice_index_or kept.alternates i no_tree).tree.root ≡ root_at entry.value i
   own_roots i low =
       let many = length-map kept.alternates (λ (tree : TreeLevels). tree.tree.root) in
       sym
-      (ap (λ (v : List ℕ). root_at v i) own_value ∙ root_read (listing_of kept) i own_listing.spec own_listing.alternates (omega (arith, low, many))
+      (ap (λ (v : List ℕ). root_at v i) own_value
+      ∙ root_read (listing_of kept) i own_listing.spec own_listing.alternates (omega (arith, low, many))
       ∙ get_or-map (λ (tree : TreeLevels). tree.tree.root) kept.alternates i no_tree 0 low)
 
   module _ (name : List ℕ) (spec : Spec) (next : ℕ) (heading : IsHeading generation entry name spec next) where
@@ -147,7 +184,8 @@ module _ (pages : List (Option Sector)) (generation : ℕ) (entry : Entry) (kept
     pub same_spec : kept.named.file.spec ≡ spec
     same_spec =
         one_spec kept.named.file.spec spec found.named.file.spec heading.spec_is
-        (sym (spec_read (listing_of kept) found.named.file.spec) ∙ ap (take 43) (sym own_value ∙ heading.value_is) ∙ spec_read (listing_in spec entry.value) heading.spec_is)
+        (sym (spec_read (listing_of kept) found.named.file.spec) ∙ ap (take 43) (sym own_value ∙ heading.value_is)
+        ∙ spec_read (listing_in spec entry.value) heading.spec_is)
 
     pub same_next : next ≡ kept.named.file.next_arrival
     same_next = heading.next_is ∙ sym own_next
@@ -158,33 +196,44 @@ module _ (pages : List (Option Sector)) (generation : ℕ) (entry : Entry) (kept
     pub own_rows : AllByRecursion (IsRow spec next) kept.named.file.rows
     own_rows =
         subst (λ (n : ℕ). AllByRecursion (IsRow spec n) kept.named.file.rows) (sym same_next)
-        (subst (λ (s : Spec). AllByRecursion (IsRow s kept.named.file.next_arrival) kept.named.file.rows) same_spec found.named.file.rows)
+        (subst (λ (s : Spec). AllByRecursion (IsRow s kept.named.file.next_arrival) kept.named.file.rows) same_spec
+        found.named.file.rows)
 
-    pub own_entries : entries_of kept.prime.tree.layout kept.prime.levels ≡ map (entry_under spec Prime) kept.named.file.rows
+    pub own_entries : entries_of kept.prime.tree.layout kept.prime.levels
+        ≡ map (entry_under spec Prime) kept.named.file.rows
     own_entries = found.is.rows ∙ ap (λ (s : Spec). map (entry_under s Prime) kept.named.file.rows) same_spec
 
-    pub same_prime : (prime : TreeLevels) → prime.tree.layout ≡ layout_under spec Prime → prime.tree.root ≡ big_number 4 (drop 43 entry.value) → IsTreeIn pages prime → prime ≡ kept.prime
+    pub same_prime : (prime : TreeLevels) → prime.tree.layout ≡ layout_under spec Prime
+        → prime.tree.root ≡ big_number 4 (drop 43 entry.value) → IsTreeIn pages prime → prime ≡ kept.prime
     same_prime prime layout root grows =
-        one_planted pages prime kept.prime small grows (All-head (IsTreeIn pages) kept.prime kept.alternates found.grow) (layout ∙ sym prime_layout_is) (root ∙ sym own_root)
+        one_planted pages prime kept.prime small grows (All-head (IsTreeIn pages) kept.prime kept.alternates found.grow)
+        (layout ∙ sym prime_layout_is) (root ∙ sym own_root)
 
-    pub same_rows : (prime : TreeLevels) (rows : List Row) → prime ≡ kept.prime → entries_of prime.tree.layout prime.levels ≡ map (entry_under spec Prime) rows → AllByRecursion (IsRow spec next) rows → RowsAscend spec.organization rows → rows ≡ kept.named.file.rows
+    pub same_rows : (prime : TreeLevels) (rows : List Row) → prime ≡ kept.prime
+        → entries_of prime.tree.layout prime.levels ≡ map (entry_under spec Prime) rows
+        → AllByRecursion (IsRow spec next) rows → RowsAscend spec.organization rows → rows ≡ kept.named.file.rows
     same_rows prime rows same listed are ascend =
         let file : File = record { spec = spec; rows = rows; next_arrival = next } in
         let low = found.is.arrivals in
         let equal = same_next in
-        one_rows_most file kept.named.file (record { spec = heading.spec_is; next = heading.some; ascend = ascend; rows = are }) found.named.file same_spec (omega (arith, low, few, equal)) (omega (arith, low, few))
+        one_rows_most file kept.named.file
+        (record { spec = heading.spec_is; next = heading.some; ascend = ascend; rows = are }) found.named.file same_spec
+        (omega (arith, low, few, equal)) (omega (arith, low, few))
         (sym listed ∙ ap (λ (t : TreeLevels). entries_of t.tree.layout t.levels) same ∙ own_entries)
 
-    pub own_indexes : (rows : List Row) → rows ≡ kept.named.file.rows → AreIndexes pages spec rows entry.value (length spec.alternates) kept.alternates
+    pub own_indexes : (rows : List Row) → rows ≡ kept.named.file.rows
+        → AreIndexes pages spec rows entry.value (length spec.alternates) kept.alternates
     own_indexes rows same =
-        let many : length kept.alternates ≡ length spec.alternates = found.is.count ∙ ap (λ (s : Spec). length s.alternates) same_spec in
+        let many : length kept.alternates ≡ length spec.alternates =
+        found.is.count ∙ ap (λ (s : Spec). length s.alternates) same_spec in
         let count = found.is.count in
         record {
           many = many;
           each = λ i low.
               let has = found.is.indexes i (omega (arith, low, many, count)) in
               subst (λ (r : List Row). HasIndex spec r i (slice_index_or kept.alternates i no_tree)) (sym same)
-              (subst (λ (s : Spec). HasIndex s kept.named.file.rows i (slice_index_or kept.alternates i no_tree)) same_spec (record { layout = has.layout; pairs = has.pairs }));
+              (subst (λ (s : Spec). HasIndex s kept.named.file.rows i (slice_index_or kept.alternates i no_tree))
+              same_spec (record { layout = has.layout; pairs = has.pairs }));
           rooted = λ i low. own_roots i (omega (arith, low, many));
           grow = All-tail (IsTreeIn pages) kept.prime kept.alternates found.grow;
         }

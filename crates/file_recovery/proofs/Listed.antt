@@ -1,5 +1,6 @@
 -- The files of the catalog's entries, one after the other.
-use Rattle.std.proofs.Common.{◌≡◌, ◌≤◌, ◌+◌, ◌^◌, ◌++◌, ℕ, zero, suc, Bool, List, [], ◌∷◌, length, take, drop, append-nil, refl, sym, ap, subst, ◌∙◌, arith}
+use Rattle.std.proofs.Common.{◌≡◌, ◌≤◌, ◌+◌, ◌^◌, ◌++◌, ℕ, zero, suc, Bool, List, [], ◌∷◌, length, take, drop}
+use Rattle.std.proofs.Common.{append-nil, refl, sym, ap, subst, ◌∙◌, arith}
 use Rattle.std.specs.Prelude.{map, Option, Some}
 use Rattle.std.specs.List.{All, AllByRecursion, flat_map}
 use Rattle.std.proofs.lemmas.List.{map-append, length-map}
@@ -29,7 +30,8 @@ record Splits {X : Type 0} (f : X → Entry) (P : X → Type 0) (n : ℕ) (entry
   of : f item ≡ entry
   split : drop n items ≡ item ∷ drop (suc n) items
 
-splits : {X : Type 0} (f : X → Entry) (P : X → Type 0) (items : List X) (n : ℕ) (entry : Entry) → AllByRecursion P items → entry_at n (map f items) ≡ Some entry → Splits f P n entry items
+splits : {X : Type 0} (f : X → Entry) (P : X → Type 0) (items : List X) (n : ℕ) (entry : Entry) → AllByRecursion P items
+    → entry_at n (map f items) ≡ Some entry → Splits f P n entry items
 splits f P [] n entry all at = cc
 splits f P (x ∷ items) zero entry all at = record { item = x; is = all.0; of = cc; split = refl }
 splits f P (x ∷ items) (suc n) entry all at =
@@ -41,14 +43,17 @@ module _ (pages : List (Option Sector)) (generation : ℕ) where
   IsOwn one = IsCatalogFile pages generation (catalog_entry one) one
 
   -- the trees of one file and of others
-  pages_of_more : (one : FileTrees) (kept : List FileTrees) → pages_of_files (one ∷ kept) ≡ pages_within (trees_of one) ++ pages_of_files kept
+  pages_of_more : (one : FileTrees) (kept : List FileTrees)
+      → pages_of_files (one ∷ kept) ≡ pages_within (trees_of one) ++ pages_of_files kept
   pages_of_more one kept = flat_map-append pages_under (trees_of one) (flat_map trees_of kept)
 
   pages_of_one : (one : FileTrees) → pages_of_files (one ∷ []) ≡ pages_within (trees_of one)
   pages_of_one one = pages_of_more one [] ∙ append-nil (pages_within (trees_of one))
 
-  pages_of_both : (kept more : List FileTrees) → pages_of_files (kept ++ more) ≡ pages_of_files kept ++ pages_of_files more
-  pages_of_both kept more = ap pages_within (flat_map-append trees_of kept more) ∙ flat_map-append pages_under (flat_map trees_of kept) (flat_map trees_of more)
+  pages_of_both : (kept more : List FileTrees)
+      → pages_of_files (kept ++ more) ≡ pages_of_files kept ++ pages_of_files more
+  pages_of_both kept more = ap pages_within (flat_map-append trees_of kept more)
+      ∙ flat_map-append pages_under (flat_map trees_of kept) (flat_map trees_of more)
 
   own_entry : (entry : Entry) (one : FileTrees) → IsCatalogFile pages generation entry one → IsOwn one
   own_entry entry one found = record { is = found.is; named = found.named; grow = found.grow; listed = refl }
@@ -56,8 +61,10 @@ module _ (pages : List (Option Sector)) (generation : ℕ) where
   pub no_files : (seen : List Bool) → FindsFiles pages generation [] [] seen seen
   no_files seen = record { kept = []; found = record { listed = refl; each = tt }; are = refl; marks = marks_none seen }
 
-  pub one_more_file : (entries : List Entry) (n : ℕ) (entry : Entry) (files : Files) (one : NamedFile) (old mid new : List Bool) → entry_at n entries ≡ Some entry →
-      FindsFiles pages generation (take n entries) files old mid → FindsFile pages generation entry one mid new → FindsFiles pages generation (take (n + 1) entries) (files ++ one ∷ []) old new
+  pub one_more_file : (entries : List Entry) (n : ℕ) (entry : Entry) (files : Files) (one : NamedFile)
+      (old mid new : List Bool) → entry_at n entries ≡ Some entry →
+      FindsFiles pages generation (take n entries) files old mid → FindsFile pages generation entry one mid new
+      → FindsFiles pages generation (take (n + 1) entries) (files ++ one ∷ []) old new
   one_more_file entries n entry files one old mid new at before finds =
       let kept : List FileTrees = before.kept in
       let last : List FileTrees = finds.kept ∷ [] in
@@ -65,18 +72,24 @@ module _ (pages : List (Option Sector)) (generation : ℕ) where
       record {
         kept = kept ++ last;
         found = record {
-          listed = map-append catalog_entry kept last ∙ ap (λ (l : List Entry). l ++ map catalog_entry last) before.found.listed ∙ ap (λ (e : Entry). take n entries ++ e ∷ []) finds.found.listed ∙ sym (taken_more entries n entry at);
+          listed = map-append catalog_entry kept last
+              ∙ ap (λ (l : List Entry). l ++ map catalog_entry last) before.found.listed
+              ∙ ap (λ (e : Entry). take n entries ++ e ∷ []) finds.found.listed ∙ sym (taken_more entries n entry at);
           each = all_behind IsOwn kept finds.kept before.found.each (own_entry entry finds.kept finds.found);
         };
-        are = map-append name kept last ∙ ap (λ (l : Files). l ++ map name last) before.are ∙ ap (λ (k : NamedFile). files ++ k ∷ []) finds.is;
+        are = map-append name kept last ∙ ap (λ (l : Files). l ++ map name last) before.are
+            ∙ ap (λ (k : NamedFile). files ++ k ∷ []) finds.is;
         marks =
-            let both : pages_of_files (kept ++ last) ≡ pages_of_files kept ++ pages_within (trees_of finds.kept) = pages_of_both kept last ∙ ap (λ (l : List ℕ). pages_of_files kept ++ l) (pages_of_one finds.kept) in
-            subst (λ (l : List ℕ). Marks old l new) (sym both) (marks_append old mid new (pages_of_files kept) (pages_within (trees_of finds.kept)) before.marks finds.marks);
+            let both : pages_of_files (kept ++ last) ≡ pages_of_files kept ++ pages_within (trees_of finds.kept) =
+            pages_of_both kept last ∙ ap (λ (l : List ℕ). pages_of_files kept ++ l) (pages_of_one finds.kept) in
+            subst (λ (l : List ℕ). Marks old l new) (sym both) (marks_append old mid new (pages_of_files kept)
+            (pages_within (trees_of finds.kept)) before.marks finds.marks);
       }
 
   -- what a list of such files has behind a place can still be marked
   abbrev pub CanGoOn : List Entry → List Bool → ℕ → List Bool → Type 0
-  CanGoOn entries old n seen = (kept : List FileTrees) → AreFound pages generation entries kept → CanMark old (pages_of_files kept) → CanMark seen (pages_of_files (drop n kept))
+  CanGoOn entries old n seen = (kept : List FileTrees) → AreFound pages generation entries kept
+      → CanMark old (pages_of_files kept) → CanMark seen (pages_of_files (drop n kept))
 
   pub at_first : (entries : List Entry) (seen : List Bool) → CanGoOn entries seen 0 seen
   at_first entries seen = λ kept found can. can
@@ -88,24 +101,30 @@ module _ (pages : List (Option Sector)) (generation : ℕ) where
     found_there : (own : FileTrees) → IsOwn own → catalog_entry own ≡ entry → IsCatalogFile pages generation entry own
     found_there own is of = record { is = is.is; named = is.named; grow = is.grow; listed = of }
 
-    can_here : (kept : List FileTrees) (found : AreFound pages generation entries kept) (seen : List Bool) → CanMark seen (pages_of_files (drop n kept)) →
+    can_here : (kept : List FileTrees) (found : AreFound pages generation entries kept) (seen : List Bool)
+        → CanMark seen (pages_of_files (drop n kept)) →
         CanMark seen (pages_within (trees_of (there kept found).item) ++ pages_of_files (drop (suc n) kept))
     can_here kept found seen can =
         let here = there kept found in
         subst (CanMark seen) (ap pages_of_files here.split ∙ pages_of_more here.item (drop (suc n) kept)) can
 
-    pub goes_on : (one : NamedFile) (old mid new : List Bool) → length pages ≤ 2 ^ 20 → CanGoOn entries old n mid → FindsFile pages generation entry one mid new → CanGoOn entries old (n + 1) new
+    pub goes_on : (one : NamedFile) (old mid new : List Bool) → length pages ≤ 2 ^ 20 → CanGoOn entries old n mid
+        → FindsFile pages generation entry one mid new → CanGoOn entries old (n + 1) new
     goes_on one old mid new small before finds = λ kept found can.
         let here = there kept found in
-        let same = one_list_of_trees pages generation entry small finds.kept here.item finds.found (found_there here.item here.is here.of) in
+        let same = one_list_of_trees pages generation entry small finds.kept here.item finds.found
+        (found_there here.item here.is here.of) in
         let marks = subst (λ (l : List TreeLevels). Marks mid (pages_within l) new) same finds.marks in
-        let rest = can_after mid new (pages_within (trees_of here.item)) (pages_of_files (drop (suc n) kept)) marks (can_here kept found mid (before kept found can)) in
+        let rest = can_after mid new (pages_within (trees_of here.item)) (pages_of_files (drop (suc n) kept)) marks
+        (can_here kept found mid (before kept found can)) in
         subst (λ (k : ℕ). CanMark new (pages_of_files (drop k kept))) (let e : suc n ≡ n + 1 = omega arith in e) rest
 
-    pub none_here : (old mid : List Bool) → CanGoOn entries old n mid → NoFile pages generation entry mid → NoFiles pages generation entries old
+    pub none_here : (old mid : List Bool) → CanGoOn entries old n mid → NoFile pages generation entry mid
+        → NoFiles pages generation entries old
     none_here old mid before never = λ kept found few can.
         let here = there kept found in
-        never here.item (found_there here.item here.is here.of) (can_left mid (pages_within (trees_of here.item)) (pages_of_files (drop (suc n) kept)) (can_here kept found mid (before kept found can)))
+        never here.item (found_there here.item here.is here.of) (can_left mid (pages_within (trees_of here.item))
+        (pages_of_files (drop (suc n) kept)) (can_here kept found mid (before kept found can)))
 
     pub too_many : (old : List Bool) → 255 ≤ n → NoFiles pages generation entries old
     too_many old high = λ kept found few can.
@@ -117,37 +136,50 @@ module _ (pages : List (Option Sector)) (generation : ℕ) where
   -- all trees of such files, and what is so of each file
   pub all_grow : (kept : List FileTrees) → AllByRecursion IsOwn kept → All (IsTreeIn pages) (flat_map trees_of kept)
   all_grow [] each = All-nil (IsTreeIn pages)
-  all_grow (one ∷ kept) each = All-append (IsTreeIn pages) (trees_of one) (flat_map trees_of kept) each.0.grow (all_grow kept each.1)
+  all_grow (one ∷ kept) each =
+      All-append (IsTreeIn pages) (trees_of one) (flat_map trees_of kept) each.0.grow (all_grow kept each.1)
 
   pub all_kept : (kept : List FileTrees) → AllByRecursion IsOwn kept → All (IsKept generation) kept
   all_kept [] each = All-nil (IsKept generation)
   all_kept (one ∷ kept) each = All-cons (IsKept generation) one kept each.0.is (all_kept kept each.1)
 
-  pub all_named : (kept : List FileTrees) → AllByRecursion IsOwn kept → AllByRecursion IsNamed (map (λ (one : FileTrees). one.named) kept)
+  pub all_named : (kept : List FileTrees) → AllByRecursion IsOwn kept
+      → AllByRecursion IsNamed (map (λ (one : FileTrees). one.named) kept)
   all_named [] each = tt
   all_named (one ∷ kept) each = (each.0.named, all_named kept each.1)
 
-  pub each_own : (kept : List FileTrees) → All (IsTreeIn pages) (flat_map trees_of kept) → All (IsKept generation) kept → AllByRecursion IsNamed (map (λ (one : FileTrees). one.named) kept) → AllByRecursion IsOwn kept
+  pub each_own : (kept : List FileTrees) → All (IsTreeIn pages) (flat_map trees_of kept) → All (IsKept generation) kept
+      → AllByRecursion IsNamed (map (λ (one : FileTrees). one.named) kept) → AllByRecursion IsOwn kept
   each_own [] grow each named = tt
   each_own (one ∷ kept) grow each named = (
-    record { is = All-head (IsKept generation) one kept each; named = named.0; grow = all_left (IsTreeIn pages) (trees_of one) (flat_map trees_of kept) grow; listed = refl },
-    each_own kept (all_right (IsTreeIn pages) (trees_of one) (flat_map trees_of kept) grow) (All-tail (IsKept generation) one kept each) named.1,
+    record {
+      is = All-head (IsKept generation) one kept each;
+      named = named.0;
+      grow = all_left (IsTreeIn pages) (trees_of one) (flat_map trees_of kept) grow;
+      listed = refl;
+    },
+    each_own kept (all_right (IsTreeIn pages) (trees_of one) (flat_map trees_of kept) grow)
+        (All-tail (IsKept generation) one kept each) named.1,
   )
 
 -- the catalog of a map, and the files of its entries
 module _ (m : Map) (generation : ℕ) (catalog : List (List TreeNode)) where
-  pub finds_catalog : (files : Files) (old mid new : List Bool) → IsTreeIn m.pages (catalog_tree m catalog) → Marks old (pages_under (catalog_tree m catalog)) mid → length files ≤ 255 →
-      FindsFiles m.pages generation (entries_of catalog_layout catalog) files mid new → FindsCatalog m generation files old new
+  pub finds_catalog : (files : Files) (old mid new : List Bool) → IsTreeIn m.pages (catalog_tree m catalog)
+      → Marks old (pages_under (catalog_tree m catalog)) mid → length files ≤ 255 →
+      FindsFiles m.pages generation (entries_of catalog_layout catalog) files mid new
+      → FindsCatalog m generation files old new
   finds_catalog files old mid new grows marks few finds =
       let tree : TreeLevels = catalog_tree m catalog in
       let kept : List FileTrees = finds.kept in
       let many = length-map kept (λ (one : FileTrees). one.named) in
-      let same : length (map (λ (one : FileTrees). one.named) kept) ≡ length files = ap (λ (l : Files). length l) finds.are in
+      let same : length (map (λ (one : FileTrees). one.named) kept) ≡ length files =
+      ap (λ (l : Files). length l) finds.are in
       record {
         catalog = catalog;
         kept = kept;
         is = record {
-          grow = All-cons (IsTreeIn m.pages) tree (flat_map trees_of kept) grows (all_grow m.pages generation kept finds.found.each);
+          grow = All-cons (IsTreeIn m.pages) tree (flat_map trees_of kept) grows
+              (all_grow m.pages generation kept finds.found.each);
           listed = sym finds.found.listed;
           each = all_kept m.pages generation kept finds.found.each;
           named = all_named m.pages generation kept finds.found.each;
@@ -157,11 +189,14 @@ module _ (m : Map) (generation : ℕ) (catalog : List (List TreeNode)) where
         marks = marks_append old mid new (pages_under tree) (pages_of_files kept) marks finds.marks;
       }
 
-  pub catalog_grows : (kept : List FileTrees) → IsCatalog m generation catalog kept → IsTreeIn m.pages (catalog_tree m catalog)
+  pub catalog_grows : (kept : List FileTrees) → IsCatalog m generation catalog kept
+      → IsTreeIn m.pages (catalog_tree m catalog)
   catalog_grows kept is = All-head (IsTreeIn m.pages) (catalog_tree m catalog) (flat_map trees_of kept) is.grow
 
-  pub catalog_found : (kept : List FileTrees) → IsCatalog m generation catalog kept → AreFound m.pages generation (entries_of catalog_layout catalog) kept
+  pub catalog_found : (kept : List FileTrees) → IsCatalog m generation catalog kept
+      → AreFound m.pages generation (entries_of catalog_layout catalog) kept
   catalog_found kept is = record {
     listed = sym is.listed;
-    each = each_own m.pages generation kept (All-tail (IsTreeIn m.pages) (catalog_tree m catalog) (flat_map trees_of kept) is.grow) is.each is.named;
+    each = each_own m.pages generation kept
+        (All-tail (IsTreeIn m.pages) (catalog_tree m catalog) (flat_map trees_of kept) is.grow) is.each is.named;
   }

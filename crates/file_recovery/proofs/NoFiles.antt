@@ -22,36 +22,56 @@ use Rattle.file_recovery.specs.Found.{NoIndexes}
 use Rattle.file_recovery.specs.Kept.{IsCatalogFile, NoFile}
 use Rattle.file_recovery.specs.Rows.{NoRows}
 use Rattle.file_recovery.proofs.Headings.{IsHeading}
-use Rattle.file_recovery.proofs.Kepts.{own_root, own_entries, own_rows, own_indexes, prime_layout_is, same_prime, same_rows}
+use Rattle.file_recovery.proofs.Kepts.{own_root, own_entries, own_rows, own_indexes, prime_layout_is, same_prime}
+use Rattle.file_recovery.proofs.Kepts.{same_rows}
 use Rattle.file_recovery.proofs.Marking.{can_left, can_after}
 
 -- The entry spells a file, and this tree has the layout and the root of its rows.
-module _ (pages : List (Option Sector)) (generation : ℕ) (entry : Entry) (small : length pages ≤ 2 ^ 20) (few : generation < 2 ^ 63) (name : List ℕ) (spec : Spec) (next : ℕ) (heading : IsHeading generation entry name spec next) (tree : RootedTree) (layout : tree.layout ≡ layout_under spec Prime) (root : tree.root ≡ big_number 4 (drop 43 entry.value)) where
+module _ (pages : List (Option Sector)) (generation : ℕ)
+    (entry : Entry) (small : length pages ≤ 2 ^ 20) (few : generation < 2 ^ 63)
+    (name : List ℕ) (spec : Spec) (next : ℕ) (heading : IsHeading generation entry name spec next) (tree : RootedTree)
+    (layout : tree.layout ≡ layout_under spec Prime) (root : tree.root ≡ big_number 4 (drop 43 entry.value)) where
   -- the rows of a file of which the entry tells stand under that root
-  prime_stands : (kept : FileTrees) → IsCatalogFile pages generation entry kept → IsTreeOrEmpty tree.layout pages tree.root kept.prime.levels
+  prime_stands : (kept : FileTrees) → IsCatalogFile pages generation entry kept
+      → IsTreeOrEmpty tree.layout pages tree.root kept.prime.levels
   prime_stands kept found =
       let grows : IsTreeIn pages kept.prime = All-head (IsTreeIn pages) kept.prime kept.alternates found.grow in
-      subst (λ (l : RowLayout). IsTreeOrEmpty l pages tree.root kept.prime.levels) (prime_layout_is pages generation entry kept small few found name spec next heading ∙ sym layout)
-      (subst (λ (r : ℕ). IsTreeOrEmpty kept.prime.tree.layout pages r kept.prime.levels) (own_root pages generation entry kept small few found ∙ sym root) grows)
+      subst (λ (l : RowLayout). IsTreeOrEmpty l pages tree.root kept.prime.levels)
+      (prime_layout_is pages generation entry kept small few found name spec next heading ∙ sym layout)
+      (subst (λ (r : ℕ). IsTreeOrEmpty kept.prime.tree.layout pages r kept.prime.levels)
+      (own_root pages generation entry kept small few found ∙ sym root) grows)
 
   -- no tree without a mark stands there
-  pub no_tree_there : (old : List Bool) → ((levels : List (List TreeNode)) → IsTreeOrEmpty tree.layout pages tree.root levels → All (IsUnmarked old) (pages_of levels) → ⊥) → NoFile pages generation entry old
-  no_tree_there old never = λ kept found can. never kept.prime.levels (prime_stands kept found) (can_left old (pages_under kept.prime) (pages_within kept.alternates) can).unmarked
+  pub no_tree_there : (old : List Bool) → ((levels : List (List TreeNode))
+      → IsTreeOrEmpty tree.layout pages tree.root levels → All (IsUnmarked old) (pages_of levels) → ⊥)
+      → NoFile pages generation entry old
+  no_tree_there old never = λ kept found can. never kept.prime.levels (prime_stands kept found)
+      (can_left old (pages_under kept.prime) (pages_within kept.alternates) can).unmarked
 
   -- what stands there are no rows of the file
-  pub no_rows_there : (old : List Bool) → ((levels : List (List TreeNode)) → IsTreeOrEmpty tree.layout pages tree.root levels → NoRows spec next (entries_of tree.layout levels)) → NoFile pages generation entry old
+  pub no_rows_there : (old : List Bool) → ((levels : List (List TreeNode))
+      → IsTreeOrEmpty tree.layout pages tree.root levels → NoRows spec next (entries_of tree.layout levels))
+      → NoFile pages generation entry old
   no_rows_there old never = λ kept found can.
       let same = prime_layout_is pages generation entry kept small few found name spec next heading in
       never kept.prime.levels (prime_stands kept found) kept.named.file.rows
       (own_rows pages generation entry kept small few found name spec next heading)
-      (ap (λ (l : RowLayout). entries_of l kept.prime.levels) (layout ∙ sym same) ∙ own_entries pages generation entry kept small few found name spec next heading)
+      (ap (λ (l : RowLayout). entries_of l kept.prime.levels) (layout ∙ sym same)
+      ∙ own_entries pages generation entry kept small few found name spec next heading)
 
   -- these rows stand there, and their pairs don't
-  pub no_pairs_there : (old mid : List Bool) (rows : List Row) (levels : List (List TreeNode)) → IsTreeOrEmpty tree.layout pages tree.root levels → Marks old (pages_of levels) mid →
-      entries_of tree.layout levels ≡ map (entry_under spec Prime) rows → AllByRecursion (IsRow spec next) rows → RowsAscend spec.organization rows → NoIndexes pages spec rows entry.value (length spec.alternates) mid → NoFile pages generation entry old
+  pub no_pairs_there : (old mid : List Bool) (rows : List Row) (levels : List (List TreeNode))
+      → IsTreeOrEmpty tree.layout pages tree.root levels → Marks old (pages_of levels) mid →
+      entries_of tree.layout levels ≡ map (entry_under spec Prime) rows → AllByRecursion (IsRow spec next) rows
+      → RowsAscend spec.organization rows → NoIndexes pages spec rows entry.value (length spec.alternates) mid
+      → NoFile pages generation entry old
   no_pairs_there old mid rows levels holds marks listed are ascend never = λ kept found can.
       let prime : TreeLevels = tree_levels tree levels in
-      let same : prime ≡ kept.prime = same_prime pages generation entry kept small few found name spec next heading prime layout root holds in
-      let same_too : rows ≡ kept.named.file.rows = same_rows pages generation entry kept small few found name spec next heading prime rows same listed are ascend in
-      never kept.alternates (own_indexes pages generation entry kept small few found name spec next heading rows same_too)
-      (can_after old mid (pages_under kept.prime) (pages_within kept.alternates) (subst (λ (t : TreeLevels). Marks old (pages_under t) mid) same marks) can)
+      let same : prime ≡ kept.prime =
+      same_prime pages generation entry kept small few found name spec next heading prime layout root holds in
+      let same_too : rows ≡ kept.named.file.rows =
+      same_rows pages generation entry kept small few found name spec next heading prime rows same listed are ascend in
+      never kept.alternates
+      (own_indexes pages generation entry kept small few found name spec next heading rows same_too)
+      (can_after old mid (pages_under kept.prime) (pages_within kept.alternates)
+      (subst (λ (t : TreeLevels). Marks old (pages_under t) mid) same marks) can)

@@ -1,5 +1,6 @@
 -- What is told of a volume of trees whose catalog was read.
-use Rattle.std.proofs.Common.{◌≡◌, ◌⊎◌, ◌≤◌, ◌^◌, inl, inr, ℕ, zero, suc, Bool, false, List, length, refl, sym, ap, subst}
+use Rattle.std.proofs.Common.{◌≡◌, ◌⊎◌, ◌≤◌, ◌^◌, inl, inr, ℕ, zero, suc, Bool, false, List, length, refl, sym, ap}
+use Rattle.std.proofs.Common.{subst}
 use Rattle.std.specs.Prelude.{replicate}
 use Rattle.station.specs.Disk.{Disk, Sector}
 use Rattle.pages.specs.Image.{Map, IsImageOf as HoldsMap, map_of}
@@ -27,31 +28,42 @@ none_marked (suc n) zero = refl
 none_marked (suc n) (suc page) = none_marked n page
 
 -- what was read, of the map before
-module _ (m after : Map) (same : after ≡ m) (generation : ℕ) (is : m.generation ≡ generation) (old : List Bool) (none : NoneMarked old) where
-  pub catalog_is_held : (files : Files) (new : List Bool) → FindsCatalog m generation files old new → IsCovered after.pages new → MapHolds m files
+module _ (m after : Map) (same : after ≡ m) (generation : ℕ) (is : m.generation ≡ generation) (old : List Bool)
+    (none : NoneMarked old) where
+  pub catalog_is_held : (files : Files) (new : List Bool) → FindsCatalog m generation files old new
+      → IsCovered after.pages new → MapHolds m files
   catalog_is_held files new found covered =
-      catalog_held m files old new none (subst (λ (n : ℕ). FindsCatalog m n files old new) (sym is) found) (subst (λ (x : Map). IsCovered x.pages new) same covered)
+      catalog_held m files old new none (subst (λ (n : ℕ). FindsCatalog m n files old new) (sym is) found)
+      (subst (λ (x : Map). IsCovered x.pages new) same covered)
 
   pub none_is_held : length old ≡ length m.pages → NoCatalog m generation old → (files : Files) → MapHolds m files → ⊥
   none_is_held many never = none_held m old many none (subst (λ (n : ℕ). NoCatalog m n old) (sym is) never)
 
-  pub stray_is_held : (files : Files) (new : List Bool) → length m.pages ≤ 2 ^ 20 → FindsCatalog m generation files old new → (IsCovered after.pages new → ⊥) → (others : Files) → MapHolds m others → ⊥
+  pub stray_is_held : (files : Files) (new : List Bool) → length m.pages ≤ 2 ^ 20
+      → FindsCatalog m generation files old new → (IsCovered after.pages new → ⊥) → (others : Files) → MapHolds m others
+      → ⊥
   stray_is_held files new small found stray =
-      stray_held m files old new small (subst (λ (n : ℕ). FindsCatalog m n files old new) (sym is) found) (λ covered. stray (subst (λ (x : Map). IsCovered x.pages new) (sym same) covered))
+      stray_held m files old new small (subst (λ (n : ℕ). FindsCatalog m n files old new) (sym is) found)
+      (λ covered. stray (subst (λ (x : Map). IsCovered x.pages new) (sym same) covered))
 
 -- the map that was opened is the one of the disk, whatever waited on it before
-module _ (p : PageMap) (before now : Disk) (agrees : Agrees p now) (own : (image : List Sector) → map_now p image ≡ map_of image (committed_of p)) (same : now.present ≡ before.present) where
+module _ (p : PageMap) (before now : Disk) (agrees : Agrees p now) (own : (image : List Sector)
+    → map_now p image ≡ map_of image (committed_of p)) (same : now.present ≡ before.present) where
   held : HoldsMap before.present (map_now p now.present)
-  held = subst (λ (image : List Sector). HoldsMap image (map_now p now.present)) same (committed_of p, agrees.committed.reads, sym (own now.present))
+  held = subst (λ (image : List Sector). HoldsMap image (map_now p now.present)) same
+      (committed_of p, agrees.committed.reads, sym (own now.present))
 
   pub trees_there : (files : Files) → MapHolds (map_now p now.present) files → Holds before.present files
   trees_there files holds = (map_now p now.present, held, holds)
 
-  pub no_trees : ((files : Files) → MapHolds (map_now p now.present) files → ⊥) → (files : Files) → Holds before.present files → ⊥
-  no_trees never files holds = never files (subst (λ (m : Map). MapHolds m files) (one_map before.present holds.0 (map_now p now.present) holds.1 held) holds.2)
+  pub no_trees : ((files : Files) → MapHolds (map_now p now.present) files → ⊥) → (files : Files)
+      → Holds before.present files → ⊥
+  no_trees never files holds = never files (subst (λ (m : Map). MapHolds m files)
+      (one_map before.present holds.0 (map_now p now.present) holds.1 held) holds.2)
 
 -- a refusal to open
-pub refused_of : (image : List Sector) (error : PagesError) → RefusesImage image error → RefusedTrees image (fault_of error)
+pub refused_of : (image : List Sector) (error : PagesError) → RefusesImage image error
+    → RefusedTrees image (fault_of error)
 refused_of image pages.Device is = tt
 refused_of image pages.Full is = is
 refused_of image pages.Damaged is = λ files holds. is.none holds.0 holds.1
@@ -64,7 +76,8 @@ cause_of error (inl is) = inl (ap fault_of is)
 cause_of error (inr is) = inr (ap fault_of is)
 
 -- a refusal to read the catalog
-pub refused_read : (image : List Sector) (fault : StoreFault) → IsReadFault fault → (fault ≡ Damaged → (files : Files) → Holds image files → ⊥) → RefusedTrees image fault
+pub refused_read : (image : List Sector) (fault : StoreFault) → IsReadFault fault
+    → (fault ≡ Damaged → (files : Files) → Holds image files → ⊥) → RefusedTrees image fault
 refused_read image Device is never = tt
 refused_read image Full is never = is
 refused_read image Damaged is never = never refl

@@ -1,5 +1,6 @@
 -- Going through ascending entries.
-use Rattle.std.proofs.Common.{◌≡◌, ◌≤◌, ◌+◌, ◌++◌, ⊎_elim, ℕ, zero, suc, List, [], ◌∷◌, length, take, refl, sym, ap, subst, ◌∙◌, arith}
+use Rattle.std.proofs.Common.{◌≡◌, ◌≤◌, ◌+◌, ◌++◌, ⊎_elim, ℕ, zero, suc, List, [], ◌∷◌, length, take, refl, sym, ap}
+use Rattle.std.proofs.Common.{subst, ◌∙◌, arith}
 use Rattle.std.specs.Prelude.{Option, Some, None, Contains, map, if◌then◌else◌}
 use Rattle.std.specs.List.{AllByRecursion}
 use Rattle.std.specs.Ordering.{is_gt, ordering_reverse}
@@ -26,26 +27,34 @@ first_at [] = refl
 first_at (e ∷ more) = refl
 
 -- the first of those that are all behind a key
-all_behind : (key : List ℕ) (more : List Entry) → AllByRecursion (λ (k : List ℕ). key_cmp key k ≡ Less) (keys_listed more) → first_entry_after more key ≡ entry_at 0 more
+all_behind : (key : List ℕ) (more : List Entry) → AllByRecursion (λ (k : List ℕ). key_cmp key k ≡ Less)
+    (keys_listed more) → first_entry_after more key ≡ entry_at 0 more
 all_behind key [] all = refl
 all_behind key (e ∷ more) all =
-    ap (λ (o : Ordering). if is_gt o then Some e else first_entry_after more key) (nat_list_cmp_total.antisymm e.key key ∙ ap ordering_reverse all.0)
+    ap (λ (o : Ordering). if is_gt o then Some e else first_entry_after more key)
+    (nat_list_cmp_total.antisymm e.key key ∙ ap ordering_reverse all.0)
 
-behind_at : (key : List ℕ) (more : List Entry) (n : ℕ) (e : Entry) → AllByRecursion (λ (k : List ℕ). key_cmp key k ≡ Less) (keys_listed more) → entry_at n more ≡ Some e → key_cmp key e.key ≡ Less
+behind_at : (key : List ℕ) (more : List Entry) (n : ℕ) (e : Entry)
+    → AllByRecursion (λ (k : List ℕ). key_cmp key k ≡ Less) (keys_listed more) → entry_at n more ≡ Some e
+    → key_cmp key e.key ≡ Less
 behind_at key [] n e all is = cc
-behind_at key (a ∷ more) zero e all is = let same : a ≡ e = cc in ap (λ (x : Entry). key_cmp key x.key) (sym same) ∙ all.0
+behind_at key (a ∷ more) zero e all is = let same : a ≡ e =
+    cc in ap (λ (x : Entry). key_cmp key x.key) (sym same) ∙ all.0
 behind_at key (a ∷ more) (suc n) e all is = behind_at key more n e all.1 is
 
-pub next_at : (entries : List Entry) (n : ℕ) (e : Entry) → Ascend (keys_listed entries) → entry_at n entries ≡ Some e → first_entry_after entries e.key ≡ entry_at (suc n) entries
+pub next_at : (entries : List Entry) (n : ℕ) (e : Entry) → Ascend (keys_listed entries) → entry_at n entries ≡ Some e
+    → first_entry_after entries e.key ≡ entry_at (suc n) entries
 next_at [] n e up is = cc
 next_at (a ∷ more) zero e up is =
     let same : a ≡ e = cc in
     let here : first_entry_after (a ∷ more) a.key ≡ entry_at 0 more =
-    ap (λ (o : Ordering). if is_gt o then Some a else first_entry_after more a.key) (tied_itself nat_list_cmp_total a.key) ∙ all_behind a.key more (sorted_head key_cmp a.key (keys_listed more) up) in
+    ap (λ (o : Ordering). if is_gt o then Some a else first_entry_after more a.key)
+    (tied_itself nat_list_cmp_total a.key) ∙ all_behind a.key more (sorted_head key_cmp a.key (keys_listed more) up) in
     ap (λ (x : Entry). first_entry_after (a ∷ more) x.key) (sym same) ∙ here
 next_at (a ∷ more) (suc n) e up is =
     let less = behind_at a.key more n e (sorted_head key_cmp a.key (keys_listed more) up) is in
-    ap (λ (o : Ordering). if is_gt o then Some a else first_entry_after more e.key) less ∙ next_at more n e (sorted_tail key_cmp a.key (keys_listed more) up) is
+    ap (λ (o : Ordering). if is_gt o then Some a else first_entry_after more e.key) less
+    ∙ next_at more n e (sorted_tail key_cmp a.key (keys_listed more) up) is
 
 -- how many there are
 pub none_at : (entries : List Entry) (n : ℕ) → entry_at n entries ≡ None → length entries ≤ n
@@ -59,13 +68,16 @@ some_at (a ∷ more) zero e is = omega arith
 some_at (a ∷ more) (suc n) e is = let rest = some_at more n e is in omega (arith, rest)
 
 -- the first so many, and one more
-taken_one : (entries : List Entry) (n : ℕ) (e : Entry) → entry_at n entries ≡ Some e → take (suc n) entries ≡ take n entries ++ e ∷ []
+taken_one : (entries : List Entry) (n : ℕ) (e : Entry) → entry_at n entries ≡ Some e
+    → take (suc n) entries ≡ take n entries ++ e ∷ []
 taken_one [] n e is = cc
 taken_one (a ∷ more) zero e is = let same : a ≡ e = cc in ap (λ (x : Entry). x ∷ []) same
 taken_one (a ∷ more) (suc n) e is = ap (λ (l : List Entry). a ∷ l) (taken_one more n e is)
 
-pub taken_more : (entries : List Entry) (n : ℕ) (e : Entry) → entry_at n entries ≡ Some e → take (n + 1) entries ≡ take n entries ++ e ∷ []
-taken_more entries n e is = ap (λ (k : ℕ). take k entries) (let e : n + 1 ≡ suc n = omega arith in e) ∙ taken_one entries n e is
+pub taken_more : (entries : List Entry) (n : ℕ) (e : Entry) → entry_at n entries ≡ Some e
+    → take (n + 1) entries ≡ take n entries ++ e ∷ []
+taken_more entries n e is =
+    ap (λ (k : ℕ). take k entries) (let e : n + 1 ≡ suc n = omega arith in e) ∙ taken_one entries n e is
 
 pub taken_all : (entries : List Entry) (n : ℕ) → entry_at n entries ≡ None → take n entries ≡ entries
 taken_all [] n is = take_all n [] (omega arith)
@@ -78,7 +90,8 @@ pub record IsOf {X : Type 0} (f : X → Entry) (P : X → Type 0) (e : Entry) : 
   pub is : P item
   pub of : f item ≡ e
 
-pub item_at : {X : Type 0} (f : X → Entry) (P : X → Type 0) (items : List X) (n : ℕ) (e : Entry) → AllByRecursion P items → entry_at n (map f items) ≡ Some e → IsOf f P e
+pub item_at : {X : Type 0} (f : X → Entry) (P : X → Type 0) (items : List X) (n : ℕ) (e : Entry)
+    → AllByRecursion P items → entry_at n (map f items) ≡ Some e → IsOf f P e
 item_at f P [] n e all is = cc
 item_at f P (x ∷ items) zero e all is = record { item = x; is = all.0; of = cc }
 item_at f P (x ∷ items) (suc n) e all is = item_at f P items n e all.1 is
@@ -86,16 +99,21 @@ item_at f P (x ∷ items) (suc n) e all is = item_at f P items n e all.1 is
 -- what is so of each entry that was passed
 pub entry_in : (entries : List Entry) (n : ℕ) (e : Entry) → entry_at n entries ≡ Some e → Contains entries e
 entry_in [] n e is = cc
-entry_in (a ∷ more) zero e is = let same : a ≡ e = cc in subst (λ (x : Entry). Contains (a ∷ more) x) same (in_head a more)
+entry_in (a ∷ more) zero e is = let same : a ≡ e =
+    cc in subst (λ (x : Entry). Contains (a ∷ more) x) same (in_head a more)
 entry_in (a ∷ more) (suc n) e is = in_tail a more e (entry_in more n e is)
 
 pub none_passed : (P : Entry → Type 0) (entries : List Entry) → AllByRecursion P (take 0 entries)
 none_passed P [] = tt
 none_passed P (e ∷ more) = tt
 
-pub one_passed : (P : Entry → Type 0) (entries : List Entry) (n : ℕ) (e : Entry) → entry_at n entries ≡ Some e → AllByRecursion P (take n entries) → P e → AllByRecursion P (take (n + 1) entries)
-one_passed P entries n e at all is = subst (λ (l : List Entry). AllByRecursion P l) (sym (taken_more entries n e at)) (with_last P (take n entries) e all is)
+pub one_passed : (P : Entry → Type 0) (entries : List Entry) (n : ℕ) (e : Entry) → entry_at n entries ≡ Some e
+    → AllByRecursion P (take n entries) → P e → AllByRecursion P (take (n + 1) entries)
+one_passed P entries n e at all is = subst (λ (l : List Entry). AllByRecursion P l) (sym (taken_more entries n e at))
+    (with_last P (take n entries) e all is)
 
-pub each_passed : (P : Entry → Type 0) (entries : List Entry) → AllByRecursion P entries → (e : Entry) → Contains entries e → P e
+pub each_passed : (P : Entry → Type 0) (entries : List Entry) → AllByRecursion P entries → (e : Entry)
+    → Contains entries e → P e
 each_passed P [] all e has = absurd (let low = has.1 in omega (arith, low))
-each_passed P (a ∷ more) all e has = ⊎_elim (λ (same : e ≡ a). subst P (sym same) all.0) (λ later. each_passed P more all.1 e later) (in_cons a more e has)
+each_passed P (a ∷ more) all e has = ⊎_elim (λ (same : e ≡ a). subst P (sym same) all.0)
+    (λ later. each_passed P more all.1 e later) (in_cons a more e has)

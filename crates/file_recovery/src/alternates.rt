@@ -34,9 +34,12 @@ pub(crate) fn check_pages<D: Device>(
     requires open { IsOpen pages.old }
     requires unspent { is_spent pages.old ≡ false }
     requires sectors { sectors_of pages.old ≤ D.sectors device.old }
-    ensures looks { LooksAt D.Device (result ≡ Err StoreFault.Device) pages.old device.old pages.new device.new }
-    ensures holds { OnPages D.Device pages.old device.old (λ before. OnOk result (FindsTree tree.now.layout before tree.now.root seen.old seen.new)) }
-    ensures damaged { OnPages D.Device pages.old device.old (NoUnmarkedTree tree.now.layout tree.now.root seen.old (result ≡ Err StoreFault.Damaged)) }
+    ensures looks { LooksAt D.Device (result ≡ Err StoreFault.Device) pages.old device.old pages.new
+        device.new }
+    ensures holds { OnPages D.Device pages.old device.old
+        (λ before. OnOk result (FindsTree tree.now.layout before tree.now.root seen.old seen.new)) }
+    ensures damaged { OnPages D.Device pages.old device.old
+        (NoUnmarkedTree tree.now.layout tree.now.root seen.old (result ≡ Err StoreFault.Damaged)) }
     ensures cause { IfErr result IsReadFault }
 {
     match check_tree(alloc, tree, pages, device, seen) {
@@ -62,11 +65,16 @@ fn check_alternate<D: Device>(
     requires key { IsKey (spec_of file.now) (Alternate key) }
     requires value { length value.now ≡ 83 }
     requires rows { All (IsSized (spec_of file.now)) (rows_of rows.now) }
-    ensures looks { LooksAt D.Device (result ≡ Err StoreFault.Device) pages.old device.old pages.new device.new }
-    ensures index { RowsAscend file.now.organization (rows_of rows.now) → OnPages D.Device pages.old device.old
-        (λ before. OnOk result (FindsIndex before (spec_of file.now) (rows_of rows.now) value.now key seen.old seen.new)) }
-    ensures damaged { RowsAscend file.now.organization (rows_of rows.now) → OnPages D.Device pages.old device.old
-        (λ before. result ≡ Err StoreFault.Damaged → NoIndex before (spec_of file.now) (rows_of rows.now) value.now key seen.old) }
+    ensures looks { LooksAt D.Device (result ≡ Err StoreFault.Device) pages.old device.old pages.new
+        device.new }
+    ensures index { RowsAscend file.now.organization (rows_of rows.now)
+        → OnPages D.Device pages.old device.old
+        (λ before. OnOk result (FindsIndex before (spec_of file.now) (rows_of rows.now) value.now
+        key seen.old seen.new)) }
+    ensures damaged { RowsAscend file.now.organization (rows_of rows.now)
+        → OnPages D.Device pages.old device.old
+        (λ before. result ≡ Err StoreFault.Damaged
+        → NoIndex before (spec_of file.now) (rows_of rows.now) value.now key seen.old) }
     ensures cause { IfErr result IsReadFault }
 {
     let layout = tree_layout(file, KeyOfReference::Alternate(key));
@@ -90,11 +98,16 @@ pub(crate) fn check_alternates<D: Device>(
     requires sectors { sectors_of pages.old ≤ D.sectors device.old }
     requires value { length value.now ≡ 83 }
     requires rows { All (IsSized (spec_of file.now)) (rows_of rows.now) }
-    ensures looks { LooksAt D.Device (result ≡ Err StoreFault.Device) pages.old device.old pages.new device.new }
-    ensures indexes { RowsAscend file.now.organization (rows_of rows.now) → OnPages D.Device pages.old device.old
-        (λ before. OnOk result (FindsIndexes before (spec_of file.now) (rows_of rows.now) value.now (length file.now.alternates.items) seen.old seen.new)) }
-    ensures damaged { RowsAscend file.now.organization (rows_of rows.now) → OnPages D.Device pages.old device.old
-        (λ before. result ≡ Err StoreFault.Damaged → NoIndexes before (spec_of file.now) (rows_of rows.now) value.now (length file.now.alternates.items) seen.old) }
+    ensures looks { LooksAt D.Device (result ≡ Err StoreFault.Device) pages.old device.old pages.new
+        device.new }
+    ensures indexes { RowsAscend file.now.organization (rows_of rows.now)
+        → OnPages D.Device pages.old device.old
+        (λ before. OnOk result (FindsIndexes before (spec_of file.now) (rows_of rows.now) value.now
+        (length file.now.alternates.items) seen.old seen.new)) }
+    ensures damaged { RowsAscend file.now.organization (rows_of rows.now)
+        → OnPages D.Device pages.old device.old
+        (λ before. result ≡ Err StoreFault.Damaged → NoIndexes before (spec_of file.now)
+        (rows_of rows.now) value.now (length file.now.alternates.items) seen.old) }
     ensures cause { IfErr result IsReadFault }
 {
     map_bounds();

@@ -37,9 +37,13 @@ pub(crate) fn read_catalog<D: Device>(
     requires unspent { is_spent pages.old ≡ false }
     requires sectors { sectors_of pages.old ≤ D.sectors device.old }
     requires generation { generation < 2 ^ 63 }
-    ensures looks { LooksAt D.Device (result ≡ Err StoreFault.Device) pages.old device.old pages.new device.new }
-    ensures files { IfAgrees D.Device pages.old device.old (IfOk result (λ files. FindsCatalog (map_now pages.old (D.state device.old).disk.present) generation (files_of files.items) seen.old seen.new)) }
-    ensures damaged { IfAgrees D.Device pages.old device.old (result ≡ Err StoreFault.Damaged → NoCatalog (map_now pages.old (D.state device.old).disk.present) generation seen.old) }
+    ensures looks { LooksAt D.Device (result ≡ Err StoreFault.Device) pages.old device.old pages.new
+        device.new }
+    ensures files { IfAgrees D.Device pages.old device.old
+        (IfOk result (λ files. FindsCatalog (map_now pages.old (D.state device.old).disk.present)
+        generation (files_of files.items) seen.old seen.new)) }
+    ensures damaged { IfAgrees D.Device pages.old device.old (result ≡ Err StoreFault.Damaged
+        → NoCatalog (map_now pages.old (D.state device.old).disk.present) generation seen.old) }
     ensures cause { IfErr result IsReadFault }
 {
     map_bounds();
@@ -64,10 +68,14 @@ fn add_file<D: Device>(
     requires sectors { sectors_of pages.old ≤ D.sectors device.old }
     requires generation { generation < 2 ^ 63 }
     requires lengths { HasLengths catalog_layout entry.now }
-    ensures looks { LooksAt D.Device (result ≡ Err StoreFault.Device) pages.old device.old pages.new device.new }
+    ensures looks { LooksAt D.Device (result ≡ Err StoreFault.Device) pages.old device.old pages.new
+        device.new }
     ensures many { OnOk result (length files.new.items ≡ length files.old.items + 1) }
-    ensures file { OnPages D.Device pages.old device.old (λ before. OnOk result (AddsFile before generation entry.now (files_of files.old.items) (files_of files.new.items) seen.old seen.new)) }
-    ensures damaged { OnPages D.Device pages.old device.old (λ before. result ≡ Err StoreFault.Damaged → NoFile before generation entry.now seen.old) }
+    ensures file { OnPages D.Device pages.old device.old
+        (λ before. OnOk result (AddsFile before generation entry.now (files_of files.old.items)
+        (files_of files.new.items) seen.old seen.new)) }
+    ensures damaged { OnPages D.Device pages.old device.old
+        (λ before. result ≡ Err StoreFault.Damaged → NoFile before generation entry.now seen.old) }
     ensures cause { IfErr result IsReadFault }
 {
     let file = check_file(alloc, entry, generation, pages, device, seen)?;
@@ -90,12 +98,16 @@ fn read_files<D: Device>(
     requires sectors { sectors_of pages.old ≤ D.sectors device.old }
     requires generation { generation < 2 ^ 63 }
     requires layout { catalog.now.layout ≡ catalog_layout }
-    ensures looks { LooksAt D.Device (result ≡ Err StoreFault.Device) pages.old device.old pages.new device.new }
+    ensures looks { LooksAt D.Device (result ≡ Err StoreFault.Device) pages.old device.old pages.new
+        device.new }
     ensures few { IfOk result (λ files. length files.items ≤ 255) }
     ensures files { OnTree D.Device catalog.now.layout catalog.now.root pages.old device.old
-        (λ levels. IfOk result (λ files. FindsFiles (pages_on D.Device pages.old device.old) generation (entries_of catalog.now.layout levels) (files_of files.items) seen.old seen.new)) }
+        (λ levels.
+        IfOk result (λ files. FindsFiles (pages_on D.Device pages.old device.old) generation
+        (entries_of catalog.now.layout levels) (files_of files.items) seen.old seen.new)) }
     ensures damaged { OnTree D.Device catalog.now.layout catalog.now.root pages.old device.old
-        (λ levels. result ≡ Err StoreFault.Damaged → NoFiles (pages_on D.Device pages.old device.old) generation (entries_of catalog.now.layout levels) seen.old) }
+        (λ levels. result ≡ Err StoreFault.Damaged → NoFiles (pages_on D.Device pages.old
+        device.old) generation (entries_of catalog.now.layout levels) seen.old) }
     ensures cause { IfErr result IsReadFault }
 {
     map_bounds();

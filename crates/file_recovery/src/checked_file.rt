@@ -35,9 +35,12 @@ pub(crate) fn check_file<D: Device>(
     requires sectors { sectors_of pages.old ≤ D.sectors device.old }
     requires generation { generation < 2 ^ 63 }
     requires lengths { HasLengths catalog_layout entry.now }
-    ensures looks { LooksAt D.Device (result ≡ Err StoreFault.Device) pages.old device.old pages.new device.new }
-    ensures file { OnPages D.Device pages.old device.old (λ before. IfOk result (λ file. FindsFile before generation entry.now (named_of file) seen.old seen.new)) }
-    ensures damaged { OnPages D.Device pages.old device.old (λ before. result ≡ Err StoreFault.Damaged → NoFile before generation entry.now seen.old) }
+    ensures looks { LooksAt D.Device (result ≡ Err StoreFault.Device) pages.old device.old pages.new
+        device.new }
+    ensures file { OnPages D.Device pages.old device.old (λ before. IfOk result
+        (λ file. FindsFile before generation entry.now (named_of file) seen.old seen.new)) }
+    ensures damaged { OnPages D.Device pages.old device.old
+        (λ before. result ≡ Err StoreFault.Damaged → NoFile before generation entry.now seen.old) }
     ensures cause { IfErr result IsReadFault }
 {
     map_bounds();

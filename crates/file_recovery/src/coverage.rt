@@ -11,8 +11,10 @@ pub(crate) fn are_covered(pages: &PageMap, seen: &[bool]) -> bool
     requires open { IsOpen pages.now }
     requires unspent { is_spent pages.now ≡ false }
     requires count { length seen.now ≡ page_count pages.now }
-    ensures yes { result ≡ true → (image : List Sector) → IsCovered (map_now pages.now image).pages seen.now }
-    ensures no { result ≡ false → (image : List Sector) → IsCovered (map_now pages.now image).pages seen.now → ⊥ }
+    ensures yes { result ≡ true → (image : List Sector)
+        → IsCovered (map_now pages.now image).pages seen.now }
+    ensures no { result ≡ false → (image : List Sector)
+        → IsCovered (map_now pages.now image).pages seen.now → ⊥ }
 {
     let count = pages.page_count() as u32;
     for page in 0..count {
@@ -35,8 +37,11 @@ fn is_stray(pages: &PageMap, seen: &[bool], page: u32) -> bool
     requires open { IsOpen pages.now }
     requires unspent { is_spent pages.now ≡ false }
     requires page { page < length seen.now }
-    ensures yes { result ≡ true → (image : List Sector) → IsStray (map_now pages.now image).pages seen.now page }
-    ensures no { result ≡ false → (image : List Sector) → slice_index_or (map_now pages.now image).pages page None ≢ None → slice_index_or seen.now page false ≡ true }
+    ensures yes { result ≡ true → (image : List Sector)
+        → IsStray (map_now pages.now image).pages seen.now page }
+    ensures no { result ≡ false
+        → (image : List Sector) → slice_index_or (map_now pages.now image).pages page None ≢ None
+        → slice_index_or seen.now page false ≡ true }
 {
     if is_marked(seen, page) {
         return false;

@@ -37,7 +37,8 @@ pub(crate) fn read_roots(alloc: Global, value: &[u8], count: u8) -> Result<Vec<u
 /// The value that an entry of this file has, with the roots and the next arrival of that one.
 fn spell_again(alloc: Global, file: &FileSpec, value: &[u8]) -> Result<Vec<u8>, StoreFault>
     requires { length value.now ≡ 83 }
-    ensures bytes { IfOk result (λ bytes. bytes.items ≡ listing_bytes (listing_in (spec_of file.now) value.now)) }
+    ensures bytes { IfOk result
+        (λ bytes. bytes.items ≡ listing_bytes (listing_in (spec_of file.now) value.now)) }
     ensures memory { IsOkUnless result StoreFault.Memory }
 {
     let roots = read_roots(alloc, value, file.alternates.len() as u8)?;
@@ -47,8 +48,10 @@ fn spell_again(alloc: Global, file: &FileSpec, value: &[u8]) -> Result<Vec<u8>, 
 /// Whether the entry is the one of this file.
 fn is_entry_of(alloc: Global, file: &FileSpec, key: &[u8], value: &[u8]) -> Result<bool, StoreFault>
     requires { length value.now ≡ 83 }
-    ensures yes { IfOk result (λ is. is ≡ true → (key.now ≡ padded_name file.now.name.items) × (value.now ≡ listing_bytes (listing_in (spec_of file.now) value.now))) }
-    ensures no { IfOk result (λ is. key.now ≡ padded_name file.now.name.items → value.now ≡ listing_bytes (listing_in (spec_of file.now) value.now) → is ≡ true) }
+    ensures yes { IfOk result (λ is. is ≡ true → (key.now ≡ padded_name file.now.name.items)
+        × (value.now ≡ listing_bytes (listing_in (spec_of file.now) value.now))) }
+    ensures no { IfOk result (λ is. key.now ≡ padded_name file.now.name.items
+        → value.now ≡ listing_bytes (listing_in (spec_of file.now) value.now) → is ≡ true) }
     ensures memory { IsOkUnless result StoreFault.Memory }
 {
     if !is_same(&pad_name(&file.name), key) {
@@ -65,8 +68,10 @@ pub(crate) fn read_listing(
     value: &[u8],
 ) -> Result<Option<FileSpec>, StoreFault>
     requires { length value.now ≡ 83 }
-    ensures some { IfOk result (λ found. IfSome found (λ file. (key.now ≡ padded_name file.name.items) × (value.now ≡ listing_bytes (listing_in (spec_of file) value.now)))) }
-    ensures none { result ≡ Ok None → (name : List ℕ) (l : Listing) → is_name name ≡ true → IsListing l → key.now ≡ padded_name name → value.now ≡ listing_bytes l → ⊥ }
+    ensures some { IfOk result (λ found. IfSome found (λ file. (key.now ≡ padded_name
+        file.name.items) × (value.now ≡ listing_bytes (listing_in (spec_of file) value.now)))) }
+    ensures none { result ≡ Ok None → (name : List ℕ) (l : Listing) → is_name name ≡ true
+        → IsListing l → key.now ≡ padded_name name → value.now ≡ listing_bytes l → ⊥ }
     ensures memory { IsOkUnless result StoreFault.Memory }
 {
     let Some(file) = read_description(alloc, key, value)? else {

@@ -41,11 +41,16 @@ pub(crate) fn check_index<D: Device>(
     requires sectors { sectors_of pages.old ≤ D.sectors device.old }
     requires key { IsKey (spec_of file.now) (Alternate key) }
     requires rows { All (IsSized (spec_of file.now)) (rows_of rows.now) }
-    ensures looks { LooksAt D.Device (result ≡ Err StoreFault.Device) pages.old device.old pages.new device.new }
-    ensures index { RowsAscend file.now.organization (rows_of rows.now) → OnTree D.Device tree.now.layout tree.now.root pages.old device.old
-        (λ levels. OnOk result (AreOf (spec_of file.now) (Alternate key) (rows_of rows.now) (entries_of tree.now.layout levels))) }
-    ensures damaged { RowsAscend file.now.organization (rows_of rows.now) → OnTree D.Device tree.now.layout tree.now.root pages.old device.old
-        (λ levels. result ≡ Err StoreFault.Damaged → AreOf (spec_of file.now) (Alternate key) (rows_of rows.now) (entries_of tree.now.layout levels) → ⊥) }
+    ensures looks { LooksAt D.Device (result ≡ Err StoreFault.Device) pages.old device.old pages.new
+        device.new }
+    ensures index { RowsAscend file.now.organization (rows_of rows.now)
+        → OnTree D.Device tree.now.layout tree.now.root pages.old device.old
+        (λ levels. OnOk result (AreOf (spec_of file.now) (Alternate key) (rows_of rows.now)
+        (entries_of tree.now.layout levels))) }
+    ensures damaged { RowsAscend file.now.organization (rows_of rows.now)
+        → OnTree D.Device tree.now.layout tree.now.root pages.old device.old
+        (λ levels. result ≡ Err StoreFault.Damaged → AreOf (spec_of file.now) (Alternate key)
+        (rows_of rows.now) (entries_of tree.now.layout levels) → ⊥) }
     ensures cause { IfErr result IsReadFault }
 {
     let index = SparseIndex::new(alloc, file, rows)?;
@@ -72,7 +77,8 @@ fn is_pair(file: &FileSpec, key: u8, rows: &[StoredRow], index: &SparseIndex, en
     requires key { IsKey (spec_of file.now) (Alternate key) }
     requires rows { All (IsSized (spec_of file.now)) (rows_of rows.now) }
     ensures yes { result ≡ true → IsPairOf (spec_of file.now) key (rows_of rows.now) entry.now }
-    ensures no { PrimesAscend (spec_of file.now) (rows_of rows.now) → result ≡ false → IsPairOf (spec_of file.now) key (rows_of rows.now) entry.now → ⊥ }
+    ensures no { PrimesAscend (spec_of file.now) (rows_of rows.now) → result ≡ false
+        → IsPairOf (spec_of file.now) key (rows_of rows.now) entry.now → ⊥ }
 {
     match find_row(file, rows, index, entry.value()) {
         Some(place) => has_pair_key(file, key, &rows[place], entry.key()),
@@ -84,8 +90,10 @@ fn is_pair(file: &FileSpec, key: u8, rows: &[StoredRow], index: &SparseIndex, en
 fn has_pair_key(file: &FileSpec, key: u8, row: &StoredRow, pair: &[u8]) -> bool
     requires key { IsKey (spec_of file.now) (Alternate key) }
     requires row { IsSized (spec_of file.now) (row_of row.now) }
-    ensures yes { result ≡ true → key_under (spec_of file.now) (Alternate key) (pair_under (spec_of file.now) (Alternate key) (row_of row.now)) ≡ pair.now }
-    ensures no { result ≡ false → key_under (spec_of file.now) (Alternate key) (pair_under (spec_of file.now) (Alternate key) (row_of row.now)) ≡ pair.now → ⊥ }
+    ensures yes { result ≡ true → key_under (spec_of file.now) (Alternate key)
+        (pair_under (spec_of file.now) (Alternate key) (row_of row.now)) ≡ pair.now }
+    ensures no { result ≡ false → key_under (spec_of file.now) (Alternate key)
+        (pair_under (spec_of file.now) (Alternate key) (row_of row.now)) ≡ pair.now → ⊥ }
 {
     let value = alternate_value(file, key, row);
     if pair.len() < value.len() {

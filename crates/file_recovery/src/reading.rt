@@ -36,12 +36,16 @@ pub(crate) fn read_rows<D: Device>(
     requires unspent { is_spent pages.old ≡ false }
     requires sectors { sectors_of pages.old ≤ D.sectors device.old }
     requires layout { tree.now.layout ≡ prime_layout (spec_of file.now) }
-    ensures looks { LooksAt D.Device (result ≡ Err StoreFault.Device) pages.old device.old pages.new device.new }
-    ensures are { IfOk result (λ rows. AllByRecursion (IsRow (spec_of file.now) next_arrival) (rows_of rows.items)) }
+    ensures looks { LooksAt D.Device (result ≡ Err StoreFault.Device) pages.old device.old pages.new
+        device.new }
+    ensures are { IfOk result
+        (λ rows. AllByRecursion (IsRow (spec_of file.now) next_arrival) (rows_of rows.items)) }
     ensures rows { OnTree D.Device tree.now.layout tree.now.root pages.old device.old
-        (λ levels. IfOk result (λ rows. entries_of tree.now.layout levels ≡ map (entry_under (spec_of file.now) Prime) (rows_of rows.items))) }
+        (λ levels. IfOk result (λ rows. entries_of tree.now.layout levels
+        ≡ map (entry_under (spec_of file.now) Prime) (rows_of rows.items))) }
     ensures damaged { OnTree D.Device tree.now.layout tree.now.root pages.old device.old
-        (λ levels. result ≡ Err StoreFault.Damaged → NoRows (spec_of file.now) next_arrival (entries_of tree.now.layout levels)) }
+        (λ levels. result ≡ Err StoreFault.Damaged
+        → NoRows (spec_of file.now) next_arrival (entries_of tree.now.layout levels)) }
     ensures cause { IfErr result IsReadFault }
 {
     let mut rows = Vec::new(alloc);
@@ -68,8 +72,10 @@ fn add_row(
     entry: &Entry,
 ) -> Result<(), StoreFault>
     requires { HasLengths (prime_layout (spec_of file.now)) entry.now }
-    ensures row { OnOk result (AddsRow (spec_of file.now) next_arrival entry.now (rows_of rows.old.items) (rows_of rows.new.items)) }
-    ensures damaged { result ≡ Err StoreFault.Damaged → NoRow (spec_of file.now) next_arrival entry.now }
+    ensures row { OnOk result (AddsRow (spec_of file.now) next_arrival entry.now
+        (rows_of rows.old.items) (rows_of rows.new.items)) }
+    ensures damaged { result ≡ Err StoreFault.Damaged
+        → NoRow (spec_of file.now) next_arrival entry.now }
     ensures cause { IfErr result IsOwnFault }
 {
     let Some(row) = row_of_entry(alloc, file, next_arrival, entry.key(), entry.value())? else {

@@ -30,15 +30,22 @@ pub fn recover<D: Device>(alloc: Global, device: &mut D) -> Result<Vec<StoredFil
     ensures only { OnlyWrites D.Device (result ≡ Err StoreFault.Device) device.old device.new }
 
     // Until it has succeeded, a crash leaves what was possible before.
-    ensures moments { D.is_honest device.old → Through (D.history device.old) (D.history device.new) (D.state device.new) (IsOpening (D.state device.old)) }
-    ensures state { D.is_honest device.old → OnOk result (D.state device.new ≡ state_after_sync (D.state device.old)) }
-    ensures unwritten { D.is_honest device.old → OnErr result ((D.state device.new ≡ D.state device.old) ⊎ (D.state device.new ≡ state_after_sync (D.state device.old))) }
+    ensures moments { D.is_honest device.old → Through (D.history device.old) (D.history device.new)
+        (D.state device.new) (IsOpening (D.state device.old)) }
+    ensures state { D.is_honest device.old
+        → OnOk result (D.state device.new ≡ state_after_sync (D.state device.old)) }
+    ensures unwritten { D.is_honest device.old
+        → OnErr result ((D.state device.new ≡ D.state device.old)
+        ⊎ (D.state device.new ≡ state_after_sync (D.state device.old))) }
 
     // What it answers is what the disk holds; `Damaged` tells that it holds no files, and where it holds some, the device and memory alone
     // refuse.
-    ensures holds { D.is_honest device.old → IfOk result (λ files. HoldsFiles (D.state device.old).disk.present (files_of files.items)) }
-    ensures refused { D.is_honest device.old → IfErr result (IsRecoveryRefusal (D.state device.old).disk.present) }
-    ensures opens { D.is_honest device.old → (files : Files) → HoldsFiles (D.state device.old).disk.present files → IfErr result IsReadCause }
+    ensures holds { D.is_honest device.old → IfOk result
+        (λ files. HoldsFiles (D.state device.old).disk.present (files_of files.items)) }
+    ensures refused { D.is_honest device.old
+        → IfErr result (IsRecoveryRefusal (D.state device.old).disk.present) }
+    ensures opens { D.is_honest device.old → (files : Files)
+        → HoldsFiles (D.state device.old).disk.present files → IfErr result IsReadCause }
 {
     match recover_trees(alloc, device) {
         Ok(files) => Ok(files),
@@ -59,8 +66,11 @@ fn read_volume<D: Device>(
     requires unspent { is_spent pages.old ≡ false }
     requires sectors { sectors_of pages.old ≤ D.sectors device.old }
     ensures only { OnlyReads D.Device (result ≡ Err StoreFault.Device) device.old device.new }
-    ensures holds { IfAgrees D.Device pages.old device.old (IfOk result (λ files. MapHolds (map_now pages.old (D.state device.old).disk.present) (files_of files.items))) }
-    ensures damaged { IfAgrees D.Device pages.old device.old (result ≡ Err StoreFault.Damaged → (files : Files) → MapHolds (map_now pages.old (D.state device.old).disk.present) files → ⊥) }
+    ensures holds { IfAgrees D.Device pages.old device.old (IfOk result (λ files.
+        MapHolds (map_now pages.old (D.state device.old).disk.present) (files_of files.items))) }
+    ensures damaged { IfAgrees D.Device pages.old device.old (result ≡ Err StoreFault.Damaged
+        → (files : Files) → MapHolds (map_now pages.old (D.state device.old).disk.present) files
+        → ⊥) }
     ensures cause { IfErr result IsReadFault }
 {
     let mut seen = vec![in alloc; false; pages.page_count()]?;
@@ -74,15 +84,23 @@ fn read_volume<D: Device>(
 /// The files that a volume of trees holds. It syncs first, and writes nothing.
 fn recover_trees<D: Device>(alloc: Global, device: &mut D) -> Result<Vec<StoredFile>, StoreFault>
     ensures only { OnlyWrites D.Device (result ≡ Err StoreFault.Device) device.old device.new }
-    ensures moments { D.is_honest device.old → Through (D.history device.old) (D.history device.new) (D.state device.new) (IsOpening (D.state device.old)) }
-    ensures state { D.is_honest device.old → OnOk result (D.state device.new ≡ state_after_sync (D.state device.old)) }
-    ensures unwritten { D.is_honest device.old → OnErr result ((D.state device.new ≡ D.state device.old) ⊎ (D.state device.new ≡ state_after_sync (D.state device.old))) }
-    ensures holds { D.is_honest device.old → IfOk result (λ files. Holds (D.state device.old).disk.present (files_of files.items)) }
-    ensures refused { D.is_honest device.old → IfErr result (RefusedTrees (D.state device.old).disk.present) }
-    ensures opens { D.is_honest device.old → (files : Files) → Holds (D.state device.old).disk.present files → IfErr result IsReadCause }
+    ensures moments { D.is_honest device.old → Through (D.history device.old) (D.history device.new)
+        (D.state device.new) (IsOpening (D.state device.old)) }
+    ensures state { D.is_honest device.old
+        → OnOk result (D.state device.new ≡ state_after_sync (D.state device.old)) }
+    ensures unwritten { D.is_honest device.old
+        → OnErr result ((D.state device.new ≡ D.state device.old)
+        ⊎ (D.state device.new ≡ state_after_sync (D.state device.old))) }
+    ensures holds { D.is_honest device.old
+        → IfOk result (λ files. Holds (D.state device.old).disk.present (files_of files.items)) }
+    ensures refused { D.is_honest device.old
+        → IfErr result (RefusedTrees (D.state device.old).disk.present) }
+    ensures opens { D.is_honest device.old → (files : Files)
+        → Holds (D.state device.old).disk.present files → IfErr result IsReadCause }
 
     // Where the newest root is the other store's, it tells so, unless the device or memory failed.
-    ensures foreign { D.is_honest device.old → IsForeign (D.state device.old).disk.present → IfErr result IsTreeCause }
+    ensures foreign { D.is_honest device.old → IsForeign (D.state device.old).disk.present
+        → IfErr result IsTreeCause }
 {
     let mut pages = match PageMap::open(alloc, device, CAPACITY) {
         Ok(pages) => pages,

@@ -20,9 +20,11 @@ pub(crate) fn find_row(
 ) -> Option<usize>
     requires { All (IsSized (spec_of file.now)) (rows_of rows.now) }
     ensures place { IfSome result (λ place. place < length rows.now) }
-    ensures found { IfSome result (λ place. prime_at (spec_of file.now) (rows_of rows.now) place ≡ value.now) }
+    ensures found { IfSome result
+        (λ place. prime_at (spec_of file.now) (rows_of rows.now) place ≡ value.now) }
     ensures missing { PrimesAscend (spec_of file.now) (rows_of rows.now) → result ≡ None →
-        (k : ℕ) → k < length rows.now → prime_at (spec_of file.now) (rows_of rows.now) k ≡ value.now → ⊥ }
+        (k : ℕ) → k < length rows.now → prime_at (spec_of file.now) (rows_of rows.now) k ≡ value.now
+        → ⊥ }
 {
     let (start, end) = index.span(value, rows.len());
     match find_between(file, rows, value, start, end) {
@@ -42,9 +44,12 @@ fn find_between(
     requires rows { All (IsSized (spec_of file.now)) (rows_of rows.now) }
     requires end { end ≤ length rows.now }
     ensures place { IfSome result (λ place. place < length rows.now) }
-    ensures found { IfSome result (λ place. prime_at (spec_of file.now) (rows_of rows.now) place ≡ value.now) }
-    ensures missing { PrimesAscend (spec_of file.now) (rows_of rows.now) → start ≡ 0 → end ≡ length rows.now → result ≡ None →
-        (k : ℕ) → k < length rows.now → prime_at (spec_of file.now) (rows_of rows.now) k ≡ value.now → ⊥ }
+    ensures found { IfSome result
+        (λ place. prime_at (spec_of file.now) (rows_of rows.now) place ≡ value.now) }
+    ensures missing { PrimesAscend (spec_of file.now) (rows_of rows.now) → start ≡ 0
+        → end ≡ length rows.now → result ≡ None →
+        (k : ℕ) → k < length rows.now → prime_at (spec_of file.now) (rows_of rows.now) k ≡ value.now
+        → ⊥ }
 {
     let mut low = start;
     let mut high = end;

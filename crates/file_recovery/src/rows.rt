@@ -23,10 +23,16 @@ pub(crate) fn row_of_entry(
     value: &[u8],
 ) -> Result<Option<StoredRow>, StoreFault>
     requires key { length key.now ≡ prime_key_length file.now.organization }
-    requires value { length value.now ≡ file.now.record_length + 8 * length file.now.alternates.items }
-    ensures row { IfOk result (λ found. IfSome found (λ row. IsRow (spec_of file.now) next (row_of row))) }
-    ensures some { IfOk result (λ found. IfSome found (λ row. (key_under (spec_of file.now) Prime (pair_under (spec_of file.now) Prime (row_of row)) ≡ key.now) × (row_value (row_of row) ≡ value.now))) }
-    ensures none { result ≡ Ok None → (row : Row) → IsRow (spec_of file.now) next row → key_under (spec_of file.now) Prime (pair_under (spec_of file.now) Prime row) ≡ key.now → row_value row ≡ value.now → ⊥ }
+    requires value { length value.now
+        ≡ file.now.record_length + 8 * length file.now.alternates.items }
+    ensures row { IfOk result
+        (λ found. IfSome found (λ row. IsRow (spec_of file.now) next (row_of row))) }
+    ensures some { IfOk result (λ found. IfSome found (λ row.
+        (key_under (spec_of file.now) Prime (pair_under (spec_of file.now) Prime (row_of row))
+        ≡ key.now) × (row_value (row_of row) ≡ value.now))) }
+    ensures none { result ≡ Ok None → (row : Row) → IsRow (spec_of file.now) next row
+        → key_under (spec_of file.now) Prime (pair_under (spec_of file.now) Prime row) ≡ key.now
+        → row_value row ≡ value.now → ⊥ }
     ensures memory { IsOkUnless result StoreFault.Memory }
 {
     let row = read_row(alloc, file, key, value)?;
@@ -49,8 +55,12 @@ fn is_entry_of(
     value: &[u8],
 ) -> Result<bool, StoreFault>
     requires { length row.now.bytes.items ≡ file.now.record_length }
-    ensures yes { IfOk result (λ is. is ≡ true → (key_under (spec_of file.now) Prime (pair_under (spec_of file.now) Prime (row_of row.now)) ≡ key.now) × (row_value (row_of row.now) ≡ value.now)) }
-    ensures no { IfOk result (λ is. key_under (spec_of file.now) Prime (pair_under (spec_of file.now) Prime (row_of row.now)) ≡ key.now → row_value (row_of row.now) ≡ value.now → is ≡ true) }
+    ensures yes { IfOk result (λ is. is ≡ true
+        → (key_under (spec_of file.now) Prime (pair_under (spec_of file.now) Prime (row_of row.now))
+        ≡ key.now) × (row_value (row_of row.now) ≡ value.now)) }
+    ensures no { IfOk result (λ is. key_under (spec_of file.now)
+        Prime (pair_under (spec_of file.now) Prime (row_of row.now)) ≡ key.now
+        → row_value (row_of row.now) ≡ value.now → is ≡ true) }
     ensures memory { IsOkUnless result StoreFault.Memory }
 {
     let own = row_key(alloc, file.organization, row.number, &row.bytes)?;

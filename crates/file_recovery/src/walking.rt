@@ -21,9 +21,12 @@ pub(crate) fn first_in<D: Device>(
     requires open { IsOpen pages.old }
     requires unspent { is_spent pages.old ≡ false }
     requires sectors { sectors_of pages.old ≤ D.sectors device.old }
-    ensures looks { LooksAt D.Device (result ≡ Err StoreFault.Device) pages.old device.old pages.new device.new }
-    ensures entry { OnTree D.Device tree.now.layout tree.now.root pages.old device.old (λ levels. IfOk result (λ entry. entry ≡ first_entry (entries_of tree.now.layout levels))) }
-    ensures damaged { OnNoTree D.Device tree.now.layout tree.now.root pages.old device.old (result ≡ Err StoreFault.Damaged) }
+    ensures looks { LooksAt D.Device (result ≡ Err StoreFault.Device) pages.old device.old pages.new
+        device.new }
+    ensures entry { OnTree D.Device tree.now.layout tree.now.root pages.old device.old
+        (λ levels. IfOk result (λ entry. entry ≡ first_entry (entries_of tree.now.layout levels))) }
+    ensures damaged { OnNoTree D.Device tree.now.layout tree.now.root pages.old device.old
+        (result ≡ Err StoreFault.Damaged) }
     ensures lengths { IfOk result (λ entry. IfSome entry (HasLengths tree.now.layout)) }
     ensures cause { IfErr result IsReadFault }
 {
@@ -43,9 +46,13 @@ pub(crate) fn next_in<D: Device>(
     requires open { IsOpen pages.old }
     requires unspent { is_spent pages.old ≡ false }
     requires sectors { sectors_of pages.old ≤ D.sectors device.old }
-    ensures looks { LooksAt D.Device (result ≡ Err StoreFault.Device) pages.old device.old pages.new device.new }
-    ensures entry { OnTree D.Device tree.now.layout tree.now.root pages.old device.old (λ levels. IfOk result (λ next. next ≡ first_entry_after (entries_of tree.now.layout levels) entry.now.key)) }
-    ensures damaged { OnNoTree D.Device tree.now.layout tree.now.root pages.old device.old (result ≡ Err StoreFault.Damaged) }
+    ensures looks { LooksAt D.Device (result ≡ Err StoreFault.Device) pages.old device.old pages.new
+        device.new }
+    ensures entry { OnTree
+        D.Device tree.now.layout tree.now.root pages.old device.old (λ levels. IfOk result
+        (λ next. next ≡ first_entry_after (entries_of tree.now.layout levels) entry.now.key)) }
+    ensures damaged { OnNoTree D.Device tree.now.layout tree.now.root pages.old device.old
+        (result ≡ Err StoreFault.Damaged) }
     ensures lengths { IfOk result (λ entry. IfSome entry (HasLengths tree.now.layout)) }
     ensures cause { IfErr result IsReadFault }
 {

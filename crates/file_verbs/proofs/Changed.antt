@@ -1,5 +1,6 @@
 -- WRITE, REWRITE and DELETE, from what the store answers to the step of the table.
-use Rattle.std.proofs.Common.{◌≡◌, ℕ, Bool, true, false, ◌&&◌, List, Option, Some, None, refl, sym, ◌∙◌, ap, subst, if◌then◌else◌}
+use Rattle.std.proofs.Common.{◌≡◌, ℕ, Bool, true, false, ◌&&◌, List, Option, Some, None, refl, sym, ◌∙◌, ap, subst}
+use Rattle.std.proofs.Common.{if◌then◌else◌}
 use Rattle.std.specs.Prelude.{unwrap_or, not, Result, Ok, Err, OnOk}
 use Rattle.station.specs.declared.device.Device.{Ghosts as Devices}
 use Rattle.records.specs.declared.fault.StoreFault.{StoreFault}
@@ -22,19 +23,24 @@ use Rattle.records.specs.Changes.{FileChange, insertion, replacement, replaced_r
 use Rattle.records.specs.Stores.{Has, spec_of, files_after, pair_of, is_change}
 use Rattle.records.specs.Tests.{is_sequential, may_write, may_change}
 use Rattle.records.specs.Connector.{Connector, entry_of}
-use Rattle.records.specs.Steps.{Step, step, status_after, next_number, is_past, is_out, is_other, writes, changes, row_to_change, end_step}
+use Rattle.records.specs.Steps.{Step, step, status_after, next_number, is_past, is_out, is_other, writes, changes}
+use Rattle.records.specs.Steps.{row_to_change, end_step}
 use Rattle.records.specs.FileStep.{area, is_success}
 use Rattle.file_verbs.specs.declared.link.Link.{Link}
 use Rattle.file_verbs.specs.Links.{IsLinked, There, Gone, connector_of}
 
 -- an opened file that may be written or changed is there
-pub written_held : (files : Files) (s : Select) (l : Link) → IsLinked files s l → may_write s.access l.mode ≡ true → (held : File) × Has files s.file held
+pub written_held : (files : Files) (s : Select) (l : Link) → IsLinked files s l → may_write s.access l.mode ≡ true
+    → (held : File) × Has files s.file held
 written_held files s l (There there held has) opened = (held, has)
-written_held files s l (Gone gone mode none) opened = let e : false ≡ true = sym (ap (may_write s.access) mode) ∙ opened in absurd cc
+written_held files s l (Gone gone mode none) opened = let e : false ≡ true =
+    sym (ap (may_write s.access) mode) ∙ opened in absurd cc
 
-pub changed_held : (files : Files) (s : Select) (l : Link) → IsLinked files s l → may_change l.mode ≡ true → (held : File) × Has files s.file held
+pub changed_held : (files : Files) (s : Select) (l : Link) → IsLinked files s l → may_change l.mode ≡ true
+    → (held : File) × Has files s.file held
 changed_held files s l (There there held has) opened = (held, has)
-changed_held files s l (Gone gone mode none) opened = let e : false ≡ true = sym (ap may_change mode) ∙ opened in absurd cc
+changed_held files s l (Gone gone mode none) opened = let e : false ≡ true =
+    sym (ap may_change mode) ∙ opened in absurd cc
 
 -- an outcome that tells of a change is a success
 pub success_of : (outcome : Outcome) → is_change outcome ≡ true → is_success (status_after outcome) ≡ true
@@ -43,7 +49,8 @@ success_of Taken is = let e : true ≡ false = sym is in absurd cc
 success_of Done is = refl
 success_of Duplicate is = refl
 
-module _ (s : Select) (l : Link) (files : Files) (held : File) (has : Has files s.file held) (bytes : List ℕ) (number : ℕ) where
+module _ (s : Select) (l : Link) (files : Files) (held : File) (has : Has files s.file held) (bytes : List ℕ)
+    (number : ℕ) where
   abbrev pub was : Connector
   was = connector_of (spec_of s.file) l
 
@@ -54,24 +61,36 @@ module _ (s : Select) (l : Link) (files : Files) (held : File) (has : Has files 
   by_tests past out =
       if past then end_step (entry_of s) files was (area bytes number) Boundary else
       if out then end_step (entry_of s) files was (area bytes number) OutOfSequence else
-      writes (entry_of s) files was (area bytes number) (insertion number_now bytes (unwrap_or (file_at s.file.name.items files) (empty_file (spec_of s.file))))
+      writes (entry_of s) files was (area bytes number)
+      (insertion number_now bytes (unwrap_or (file_at s.file.name.items files) (empty_file (spec_of s.file))))
 
-  pub inserts : is_past s.file.organization s.access s.key_digits number_now ≡ false → is_out s.file.organization s.access bytes was.last.value ≡ false
-      → step (entry_of s) files was (area bytes number) Write ≡ writes (entry_of s) files was (area bytes number) (insertion number_now bytes held)
-  inserts past out = ap (λ (b : Bool). by_tests b (is_out s.file.organization s.access bytes was.last.value)) past ∙ ap (by_tests false) out
-      ∙ ap (λ (f : Option File). writes (entry_of s) files was (area bytes number) (insertion number_now bytes (unwrap_or f (empty_file (spec_of s.file))))) has.there
+  pub inserts : is_past s.file.organization s.access s.key_digits number_now ≡ false
+      → is_out s.file.organization s.access bytes was.last.value ≡ false
+      → step (entry_of s) files was (area bytes number) Write
+      ≡ writes (entry_of s) files was (area bytes number) (insertion number_now bytes held)
+  inserts past out = ap (λ (b : Bool). by_tests b (is_out s.file.organization s.access bytes was.last.value)) past
+      ∙ ap (by_tests false) out
+      ∙ ap (λ (f : Option File). writes (entry_of s) files was (area bytes number)
+      (insertion number_now bytes (unwrap_or f (empty_file (spec_of s.file))))) has.there
 
-  pub inserted_files : (n : ℕ) (past out : Bool) → n ≡ number_now → past ≡ is_past s.file.organization s.access s.key_digits n → past ≡ false → out ≡ is_out s.file.organization s.access bytes was.last.value → out ≡ false
-      → files_after s.file.name.items files (insertion n bytes held) ≡ (step (entry_of s) files was (area bytes number) Write).files
+  pub inserted_files : (n : ℕ) (past out : Bool) → n ≡ number_now → past ≡ is_past s.file.organization s.access
+      s.key_digits n → past ≡ false → out ≡ is_out s.file.organization s.access bytes was.last.value → out ≡ false
+      → files_after s.file.name.items files (insertion n bytes held)
+      ≡ (step (entry_of s) files was (area bytes number) Write).files
   inserted_files n past out same past_is within out_is ascends =
       ap (λ (m : ℕ). files_after s.file.name.items files (insertion m bytes held)) same
-      ∙ sym (ap (λ (t : Step). t.files) (inserts (sym (past_is ∙ ap (is_past s.file.organization s.access s.key_digits) same) ∙ within) (sym out_is ∙ ascends)))
+      ∙ sym (ap (λ (t : Step). t.files) (inserts
+      (sym (past_is ∙ ap (is_past s.file.organization s.access s.key_digits) same) ∙ within) (sym out_is ∙ ascends)))
 
-  pub inserted_changes : (n : ℕ) (past out : Bool) → n ≡ number_now → past ≡ is_past s.file.organization s.access s.key_digits n → past ≡ false → out ≡ is_out s.file.organization s.access bytes was.last.value → out ≡ false
-      → is_change (insertion n bytes held).outcome ≡ true → is_success (step (entry_of s) files was (area bytes number) Write).status ≡ true
+  pub inserted_changes : (n : ℕ) (past out : Bool) → n ≡ number_now → past ≡ is_past s.file.organization s.access
+      s.key_digits n → past ≡ false → out ≡ is_out s.file.organization s.access bytes was.last.value → out ≡ false
+      → is_change (insertion n bytes held).outcome ≡ true
+      → is_success (step (entry_of s) files was (area bytes number) Write).status ≡ true
   inserted_changes n past out same past_is within out_is ascends change =
-      ap (λ (t : Step). is_success t.status) (inserts (sym (past_is ∙ ap (is_past s.file.organization s.access s.key_digits) same) ∙ within) (sym out_is ∙ ascends))
-      ∙ success_of (insertion number_now bytes held).outcome (ap (λ (m : ℕ). is_change (insertion m bytes held).outcome) (sym same) ∙ change)
+      ap (λ (t : Step). is_success t.status) (inserts
+      (sym (past_is ∙ ap (is_past s.file.organization s.access s.key_digits) same) ∙ within) (sym out_is ∙ ascends))
+      ∙ success_of (insertion number_now bytes held).outcome
+      (ap (λ (m : ℕ). is_change (insertion m bytes held).outcome) (sym same) ∙ change)
 
   -- the row to change
   abbrev pub named : Pair
@@ -84,13 +103,16 @@ module _ (s : Select) (l : Link) (files : Files) (held : File) (has : Has files 
   chosen_bytes b = if b then l.row.items else bytes
 
   abbrev named_by : Bool → Bool → Pair
-  named_by b was_read = if b then unwrap_or (if was_read then Some (named_pair s.file.organization l.number l.row.items) else None) (named_pair s.file.organization number bytes) else named_pair s.file.organization number bytes
+  named_by b was_read = if b then unwrap_or (if was_read then Some (named_pair s.file.organization l.number l.row.items)
+      else None) (named_pair s.file.organization number bytes) else named_pair s.file.organization number bytes
 
-  named_of : (b : Bool) → (b ≡ true → l.was_read ≡ true) → named_by b l.was_read ≡ named_pair s.file.organization (chosen_number b) (chosen_bytes b)
+  named_of : (b : Bool) → (b ≡ true → l.was_read ≡ true)
+      → named_by b l.was_read ≡ named_pair s.file.organization (chosen_number b) (chosen_bytes b)
   named_of true read = ap (named_by true) (read refl)
   named_of false read = refl
 
-  named_is : (is_sequential s.access ≡ true → l.was_read ≡ true) → named ≡ named_pair s.file.organization (chosen_number (is_sequential s.access)) (chosen_bytes (is_sequential s.access))
+  named_is : (is_sequential s.access ≡ true → l.was_read ≡ true) → named ≡ named_pair s.file.organization
+      (chosen_number (is_sequential s.access)) (chosen_bytes (is_sequential s.access))
   named_is read = named_of (is_sequential s.access) read
 
   organization_same : held.spec.organization ≡ s.file.organization
@@ -102,16 +124,23 @@ module _ (s : Select) (l : Link) (files : Files) (held : File) (has : Has files 
   pair_same Relative n b = refl
   pair_same (Indexed place) n b = refl
 
-  pub removes : (is_sequential s.access ≡ true → l.was_read ≡ true) → (key : List ℕ) (n : ℕ) → key ≡ part (place_of (spec_of s.file) Prime) (chosen_bytes (is_sequential s.access)) → n ≡ chosen_number (is_sequential s.access)
-      → step (entry_of s) files was (area bytes number) Delete ≡ changes (entry_of s) files was (area bytes number) (removal (pair_of s.file.organization key n) held)
+  pub removes : (is_sequential s.access ≡ true → l.was_read ≡ true)
+      → (key : List ℕ) (n : ℕ) → key ≡ part (place_of (spec_of s.file) Prime) (chosen_bytes (is_sequential s.access))
+      → n ≡ chosen_number (is_sequential s.access)
+      → step (entry_of s) files was (area bytes number) Delete
+      ≡ changes (entry_of s) files was (area bytes number) (removal (pair_of s.file.organization key n) held)
   removes read key n key_is n_is =
-      ap (λ (f : Option File). changes (entry_of s) files was (area bytes number) (removal named (unwrap_or f (empty_file (spec_of s.file))))) has.there
+      ap (λ (f : Option File). changes (entry_of s) files was (area bytes number)
+      (removal named (unwrap_or f (empty_file (spec_of s.file))))) has.there
       ∙ ap (λ (p : Pair). changes (entry_of s) files was (area bytes number) (removal p held))
-      (named_is read ∙ sym (pair_same s.file.organization (chosen_number (is_sequential s.access)) (chosen_bytes (is_sequential s.access)))
-      ∙ ap (λ (k : List ℕ). pair_of s.file.organization k (chosen_number (is_sequential s.access))) (sym key_is) ∙ ap (pair_of s.file.organization key) (sym n_is))
+      (named_is read ∙ sym (pair_same s.file.organization (chosen_number (is_sequential s.access))
+      (chosen_bytes (is_sequential s.access)))
+      ∙ ap (λ (k : List ℕ). pair_of s.file.organization k (chosen_number (is_sequential s.access))) (sym key_is)
+      ∙ ap (pair_of s.file.organization key) (sym n_is))
 
   -- REWRITE
-  renamed : (o : Organization) (n : ℕ) (one two : List ℕ) → named_pair o (named_pair o n one).number two ≡ named_pair o n two
+  renamed : (o : Organization) (n : ℕ) (one two : List ℕ)
+      → named_pair o (named_pair o n one).number two ≡ named_pair o n two
   renamed Sequential n one two = refl
   renamed Relative n one two = refl
   renamed (Indexed place) n one two = refl
@@ -121,39 +150,56 @@ module _ (s : Select) (l : Link) (files : Files) (held : File) (has : Has files 
   value_of Relative n b = refl
   value_of (Indexed place) n b = refl
 
-  other_by : (o : Organization) (access : Access) (one two : List ℕ) → (is_sequential access ≡ true → one ≡ two) → is_other o access bytes one ≡ is_other o access bytes two
+  other_by : (o : Organization) (access : Access) (one two : List ℕ) → (is_sequential access ≡ true → one ≡ two)
+      → is_other o access bytes one ≡ is_other o access bytes two
   other_by Sequential access one two same = refl
   other_by Relative access one two same = refl
   other_by (Indexed place) access one two same = by (is_sequential access) same
     where
-      by : (b : Bool) → (b ≡ true → one ≡ two) → (b && not (same_bytes (part place bytes) one)) ≡ (b && not (same_bytes (part place bytes) two))
+      by : (b : Bool) → (b ≡ true → one ≡ two)
+          → (b && not (same_bytes (part place bytes) one)) ≡ (b && not (same_bytes (part place bytes) two))
       by true same = ap (λ (k : List ℕ). not (same_bytes (part place bytes) k)) (same refl)
       by false same = refl
 
   abbrev by_other : Bool → File → Step
-  by_other other file = if other then end_step (entry_of s) files was (area bytes number) OutOfSequence else changes (entry_of s) files was (area bytes number) (replacement named.number bytes file)
+  by_other other file = if other then end_step (entry_of s) files was (area bytes number) OutOfSequence
+      else changes (entry_of s) files was (area bytes number) (replacement named.number bytes file)
 
   abbrev by_pair : Pair → FileChange
   by_pair pair = replaced_row pair bytes held (row_at held.spec.organization pair held.rows)
 
-  value_is : (is_sequential s.access ≡ true → l.was_read ≡ true) → is_sequential s.access ≡ true → named.value ≡ part (place_of (spec_of s.file) Prime) l.row.items
-  value_is read is = ap (λ (p : Pair). p.value) (named_is read) ∙ value_of s.file.organization (chosen_number (is_sequential s.access)) (chosen_bytes (is_sequential s.access)) ∙ ap (λ (b : Bool). part (prime_place s.file.organization) (chosen_bytes b)) is
+  value_is : (is_sequential s.access ≡ true → l.was_read ≡ true) → is_sequential s.access ≡ true
+      → named.value ≡ part (place_of (spec_of s.file) Prime) l.row.items
+  value_is read is = ap (λ (p : Pair). p.value) (named_is read)
+      ∙ value_of s.file.organization (chosen_number (is_sequential s.access)) (chosen_bytes (is_sequential s.access))
+      ∙ ap (λ (b : Bool). part (prime_place s.file.organization) (chosen_bytes b)) is
 
-  pub replaces : (is_sequential s.access ≡ true → l.was_read ≡ true) → (n : ℕ) (other : Bool) → n ≡ chosen_number (is_sequential s.access) → other ≡ is_other s.file.organization s.access bytes (part (place_of (spec_of s.file) Prime) l.row.items) → other ≡ false
-      → step (entry_of s) files was (area bytes number) Rewrite ≡ changes (entry_of s) files was (area bytes number) (replacement n bytes held)
+  pub replaces : (is_sequential s.access ≡ true → l.was_read ≡ true)
+      → (n : ℕ) (other : Bool) → n ≡ chosen_number (is_sequential s.access)
+      → other ≡ is_other s.file.organization s.access bytes (part (place_of (spec_of s.file) Prime) l.row.items)
+      → other ≡ false
+      → step (entry_of s) files was (area bytes number) Rewrite
+      ≡ changes (entry_of s) files was (area bytes number) (replacement n bytes held)
   replaces read n other n_is other_is same =
-      let one = other_by s.file.organization s.access named.value (part (place_of (spec_of s.file) Prime) l.row.items) (value_is read) in
+      let one = other_by s.file.organization s.access named.value (part (place_of (spec_of s.file) Prime) l.row.items)
+      (value_is read) in
       let pair : named_pair held.spec.organization named.number bytes ≡ named_pair held.spec.organization n bytes =
-      ap (λ (o : Organization). named_pair o named.number bytes) organization_same ∙ ap (λ (p : Pair). named_pair s.file.organization p.number bytes) (named_is read)
-      ∙ renamed s.file.organization (chosen_number (is_sequential s.access)) (chosen_bytes (is_sequential s.access)) bytes ∙ ap (λ (m : ℕ). named_pair s.file.organization m bytes) (sym n_is)
+      ap (λ (o : Organization). named_pair o named.number bytes) organization_same
+      ∙ ap (λ (p : Pair). named_pair s.file.organization p.number bytes) (named_is read)
+      ∙ renamed s.file.organization (chosen_number (is_sequential s.access)) (chosen_bytes (is_sequential s.access))
+      bytes ∙ ap (λ (m : ℕ). named_pair s.file.organization m bytes) (sym n_is)
       ∙ ap (λ (o : Organization). named_pair o n bytes) (sym organization_same) in
-      ap (λ (b : Bool). by_other b (unwrap_or (file_at s.file.name.items files) (empty_file (spec_of s.file)))) (one ∙ sym other_is ∙ same)
+      ap (λ (b : Bool). by_other b (unwrap_or (file_at s.file.name.items files) (empty_file (spec_of s.file))))
+      (one ∙ sym other_is ∙ same)
       ∙ ap (λ (f : Option File). by_other false (unwrap_or f (empty_file (spec_of s.file)))) has.there
       ∙ ap (λ (p : Pair). changes (entry_of s) files was (area bytes number) (by_pair p)) pair
 
 -- an answer in place of another
-pub gave : {S : Type 0} (s : Stores S) {D : Type 0} (d : Devices D) {T U : Type 0} (x : T) (y : U) (is_new : Bool) (name : List ℕ) (before after : Files) (old : S) (device : D) (new : S) (device' : D) (result : Result T StoreFault) → result ≡ Ok x
-    → ChangesFiles s d result is_new name before after old device new device' → ChangesFiles s d {T = U} (Ok y) is_new name before after old device new device'
+pub gave : {S : Type 0} (s : Stores S) {D : Type 0} (d : Devices D) {T U : Type 0} (x : T) (y : U) (is_new : Bool)
+    (name : List ℕ) (before after : Files) (old : S) (device : D) (new : S) (device' : D) (result : Result T StoreFault)
+    → result ≡ Ok x
+    → ChangesFiles s d result is_new name before after old device new device'
+    → ChangesFiles s d {T = U} (Ok y) is_new name before after old device new device'
 gave s d {T} x y is_new name before after old device new device' result was turns = record {
   there = subst (λ (r : Result T StoreFault). OnOk r (Represents s d new device' after)) was turns.there;
   moments = turns.moments;
@@ -162,7 +208,11 @@ gave s d {T} x y is_new name before after old device new device' result was turn
 }
 
 -- a refusal in place of another
-pub passed : {S : Type 0} (s : Stores S) {D : Type 0} (d : Devices D) {T U : Type 0} (fault : StoreFault) (is_new : Bool) (name : List ℕ) (before after : Files) (old : S) (device : D) (new : S) (device' : D) (result : Result T StoreFault) (told : Result U StoreFault) → result ≡ Err fault → told ≡ Err fault
-    → ChangesFiles s d result is_new name before after old device new device' → ChangesFiles s d told is_new name before after old device new device'
+pub passed : {S : Type 0} (s : Stores S) {D : Type 0} (d : Devices D) {T U : Type 0} (fault : StoreFault)
+    (is_new : Bool) (name : List ℕ) (before after : Files) (old : S) (device : D) (new : S) (device' : D)
+    (result : Result T StoreFault) (told : Result U StoreFault) → result ≡ Err fault → told ≡ Err fault
+    → ChangesFiles s d result is_new name before after old device new device'
+    → ChangesFiles s d told is_new name before after old device new device'
 passed s d {T} {U} fault is_new name before after old device new device' result told was is turns =
-    subst (λ (r : Result U StoreFault). ChangesFiles s d r is_new name before after old device new device') (sym is) (passed_on s d {T = T} {U = U} fault is_new name before after old device new device' result was turns)
+    subst (λ (r : Result U StoreFault). ChangesFiles s d r is_new name before after old device new device') (sym is)
+    (passed_on s d {T = T} {U = U} fault is_new name before after old device new device' result was turns)

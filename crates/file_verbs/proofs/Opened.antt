@@ -31,7 +31,8 @@ absent_is (Some file) spec is = absurd (different (same_spec file.spec spec) is)
     different true e = cc
     different false e = cc
 
-pub present_is : (o : Option File) (spec : Spec) → Present ≡ presence o spec → (file : File) × (o ≡ Some file) × (same_spec file.spec spec ≡ true)
+pub present_is : (o : Option File) (spec : Spec) → Present ≡ presence o spec
+    → (file : File) × (o ≡ Some file) × (same_spec file.spec spec ≡ true)
 present_is None spec is = absurd cc
 present_is (Some file) spec is = (file, refl, same (same_spec file.spec spec) is)
   where
@@ -39,7 +40,8 @@ present_is (Some file) spec is = (file, refl, same (same_spec file.spec spec) is
     same true e = refl
     same false e = absurd cc
 
-pub different_is : (o : Option File) (spec : Spec) → Different ≡ presence o spec → (file : File) × (o ≡ Some file) × (same_spec file.spec spec ≡ false)
+pub different_is : (o : Option File) (spec : Spec) → Different ≡ presence o spec
+    → (file : File) × (o ≡ Some file) × (same_spec file.spec spec ≡ false)
 different_is None spec is = absurd cc
 different_is (Some file) spec is = (file, refl, same (same_spec file.spec spec) is)
   where
@@ -48,8 +50,13 @@ different_is (Some file) spec is = (file, refl, same (same_spec file.spec spec) 
     same false e = refl
 
 -- a call that looked for the file, where nothing else is done
-pub looked : {S : Type 0} (s : Stores S) {D : Type 0} (d : Devices D) {T U : Type 0} (result : Result T StoreFault) (told : U) (old : S) (device : D) (new : S) (device' : D) → OnlyReadsFiles s d result old device new device' → OnlyReadsFiles s d {T = U} (Ok told) old device new device'
-looked s d {T} {U} result told old device new device' reads = carries s d result (let r : Result U StoreFault = Ok told in r) old device new device' (record { device = λ is. absurd cc; spent = λ is. absurd cc; room = λ is. absurd cc; layout = λ is. absurd cc }) reads
+pub looked : {S : Type 0} (s : Stores S) {D : Type 0} (d : Devices D) {T U : Type 0} (result : Result T StoreFault)
+    (told : U) (old : S) (device : D) (new : S) (device' : D) → OnlyReadsFiles s d result old device new device'
+    → OnlyReadsFiles s d {T = U} (Ok told) old device new device'
+looked s d {T} {U} result told old device new device' reads =
+    carries s d result (let r : Result U StoreFault = Ok told in r) old device new device'
+    (record { device = λ is. absurd cc; spent = λ is. absurd cc; room = λ is. absurd cc; layout = λ is. absurd cc })
+    reads
 
 module _ (s : Select) (files : Files) (c : Connector) (a : Area) where
   abbrev pub after : OpenMode → Files
@@ -62,26 +69,33 @@ module _ (s : Select) (files : Files) (c : Connector) (a : Area) where
   output_makes mode is = ap after is
 
   abbrev by_option : OpenMode → Bool → Files
-  by_option mode b = (cond b (open_absent (entry_of s) files c a mode) (end_step (entry_of s) files c a FileMissing)).files
+  by_option mode b =
+      (cond b (open_absent (entry_of s) files c a mode) (end_step (entry_of s) files c a FileMissing)).files
 
   abbrev by_file : OpenMode → Option File → Files
   by_file mode o = (open_there (entry_of s) files c a mode o).files
 
-  pub absent_makes : (mode : OpenMode) → mode ≡ InputOutput → file_at s.file.name.items files ≡ None → s.optional ≡ true → after mode ≡ made
+  pub absent_makes : (mode : OpenMode) → mode ≡ InputOutput → file_at s.file.name.items files ≡ None → s.optional ≡ true
+      → after mode ≡ made
   absent_makes mode is none optional = ap after is ∙ ap (by_file InputOutput) none ∙ ap (by_option InputOutput) optional
 
-  pub absent_extends : (mode : OpenMode) → mode ≡ Extend → file_at s.file.name.items files ≡ None → s.optional ≡ true → after mode ≡ made
+  pub absent_extends : (mode : OpenMode) → mode ≡ Extend → file_at s.file.name.items files ≡ None → s.optional ≡ true
+      → after mode ≡ made
   absent_extends mode is none optional = ap after is ∙ ap (by_file Extend) none ∙ ap (by_option Extend) optional
 
-  stays : (mode : OpenMode) (there : File) (b : Bool) → (cond b (opens (entry_of s) files c a mode Success) (end_step (entry_of s) files c a FileDiffers)).files ≡ files
+  stays : (mode : OpenMode) (there : File) (b : Bool)
+      → (cond b (opens (entry_of s) files c a mode Success) (end_step (entry_of s) files c a FileDiffers)).files ≡ files
   stays mode there true = refl
   stays mode there false = refl
 
-  pub present_stays : (mode : OpenMode) (there : File) → (mode ≡ Output → ⊥) → file_at s.file.name.items files ≡ Some there → after mode ≡ files
+  pub present_stays : (mode : OpenMode) (there : File) → (mode ≡ Output → ⊥)
+      → file_at s.file.name.items files ≡ Some there → after mode ≡ files
   present_stays Output there other is = absurd (other refl)
   present_stays Input there other is = ap (by_file Input) is ∙ stays Input there (same_spec there.spec (spec_of s.file))
-  present_stays InputOutput there other is = ap (by_file InputOutput) is ∙ stays InputOutput there (same_spec there.spec (spec_of s.file))
-  present_stays Extend there other is = ap (by_file Extend) is ∙ stays Extend there (same_spec there.spec (spec_of s.file))
+  present_stays InputOutput there other is =
+      ap (by_file InputOutput) is ∙ stays InputOutput there (same_spec there.spec (spec_of s.file))
+  present_stays Extend there other is =
+      ap (by_file Extend) is ∙ stays Extend there (same_spec there.spec (spec_of s.file))
 
   abbrev end : Status → Step
   end status = end_step (entry_of s) files c a status
@@ -99,43 +113,55 @@ module _ (s : Select) (files : Files) (c : Connector) (a : Area) where
   optional_by mode b = cond b (open_absent (entry_of s) files c a mode) (end FileMissing)
 
   -- but for OUTPUT
-  by_there : (mode : OpenMode) → (mode ≡ Output → ⊥) → step (entry_of s) files c a (Open mode) ≡ there_by mode (file_at s.file.name.items files)
+  by_there : (mode : OpenMode) → (mode ≡ Output → ⊥)
+      → step (entry_of s) files c a (Open mode) ≡ there_by mode (file_at s.file.name.items files)
   by_there Input other = refl
   by_there Output other = absurd (other refl)
   by_there InputOutput other = refl
   by_there Extend other = refl
 
-  pub differs : (mode : OpenMode) → (mode ≡ Output → ⊥) → Different ≡ presence (file_at s.file.name.items files) (spec_of s.file) → step (entry_of s) files c a (Open mode) ≡ end FileDiffers
+  pub differs : (mode : OpenMode) → (mode ≡ Output → ⊥) → Different ≡ presence (file_at s.file.name.items files)
+      (spec_of s.file) → step (entry_of s) files c a (Open mode) ≡ end FileDiffers
   differs mode other is =
       let d = different_is (file_at s.file.name.items files) (spec_of s.file) is in
       by_there mode other ∙ ap (there_by mode) d.1 ∙ ap (same_by mode) d.2
 
-  pub misses : (mode : OpenMode) → (mode ≡ Output → ⊥) → file_at s.file.name.items files ≡ None → s.optional ≡ false → step (entry_of s) files c a (Open mode) ≡ end FileMissing
+  pub misses : (mode : OpenMode) → (mode ≡ Output → ⊥) → file_at s.file.name.items files ≡ None → s.optional ≡ false
+      → step (entry_of s) files c a (Open mode) ≡ end FileMissing
   misses mode other none optional = by_there mode other ∙ ap (there_by mode) none ∙ ap (optional_by mode) optional
 
-  pub reads_absent : (mode : OpenMode) → mode ≡ Input → file_at s.file.name.items files ≡ None → s.optional ≡ true → step (entry_of s) files c a (Open mode) ≡ begun mode SuccessAbsent
+  pub reads_absent : (mode : OpenMode) → mode ≡ Input → file_at s.file.name.items files ≡ None → s.optional ≡ true
+      → step (entry_of s) files c a (Open mode) ≡ begun mode SuccessAbsent
   reads_absent mode is none optional =
-      ap (λ (m : OpenMode). step (entry_of s) files c a (Open m)) is ∙ ap (there_by Input) none ∙ ap (optional_by Input) optional ∙ ap (λ (m : OpenMode). begun m SuccessAbsent) (sym is)
+      ap (λ (m : OpenMode). step (entry_of s) files c a (Open m)) is ∙ ap (there_by Input) none
+      ∙ ap (optional_by Input) optional ∙ ap (λ (m : OpenMode). begun m SuccessAbsent) (sym is)
 
   -- a mode that makes the file has changed files
   abbrev changed_by : OpenMode → Step → Bool
   changed_by mode t = has_changed (Open mode) t.status
 
-  pub output_changes : (mode : OpenMode) → mode ≡ Output → has_changed (Open mode) (step (entry_of s) files c a (Open mode)).status ≡ true
+  pub output_changes : (mode : OpenMode) → mode ≡ Output
+      → has_changed (Open mode) (step (entry_of s) files c a (Open mode)).status ≡ true
   output_changes mode is = ap (λ (m : OpenMode). changed_by m (step (entry_of s) files c a (Open m))) is
 
-  pub absent_changes : (mode : OpenMode) → mode ≡ InputOutput → file_at s.file.name.items files ≡ None → s.optional ≡ true → has_changed (Open mode) (step (entry_of s) files c a (Open mode)).status ≡ true
+  pub absent_changes : (mode : OpenMode) → mode ≡ InputOutput → file_at s.file.name.items files ≡ None
+      → s.optional ≡ true → has_changed (Open mode) (step (entry_of s) files c a (Open mode)).status ≡ true
   absent_changes mode is none optional =
-      ap (λ (m : OpenMode). changed_by m (step (entry_of s) files c a (Open m))) is ∙ ap (λ (o : Option File). changed_by InputOutput (there_by InputOutput o)) none
+      ap (λ (m : OpenMode). changed_by m (step (entry_of s) files c a (Open m))) is
+      ∙ ap (λ (o : Option File). changed_by InputOutput (there_by InputOutput o)) none
       ∙ ap (λ (b : Bool). changed_by InputOutput (optional_by InputOutput b)) optional
 
-  pub extend_changes : (mode : OpenMode) → mode ≡ Extend → file_at s.file.name.items files ≡ None → s.optional ≡ true → has_changed (Open mode) (step (entry_of s) files c a (Open mode)).status ≡ true
+  pub extend_changes : (mode : OpenMode) → mode ≡ Extend → file_at s.file.name.items files ≡ None → s.optional ≡ true
+      → has_changed (Open mode) (step (entry_of s) files c a (Open mode)).status ≡ true
   extend_changes mode is none optional =
-      ap (λ (m : OpenMode). changed_by m (step (entry_of s) files c a (Open m))) is ∙ ap (λ (o : Option File). changed_by Extend (there_by Extend o)) none
+      ap (λ (m : OpenMode). changed_by m (step (entry_of s) files c a (Open m))) is
+      ∙ ap (λ (o : Option File). changed_by Extend (there_by Extend o)) none
       ∙ ap (λ (b : Bool). changed_by Extend (optional_by Extend b)) optional
 
   -- a file that is there as it is said is linked
-  pub present_linked : (mode : OpenMode) (l : Link) → (mode ≡ Output → ⊥) → Present ≡ presence (file_at s.file.name.items files) (spec_of s.file) → l.is_absent ≡ false → IsLinked (after mode) s l
+  pub present_linked : (mode : OpenMode) (l : Link) → (mode ≡ Output → ⊥)
+      → Present ≡ presence (file_at s.file.name.items files) (spec_of s.file) → l.is_absent ≡ false
+      → IsLinked (after mode) s l
   present_linked mode l other is there =
       let p = present_is (file_at s.file.name.items files) (spec_of s.file) is in
       subst (λ (f : Files). IsLinked f s l) (sym (present_stays mode p.0 other p.1))

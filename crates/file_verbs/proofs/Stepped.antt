@@ -11,7 +11,9 @@ use Rattle.records.specs.Spec.{same_spec}
 use Rattle.records.specs.Rows.{Row, Pair, named_pair}
 use Rattle.records.specs.Order.{RowBound}
 use Rattle.records.specs.Files.{File, Files, with_file, empty_file}
-use Rattle.records.specs.Changes.{FileChange, insertion, replacement, replaced_row, removal, removed_row, has_prime, new_row, with_row, is_taken, is_duplicate, without_change, done_outcome, row_at, without_pair, changes}
+use Rattle.records.specs.Changes.{FileChange, insertion, replacement, replaced_row, removal, removed_row, has_prime}
+use Rattle.records.specs.Changes.{new_row, with_row, is_taken, is_duplicate, without_change, done_outcome, row_at}
+use Rattle.records.specs.Changes.{without_pair, changes}
 use Rattle.records.specs.Stores.{is_change, files_after}
 use Rattle.records.specs.Connector.{Entry, Connector, Area}
 use Rattle.records.specs.Steps as steps
@@ -19,21 +21,29 @@ use Rattle.records.specs.Steps.{Step}
 
 -- a change keeps what a file is
 inserted_spec : (number : ℕ) (bytes : List ℕ) (file : File) → (insertion number bytes file).file.spec ≡ file.spec
-inserted_spec number bytes file = cond_both (has_prime file (new_row file number bytes) || is_taken file.spec.alternates file.rows bytes) (without_change Taken file)
+inserted_spec number bytes file = cond_both (has_prime file (new_row file number bytes)
+    || is_taken file.spec.alternates file.rows bytes) (without_change Taken file)
     (record {
       outcome = done_outcome (is_duplicate file.spec.alternates file.rows bytes);
-      file = record file { rows = with_row file.spec.organization (new_row file number bytes) file.rows; next_arrival = file.next_arrival + 1 };
+      file = record file {
+        rows = with_row file.spec.organization (new_row file number bytes) file.rows;
+        next_arrival = file.next_arrival + 1;
+      };
     }) (λ (c : FileChange). c.file.spec ≡ file.spec) (λ _. refl) (λ _. refl)
 
-replaced_spec : (pair : Pair) (bytes : List ℕ) (file : File) (found : Option Row) → (replaced_row pair bytes file found).file.spec ≡ file.spec
+replaced_spec : (pair : Pair) (bytes : List ℕ) (file : File) (found : Option Row)
+    → (replaced_row pair bytes file found).file.spec ≡ file.spec
 replaced_spec pair bytes file None = refl
-replaced_spec pair bytes file (Some row) = cond_both (is_taken (filter (changes row.bytes bytes) file.spec.alternates) (without_pair file.spec.organization pair file.rows) bytes) (without_change Taken file) _ (λ (c : FileChange). c.file.spec ≡ file.spec) (λ _. refl) (λ _. refl)
+replaced_spec pair bytes file (Some row) = cond_both (is_taken (filter (changes row.bytes bytes) file.spec.alternates)
+    (without_pair file.spec.organization pair file.rows) bytes) (without_change Taken file) _
+    (λ (c : FileChange). c.file.spec ≡ file.spec) (λ _. refl) (λ _. refl)
 
 removed_spec : (pair : Pair) (file : File) (found : Option Row) → (removed_row pair file found).file.spec ≡ file.spec
 removed_spec pair file None = refl
 removed_spec pair file (Some row) = refl
 
-module _ (e : Entry) (files : Files) (c : Connector) (a : Area) (P : Files → Type 0) (same : P files) (put : (file : File) → file.spec ≡ e.spec → P (with_file e.name file files)) where
+module _ (e : Entry) (files : Files) (c : Connector) (a : Area) (P : Files → Type 0) (same : P files)
+    (put : (file : File) → file.spec ≡ e.spec → P (with_file e.name file files)) where
   chosen : (b : Bool) (one two : Step) → P one.files → P two.files → P (if b then one else two).files
   chosen true one two h k = h
   chosen false one two h k = k
@@ -60,9 +70,11 @@ module _ (e : Entry) (files : Files) (c : Connector) (a : Area) (P : Files → T
 
   module _ (own : (steps.held_file e files c a).spec ≡ e.spec) where
     pub writing : P (steps.step e files c a Write).files
-    writing = chosen (steps.is_past e.spec.organization e.access e.key_digits (steps.number_to_write e files c a)) _ _ same
+    writing =
+        chosen (steps.is_past e.spec.organization e.access e.key_digits (steps.number_to_write e files c a)) _ _ same
         (chosen (steps.is_out e.spec.organization e.access a.bytes c.last.value) _ _ same
-        (after (insertion (steps.number_to_write e files c a) a.bytes (steps.held_file e files c a)) (inserted_spec (steps.number_to_write e files c a) a.bytes (steps.held_file e files c a) ∙ own)))
+        (after (insertion (steps.number_to_write e files c a) a.bytes (steps.held_file e files c a))
+        (inserted_spec (steps.number_to_write e files c a) a.bytes (steps.held_file e files c a) ∙ own)))
 
     pub rewriting : P (steps.step e files c a Rewrite).files
     rewriting =
@@ -70,7 +82,8 @@ module _ (e : Entry) (files : Files) (c : Connector) (a : Area) (P : Files → T
         let file = steps.held_file e files c a in
         let pair = named_pair file.spec.organization number a.bytes in
         chosen (steps.is_other e.spec.organization e.access a.bytes (steps.row_to_change e files c a).value) _ _ same
-        (after (replacement number a.bytes file) (replaced_spec pair a.bytes file (row_at file.spec.organization pair file.rows) ∙ own))
+        (after (replacement number a.bytes file)
+        (replaced_spec pair a.bytes file (row_at file.spec.organization pair file.rows) ∙ own))
 
     pub deleting : P (steps.step e files c a Delete).files
     deleting =

@@ -63,7 +63,8 @@ fn may_change(mode: Option<OpenMode>) -> bool
 
 /// A connector to a file of this name is open.
 fn is_name_open(links: &[Linked], name: &[u8]) -> bool
-    ensures { result ≡ tests.is_name_open name.now (entries_of links.now) (connectors_of links.now) }
+    ensures { result
+        ≡ tests.is_name_open name.now (entries_of links.now) (connectors_of links.now) }
 {
     let Some(first) = links.first() else {
         return false;
@@ -91,7 +92,10 @@ fn then_unless(first: Option<Status>, test: bool, status: Status) -> Option<Stat
 
 /// In sequential access a row has to be read just before it is changed.
 fn may_change_row(linked: &Linked) -> Option<Status>
-    ensures { result ≡ tests.then_unless (tests.status_unless (tests.may_change (connector linked.now).mode) Status.NotForChanging) (if tests.is_sequential (entry linked.now).access then is_some (connector linked.now).read else true) Status.NoReadBefore }
+    ensures { result ≡ tests.then_unless
+        (tests.status_unless (tests.may_change (connector linked.now).mode) Status.NotForChanging)
+        (if tests.is_sequential (entry linked.now).access then is_some (connector linked.now).read
+        else true) Status.NoReadBefore }
 {
     then_unless(
         unless(may_change(linked.link.mode), Status::NotForChanging),
@@ -102,7 +106,8 @@ fn may_change_row(linked: &Linked) -> Option<Status>
 
 /// The status with which a verb ends before it looks at a file.
 fn barred_here(links: &[Linked], linked: &Linked, verb: Verb) -> Option<Status>
-    ensures { result ≡ tests.barred_status (entries_of links.now) (connectors_of links.now) (entry linked.now) (connector linked.now) verb }
+    ensures { result ≡ tests.barred_status (entries_of links.now) (connectors_of links.now)
+        (entry linked.now) (connector linked.now) verb }
 {
     let mode = linked.link.mode;
     match verb {

@@ -21,7 +21,8 @@ pub struct Connectors<T> {
 }
 
 impl<T: Store> Keeps for Connectors<T> {
-    ghost stands = { λ all disk files. T.stands all.store disk files × AreLinked files all.links.items };
+    ghost stands = { λ all disk files. T.stands all.store disk files
+        × AreLinked files all.links.items };
 
     ghost holds = { λ image files. T.holds image files };
 
@@ -29,7 +30,8 @@ impl<T: Store> Keeps for Connectors<T> {
 
     ghost is_spent = { λ all. T.is_spent all.store };
 
-    ghost lacks_room = { λ image is_new name before after. T.lacks_room image is_new name before after };
+    ghost lacks_room = { λ image is_new name before after.
+        T.lacks_room image is_new name before after };
 }
 
 impl<T: Store> FileVerbs for Connectors<T> {
@@ -37,7 +39,8 @@ impl<T: Store> FileVerbs for Connectors<T> {
 
     ghost connectors = { λ all. connectors_of all.links.items };
 
-    ghost held = { λ all disk image files stands crash. T.held all.store disk image files stands.0 crash };
+    ghost held = { λ all disk image files stands crash.
+        T.held all.store disk image files stands.0 crash };
 
     fn perform<D: Device>(
         &mut self,
@@ -75,7 +78,8 @@ impl<T: Store> Connectors<T> {
         ensures entries { ⟦<Connectors<T> as FileVerbs>⟧.entries result ≡ [] }
         ensures connectors { ⟦<Connectors<T> as FileVerbs>⟧.connectors result ≡ [] }
         ensures over { IsOver T.Keeps ⟦<Connectors<T> as Keeps>⟧ store result }
-        ensures stands { (disk : Disk) (files : Files) → T.stands store disk files → ⟦<Connectors<T> as Keeps>⟧.stands result disk files }
+        ensures stands { (disk : Disk) (files : Files) → T.stands store disk files
+            → ⟦<Connectors<T> as Keeps>⟧.stands result disk files }
     {
         Connectors {
             alloc,
@@ -86,10 +90,15 @@ impl<T: Store> Connectors<T> {
 
     /// Makes a connector to one more file, which is closed, and all the room that it needs from then on. A refusal changes nothing.
     pub fn add(&mut self, select: Select) -> Result<(), StoreFault>
-        ensures entries { OnOk result (⟦<Connectors<T> as FileVerbs>⟧.entries self.new ≡ ⟦<Connectors<T> as FileVerbs>⟧.entries self.old ++ entry_of select ∷ []) }
-        ensures connectors { OnOk result (⟦<Connectors<T> as FileVerbs>⟧.connectors self.new ≡ ⟦<Connectors<T> as FileVerbs>⟧.connectors self.old ++ closed_connector ∷ []) }
+        ensures entries { OnOk result (⟦<Connectors<T> as FileVerbs>⟧.entries self.new
+            ≡ ⟦<Connectors<T> as FileVerbs>⟧.entries self.old ++ entry_of select ∷ []) }
+        ensures connectors { OnOk result (⟦<Connectors<T> as FileVerbs>⟧.connectors self.new
+            ≡ ⟦<Connectors<T> as FileVerbs>⟧.connectors self.old ++ closed_connector ∷ []) }
         ensures wider { IsWider ⟦<Connectors<T> as Keeps>⟧ self.old self.new }
-        ensures same { OnErr result ((⟦<Connectors<T> as FileVerbs>⟧.entries self.new ≡ ⟦<Connectors<T> as FileVerbs>⟧.entries self.old) × (⟦<Connectors<T> as FileVerbs>⟧.connectors self.new ≡ ⟦<Connectors<T> as FileVerbs>⟧.connectors self.old)) }
+        ensures same { OnErr result ((⟦<Connectors<T> as FileVerbs>⟧.entries self.new
+            ≡ ⟦<Connectors<T> as FileVerbs>⟧.entries self.old)
+            × (⟦<Connectors<T> as FileVerbs>⟧.connectors self.new
+            ≡ ⟦<Connectors<T> as FileVerbs>⟧.connectors self.old)) }
         ensures memory { IsOkUnless result StoreFault.Memory }
     {
         let linked = new_linked(self.alloc, select)?;
@@ -99,10 +108,14 @@ impl<T: Store> Connectors<T> {
 
     /// Whether there is a file of this number which the verb suits, with records of that many bytes.
     pub fn accepts(&self, file: usize, verb: Verb, record_length: usize) -> bool
-        ensures exact { result ≡ is_accepted (⟦<Connectors<T> as FileVerbs>⟧.entries self.now) file verb record_length }
-        ensures file { result ≡ true → file < length (⟦<Connectors<T> as FileVerbs>⟧.entries self.now) }
-        ensures verb { result ≡ true → Suits (entry_at (⟦<Connectors<T> as FileVerbs>⟧.entries self.now) file) verb }
-        ensures record_length { result ≡ true → record_length ≡ (entry_at (⟦<Connectors<T> as FileVerbs>⟧.entries self.now) file).spec.record_length }
+        ensures exact { result ≡ is_accepted (⟦<Connectors<T> as FileVerbs>⟧.entries self.now) file
+            verb record_length }
+        ensures file { result ≡ true
+            → file < length (⟦<Connectors<T> as FileVerbs>⟧.entries self.now) }
+        ensures verb { result ≡ true
+            → Suits (entry_at (⟦<Connectors<T> as FileVerbs>⟧.entries self.now) file) verb }
+        ensures record_length { result ≡ true → record_length
+            ≡ (entry_at (⟦<Connectors<T> as FileVerbs>⟧.entries self.now) file).spec.record_length }
     {
         if file < self.links.len() {
             let linked = &self.links[file];

@@ -19,7 +19,8 @@ pub struct Linked {
 /// A closed connector, with its room.
 pub(crate) fn new_linked(alloc: Global, select: Select) -> Result<Linked, StoreFault>
     ensures select { IfOk result (λ one. one.select ≡ select) }
-    ensures closed { IfOk result (λ one. connector_of (spec_of one.select.file) one.link ≡ closed_connector) }
+    ensures closed { IfOk result
+        (λ one. connector_of (spec_of one.select.file) one.link ≡ closed_connector) }
     ensures shut { IfOk result (λ one. one.link.mode ≡ None) }
     ensures memory { IsOkUnless result StoreFault.Memory }
 {

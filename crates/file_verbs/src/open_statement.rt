@@ -40,19 +40,33 @@ pub(crate) fn open_file<T: Store, D: Device>(
     requires device { T.needs store.old ≤ D.sectors device.old }
     requires link { IsLink select.now link.old }
     ensures changes { Changes T.Keeps D.Device result store.old device.old store.new device.new }
-    ensures step { (files : Files) → Represents T.Keeps D.Device store.old device.old files → (bytes : List ℕ) (number : ℕ) →
-        IfOk result (λ status. Ends (step (entry_of select.now) files (connector_of (spec_of select.now.file) link.old) (area bytes number) (Verb.Open mode)) status (connector_of (spec_of select.now.file) link.new) (area bytes number)) }
-    ensures turns { (files : Files) → Represents T.Keeps D.Device store.old device.old files → (bytes : List ℕ) (number : ℕ) →
-        ChangesFiles T.Keeps D.Device result true select.now.file.name.items files (step (entry_of select.now) files (connector_of (spec_of select.now.file) link.old) (area bytes number) (Verb.Open mode)).files store.old device.old store.new device.new }
-    ensures linked { (files : Files) → Represents T.Keeps D.Device store.old device.old files → (bytes : List ℕ) (number : ℕ) →
-        OnOk result ((link.new.mode ≡ link.old.mode) ⊎ IsLinked (step (entry_of select.now) files (connector_of (spec_of select.now.file) link.old) (area bytes number) (Verb.Open mode)).files select.now link.new) }
+    ensures step { (files : Files) → Represents T.Keeps D.Device store.old device.old files
+        → (bytes : List ℕ) (number : ℕ) →
+        IfOk result (λ status. Ends (step (entry_of select.now) files
+        (connector_of (spec_of select.now.file) link.old) (area bytes number) (Verb.Open mode))
+        status (connector_of (spec_of select.now.file) link.new) (area bytes number)) }
+    ensures turns { (files : Files) → Represents T.Keeps D.Device store.old device.old files
+        → (bytes : List ℕ) (number : ℕ) →
+        ChangesFiles T.Keeps D.Device result true select.now.file.name.items files
+        (step (entry_of select.now) files (connector_of (spec_of select.now.file) link.old)
+        (area bytes number) (Verb.Open mode)).files store.old device.old store.new device.new }
+    ensures linked { (files : Files) → Represents T.Keeps D.Device store.old device.old files
+        → (bytes : List ℕ) (number : ℕ) →
+        OnOk result ((link.new.mode ≡ link.old.mode) ⊎ IsLinked
+        (step (entry_of select.now) files (connector_of (spec_of select.now.file) link.old)
+        (area bytes number) (Verb.Open mode)).files select.now link.new) }
     ensures link { IsLink select.now link.new }
-    ensures full { (files : Files) → Represents T.Keeps D.Device store.old device.old files → (bytes : List ℕ) (number : ℕ) → result ≡ Err StoreFault.Full →
-        has_changed (Verb.Open mode) (step (entry_of select.now) files (connector_of (spec_of select.now.file) link.old) (area bytes number) (Verb.Open mode)).status ≡ true }
+    ensures full { (files : Files) → Represents T.Keeps D.Device store.old device.old files
+        → (bytes : List ℕ) (number : ℕ) → result ≡ Err StoreFault.Full →
+        has_changed (Verb.Open mode)
+        (step (entry_of select.now) files (connector_of (spec_of select.now.file) link.old)
+        (area bytes number) (Verb.Open mode)).status ≡ true }
     ensures never_full { can_change_files (Verb.Open mode) ≡ false → result ≢ Err StoreFault.Full }
-    ensures idle { D.is_honest device.old → IfOk result (λ status. has_changed (Verb.Open mode) status ≡ false → D.state device.new ≡ D.state device.old) }
+    ensures idle { D.is_honest device.old → IfOk result (λ status.
+        has_changed (Verb.Open mode) status ≡ false → D.state device.new ≡ D.state device.old) }
     ensures same { OnErr result (link.new ≡ link.old) }
-    ensures rests { OnErr result (Rests T.Keeps D.Device store.old device.old store.new device.new) }
+    ensures rests { OnErr result
+        (Rests T.Keeps D.Device store.old device.old store.new device.new) }
 {
     if let OpenMode::Output = mode {
         return open_new(store, device, select, link, mode, Status::Success);
@@ -123,11 +137,15 @@ fn open_new<T: Store, D: Device>(
     requires link { IsLink select.now link.old }
     ensures changes { Changes T.Keeps D.Device result store.old device.old store.new device.new }
     ensures status { IfOk result (λ told. told ≡ status) }
-    ensures connector { OnOk result (connector_of (spec_of select.now.file) link.new ≡ opened_connector mode) }
-    ensures linked { OnOk result ((files : Files) → IsLinked (with_file select.now.file.name.items (empty_file (spec_of select.now.file)) files) select.now link.new) }
+    ensures connector { OnOk result
+        (connector_of (spec_of select.now.file) link.new ≡ opened_connector mode) }
+    ensures linked { OnOk result ((files : Files) → IsLinked (with_file select.now.file.name.items
+        (empty_file (spec_of select.now.file)) files) select.now link.new) }
     ensures link { IsLink select.now link.new }
     ensures turns { (files : Files) → Represents T.Keeps D.Device store.old device.old files →
-        ChangesFiles T.Keeps D.Device result true select.now.file.name.items files (with_file select.now.file.name.items (empty_file (spec_of select.now.file)) files) store.old device.old store.new device.new }
+        ChangesFiles T.Keeps D.Device result true select.now.file.name.items files
+        (with_file select.now.file.name.items (empty_file (spec_of select.now.file)) files)
+        store.old device.old store.new device.new }
     ensures same { OnErr result (link.new ≡ link.old) }
     ensures spends { OnErr result (T.is_spent store.new ≡ true) }
 {

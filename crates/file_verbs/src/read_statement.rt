@@ -32,7 +32,8 @@ pub(crate) fn is_longer(number: u64, key_digits: Option<u8>) -> bool
 
 /// Whether a row of a relative file has a number that its RELATIVE KEY item can't hold.
 fn is_too_long_for(select: &Select, number: u64) -> bool
-    ensures { result ≡ (is_relative select.now.file.organization && is_too_long select.now.key_digits number) }
+    ensures { result
+        ≡ (is_relative select.now.file.organization && is_too_long select.now.key_digits number) }
 {
     match select.file.organization {
         Organization::Relative => is_longer(number, select.key_digits),
@@ -42,7 +43,8 @@ fn is_too_long_for(select: &Select, number: u64) -> bool
 
 /// The number in the RELATIVE KEY item after a row of this number was read or written.
 pub(crate) fn number_left(select: &Select, row_number: u64, number: u64) -> u64
-    ensures { result ≡ (if is_relative select.now.file.organization && is_some select.now.key_digits then row_number else number) }
+    ensures { result ≡ (if is_relative select.now.file.organization && is_some select.now.key_digits
+        then row_number else number) }
 {
     match select.file.organization {
         Organization::Relative => {
@@ -68,7 +70,8 @@ fn read_status(repeated: bool) -> Status
 
 /// There is no position. The key of reference is this one.
 fn lose_position(link: &mut Link, key: KeyOfReference)
-    ensures { link.new ≡ record link.old { reference = key; side = None; value_length = 0; was_read = false } }
+    ensures { link.new
+        ≡ record link.old { reference = key; side = None; value_length = 0; was_read = false } }
 {
     link.reference = key;
     link.side = None;
@@ -79,7 +82,15 @@ fn lose_position(link: &mut Link, key: KeyOfReference)
 /// The position is on this side of the row that was sought.
 fn stand(select: &Select, link: &mut Link, key: KeyOfReference, side: Side, number: u64)
     requires key { IsKey (spec_of select.now.file) key }
-    ensures { link.new ≡ record link.old { reference = key; side = Some side; value_length = (place_of (spec_of select.now.file) key).length; number = number; was_read = false; row = link.old.sought; sought = link.old.row } }
+    ensures { link.new ≡ record link.old {
+      reference = key;
+      side = Some side;
+      value_length = (place_of (spec_of select.now.file) key).length;
+      number = number;
+      was_read = false;
+      row = link.old.sought;
+      sought = link.old.row;
+    } }
 {
     link.reference = key;
     link.side = Some(side);
@@ -101,9 +112,18 @@ fn take_row(
     requires key { IsKey (spec_of select.now.file) key }
     requires bytes { length bytes.old ≡ length link.old.sought.items }
     ensures status { result ≡ (if found.repeated then Status.SuccessDuplicate else Status.Success) }
-    ensures link { link.new ≡ record link.old { reference = key; side = Some Side.After; value_length = (place_of (spec_of select.now.file) key).length; number = found.number; was_read = true; row = link.old.sought; sought = link.old.row } }
+    ensures link { link.new ≡ record link.old {
+      reference = key;
+      side = Some Side.After;
+      value_length = (place_of (spec_of select.now.file) key).length;
+      number = found.number;
+      was_read = true;
+      row = link.old.sought;
+      sought = link.old.row;
+    } }
     ensures bytes { bytes.new ≡ link.old.sought.items }
-    ensures number { number.new ≡ (if is_relative select.now.file.organization && is_some select.now.key_digits then found.number else number.old) }
+    ensures number { number.new ≡ (if is_relative select.now.file.organization
+        && is_some select.now.key_digits then found.number else number.old) }
 {
     bytes.copy_from_slice(&link.sought);
     *number = number_left(select, found.number, *number);
@@ -126,15 +146,20 @@ pub(crate) fn read_next<T: Store, D: Device>(
     requires link { IsLink select.now link.old }
     requires position { link.old.side ≡ Some side }
     requires bytes { length bytes.old ≡ select.now.file.record_length }
-    ensures reads { OnlyReadsFiles T.Keeps D.Device result store.old device.old store.new device.new }
-    ensures step { (files : Files) → Represents T.Keeps D.Device store.old device.old files → IsLinked files select.now link.old →
-        IfOk result (λ status. Ends (step (entry_of select.now) files (connector_of (spec_of select.now.file) link.old) (area bytes.old number.old) Verb.ReadNext) status (connector_of (spec_of select.now.file) link.new) (area bytes.new number.new)) }
+    ensures reads { OnlyReadsFiles T.Keeps D.Device result store.old device.old store.new
+        device.new }
+    ensures step { (files : Files) → Represents T.Keeps D.Device store.old device.old files
+        → IsLinked files select.now link.old →
+        IfOk result (λ status. Ends (step (entry_of select.now) files (connector_of
+        (spec_of select.now.file) link.old) (area bytes.old number.old) Verb.ReadNext) status
+        (connector_of (spec_of select.now.file) link.new) (area bytes.new number.new)) }
     ensures link { IsLink select.now link.new }
     ensures mode { link.new.mode ≡ link.old.mode }
     ensures absent { link.new.is_absent ≡ link.old.is_absent }
     ensures same { OnErr result (SameLink select.now link.old link.new) }
     ensures area { OnErr result (area bytes.new number.new ≡ area bytes.old number.old) }
-    ensures damaged { (files : Files) → Represents T.Keeps D.Device store.old device.old files → IsLinked files select.now link.old → result ≢ Err StoreFault.Damaged }
+    ensures damaged { (files : Files) → Represents T.Keeps D.Device store.old device.old files
+        → IsLinked files select.now link.old → result ≢ Err StoreFault.Damaged }
 {
     let key = link.reference;
     if link.is_absent {
@@ -176,15 +201,20 @@ pub(crate) fn read_by_key<T: Store, D: Device>(
     requires link { IsLink select.now link.old }
     requires key { IsKey (spec_of select.now.file) key }
     requires bytes { length bytes.old ≡ select.now.file.record_length }
-    ensures reads { OnlyReadsFiles T.Keeps D.Device result store.old device.old store.new device.new }
-    ensures step { (files : Files) → Represents T.Keeps D.Device store.old device.old files → IsLinked files select.now link.old →
-        IfOk result (λ status. Ends (step (entry_of select.now) files (connector_of (spec_of select.now.file) link.old) (area bytes.old number.old) (Verb.Read key)) status (connector_of (spec_of select.now.file) link.new) (area bytes.new number.new)) }
+    ensures reads { OnlyReadsFiles T.Keeps D.Device result store.old device.old store.new
+        device.new }
+    ensures step { (files : Files) → Represents T.Keeps D.Device store.old device.old files
+        → IsLinked files select.now link.old →
+        IfOk result (λ status. Ends (step (entry_of select.now) files (connector_of
+        (spec_of select.now.file) link.old) (area bytes.old number.old) (Verb.Read key)) status
+        (connector_of (spec_of select.now.file) link.new) (area bytes.new number.new)) }
     ensures link { IsLink select.now link.new }
     ensures mode { link.new.mode ≡ link.old.mode }
     ensures absent { link.new.is_absent ≡ link.old.is_absent }
     ensures same { OnErr result (SameLink select.now link.old link.new) }
     ensures area { OnErr result (area bytes.new number.new ≡ area bytes.old number.old) }
-    ensures damaged { (files : Files) → Represents T.Keeps D.Device store.old device.old files → IsLinked files select.now link.old → result ≢ Err StoreFault.Damaged }
+    ensures damaged { (files : Files) → Represents T.Keeps D.Device store.old device.old files
+        → IsLinked files select.now link.old → result ≢ Err StoreFault.Damaged }
 {
     if link.is_absent {
         lose_position(link, key);
@@ -226,14 +256,19 @@ pub(crate) fn start<T: Store, D: Device>(
     requires key { IsKey (spec_of select.now.file) key }
     requires count { count ≤ key_length (spec_of select.now.file) key }
     requires bytes { length bytes.now ≡ select.now.file.record_length }
-    ensures reads { OnlyReadsFiles T.Keeps D.Device result store.old device.old store.new device.new }
-    ensures step { (files : Files) → Represents T.Keeps D.Device store.old device.old files → IsLinked files select.now link.old →
-        IfOk result (λ status. Ends (step (entry_of select.now) files (connector_of (spec_of select.now.file) link.old) (area bytes.now number) (Verb.Start relation key count)) status (connector_of (spec_of select.now.file) link.new) (area bytes.now number)) }
+    ensures reads { OnlyReadsFiles T.Keeps D.Device result store.old device.old store.new
+        device.new }
+    ensures step { (files : Files) → Represents T.Keeps D.Device store.old device.old files
+        → IsLinked files select.now link.old →
+        IfOk result (λ status. Ends (step (entry_of select.now) files (connector_of (spec_of
+        select.now.file) link.old) (area bytes.now number) (Verb.Start relation key count))
+        status (connector_of (spec_of select.now.file) link.new) (area bytes.now number)) }
     ensures link { IsLink select.now link.new }
     ensures mode { link.new.mode ≡ link.old.mode }
     ensures absent { link.new.is_absent ≡ link.old.is_absent }
     ensures same { OnErr result (SameLink select.now link.old link.new) }
-    ensures damaged { (files : Files) → Represents T.Keeps D.Device store.old device.old files → IsLinked files select.now link.old → result ≢ Err StoreFault.Damaged }
+    ensures damaged { (files : Files) → Represents T.Keeps D.Device store.old device.old files
+        → IsLinked files select.now link.old → result ≢ Err StoreFault.Damaged }
 {
     if link.is_absent {
         lose_position(link, key);

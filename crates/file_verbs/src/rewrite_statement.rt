@@ -32,20 +32,31 @@ pub(crate) fn rewrite_row<T: Store, D: Device>(
     requires read { is_sequential select.now.access ≡ true → link.old.was_read ≡ true }
     requires bytes { length bytes.now ≡ select.now.file.record_length }
     ensures changes { Changes T.Keeps D.Device result store.old device.old store.new device.new }
-    ensures step { (files : Files) → Represents T.Keeps D.Device store.old device.old files → IsLinked files select.now link.old →
-        IfOk result (λ status. Ends (step (entry_of select.now) files (connector_of (spec_of select.now.file) link.old) (area bytes.now number) Verb.Rewrite) status (connector_of (spec_of select.now.file) link.new) (area bytes.now number)) }
-    ensures turns { (files : Files) → Represents T.Keeps D.Device store.old device.old files → IsLinked files select.now link.old →
-        ChangesFiles T.Keeps D.Device result false select.now.file.name.items files (step (entry_of select.now) files (connector_of (spec_of select.now.file) link.old) (area bytes.now number) Verb.Rewrite).files store.old device.old store.new device.new }
+    ensures step { (files : Files) → Represents T.Keeps D.Device store.old device.old files
+        → IsLinked files select.now link.old →
+        IfOk result (λ status. Ends (step (entry_of select.now) files
+        (connector_of (spec_of select.now.file) link.old) (area bytes.now number) Verb.Rewrite)
+        status (connector_of (spec_of select.now.file) link.new) (area bytes.now number)) }
+    ensures turns { (files : Files) → Represents T.Keeps D.Device store.old device.old files
+        → IsLinked files select.now link.old →
+        ChangesFiles T.Keeps D.Device result false select.now.file.name.items files
+        (step (entry_of select.now) files (connector_of (spec_of select.now.file) link.old)
+        (area bytes.now number) Verb.Rewrite).files store.old device.old store.new device.new }
     ensures link { IsLink select.now link.new }
     ensures mode { link.new.mode ≡ link.old.mode }
     ensures absent { link.new.is_absent ≡ link.old.is_absent }
     // The position and the key of reference stay.
     ensures stays { OnOk result (link.new ≡ record link.old { was_read = false }) }
-    ensures full { (files : Files) → Represents T.Keeps D.Device store.old device.old files → IsLinked files select.now link.old → result ≡ Err StoreFault.Full →
-        has_changed Verb.Rewrite (step (entry_of select.now) files (connector_of (spec_of select.now.file) link.old) (area bytes.now number) Verb.Rewrite).status ≡ true }
-    ensures idle { D.is_honest device.old → IfOk result (λ status. has_changed Verb.Rewrite status ≡ false → D.state device.new ≡ D.state device.old) }
+    ensures full { (files : Files) → Represents T.Keeps D.Device store.old device.old files
+        → IsLinked files select.now link.old → result ≡ Err StoreFault.Full →
+        has_changed Verb.Rewrite
+        (step (entry_of select.now) files (connector_of (spec_of select.now.file) link.old)
+        (area bytes.now number) Verb.Rewrite).status ≡ true }
+    ensures idle { D.is_honest device.old → IfOk result (λ status.
+        has_changed Verb.Rewrite status ≡ false → D.state device.new ≡ D.state device.old) }
     ensures same { OnErr result (link.new ≡ link.old) }
-    ensures rests { OnErr result (Rests T.Keeps D.Device store.old device.old store.new device.new) }
+    ensures rests { OnErr result
+        (Rests T.Keeps D.Device store.old device.old store.new device.new) }
 {
     if has_other_key(select, link, bytes) {
         link.was_read = false;
@@ -72,20 +83,30 @@ pub(crate) fn delete_row<T: Store, D: Device>(
     requires read { is_sequential select.now.access ≡ true → link.old.was_read ≡ true }
     requires bytes { length bytes.now ≡ select.now.file.record_length }
     ensures changes { Changes T.Keeps D.Device result store.old device.old store.new device.new }
-    ensures step { (files : Files) → Represents T.Keeps D.Device store.old device.old files → IsLinked files select.now link.old →
-        IfOk result (λ status. Ends (step (entry_of select.now) files (connector_of (spec_of select.now.file) link.old) (area bytes.now number) Verb.Delete) status (connector_of (spec_of select.now.file) link.new) (area bytes.now number)) }
-    ensures turns { (files : Files) → Represents T.Keeps D.Device store.old device.old files → IsLinked files select.now link.old →
-        ChangesFiles T.Keeps D.Device result false select.now.file.name.items files (step (entry_of select.now) files (connector_of (spec_of select.now.file) link.old) (area bytes.now number) Verb.Delete).files store.old device.old store.new device.new }
+    ensures step { (files : Files) → Represents T.Keeps D.Device store.old device.old files
+        → IsLinked files select.now link.old →
+        IfOk result (λ status. Ends (step (entry_of select.now) files
+        (connector_of (spec_of select.now.file) link.old) (area bytes.now number) Verb.Delete)
+        status (connector_of (spec_of select.now.file) link.new) (area bytes.now number)) }
+    ensures turns { (files : Files) → Represents T.Keeps D.Device store.old device.old files
+        → IsLinked files select.now link.old →
+        ChangesFiles T.Keeps D.Device result false select.now.file.name.items files
+        (step (entry_of select.now) files (connector_of (spec_of select.now.file) link.old)
+        (area bytes.now number) Verb.Delete).files store.old device.old store.new device.new }
     ensures link { IsLink select.now link.new }
     ensures mode { link.new.mode ≡ link.old.mode }
     ensures absent { link.new.is_absent ≡ link.old.is_absent }
     // The position and the key of reference stay.
     ensures stays { OnOk result (link.new ≡ record link.old { was_read = false }) }
-    ensures full { (files : Files) → Represents T.Keeps D.Device store.old device.old files → IsLinked files select.now link.old → result ≡ Err StoreFault.Full →
-        has_changed Verb.Delete (step (entry_of select.now) files (connector_of (spec_of select.now.file) link.old) (area bytes.now number) Verb.Delete).status ≡ true }
-    ensures idle { D.is_honest device.old → IfOk result (λ status. has_changed Verb.Delete status ≡ false → D.state device.new ≡ D.state device.old) }
+    ensures full { (files : Files) → Represents T.Keeps D.Device store.old device.old files
+        → IsLinked files select.now link.old → result ≡ Err StoreFault.Full →
+        has_changed Verb.Delete (step (entry_of select.now) files (connector_of
+        (spec_of select.now.file) link.old) (area bytes.now number) Verb.Delete).status ≡ true }
+    ensures idle { D.is_honest device.old → IfOk result (λ status.
+        has_changed Verb.Delete status ≡ false → D.state device.new ≡ D.state device.old) }
     ensures same { OnErr result (link.new ≡ link.old) }
-    ensures rests { OnErr result (Rests T.Keeps D.Device store.old device.old store.new device.new) }
+    ensures rests { OnErr result
+        (Rests T.Keeps D.Device store.old device.old store.new device.new) }
 {
     let row_number = number_to_change(select, link, number);
     let named = record_to_change(select, link, bytes);
@@ -99,7 +120,8 @@ pub(crate) fn delete_row<T: Store, D: Device>(
 fn has_other_key(select: &Select, link: &Link, bytes: &[u8]) -> bool
     requires bytes { length bytes.now ≡ select.now.file.record_length }
     requires record_length { length link.now.row.items ≡ select.now.file.record_length }
-    ensures { result ≡ is_other select.now.file.organization select.now.access bytes.now (part (place_of (spec_of select.now.file) KeyOfReference.Prime) link.now.row.items) }
+    ensures { result ≡ is_other select.now.file.organization select.now.access bytes.now
+        (part (place_of (spec_of select.now.file) KeyOfReference.Prime) link.now.row.items) }
 {
     match select.file.organization {
         Organization::Indexed(_) => {
@@ -130,7 +152,8 @@ fn number_to_change(select: &Select, link: &Link, number: u64) -> u64
 
 /// The record that names the row to change: the one last read in sequential access, else the record area.
 fn record_to_change<'a>(select: &Select, link: &'a Link, bytes: &'a [u8]) -> &'a [u8]
-    ensures { result.now ≡ (if is_sequential select.now.access then link.now.row.items else bytes.now) }
+    ensures { result.now
+        ≡ (if is_sequential select.now.access then link.now.row.items else bytes.now) }
 {
     if is_in_sequence(select.access) {
         &link.row

@@ -30,10 +30,16 @@ pub(crate) fn seek_fitting<T: Store, D: Device>(
     requires count { count ≤ key_length (spec_of file.now) key }
     requires sought { length sought.old ≡ file.now.record_length }
     requires bytes { length bytes.now ≡ file.now.record_length }
-    ensures reads { OnlyReadsFiles T.Keeps D.Device result store.old device.old store.new device.new }
-    ensures found { (files : Files) (held : File) → Represents T.Keeps D.Device store.old device.old files → Has files file.now held →
-        IfOk result (λ answer. IsFoundRow (spec_of file.now) key held.rows sought.new (fitting_row (spec_of file.now) relation key (area_pair (spec_of file.now) file.now.organization key count (area bytes.now number)) held.rows) answer) }
-    ensures damaged { (files : Files) (held : File) → Represents T.Keeps D.Device store.old device.old files → Has files file.now held → result ≢ Err StoreFault.Damaged }
+    ensures reads { OnlyReadsFiles T.Keeps D.Device result store.old device.old store.new
+        device.new }
+    ensures found { (files : Files) (held : File)
+        → Represents T.Keeps D.Device store.old device.old files → Has files file.now held →
+        IfOk result (λ answer. IsFoundRow (spec_of file.now) key held.rows
+        sought.new (fitting_row (spec_of file.now) relation key (area_pair (spec_of file.now)
+        file.now.organization key count (area bytes.now number)) held.rows) answer) }
+    ensures damaged { (files : Files) (held : File)
+        → Represents T.Keeps D.Device store.old device.old files → Has files file.now held
+        → result ≢ Err StoreFault.Damaged }
 {
     let value = key_bytes(file, key, count, bytes);
     let from = number_named(file.organization, number);
@@ -80,7 +86,8 @@ fn is_fitting(
     row_number: u64,
 ) -> bool
     requires { length value.now ≤ length row_value.now }
-    ensures { result ≡ if_fits organization relation (record { value = value.now; number = number }) (record { value = row_value.now; number = row_number }) }
+    ensures { result ≡ if_fits organization relation (record { value = value.now; number = number })
+        (record { value = row_value.now; number = row_number }) }
 {
     match relation {
         Relation::Equal => match organization {

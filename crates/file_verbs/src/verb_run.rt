@@ -46,7 +46,8 @@ pub(crate) fn perform_on<T: Store, D: Device>(
     requires may { May linked.old verb }
     requires suits { Suits (entry linked.old) verb }
     requires bytes { length bytes.old ≡ linked.old.select.file.record_length }
-    ensures does { Does T.Keeps D.Device verb result store.old device.old store.new device.new linked.old linked.new (area bytes.old number.old) (area bytes.new number.new) }
+    ensures does { Does T.Keeps D.Device verb result store.old device.old store.new device.new
+        linked.old linked.new (area bytes.old number.old) (area bytes.new number.new) }
 {
     let select = &linked.select;
     let link = &mut linked.link;

@@ -34,7 +34,8 @@ pub(crate) fn is_in_sequence(access: Access) -> bool
 /// The number of the row that a WRITE makes in a relative file, 0 in another.
 fn number_to_write(select: &Select, link: &Link, number: u64) -> u64
     requires { link.now.written_number ≤ 999999999 }
-    ensures { result ≡ next_number select.now.file.organization select.now.access (connector_of (spec_of select.now.file) link.now).last.number number }
+    ensures { result ≡ next_number select.now.file.organization select.now.access
+        (connector_of (spec_of select.now.file) link.now).last.number number }
 {
     match select.file.organization {
         Organization::Relative => {
@@ -54,7 +55,8 @@ fn number_to_write(select: &Select, link: &Link, number: u64) -> u64
 
 /// The number is out of range or, in sequence, longer than the RELATIVE KEY item.
 fn is_past_boundary(select: &Select, number: u64) -> bool
-    ensures { result ≡ is_past select.now.file.organization select.now.access select.now.key_digits number }
+    ensures { result
+        ≡ is_past select.now.file.organization select.now.access select.now.key_digits number }
 {
     match select.file.organization {
         Organization::Relative => {
@@ -89,7 +91,8 @@ fn last_key<'a>(select: &Select, link: &'a Link) -> &'a [u8]
 fn is_out_of_sequence(select: &Select, link: &Link, bytes: &[u8]) -> bool
     requires bytes { length bytes.now ≡ select.now.file.record_length }
     requires written { length link.now.written.items ≡ select.now.file.record_length }
-    ensures { result ≡ is_out select.now.file.organization select.now.access bytes.now (connector_of (spec_of select.now.file) link.now).last.value }
+    ensures { result ≡ is_out select.now.file.organization select.now.access bytes.now
+        (connector_of (spec_of select.now.file) link.now).last.value }
 {
     match select.file.organization {
         Organization::Indexed(_) => {
@@ -132,7 +135,8 @@ fn is_done(outcome: Outcome) -> bool
 /// This row was written last.
 fn keep_last(link: &mut Link, bytes: &[u8], number: u64)
     requires { length bytes.now ≡ length link.old.written.items }
-    ensures rest { link.new ≡ record link.old { has_written = true; written = link.new.written; written_number = number } }
+    ensures rest { link.new ≡ record link.old
+        { has_written = true; written = link.new.written; written_number = number } }
     ensures bytes { link.new.written.items ≡ bytes.now }
 {
     link.has_written = true;
@@ -154,19 +158,31 @@ pub(crate) fn write_row<T: Store, D: Device>(
     requires may { may_write select.now.access link.old.mode ≡ true }
     requires bytes { length bytes.now ≡ select.now.file.record_length }
     ensures changes { Changes T.Keeps D.Device result store.old device.old store.new device.new }
-    ensures step { (files : Files) → Represents T.Keeps D.Device store.old device.old files → IsLinked files select.now link.old →
-        IfOk result (λ status. Ends (step (entry_of select.now) files (connector_of (spec_of select.now.file) link.old) (area bytes.now number.old) Verb.Write) status (connector_of (spec_of select.now.file) link.new) (area bytes.now number.new)) }
-    ensures turns { (files : Files) → Represents T.Keeps D.Device store.old device.old files → IsLinked files select.now link.old →
-        ChangesFiles T.Keeps D.Device result false select.now.file.name.items files (step (entry_of select.now) files (connector_of (spec_of select.now.file) link.old) (area bytes.now number.old) Verb.Write).files store.old device.old store.new device.new }
+    ensures step { (files : Files) → Represents T.Keeps D.Device store.old device.old files
+        → IsLinked files select.now link.old →
+        IfOk result (λ status. Ends (step (entry_of select.now) files (connector_of
+        (spec_of select.now.file) link.old) (area bytes.now number.old) Verb.Write) status
+        (connector_of (spec_of select.now.file) link.new) (area bytes.now number.new)) }
+    ensures turns { (files : Files) → Represents T.Keeps D.Device store.old device.old files
+        → IsLinked files select.now link.old →
+        ChangesFiles T.Keeps D.Device result false select.now.file.name.items files
+        (step (entry_of select.now) files (connector_of (spec_of select.now.file) link.old)
+        (area bytes.now number.old) Verb.Write).files store.old device.old store.new
+        device.new }
     ensures link { IsLink select.now link.new }
     ensures mode { link.new.mode ≡ link.old.mode }
     ensures absent { link.new.is_absent ≡ link.old.is_absent }
-    ensures full { (files : Files) → Represents T.Keeps D.Device store.old device.old files → IsLinked files select.now link.old → result ≡ Err StoreFault.Full →
-        has_changed Verb.Write (step (entry_of select.now) files (connector_of (spec_of select.now.file) link.old) (area bytes.now number.old) Verb.Write).status ≡ true }
-    ensures idle { D.is_honest device.old → IfOk result (λ status. has_changed Verb.Write status ≡ false → D.state device.new ≡ D.state device.old) }
+    ensures full { (files : Files) → Represents T.Keeps D.Device store.old device.old files
+        → IsLinked files select.now link.old → result ≡ Err StoreFault.Full →
+        has_changed Verb.Write
+        (step (entry_of select.now) files (connector_of (spec_of select.now.file) link.old)
+        (area bytes.now number.old) Verb.Write).status ≡ true }
+    ensures idle { D.is_honest device.old → IfOk result (λ status.
+        has_changed Verb.Write status ≡ false → D.state device.new ≡ D.state device.old) }
     ensures same { OnErr result (link.new ≡ link.old) }
     ensures area { OnErr result (number.new ≡ number.old) }
-    ensures rests { OnErr result (Rests T.Keeps D.Device store.old device.old store.new device.new) }
+    ensures rests { OnErr result
+        (Rests T.Keeps D.Device store.old device.old store.new device.new) }
 {
     let row_number = number_to_write(select, link, *number);
     if is_past_boundary(select, row_number) {

@@ -19,11 +19,15 @@ fn two_files<T: Store + Drop>(
     one: Select,
     two: Select,
 ) -> Result<Connectors<T>, StoreFault>
-    ensures entries { IfOk result (λ all. ⟦<Connectors<T> as FileVerbs>⟧.entries all ≡ entry_of one ∷ entry_of two ∷ []) }
-    ensures connectors { IfOk result (λ all. ⟦<Connectors<T> as FileVerbs>⟧.connectors all ≡ closed_connector ∷ closed_connector ∷ []) }
+    ensures entries { IfOk result
+        (λ all. ⟦<Connectors<T> as FileVerbs>⟧.entries all ≡ entry_of one ∷ entry_of two ∷ []) }
+    ensures connectors { IfOk result (λ all. ⟦<Connectors<T> as FileVerbs>⟧.connectors all
+        ≡ closed_connector ∷ closed_connector ∷ []) }
     ensures needs { IfOk result (λ all. ⟦<Connectors<T> as Keeps>⟧.needs all ≡ T.needs store) }
-    ensures spent { IfOk result (λ all. ⟦<Connectors<T> as Keeps>⟧.is_spent all ≡ T.is_spent store) }
-    ensures stands { (disk : Disk) (files : Files) → T.stands store disk files → IfOk result (λ all. ⟦<Connectors<T> as Keeps>⟧.stands all disk files) }
+    ensures spent { IfOk result
+        (λ all. ⟦<Connectors<T> as Keeps>⟧.is_spent all ≡ T.is_spent store) }
+    ensures stands { (disk : Disk) (files : Files) → T.stands store disk files
+        → IfOk result (λ all. ⟦<Connectors<T> as Keeps>⟧.stands all disk files) }
 {
     let mut all = Connectors::new(alloc, store);
     all.add(one)?;

@@ -1,5 +1,6 @@
 -- The words that open a phrase: where they stand, and that looking finds them.
-use Rattle.std.proofs.Common.{◌≡◌, Bool, true, false, if◌then◌else◌, List, [], ◌∷◌, Option, Some, None, inl, inr, refl, sym, ap, ◌∙◌, rules}
+use Rattle.std.proofs.Common.{◌≡◌, Bool, true, false, if◌then◌else◌, List, [], ◌∷◌, Option, Some, None, inl, inr, refl}
+use Rattle.std.proofs.Common.{sym, ap, ◌∙◌, rules}
 use Rattle.std.specs.Prelude.{◌&&◌, not, is_some}
 use denote.Enum.Bare.{same_true, true_same}
 use Rattle.tokens.specs.contracts.reserved.Reserved.{the_type}
@@ -9,7 +10,8 @@ use Rattle.tokens.specs.declared.token.Kind.TheVariants as k
 use Rattle.tokens.specs.declared.token.Token.{Token}
 use Rattle.grammar.specs.Parts.{Part, ◌then◌, ◌but◌, word, optional, lookahead}
 use Rattle.tokens.specs.Reserved.{same_word}
-use Rattle.grammar.specs.Reading.{Words, is_kind, is_word, begins_word, after_word, past_word, otherwise_here, also_after}
+use Rattle.grammar.specs.Reading.{Words, is_kind, is_word, begins_word, after_word, past_word, otherwise_here}
+use Rattle.grammar.specs.Reading.{also_after}
 
 pub some_is : {A : Type 0} {a b : A} → Some a ≡ Some b → a ≡ b
 some_is e = cc
@@ -53,13 +55,16 @@ word_found one (first ∷ more) after e = first_word one first more after (is_wo
 
 pub word_stands : (one : Reserved) (i after : List Token) → word one i after → after_word one i ≡ Some after
 unfolding after_word
-word_stands one i after (first, is, kind) = ap (after_word one) is ∙ ap (λ b. if b then Some after else None) (is_kind_of one first.kind kind)
+word_stands one i after (first, is, kind) =
+    ap (after_word one) is ∙ ap (λ b. if b then Some after else None) (is_kind_of one first.kind kind)
 
 pub word_begins : (one : Reserved) (i after : List Token) → word one i after → begins_word one i ≡ true
 word_begins one i after (first, is, kind) = ap (begins_word one) is ∙ is_kind_of one first.kind kind
 
-pub begins_no_other : (one other : Reserved) → same_word one other ≡ false → (i after : List Token) → word one i after → begins_word other i ≡ false
-begins_no_other one other differ i after (first, is, kind) = ap (begins_word other) is ∙ ap (is_kind other) kind ∙ differ
+pub begins_no_other : (one other : Reserved) → same_word one other ≡ false → (i after : List Token) → word one i after
+    → begins_word other i ≡ false
+begins_no_other one other differ i after (first, is, kind) =
+    ap (begins_word other) is ∙ ap (is_kind other) kind ∙ differ
 
 -- ---- looking for words
 
@@ -67,10 +72,12 @@ pub record Finds (p : Part) (words : Words) : Type 0 where
   pub found : (i after : List Token) → words i ≡ Some after → p i after
   pub stands : (i after : List Token) → p i after → words i ≡ Some after
 
-pub is_absent : {p : Part} {words : Words} → Finds p words → (i : List Token) → words i ≡ None → (after : List Token) → p i after → ⊥
+pub is_absent : {p : Part} {words : Words} → Finds p words → (i : List Token) → words i ≡ None → (after : List Token)
+    → p i after → ⊥
 is_absent finds i none after stands = none_not (sym none ∙ finds.stands i after stands)
 
-pub is_missing : {p : Part} {words : Words} → Finds p words → (i : List Token) → ((after : List Token) → p i after → ⊥) → words i ≡ None
+pub is_missing : {p : Part} {words : Words} → Finds p words → (i : List Token) → ((after : List Token) → p i after → ⊥)
+    → words i ≡ None
 is_missing {words = words} finds i nowhere = go (words i) refl
   where
     go : (o : Option (List Token)) → words i ≡ o → words i ≡ None
@@ -102,7 +109,8 @@ also_found : (one : Reserved) (o : Option (List Token)) (after : List Token) →
 also_found one None after e = absurd (none_not e)
 also_found one (Some middle) after e = (middle, refl, e)
 
-pub finds_also : (p : Part) (words : Words) (one : Reserved) → Finds p words → Finds (p then word one) (λ i. also_after one (words i))
+pub finds_also : (p : Part) (words : Words) (one : Reserved) → Finds p words
+    → Finds (p then word one) (λ i. also_after one (words i))
 finds_also p words one finds = record {
   found = λ i after e.
       let f = also_found one (words i) after e in
@@ -110,7 +118,8 @@ finds_also p words one finds = record {
   stands = λ i after s. ap (also_after one) (finds.stands i s.0 s.1) ∙ word_stands one s.0 after s.2;
 }
 
-pub finds_past : (one : Reserved) (p : Part) (words : Words) → Finds p words → Finds (optional (word one) then p) (λ i. words (past_word one i))
+pub finds_past : (one : Reserved) (p : Part) (words : Words) → Finds p words
+    → Finds (optional (word one) then p) (λ i. words (past_word one i))
 finds_past one p words finds = record {
   found = λ i after e. (past_word one i, past_does one i, finds.found (past_word one i) after e);
   stands = λ i after s. ap words (past_is one i s.0 s.1) ∙ finds.stands s.0 after s.2;
@@ -146,15 +155,18 @@ tests_words {p = p} {words = words} finds = record {
 pub tests_but : {p q : Part} {b c : List Token → Bool} → Tests p b → Tests q c → Tests (p but q) (λ i. b i && not (c i))
 tests_but {p = p} {q = q} {b = b} {c = c} one other = record {
   fails = λ i e after s. go (b i) (c i) refl (other.refuses i s.1) e (λ none. one.fails i none after s.0);
-  refuses = λ i nowhere. stop (b i) (c i) refl refl (λ absent. one.refuses i (λ after s. nowhere after (s, other.fails i absent)));
+  refuses = λ i nowhere.
+      stop (b i) (c i) refl refl (λ absent. one.refuses i (λ after s. nowhere after (s, other.fails i absent)));
 }
   where
-    go : {x : Bool} (there other : Bool) → x ≡ there → other ≡ false → (there && not other) ≡ false → (x ≡ false → ⊥) → ⊥
+    go : {x : Bool} (there other : Bool) → x ≡ there → other ≡ false → (there && not other) ≡ false → (x ≡ false → ⊥)
+        → ⊥
     go true true is absent e never = cc
     go true false is absent e never = cc
     go false other is absent e never = never is
 
-    stop : {x y : Bool} (there other : Bool) → x ≡ there → y ≡ other → (y ≡ false → x ≡ false) → (there && not other) ≡ false
+    stop : {x y : Bool} (there other : Bool) → x ≡ there → y ≡ other → (y ≡ false → x ≡ false)
+        → (there && not other) ≡ false
     stop true true is is' one = refl
     stop true false is is' one = sym is ∙ one is'
     stop false other is is' one = refl

@@ -1,16 +1,19 @@
 -- Looking past what would be read: it passes what the rule spells.
-use Rattle.std.proofs.Common.{◌≡◌, ℕ, zero, suc, Bool, true, false, if◌then◌else◌, List, [], ◌∷◌, ◌++◌, length, Option, Some, None, refl, ap, ◌∙◌}
+use Rattle.std.proofs.Common.{◌≡◌, ℕ, zero, suc, Bool, true, false, if◌then◌else◌, List, [], ◌∷◌, ◌++◌, length, Option}
+use Rattle.std.proofs.Common.{Some, None, refl, ap, ◌∙◌}
 use Rattle.std.specs.Prelude.{Ok, Err}
 use Rattle.tokens.specs.declared.token.Token.{Token}
 use Rattle.grammar.specs.Parts.{Part, ◌then◌, some_of}
 use Rattle.grammar.specs.Reading as r
-use Rattle.grammar.specs.Reading.{Outcome, Parser, Words, and_then, rest_of, tokens_past, and_past, several_from, past_several_from}
+use Rattle.grammar.specs.Reading.{Outcome, Parser, Words, and_then, rest_of, tokens_past, and_past, several_from}
+use Rattle.grammar.specs.Reading.{past_several_from}
 use Rattle.grammar.proofs.Lists.{Sound}
 use Rattle.grammar.proofs.Looking.{Finds, some_is, none_not}
 
 -- ---- readers in steps
 
-pub past_then : {A B : Type 0} (o : Outcome A) (f : A → Parser B) (words : Words) → ((a : A) (j : List Token) → rest_of (f a j) ≡ words j)
+pub past_then : {A B : Type 0} (o : Outcome A) (f : A → Parser B) (words : Words)
+    → ((a : A) (j : List Token) → rest_of (f a j) ≡ words j)
     → rest_of (and_then o f) ≡ and_past (rest_of o) words
 past_then (Ok p) f words each = each p.0 p.1
 past_then (Err halt) f words each = refl
@@ -23,10 +26,12 @@ past_if false x y u v e f = f
 -- ---- lists
 
 module _ {A : Type 0} (read : Parser A) (begins : List Token → Bool) where
-  passes_from : (turns : ℕ) (found : List A) (i : List Token) → rest_of (several_from read begins turns found i) ≡ past_several_from (tokens_past read) begins turns i
+  passes_from : (turns : ℕ) (found : List A) (i : List Token)
+      → rest_of (several_from read begins turns found i) ≡ past_several_from (tokens_past read) begins turns i
   unfolding several_from past_several_from
   passes_from zero found i = refl
-  passes_from (suc turns) found i = past_then (read i) _ _ (λ one j. past_if (begins j) _ _ _ _ (passes_from turns (found ++ one ∷ []) j) refl)
+  passes_from (suc turns) found i =
+      past_then (read i) _ _ (λ one j. past_if (begins j) _ _ _ _ (passes_from turns (found ++ one ∷ []) j) refl)
 
   pub several_passes : (i : List Token) → rest_of (r.several read begins i) ≡ r.past_several (tokens_past read) begins i
   unfolding r.several r.past_several
@@ -54,7 +59,8 @@ both_found : (o : Option (List Token)) (words : Words) (after : List Token) → 
 both_found None words after e = absurd (none_not e)
 both_found (Some middle) words after e = (middle, refl, e)
 
-pub finds_both : {p q : Part} {first second : Words} → Finds p first → Finds q second → Finds (p then q) (λ i. and_past (first i) second)
+pub finds_both : {p q : Part} {first second : Words} → Finds p first → Finds q second
+    → Finds (p then q) (λ i. and_past (first i) second)
 finds_both {first = first} {second = second} one other = record {
   found = λ i after e.
       let f = both_found (first i) second after e in

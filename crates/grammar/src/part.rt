@@ -37,7 +37,8 @@ pub fn several<T: Drop, P: Part<T>>(
     tokens: &mut Tokens<'_>,
 ) -> Result<Items<T>, ReadFault>
     requires { P.ready part.now }
-    ensures { Reads (spec.several (P.reading part.now) (P.beginning part.now) tokens.old) result tokens.new }
+    ensures { Reads (spec.several (P.reading part.now) (P.beginning part.now) tokens.old) result
+        tokens.new }
 {
     let mut found = Items::new(alloc);
     for _turn in 0..tokens.len() {
@@ -57,7 +58,8 @@ pub fn any<T: Drop, P: Part<T>>(
     tokens: &mut Tokens<'_>,
 ) -> Result<Items<T>, ReadFault>
     requires { P.ready part.now }
-    ensures { Reads (spec.any (P.reading part.now) (P.beginning part.now) tokens.old) result tokens.new }
+    ensures { Reads (spec.any (P.reading part.now) (P.beginning part.now) tokens.old) result
+        tokens.new }
 {
     if part.begins(tokens) {
         several(part, alloc, tokens)

@@ -26,7 +26,8 @@ pub trait Passing {
 /// The tokens after one or more, up to where no more can begin.
 #[tactic(auto, unfolding(crate::specs::Reading::past_several, crate::specs::Reading::past_several_from))]
 pub fn past_several<'a, P: Passing>(part: &P, tokens: &'a [Token]) -> Option<&'a [Token]>
-    ensures { option_copied result ≡ spec.past_several (P.passing part.now) (P.beginning part.now) tokens.now }
+    ensures { option_copied result
+        ≡ spec.past_several (P.passing part.now) (P.beginning part.now) tokens.now }
 {
     let mut rest = tokens;
     for _turn in 0..tokens.len() {
@@ -41,7 +42,8 @@ pub fn past_several<'a, P: Passing>(part: &P, tokens: &'a [Token]) -> Option<&'a
 /// The tokens after any number, up to where no more can begin.
 #[tactic(auto, unfolding(crate::specs::Reading::past_any))]
 pub fn past_any<'a, P: Passing>(part: &P, tokens: &'a [Token]) -> Option<&'a [Token]>
-    ensures { option_copied result ≡ spec.past_any (P.passing part.now) (P.beginning part.now) tokens.now }
+    ensures { option_copied result
+        ≡ spec.past_any (P.passing part.now) (P.beginning part.now) tokens.now }
 {
     if part.begins(tokens) {
         past_several(part, tokens)

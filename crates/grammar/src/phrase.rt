@@ -62,7 +62,8 @@ pub fn phrase_at<'a, T: Drop, P: Part<T>>(
     after: Option<&'a [Token]>,
 ) -> Result<Option<Items<T>>, ReadFault>
     requires { P.ready part.now }
-    ensures { Reads (spec.phrase_at (read.several (P.reading part.now) (P.beginning part.now)) (option_copied after.entry) tokens.old) result tokens.new }
+    ensures { Reads (spec.phrase_at (read.several (P.reading part.now) (P.beginning part.now))
+        (option_copied after.entry) tokens.old) result tokens.new }
 {
     let Some(after) = after else {
         return Ok(None);
@@ -80,7 +81,8 @@ pub fn two_sided<T: Drop, P: Part<T>>(
     tokens: &mut Tokens<'_>,
 ) -> Result<Phrases<T>, ReadFault>
     requires { P.ready part.now }
-    ensures { Reads (spec.two_sided_reader (read.several (P.reading part.now) (P.beginning part.now)) phrase tokens.old) result tokens.new }
+    ensures { Reads (spec.two_sided_reader (read.several (P.reading part.now)
+        (P.beginning part.now)) phrase tokens.old) result tokens.new }
 {
     let after = after_opened(tokens.rest(), phrase);
     let arose = phrase_at(part, alloc, tokens, after)?;

@@ -1,5 +1,6 @@
 -- A volume without files, once it stands on the disk.
-use Rattle.std.proofs.Common.{◌≡◌, ◌≤◌, true, ℕ, zero, suc, List, [], length, set, take, replicate, refl, sym, ◌∙◌, ap, subst, arith, get_or-set_other, get_or-set_same, length-set}
+use Rattle.std.proofs.Common.{◌≡◌, ◌≤◌, true, ℕ, zero, suc, List, [], length, set, take, replicate, refl, sym, ◌∙◌, ap}
+use Rattle.std.proofs.Common.{subst, arith, get_or-set_other, get_or-set_same, length-set}
 use Rattle.std.specs.Prelude.{None, Ok, Err, nat_lt}
 use Rattle.std.specs.List.Sorted.{IsStrictlySortedBy}
 use Rattle.std.proofs.lemmas.Bool.{cond-true, lt-ltb}
@@ -26,7 +27,8 @@ no_files : AreFiles []
 unfolding IsStrictlySortedBy
 no_files = record { ascend = tt; each = tt; count = omega arith }
 
-module _ (base : List Sector) (sectors : ℕ) (bytes : Sector) (all : length base ≡ sectors) (least : 1024 ≤ sectors) (spells : SpellsRoot sectors 0 0 bytes) where
+module _ (base : List Sector) (sectors : ℕ) (bytes : Sector) (all : length base ≡ sectors) (least : 1024 ≤ sectors)
+    (spells : SpellsRoot sectors 0 0 bytes) where
   abbrev image : List Sector
   image = set (set base 1 (replicate 4096 0)) 0 bytes
 
@@ -34,13 +36,16 @@ module _ (base : List Sector) (sectors : ℕ) (bytes : Sector) (all : length bas
   size = length-set (set base 1 (replicate 4096 0)) 0 bytes ∙ length-set base 1 (replicate 4096 0) ∙ all
 
   first : sector_at image 0 ≡ bytes
-  first = get_or-set_same (set base 1 (replicate 4096 0)) 0 bytes [] (omega (arith, all, least, length-set base 1 (replicate 4096 0)))
+  first = get_or-set_same (set base 1 (replicate 4096 0)) 0 bytes []
+      (omega (arith, all, least, length-set base 1 (replicate 4096 0)))
 
   second : sector_at image 1 ≡ replicate 4096 0
-  second = get_or-set_other (set base 1 (replicate 4096 0)) 0 1 bytes [] (λ e. omega (arith, e)) ∙ get_or-set_same base 1 (replicate 4096 0) [] (omega (arith, all, least))
+  second = get_or-set_other (set base 1 (replicate 4096 0)) 0 1 bytes [] (λ e. omega (arith, e))
+      ∙ get_or-set_same base 1 (replicate 4096 0) [] (omega (arith, all, least))
 
   blank_there : root_in known_marks (length image) 1 (sector_at image 1) ≡ Blank
-  blank_there = ap (root_in known_marks (length image) 1) second ∙ cond-true (is_blank (replicate 4096 0)) Blank (root_with_mark (length image) 1 (replicate 4096 0) (mark_index known_marks (replicate 4096 0))) (all_blank 4096)
+  blank_there = ap (root_in known_marks (length image) 1) second ∙ cond-true (is_blank (replicate 4096 0)) Blank
+      (root_with_mark (length image) 1 (replicate 4096 0) (mark_index known_marks (replicate 4096 0))) (all_blank 4096)
 
   root_there : root_in known_marks (length image) 0 (sector_at image 0) ≡ Valid spells.root
   root_there = ap (root_in known_marks (length image) 0) first ∙ spells.valid (length image) (omega (arith, size))
@@ -51,7 +56,8 @@ module _ (base : List Sector) (sectors : ℕ) (bytes : Sector) (all : length bas
   reads : roots_in known_marks 1 image ≡ Ok roots
   reads = ap (λ (s : RootSector). newest_root 1 s (root_in known_marks (length image) 1 (sector_at image 1))) root_there
       ∙ ap (λ (s : RootSector). newest_root 1 (Valid spells.root) s) blank_there
-      ∙ cond-true (nat_lt spells.root.mark 1) (Ok roots) (Err ForeignMark) (lt-ltb spells.root.mark 1 (omega (arith, spells.mark)))
+      ∙ cond-true (nat_lt spells.root.mark 1) (Ok roots) (Err ForeignMark)
+      (lt-ltb spells.root.mark 1 (omega (arith, spells.mark)))
 
   pub empty_holds : HoldsAt sectors 0 image []
   empty_holds = record {
@@ -60,14 +66,17 @@ module _ (base : List Sector) (sectors : ℕ) (bytes : Sector) (all : length bas
     halves = record { newest = record { fits = omega (arith, spells.counted); zeros = spells.zeros }; older = tt };
     generation = spells.generation;
     sectors = spells.sectors;
-    bytes = ap (λ (n : ℕ). take n (bytes_of_sectors image (start spells.root.sectors spells.root.generation) (count n))) spells.counted;
+    bytes = ap (λ (n : ℕ). take n (bytes_of_sectors image (start spells.root.sectors spells.root.generation) (count n)))
+        spells.counted;
     counted = spells.counted;
     sound = no_files;
     early = tt;
   }
 
   pub empty_images : (s : State) → s.disk ≡ idle_disk image → EachImage (λ i. Holds i []) s
-  empty_images s is left crash = subst (λ (l : List Sector). Holds l []) (sym (settled_image image left (subst (λ (d : Disk). IsCrashImage d left) is crash))) (sectors, 0, empty_holds)
+  empty_images s is left crash = subst (λ (l : List Sector). Holds l [])
+      (sym (settled_image image left (subst (λ (d : Disk). IsCrashImage d left) is crash))) (sectors, 0, empty_holds)
 
   pub empty_rests : (d : Disk) → d ≡ idle_disk image → Rests sectors 0 d []
-  empty_rests d is = subst (λ (e : Disk). Rests sectors 0 e []) (sym is) (record { settled = refl; holds = empty_holds })
+  empty_rests d is =
+      subst (λ (e : Disk). Rests sectors 0 e []) (sym is) (record { settled = refl; holds = empty_holds })

@@ -1,5 +1,6 @@
 -- A new row among rows in memory.
-use Rattle.std.proofs.Common.{◌≡◌, ◌≤◌, ◌<◌, ◌+◌, true, false, ℕ, List, [], ◌∷◌, ◌++◌, length, take, drop, map, get_or, append_assoc, refl, sym, ◌∙◌, ap}
+use Rattle.std.proofs.Common.{◌≡◌, ◌≤◌, ◌<◌, ◌+◌, true, false, ℕ, List, [], ◌∷◌, ◌++◌, length, take, drop, map, get_or}
+use Rattle.std.proofs.Common.{append_assoc, refl, sym, ◌∙◌, ap}
 use Rattle.std.specs.Ordering.{is_lt}
 use Rattle.std.proofs.lemmas.Bool.{cond-true, cond-false}
 use Rattle.std.proofs.lemmas.List.{take_more, drop_more, drop_all, map-append}
@@ -11,7 +12,8 @@ use Rattle.file_bytes.specs.Stored.{row_of}
 
 -- the new row stands behind the first k
 abbrev pub Passed : Organization → ℕ → List ℕ → List StoredRow → ℕ → Type 0
-Passed o number bytes rows k = (new : Row) → prime_pair o new ≡ named_pair o number bytes → with_row o new (map row_of rows) ≡ map row_of (take k rows) ++ with_row o new (map row_of (drop k rows))
+Passed o number bytes rows k = (new : Row) → prime_pair o new ≡ named_pair o number bytes
+    → with_row o new (map row_of rows) ≡ map row_of (take k rows) ++ with_row o new (map row_of (drop k rows))
 
 module _ (o : Organization) (number : ℕ) (bytes : List ℕ) (rows : List StoredRow) where
   pub passed_none : Passed o number bytes rows 0
@@ -24,25 +26,36 @@ module _ (o : Organization) (number : ℕ) (bytes : List ℕ) (rows : List Store
     rest : map row_of (drop k rows) ≡ row_of here ∷ map row_of (drop (k + 1) rows)
     rest = ap (map row_of) (drop_more rows k d lt)
 
-    pub passed_more : is_lt (pair_cmp (prime_pair o (row_of here)) (named_pair o number bytes)) ≡ true → Passed o number bytes rows (k + 1)
+    pub passed_more : is_lt (pair_cmp (prime_pair o (row_of here)) (named_pair o number bytes)) ≡ true
+        → Passed o number bytes rows (k + 1)
     passed_more less new is =
-        let test : is_lt (pair_cmp (prime_pair o (row_of here)) (prime_pair o new)) ≡ true = ap (λ p. is_lt (pair_cmp (prime_pair o (row_of here)) p)) is ∙ less in
+        let test : is_lt (pair_cmp (prime_pair o (row_of here)) (prime_pair o new)) ≡ true =
+        ap (λ p. is_lt (pair_cmp (prime_pair o (row_of here)) p)) is ∙ less in
         so_far new is
         ∙ ap (λ (l : List Row). map row_of (take k rows) ++ with_row o new l) rest
-        ∙ ap (λ (l : List Row). map row_of (take k rows) ++ l) (cond-true (is_lt (pair_cmp (prime_pair o (row_of here)) (prime_pair o new))) (row_of here ∷ with_row o new (map row_of (drop (k + 1) rows))) (new ∷ row_of here ∷ map row_of (drop (k + 1) rows)) test)
-        ∙ sym (append_assoc (map row_of (take k rows)) (row_of here ∷ []) (with_row o new (map row_of (drop (k + 1) rows))))
-        ∙ ap (λ (l : List Row). l ++ with_row o new (map row_of (drop (k + 1) rows))) (sym (map-append row_of (take k rows) (here ∷ [])) ∙ ap (map row_of) (sym (take_more rows k d lt)))
+        ∙ ap (λ (l : List Row). map row_of (take k rows) ++ l)
+        (cond-true (is_lt (pair_cmp (prime_pair o (row_of here)) (prime_pair o new))) (row_of here
+        ∷ with_row o new (map row_of (drop (k + 1) rows))) (new ∷ row_of here ∷ map row_of (drop (k + 1) rows)) test)
+        ∙ sym
+        (append_assoc (map row_of (take k rows)) (row_of here ∷ []) (with_row o new (map row_of (drop (k + 1) rows))))
+        ∙ ap (λ (l : List Row). l ++ with_row o new (map row_of (drop (k + 1) rows)))
+        (sym (map-append row_of (take k rows) (here ∷ [])) ∙ ap (map row_of) (sym (take_more rows k d lt)))
 
-    pub passed_here : is_lt (pair_cmp (prime_pair o (row_of here)) (named_pair o number bytes)) ≡ false → (new : Row) → prime_pair o new ≡ named_pair o number bytes
+    pub passed_here : is_lt (pair_cmp (prime_pair o (row_of here)) (named_pair o number bytes)) ≡ false → (new : Row)
+        → prime_pair o new ≡ named_pair o number bytes
         → with_row o new (map row_of rows) ≡ map row_of (take k rows) ++ new ∷ map row_of (drop k rows)
     passed_here less new is =
-        let test : is_lt (pair_cmp (prime_pair o (row_of here)) (prime_pair o new)) ≡ false = ap (λ p. is_lt (pair_cmp (prime_pair o (row_of here)) p)) is ∙ less in
+        let test : is_lt (pair_cmp (prime_pair o (row_of here)) (prime_pair o new)) ≡ false =
+        ap (λ p. is_lt (pair_cmp (prime_pair o (row_of here)) p)) is ∙ less in
         so_far new is
         ∙ ap (λ (l : List Row). map row_of (take k rows) ++ with_row o new l) rest
-        ∙ ap (λ (l : List Row). map row_of (take k rows) ++ l) (cond-false (is_lt (pair_cmp (prime_pair o (row_of here)) (prime_pair o new))) (row_of here ∷ with_row o new (map row_of (drop (k + 1) rows))) (new ∷ row_of here ∷ map row_of (drop (k + 1) rows)) test)
+        ∙ ap (λ (l : List Row). map row_of (take k rows) ++ l)
+        (cond-false (is_lt (pair_cmp (prime_pair o (row_of here)) (prime_pair o new))) (row_of here
+        ∷ with_row o new (map row_of (drop (k + 1) rows))) (new ∷ row_of here ∷ map row_of (drop (k + 1) rows)) test)
         ∙ ap (λ (l : List Row). map row_of (take k rows) ++ new ∷ l) (sym rest)
 
-  pub passed_all : (k : ℕ) → Passed o number bytes rows k → length rows ≤ k → (new : Row) → prime_pair o new ≡ named_pair o number bytes
+  pub passed_all : (k : ℕ) → Passed o number bytes rows k → length rows ≤ k → (new : Row)
+      → prime_pair o new ≡ named_pair o number bytes
       → with_row o new (map row_of rows) ≡ map row_of (take k rows) ++ new ∷ map row_of (drop k rows)
   passed_all k so_far le new is =
       let none : drop k rows ≡ [] = drop_all k rows le in

@@ -1,5 +1,6 @@
 -- Bytes spell at most one list of files, and an image holds at most one.
-use Rattle.std.proofs.Common.{◌≡◌, ◌≤◌, ◌<◌, ◌+◌, ◌*◌, ◌^◌, ℕ, List, [], ◌∷◌, ◌++◌, length, drop, length-append, refl, sym, ◌∙◌, ap, arith}
+use Rattle.std.proofs.Common.{◌≡◌, ◌≤◌, ◌<◌, ◌+◌, ◌*◌, ◌^◌, ℕ, List, [], ◌∷◌, ◌++◌, length, drop, length-append, refl}
+use Rattle.std.proofs.Common.{sym, ◌∙◌, ap, arith}
 use Rattle.std.specs.List.{AllByRecursion}
 use Rattle.station.specs.Disk.{Sector}
 use Rattle.roots.specs.declared.pair.Roots.{Roots}
@@ -19,7 +20,8 @@ abbrev Begins : List ℕ → NamedFile → List ℕ → Type 0
 Begins bytes one more = bytes ≡ file_bytes one ++ more
 
 -- two files that the same bytes begin with
-module _ (bytes : List ℕ) (one other : NamedFile) (more more' : List ℕ) (good : IsReadable one) (good' : IsReadable other) (is : Begins bytes one more) (is' : Begins bytes other more') (few : length bytes < 2 ^ 64) where
+module _ (bytes : List ℕ) (one other : NamedFile) (more more' : List ℕ) (good : IsReadable one) (good' :
+    IsReadable other) (is : Begins bytes one more) (is' : Begins bytes other more') (few : length bytes < 2 ^ 64) where
   same_name : one.name ≡ other.name
   same_name = one_name one.name other.name good.named.name good'.named.name
       (sym (name_there one.name _ bytes one.file.spec good.named.name (front one more bytes good is))
@@ -50,7 +52,8 @@ module _ (bytes : List ℕ) (one other : NamedFile) (more more' : List ℕ) (goo
       ∙ rows_are other more' bytes good' is'
 
   abbrev named_with : List ℕ → Spec → List Row → ℕ → NamedFile
-  named_with name spec rows next = record { name = name; file = record { spec = spec; rows = rows; next_arrival = next } }
+  named_with name spec rows next =
+      record { name = name; file = record { spec = spec; rows = rows; next_arrival = next } }
 
   pub same_file : one ≡ other
   same_file =
@@ -66,14 +69,21 @@ module _ (bytes : List ℕ) (one other : NamedFile) (more more' : List ℕ) (goo
       ∙ ap (λ (n : ℕ). drop (121 + row_size s' * n) bytes) same_count
       ∙ rest_is other more' bytes good' is'
 
-same_files : (one other : Files) (bytes : List ℕ) → AllByRecursion IsReadable one → AllByRecursion IsReadable other → bytes ≡ files_bytes one → bytes ≡ files_bytes other → length bytes < 2 ^ 64 → one ≡ other
+same_files : (one other : Files) (bytes : List ℕ) → AllByRecursion IsReadable one → AllByRecursion IsReadable other
+    → bytes ≡ files_bytes one → bytes ≡ files_bytes other → length bytes < 2 ^ 64 → one ≡ other
 same_files [] [] bytes good good' is is' few = refl
-same_files [] (file ∷ more) bytes good good' is is' few = absurd (let e = long file (files_bytes more) bytes good'.0 is' in omega (arith, e, ap length is))
-same_files (file ∷ more) [] bytes good good' is is' few = absurd (let e = long file (files_bytes more) bytes good.0 is in omega (arith, e, ap length is'))
+same_files [] (file ∷ more) bytes good good' is is' few =
+    absurd (let e = long file (files_bytes more) bytes good'.0 is' in omega (arith, e, ap length is))
+same_files (file ∷ more) [] bytes good good' is is' few =
+    absurd (let e = long file (files_bytes more) bytes good.0 is in omega (arith, e, ap length is'))
 same_files (file ∷ more) (file' ∷ more') bytes good good' is is' few =
-    let shorter : length (files_bytes more) < 2 ^ 64 = omega (arith, few, ap length is, length-append (file_bytes file) (files_bytes more)) in
-    let rest = same_files more more' (files_bytes more) good.1 good'.1 refl (same_rest bytes file file' (files_bytes more) (files_bytes more') good.0 good'.0 is is' few) shorter in
-    ap (λ (n : NamedFile). n ∷ more) (same_file bytes file file' (files_bytes more) (files_bytes more') good.0 good'.0 is is' few) ∙ ap (λ (l : Files). file' ∷ l) rest
+    let shorter : length (files_bytes more) < 2 ^ 64 =
+    omega (arith, few, ap length is, length-append (file_bytes file) (files_bytes more)) in
+    let rest = same_files more more' (files_bytes more) good.1 good'.1 refl
+    (same_rest bytes file file' (files_bytes more) (files_bytes more') good.0 good'.0 is is' few) shorter in
+    ap (λ (n : NamedFile). n ∷ more)
+    (same_file bytes file file' (files_bytes more) (files_bytes more') good.0 good'.0 is is' few)
+    ∙ ap (λ (l : Files). file' ∷ l) rest
 
 small_half : (n : ℕ) → n ≤ 921600 → 4096 * half n < 2 ^ 64
 unfolding half
@@ -88,6 +98,8 @@ one_list image one other holds holds' =
     let within' = (roots_stand known_marks 1 image h'.roots h'.reads).within.newest in
     let g : holds.1 < 2 ^ 63 = omega (arith, within.generation, h.generation) in
     let g' : holds'.1 < 2 ^ 63 = omega (arith, within'.generation, h'.generation) in
-    let few : length (files_bytes one) < 2 ^ 64 = omega (arith, h.counted, h.halves.newest.fits, small_half h.roots.newest.sectors within.most) in
-    same_files one other (files_bytes one) (readable holds.1 one g h.sound.each h.early) (readable holds'.1 other g' h'.sound.each h'.early) refl
+    let few : length (files_bytes one) < 2 ^ 64 =
+    omega (arith, h.counted, h.halves.newest.fits, small_half h.roots.newest.sectors within.most) in
+    same_files one other (files_bytes one) (readable holds.1 one g h.sound.each h.early)
+    (readable holds'.1 other g' h'.sound.each h'.early) refl
     (sym h.bytes ∙ ap (λ (r : Roots). named_bytes image r.newest) roots ∙ h'.bytes) few

@@ -18,34 +18,44 @@ use Rattle.records.specs.declared.fault.StoreFault.TheVariants.{Device, Full, Da
 use Rattle.records.specs.Files.{Files, AreFiles}
 use Rattle.half_store.specs.Spelled.{files_bytes}
 use Rattle.file_bytes.specs.Stored.{files_of}
-use Rattle.half_store.specs.Half.{known_marks, named_length, named_bytes, IsHalfRoot, IsForeign, AreEarly, HoldsAt, Holds, Rests}
+use Rattle.half_store.specs.Half.{known_marks, named_length, named_bytes, IsHalfRoot, IsForeign, AreEarly, HoldsAt}
+use Rattle.half_store.specs.Half.{Holds, Rests}
 use Rattle.half_store.specs.Opened.{HoldsNone, IsOpenRefusal, FailsWith, of_roots, IsReadCause}
 use Rattle.half_store.specs.Stands.{Represents}
 use Rattle.half_store.specs.declared.store.HalfStore.{HalfStore}
 
 module _ (image : List Sector) where
-  roots_same : (roots : Roots) (files : Files) → roots_in known_marks 1 image ≡ Ok roots → (holds : Holds image files) → holds.2.roots ≡ roots
+  roots_same : (roots : Roots) (files : Files) → roots_in known_marks 1 image ≡ Ok roots → (holds : Holds image files)
+      → holds.2.roots ≡ roots
   roots_same roots files is holds = let e = sym holds.2.reads ∙ is in cc
 
-  pub no_half_roots : (roots : Roots) → roots_in known_marks 1 image ≡ Ok roots → (EachRoot IsHalfRoot roots → ⊥) → HoldsNone image
-  no_half_roots roots is never = λ files holds. never (subst (EachRoot IsHalfRoot) (roots_same roots files is holds) holds.2.halves)
+  pub no_half_roots : (roots : Roots) → roots_in known_marks 1 image ≡ Ok roots → (EachRoot IsHalfRoot roots → ⊥)
+      → HoldsNone image
+  no_half_roots roots is never =
+      λ files holds. never (subst (EachRoot IsHalfRoot) (roots_same roots files is holds) holds.2.halves)
 
-  pub no_spelled : (roots : Roots) (bytes : List ℕ) → roots_in known_marks 1 image ≡ Ok roots → bytes ≡ named_bytes image roots.newest
-      → ((files : Files) → bytes ≡ files_bytes files → AreFiles files → AreEarly roots.newest.generation files → ⊥) → HoldsNone image
+  pub no_spelled : (roots : Roots) (bytes : List ℕ) → roots_in known_marks 1 image ≡ Ok roots
+      → bytes ≡ named_bytes image roots.newest
+      → ((files : Files) → bytes ≡ files_bytes files → AreFiles files → AreEarly roots.newest.generation files → ⊥)
+      → HoldsNone image
   no_spelled roots bytes is named never = λ files holds.
       let same = roots_same roots files is holds in
       never files (named ∙ ap (λ (r : Roots). named_bytes image r.newest) (sym same) ∙ holds.2.bytes) holds.2.sound
-      (subst (λ (n : ℕ). AreEarly n files) (sym holds.2.generation ∙ ap (λ (r : Roots). r.newest.generation) same) holds.2.early)
+      (subst (λ (n : ℕ). AreEarly n files) (sym holds.2.generation ∙ ap (λ (r : Roots). r.newest.generation) same)
+      holds.2.early)
 
   no_roots : (f : RootsFault) → roots_in known_marks 1 image ≡ Err f → HoldsNone image
   no_roots f is = λ files holds. let e = sym holds.2.reads ∙ is in cc
 
-  pub roots_refused : (e : RootsError) → Gives (λ (r : Roots). r) fault_of (Err e) (roots_in known_marks 1 image) → IsOpenRefusal image (of_roots e)
+  pub roots_refused : (e : RootsError) → Gives (λ (r : Roots). r) fault_of (Err e) (roots_in known_marks 1 image)
+      → IsOpenRefusal image (of_roots e)
   roots_refused error.Device gives = tt
   roots_refused (error.Roots fault.Damaged) gives = no_roots fault.Damaged gives
   roots_refused (error.Roots fault.ForeignMark) gives = gives
 
-  pub roots_foreign : (T : Type 0) (e : RootsError) → Gives (λ (r : Roots). r) fault_of (Err e) (roots_in known_marks 1 image) → IsForeign image → FailsWith {T = T} Layout (Err (of_roots e))
+  pub roots_foreign : (T : Type 0) (e : RootsError)
+      → Gives (λ (r : Roots). r) fault_of (Err e) (roots_in known_marks 1 image) → IsForeign image
+      → FailsWith {T = T} Layout (Err (of_roots e))
   roots_foreign T error.Device gives is = inr (inl refl)
   roots_foreign T (error.Roots fault.Damaged) gives is = let e = sym gives ∙ is in cc
   roots_foreign T (error.Roots fault.ForeignMark) gives is = inl refl
@@ -54,8 +64,10 @@ module _ (image : List Sector) where
   pub not_foreign : (roots : Roots) → roots_in known_marks 1 image ≡ Ok roots → IsForeign image → ⊥
   not_foreign roots reads is = let e = sym reads ∙ is in cc
 
-  pub holds_now : (roots : Roots) (bytes : List ℕ) (files : Files) → roots_in known_marks 1 image ≡ Ok roots → EachRoot IsHalfRoot roots → bytes ≡ named_bytes image roots.newest → length bytes ≡ named_length roots.newest
-      → (bytes ≡ files_bytes files) × AreFiles files × AreEarly roots.newest.generation files → HoldsAt roots.newest.sectors roots.newest.generation image files
+  pub holds_now : (roots : Roots) (bytes : List ℕ) (files : Files) → roots_in known_marks 1 image ≡ Ok roots
+      → EachRoot IsHalfRoot roots → bytes ≡ named_bytes image roots.newest → length bytes ≡ named_length roots.newest
+      → (bytes ≡ files_bytes files) × AreFiles files × AreEarly roots.newest.generation files
+      → HoldsAt roots.newest.sectors roots.newest.generation image files
   holds_now roots bytes files is halves named long spells = record {
     roots = roots;
     reads = is;
@@ -68,7 +80,8 @@ module _ (image : List Sector) where
     early = spells.2;
   }
 
-  pub opened_cause : {T : Type 0} (result : Result T StoreFault) (files : Files) → IfErr result (λ f. IsOpenRefusal image f) → Holds image files → IfErr result IsReadCause
+  pub opened_cause : {T : Type 0} (result : Result T StoreFault) (files : Files)
+      → IfErr result (λ f. IsOpenRefusal image f) → Holds image files → IfErr result IsReadCause
   opened_cause (Ok x) files refused holds = tt
   opened_cause (Err Device) files refused holds = inl refl
   opened_cause (Err Full) files refused holds = absurd refused
@@ -77,19 +90,25 @@ module _ (image : List Sector) where
   opened_cause (Err Spent) files refused holds = absurd refused
   opened_cause (Err Layout) files refused holds = absurd (let e = sym holds.2.reads ∙ refused in cc)
 
-pub stands_now : (store : HalfStore) (old new : State) → new ≡ state_after_sync old → HoldsAt store.sectors store.generation old.disk.present (files_of store.files.items) → Represents store new.disk (files_of store.files.items)
+pub stands_now : (store : HalfStore) (old new : State)
+    → new ≡ state_after_sync old → HoldsAt store.sectors store.generation old.disk.present (files_of store.files.items)
+    → Represents store new.disk (files_of store.files.items)
 stands_now store old new is holds = record {
-  rests = subst (λ (s : State). Rests store.sectors store.generation s.disk (files_of store.files.items)) (sym is) (record { settled = refl; holds = holds });
+  rests = subst (λ (s : State). Rests store.sectors store.generation s.disk (files_of store.files.items)) (sym is)
+      (record { settled = refl; holds = holds });
   memory = refl;
 }
 
-pub holds_some : {T : Type 0} {P Q : T → Type 0} (result : Result T StoreFault) → ((x : T) → P x → Q x) → IfOk result P → IfOk result Q
+pub holds_some : {T : Type 0} {P Q : T → Type 0} (result : Result T StoreFault) → ((x : T) → P x → Q x) → IfOk result P
+    → IfOk result Q
 holds_some (Ok x) from so = from x so
 holds_some (Err e) from so = tt
 
-older_least : (n : ℕ) (older : Option Root) → IfSome older (IsWithinVolume n) → IfSome older (λ (root : Root). 1024 ≤ root.sectors)
+older_least : (n : ℕ) (older : Option Root) → IfSome older (IsWithinVolume n)
+    → IfSome older (λ (root : Root). 1024 ≤ root.sectors)
 older_least n None within = tt
 older_least n (Some root) within = within.least
 
-pub each_least : (n : ℕ) (roots : Roots) → EachRoot (IsWithinVolume n) roots → EachRoot (λ (root : Root). 1024 ≤ root.sectors) roots
+pub each_least : (n : ℕ) (roots : Roots) → EachRoot (IsWithinVolume n) roots
+    → EachRoot (λ (root : Root). 1024 ≤ root.sectors) roots
 each_least n roots within = record { newest = within.newest.least; older = older_least n roots.older within.older }

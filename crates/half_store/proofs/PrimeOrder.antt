@@ -1,5 +1,6 @@
 -- Rows ascend by their prime key: those behind a place come last, so a search by halves finds the first of them.
-use Rattle.std.proofs.Common.{◌≡◌, ◌≤◌, ◌<◌, Bool, true, false, not, cond, ⊎_elim, ℕ, zero, suc, List, [], ◌∷◌, length, take, map, get_or, refl, sym, ◌∙◌, ap, arith}
+use Rattle.std.proofs.Common.{◌≡◌, ◌≤◌, ◌<◌, Bool, true, false, not, cond, ⊎_elim, ℕ, zero, suc, List, [], ◌∷◌, length}
+use Rattle.std.proofs.Common.{take, map, get_or, refl, sym, ◌∙◌, ap, arith}
 use Rattle.std.specs.Prelude.{Option, Some, None, filter}
 use Rattle.std.specs.Cmp.{IsTotalOrder}
 use Rattle.std.specs.Ordering.{is_lt, is_gt, nat_cmp, ordering_then, ordering_reverse}
@@ -24,7 +25,8 @@ use Rattle.file_bytes.specs.declared.stored.StoredRow.{StoredRow}
 
 -- ---- orders
 
-cut_later : (r rest cut : Ordering) → is_gt (ordering_then r rest) ≡ false → (is_gt rest ≡ false → is_gt cut ≡ false) → is_gt (ordering_then r cut) ≡ false
+cut_later : (r rest cut : Ordering) → is_gt (ordering_then r rest) ≡ false → (is_gt rest ≡ false → is_gt cut ≡ false)
+    → is_gt (ordering_then r cut) ≡ false
 cut_later Less rest cut h f = refl
 cut_later Equal rest cut h f = f h
 cut_later Greater rest cut h f = h
@@ -35,7 +37,8 @@ beginnings zero v w h = refl
 beginnings (suc n) [] [] h = refl
 beginnings (suc n) [] (y ∷ w) h = refl
 beginnings (suc n) (x ∷ v) [] h = h
-beginnings (suc n) (x ∷ v) (y ∷ w) h = cut_later (nat_cmp x y) (bytes_cmp v w) (bytes_cmp (take n v) (take n w)) h (beginnings n v w)
+beginnings (suc n) (x ∷ v) (y ∷ w) h =
+    cut_later (nat_cmp x y) (bytes_cmp v w) (bytes_cmp (take n v) (take n w)) h (beginnings n v w)
 
 values_first : (r s : Ordering) → is_gt (ordering_then r s) ≡ false → is_gt r ≡ false
 values_first Less s h = refl
@@ -66,13 +69,16 @@ not_true true h = cc
 not_true false h = refl
 
 -- what comes later is behind a place as well
-behind_later : (side : Side) (place one two : Pair) → is_gt (pair_cmp one two) ≡ false → is_after side place one ≡ true → is_after side place two ≡ true
-behind_later From place one two le behind = ap not (still_not_less pair_total one two place le (not_true (is_lt (pair_cmp one place)) behind))
+behind_later : (side : Side) (place one two : Pair) → is_gt (pair_cmp one two) ≡ false → is_after side place one ≡ true
+    → is_after side place two ≡ true
+behind_later From place one two le behind =
+    ap not (still_not_less pair_total one two place le (not_true (is_lt (pair_cmp one place)) behind))
 behind_later After place one two le behind = still_greater pair_total one two place le behind
 behind_later Beyond place one two le behind =
     let n = length place.value in
     still_greater nat_list_cmp_total (take n one.value) (take n two.value) place.value
-    (beginnings n one.value two.value (values_first (bytes_cmp one.value two.value) (nat_cmp one.number two.number) le)) behind
+    (beginnings n one.value two.value (values_first (bytes_cmp one.value two.value) (nat_cmp one.number two.number) le))
+    behind
 
 -- ---- rows
 
@@ -83,25 +89,30 @@ module _ (o : Organization) (side : Side) (place : Pair) where
   abbrev pair_at : List StoredRow → ℕ → StoredRow → Pair
   pair_at rows i d = prime_pair o (row_of (get_or rows i d))
 
-  pairs_are : (rows : List StoredRow) (i : ℕ) (d : StoredRow) → i < length rows → get_or (map (prime_pair o) (map row_of rows)) i (prime_pair o (row_of d)) ≡ pair_at rows i d
+  pairs_are : (rows : List StoredRow) (i : ℕ) (d : StoredRow) → i < length rows
+      → get_or (map (prime_pair o) (map row_of rows)) i (prime_pair o (row_of d)) ≡ pair_at rows i d
   pairs_are rows i d lt =
-      get_or-map (prime_pair o) (map row_of rows) i (row_of d) (prime_pair o (row_of d)) (let h = length-map rows row_of in omega (arith, h))
+      get_or-map (prime_pair o) (map row_of rows) i (row_of d) (prime_pair o (row_of d)) (let h =
+      length-map rows row_of in omega (arith, h))
       ∙ ap (prime_pair o) (get_or-map row_of rows i d (row_of d) lt)
 
-  ordered : (rows : List StoredRow) (i j : ℕ) (d : StoredRow) → RowsAscend o (map row_of rows) → i ≤ j → j < length rows → is_gt (pair_cmp (pair_at rows i d) (pair_at rows j d)) ≡ false
+  ordered : (rows : List StoredRow) (i j : ℕ) (d : StoredRow) → RowsAscend o (map row_of rows) → i ≤ j → j < length rows
+      → is_gt (pair_cmp (pair_at rows i d) (pair_at rows j d)) ≡ false
   ordered rows i j d ascend le lt = ⊎_elim less same (cases_lt i j)
     where
       less : i < j → is_gt (pair_cmp (pair_at rows i d) (pair_at rows j d)) ≡ false
       less h =
           let e = prime_pair o (row_of d) in
-          let both = Less-from_sorted pair_cmp (map (prime_pair o) (map row_of rows)) i j e ascend h (let h' = length-map rows row_of in let h'' = length-map (map row_of rows) (prime_pair o) in omega (arith, h', h'')) in
+          let both = Less-from_sorted pair_cmp (map (prime_pair o) (map row_of rows)) i j e ascend h (let h' =
+          length-map rows row_of in let h'' = length-map (map row_of rows) (prime_pair o) in omega (arith, h', h'')) in
           ap is_gt (sym (ap (λ (p : Pair). pair_cmp p (pair_at rows j d)) (pairs_are rows i d (omega arith)))
           ∙ sym (ap (pair_cmp (get_or (map (prime_pair o) (map row_of rows)) i e)) (pairs_are rows j d lt)) ∙ both)
 
       same : j ≤ i → is_gt (pair_cmp (pair_at rows i d) (pair_at rows j d)) ≡ false
       same h =
           let e : i ≡ j = omega arith in
-          ap is_gt (ap (λ (k : ℕ). pair_cmp (pair_at rows i d) (pair_at rows k d)) (sym e) ∙ tied_itself pair_total (pair_at rows i d))
+          ap is_gt (ap (λ (k : ℕ). pair_cmp (pair_at rows i d) (pair_at rows k d)) (sym e)
+          ∙ tied_itself pair_total (pair_at rows i d))
 
   -- no row before the place comes after one behind it
   pub parted : (rows : List StoredRow) → RowsAscend o (map row_of rows) → IsPartitionedBy is_before rows
@@ -109,7 +120,9 @@ module _ (o : Organization) (side : Side) (place : Pair) where
     where
       by : (b : Bool) → is_after side place (pair_at rows i d) ≡ b → not (is_after side place (pair_at rows i d)) ≡ true
       by false is = ap not is
-      by true is = let later = behind_later side place (pair_at rows i d) (pair_at rows j d) (ordered rows i j d ascend le lt) is in absurd (let never = not_true (is_after side place (pair_at rows j d)) before in cc)
+      by true is = let later =
+          behind_later side place (pair_at rows i d) (pair_at rows j d) (ordered rows i j d ascend le lt) is in
+          absurd (let never = not_true (is_after side place (pair_at rows j d)) before in cc)
 
   abbrev first_by : Bool → Row → List Row → Option Row
   first_by b row rows = first_of (cond b (row ∷ rows) rows)
@@ -117,17 +130,24 @@ module _ (o : Organization) (side : Side) (place : Pair) where
   abbrev behind : Row → Bool
   behind row = is_after side place (prime_pair o row)
 
-  none_first : (rows : List StoredRow) → ((k : ℕ) (d : StoredRow) → k < length rows → behind (row_of (get_or rows k d)) ≡ false) → first_of (filter behind (map row_of rows)) ≡ None
+  none_first : (rows : List StoredRow)
+      → ((k : ℕ) (d : StoredRow) → k < length rows → behind (row_of (get_or rows k d)) ≡ false)
+      → first_of (filter behind (map row_of rows)) ≡ None
   none_first [] all = refl
   none_first (row ∷ rows) all =
-      ap (λ (b : Bool). first_by b (row_of row) (filter behind (map row_of rows))) (all 0 row (omega arith)) ∙ none_first rows (λ k d lt. all (suc k) d (omega arith))
+      ap (λ (b : Bool). first_by b (row_of row) (filter behind (map row_of rows))) (all 0 row (omega arith))
+      ∙ none_first rows (λ k d lt. all (suc k) d (omega arith))
 
-  some_first : (rows : List StoredRow) (i : ℕ) (d : StoredRow) → i < length rows → ((k : ℕ) (d : StoredRow) → k < i → behind (row_of (get_or rows k d)) ≡ false) → behind (row_of (get_or rows i d)) ≡ true
+  some_first : (rows : List StoredRow) (i : ℕ) (d : StoredRow)
+      → i < length rows → ((k : ℕ) (d : StoredRow) → k < i → behind (row_of (get_or rows k d)) ≡ false)
+      → behind (row_of (get_or rows i d)) ≡ true
       → first_of (filter behind (map row_of rows)) ≡ Some (row_of (get_or rows i d))
   some_first [] i d lt all here = absurd (omega arith)
-  some_first (row ∷ rows) zero d lt all here = ap (λ (b : Bool). first_by b (row_of row) (filter behind (map row_of rows))) here
+  some_first (row ∷ rows) zero d lt all here =
+      ap (λ (b : Bool). first_by b (row_of row) (filter behind (map row_of rows))) here
   some_first (row ∷ rows) (suc i) d lt all here =
-      ap (λ (b : Bool). first_by b (row_of row) (filter behind (map row_of rows))) (all 0 row (omega arith)) ∙ some_first rows i d (omega arith) (λ k e below. all (suc k) e (omega arith)) here
+      ap (λ (b : Bool). first_by b (row_of row) (filter behind (map row_of rows))) (all 0 row (omega arith))
+      ∙ some_first rows i d (omega arith) (λ k e below. all (suc k) e (omega arith)) here
 
   not_false : (b : Bool) → not b ≡ false → b ≡ true
   not_false true h = refl
@@ -136,18 +156,25 @@ module _ (o : Organization) (side : Side) (place : Pair) where
   abbrev Point : List StoredRow → ℕ → Type 0
   Point rows i = IsPartitionPoint (λ row. is_before row ≡ true) (λ row. is_before row ≡ false) rows i
 
-  before_point : (rows : List StoredRow) (i : ℕ) → Point rows i → i ≤ length rows → (k : ℕ) (d : StoredRow) → k < i → behind (row_of (get_or rows k d)) ≡ false
+  before_point : (rows : List StoredRow) (i : ℕ) → Point rows i → i ≤ length rows → (k : ℕ) (d : StoredRow) → k < i
+      → behind (row_of (get_or rows k d)) ≡ false
   before_point rows i point le k d lt = not_true (behind (row_of (get_or rows k d))) (point.0 k d (omega arith) lt)
 
 module _ (spec : Spec) (side : Side) (place : Pair) (rows : List StoredRow) (i : ℕ) where
   abbrev the_bound : RowBound
   the_bound = record { side = side; pair = place }
 
-  pub none_from_point : RowsAscend spec.organization (map row_of rows) → Point spec.organization side place rows i → length rows ≤ i → i ≤ length rows → sought_row spec Prime the_bound (map row_of rows) ≡ None
+  pub none_from_point : RowsAscend spec.organization (map row_of rows) → Point spec.organization side place rows i
+      → length rows ≤ i → i ≤ length rows → sought_row spec Prime the_bound (map row_of rows) ≡ None
   none_from_point ascend point all le = first_fits spec the_bound (map row_of rows) ascend
-      ∙ none_first spec.organization side place rows (λ k d lt. before_point spec.organization side place rows i point le k d (omega arith))
+      ∙ none_first spec.organization side place rows
+      (λ k d lt. before_point spec.organization side place rows i point le k d (omega arith))
 
-  pub some_from_point : RowsAscend spec.organization (map row_of rows) → Point spec.organization side place rows i → i < length rows → (d : StoredRow) → sought_row spec Prime the_bound (map row_of rows) ≡ Some (row_of (get_or rows i d))
+  pub some_from_point : RowsAscend spec.organization (map row_of rows)
+      → Point spec.organization side place rows i → i < length rows → (d : StoredRow)
+      → sought_row spec Prime the_bound (map row_of rows) ≡ Some (row_of (get_or rows i d))
   some_from_point ascend point lt d = first_fits spec the_bound (map row_of rows) ascend
-      ∙ some_first spec.organization side place rows i d lt (before_point spec.organization side place rows i point (omega arith))
-      (not_false spec.organization side place (is_after side place (prime_pair spec.organization (row_of (get_or rows i d)))) (point.1 i d (omega arith) lt))
+      ∙ some_first spec.organization side place rows i d lt
+      (before_point spec.organization side place rows i point (omega arith))
+      (not_false spec.organization side place (is_after side place
+      (prime_pair spec.organization (row_of (get_or rows i d)))) (point.1 i d (omega arith) lt))

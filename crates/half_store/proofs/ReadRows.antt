@@ -1,5 +1,6 @@
 -- Rows that were spelled are read again.
-use Rattle.std.proofs.Common.{◌≡◌, ◌<◌, ◌+◌, ◌*◌, ◌^◌, ℕ, List, [], ◌∷◌, ◌++◌, length, drop, append_assoc, length-append, sym, ◌∙◌, ap, arith}
+use Rattle.std.proofs.Common.{◌≡◌, ◌<◌, ◌+◌, ◌*◌, ◌^◌, ℕ, List, [], ◌∷◌, ◌++◌, length, drop, append_assoc}
+use Rattle.std.proofs.Common.{length-append, sym, ◌∙◌, ap, arith}
 use Rattle.std.specs.List.{AllByRecursion}
 use Rattle.std.proofs.lemmas.List.{drop_at, drop-drop}
 use Rattle.records.specs.declared.file_spec.Organization.{Organization}
@@ -12,7 +13,8 @@ use Rattle.file_bytes.proofs.Plain.{IsPlain}
 use Rattle.file_bytes.proofs.Rows.{key_long, row_read, value_rest, value_long}
 use Rattle.half_store.specs.Read.{row_size, first_row}
 
-module _ (spec : Spec) (next : ℕ) (lt : next < 2 ^ 64) (is : IsPlain spec) (row : Row) (good : IsRow spec next row) where
+module _ (spec : Spec) (next : ℕ) (lt : next < 2 ^ 64) (is : IsPlain spec) (row : Row)
+    (good : IsRow spec next row) where
   abbrev o : Organization
   o = spec.organization
 
@@ -26,7 +28,8 @@ module _ (spec : Spec) (next : ℕ) (lt : next < 2 ^ 64) (is : IsPlain spec) (ro
   grouped more = append_assoc key (row_value row) more
 
   behind_key : (more : List ℕ) → drop (prime_key_length o) (row_bytes o row ++ more) ≡ row_value row ++ more
-  behind_key more = ap (drop (prime_key_length o)) (grouped more) ∙ drop_at key (row_value row ++ more) (prime_key_length o) own_key
+  behind_key more =
+      ap (drop (prime_key_length o)) (grouped more) ∙ drop_at key (row_value row ++ more) (prime_key_length o) own_key
 
   row_rest : (more : List ℕ) → drop (row_size spec) (row_bytes o row ++ more) ≡ more
   row_rest more =
@@ -36,15 +39,18 @@ module _ (spec : Spec) (next : ℕ) (lt : next < 2 ^ 64) (is : IsPlain spec) (ro
 
   row_back : Back (row_size spec) (first_row spec) (row_bytes o) row
   row_back = record {
-    same = λ more. row_read spec next lt row good (row_bytes o row ++ more) (drop (prime_key_length o) (row_bytes o row ++ more)) (row_value row ++ more) more (grouped more) (behind_key more);
+    same = λ more. row_read spec next lt row good (row_bytes o row ++ more) (drop (prime_key_length o)
+        (row_bytes o row ++ more)) (row_value row ++ more) more (grouped more) (behind_key more);
     rest = row_rest;
   }
 
   row_long : length (row_bytes o row) ≡ row_size spec
   row_long = omega (arith, length-append key (row_value row), own_key, value_long spec next lt row good)
 
-pub all_rows : (spec : Spec) (next : ℕ) (rows : List Row) → next < 2 ^ 64 → IsPlain spec → AllByRecursion (IsRow spec next) rows
-    → AllByRecursion (Back (row_size spec) (first_row spec) (row_bytes spec.organization)) rows × AllByRecursion (λ row. length (row_bytes spec.organization row) ≡ row_size spec) rows
+pub all_rows : (spec : Spec) (next : ℕ) (rows : List Row) → next < 2 ^ 64 → IsPlain spec
+    → AllByRecursion (IsRow spec next) rows
+    → AllByRecursion (Back (row_size spec) (first_row spec) (row_bytes spec.organization)) rows
+    × AllByRecursion (λ row. length (row_bytes spec.organization row) ≡ row_size spec) rows
 all_rows spec next [] lt is all = (tt, tt)
 all_rows spec next (row ∷ rows) lt is all =
     let more = all_rows spec next rows lt is all.1 in

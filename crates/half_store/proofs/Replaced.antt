@@ -1,5 +1,6 @@
 -- Another record for a row among rows in memory, and a row that is taken out.
-use Rattle.std.proofs.Common.{◌≡◌, ◌≤◌, ◌<◌, ◌+◌, Bool, true, false, not, ◌&&◌, ◌||◌, cond, ℕ, zero, suc, List, [], ◌∷◌, ◌++◌, length, drop, map, set, get_or, append_assoc, refl, sym, ◌∙◌, ap, subst, arith}
+use Rattle.std.proofs.Common.{◌≡◌, ◌≤◌, ◌<◌, ◌+◌, Bool, true, false, not, ◌&&◌, ◌||◌, cond, ℕ, zero, suc, List, [], ◌∷◌}
+use Rattle.std.proofs.Common.{◌++◌, length, drop, map, set, get_or, append_assoc, refl, sym, ◌∙◌, ap, subst, arith}
 use Rattle.std.specs.Prelude.{Option, Some, None, filter}
 use Rattle.std.specs.List.{AllByRecursion, list_any, remove}
 use Rattle.std.specs.Ordering.{is_eq, ordering_reverse}
@@ -13,7 +14,9 @@ use Rattle.records.specs.declared.answer.Outcome.TheVariants.{Done, Taken}
 use Rattle.records.specs.Files.{File}
 use Rattle.records.specs.Stores.{is_change}
 use Rattle.records.specs.Rows.{Row, Pair, pair_cmp, prime_pair, named_pair}
-use Rattle.records.specs.Changes.{FileChange, without_change, done_outcome, is_at, row_at, in_place, without_pair, is_taken, is_duplicate, changes, changed_row, arrivals_after, replacement, replaced_row, removal, removed_row}
+use Rattle.records.specs.Changes.{FileChange, without_change, done_outcome, is_at, row_at, in_place, without_pair}
+use Rattle.records.specs.Changes.{is_taken, is_duplicate, changes, changed_row, arrivals_after, replacement}
+use Rattle.records.specs.Changes.{replaced_row, removal, removed_row}
 use Rattle.records.specs.Laws.{RowsAscend}
 use Rattle.records.proofs.Ascending.{pair_total}
 use Rattle.records.proofs.Changed.{pair_same}
@@ -21,7 +24,8 @@ use Rattle.file_bytes.specs.declared.stored.StoredRow.{StoredRow}
 use Rattle.file_bytes.specs.Stored.{row_of}
 
 -- tests of what a filter leaves
-kept : {A : Type 0} (b : Bool) (p : A → Bool) (x : A) (xs : List A) (rest : Bool) → list_any p xs ≡ rest → list_any p (cond b (x ∷ xs) xs) ≡ ((b && p x) || rest)
+kept : {A : Type 0} (b : Bool) (p : A → Bool) (x : A) (xs : List A) (rest : Bool) → list_any p xs ≡ rest
+    → list_any p (cond b (x ∷ xs) xs) ≡ ((b && p x) || rest)
 kept true p x xs rest is = ap (λ (r : Bool). p x || r) is
 kept false p x xs rest is = is
 
@@ -29,9 +33,11 @@ pub any_filter : {A : Type 0} (p q : A → Bool) (xs : List A) → list_any p (f
 any_filter p q [] = refl
 any_filter p q (x ∷ xs) = kept (q x) p x (filter q xs) (list_any (λ x. q x && p x) xs) (any_filter p q xs)
 
-pub any_row_filter : (p q : Row → Bool) (rows : List StoredRow) → list_any p (filter q (map row_of rows)) ≡ list_any (λ (r : StoredRow). q (row_of r) && p (row_of r)) rows
+pub any_row_filter : (p q : Row → Bool) (rows : List StoredRow)
+    → list_any p (filter q (map row_of rows)) ≡ list_any (λ (r : StoredRow). q (row_of r) && p (row_of r)) rows
 any_row_filter p q [] = refl
-any_row_filter p q (row ∷ rows) = kept (q (row_of row)) p (row_of row) (filter q (map row_of rows)) (list_any (λ (r : StoredRow). q (row_of r) && p (row_of r)) rows) (any_row_filter p q rows)
+any_row_filter p q (row ∷ rows) = kept (q (row_of row)) p (row_of row) (filter q (map row_of rows))
+    (list_any (λ (r : StoredRow). q (row_of r) && p (row_of r)) rows) (any_row_filter p q rows)
 
 -- arrivals under the keys from one on
 module _ (old bytes : List ℕ) (next : ℕ) where
@@ -46,19 +52,29 @@ module _ (old bytes : List ℕ) (next : ℕ) where
   arrivals_out [] = refl
   arrivals_out (key ∷ keys) = refl
 
-  pub arrivals_more : (keys : List AlternateKey) (arrivals : List ℕ) (k : ℕ) (d : AlternateKey) (so_far : List ℕ) → k < length keys → k < length arrivals
-      → so_far ++ arrivals_after old bytes next (drop k keys) (drop k arrivals) ≡ (so_far ++ arrived (get_or keys k d) (get_or arrivals k 0) ∷ []) ++ arrivals_after old bytes next (drop (k + 1) keys) (drop (k + 1) arrivals)
+  pub arrivals_more : (keys : List AlternateKey) (arrivals : List ℕ) (k : ℕ) (d : AlternateKey) (so_far : List ℕ)
+      → k < length keys → k < length arrivals
+      → so_far ++ arrivals_after old bytes next (drop k keys) (drop k arrivals)
+      ≡ (so_far ++ arrived (get_or keys k d) (get_or arrivals k 0) ∷ [])
+      ++ arrivals_after old bytes next (drop (k + 1) keys) (drop (k + 1) arrivals)
   arrivals_more keys arrivals k d so_far lt lt' =
-      ap (λ (l : List AlternateKey). so_far ++ arrivals_after old bytes next l (drop k arrivals)) (drop_more keys k d lt)
-      ∙ ap (λ (l : List ℕ). so_far ++ arrivals_after old bytes next (get_or keys k d ∷ drop (k + 1) keys) l) (drop_more arrivals k 0 lt')
-      ∙ sym (append_assoc so_far (arrived (get_or keys k d) (get_or arrivals k 0) ∷ []) (arrivals_after old bytes next (drop (k + 1) keys) (drop (k + 1) arrivals)))
+      ap (λ (l : List AlternateKey). so_far ++ arrivals_after old bytes next l (drop k arrivals))
+      (drop_more keys k d lt)
+      ∙ ap (λ (l : List ℕ). so_far ++ arrivals_after old bytes next (get_or keys k d ∷ drop (k + 1) keys) l)
+      (drop_more arrivals k 0 lt')
+      ∙ sym (append_assoc so_far (arrived (get_or keys k d) (get_or arrivals k 0) ∷ [])
+      (arrivals_after old bytes next (drop (k + 1) keys) (drop (k + 1) arrivals)))
 
-  pub arrivals_end : (keys : List AlternateKey) (arrivals so_far : List ℕ) (k : ℕ) → length keys ≤ k → so_far ++ arrivals_after old bytes next (drop k keys) (drop k arrivals) ≡ so_far
-  arrivals_end keys arrivals so_far k le = ap (λ (l : List AlternateKey). so_far ++ arrivals_after old bytes next l (drop k arrivals)) (drop_all k keys le)
+  pub arrivals_end : (keys : List AlternateKey) (arrivals so_far : List ℕ) (k : ℕ) → length keys ≤ k
+      → so_far ++ arrivals_after old bytes next (drop k keys) (drop k arrivals) ≡ so_far
+  arrivals_end keys arrivals so_far k le =
+      ap (λ (l : List AlternateKey). so_far ++ arrivals_after old bytes next l (drop k arrivals)) (drop_all k keys le)
       ∙ ap (λ (l : List ℕ). so_far ++ l) (arrivals_none (drop k arrivals)) ∙ append-nil so_far
 
-  pub arrivals_cut : (keys : List AlternateKey) (arrivals so_far : List ℕ) (k : ℕ) → length arrivals ≤ k → so_far ++ arrivals_after old bytes next (drop k keys) (drop k arrivals) ≡ so_far
-  arrivals_cut keys arrivals so_far k le = ap (λ (l : List ℕ). so_far ++ arrivals_after old bytes next (drop k keys) l) (drop_all k arrivals le)
+  pub arrivals_cut : (keys : List AlternateKey) (arrivals so_far : List ℕ) (k : ℕ) → length arrivals ≤ k
+      → so_far ++ arrivals_after old bytes next (drop k keys) (drop k arrivals) ≡ so_far
+  arrivals_cut keys arrivals so_far k le =
+      ap (λ (l : List ℕ). so_far ++ arrivals_after old bytes next (drop k keys) l) (drop_all k arrivals le)
       ∙ ap (λ (l : List ℕ). so_far ++ l) (arrivals_out (drop k keys)) ∙ append-nil so_far
 
 module _ (o : Organization) (pair : Pair) where
@@ -66,11 +82,16 @@ module _ (o : Organization) (pair : Pair) where
   abbrev found_by : Bool → StoredRow → List StoredRow → Option Row
   found_by b row rows = cond b (Some (row_of row)) (row_at o pair (map row_of rows))
 
-  pub past_row : (rows : List StoredRow) (k : ℕ) (d : StoredRow) → k < length rows → is_at o pair (row_of (get_or rows k d)) ≡ false → row_at o pair (map row_of (drop k rows)) ≡ row_at o pair (map row_of (drop (k + 1) rows))
-  past_row rows k d lt other = ap (λ (l : List StoredRow). row_at o pair (map row_of l)) (drop_more rows k d lt) ∙ ap (λ (b : Bool). found_by b (get_or rows k d) (drop (k + 1) rows)) other
+  pub past_row : (rows : List StoredRow) (k : ℕ) (d : StoredRow)
+      → k < length rows → is_at o pair (row_of (get_or rows k d)) ≡ false
+      → row_at o pair (map row_of (drop k rows)) ≡ row_at o pair (map row_of (drop (k + 1) rows))
+  past_row rows k d lt other = ap (λ (l : List StoredRow). row_at o pair (map row_of l)) (drop_more rows k d lt)
+      ∙ ap (λ (b : Bool). found_by b (get_or rows k d) (drop (k + 1) rows)) other
 
-  pub here_row : (rows : List StoredRow) (k : ℕ) (d : StoredRow) → k < length rows → is_at o pair (row_of (get_or rows k d)) ≡ true → row_at o pair (map row_of (drop k rows)) ≡ Some (row_of (get_or rows k d))
-  here_row rows k d lt same = ap (λ (l : List StoredRow). row_at o pair (map row_of l)) (drop_more rows k d lt) ∙ ap (λ (b : Bool). found_by b (get_or rows k d) (drop (k + 1) rows)) same
+  pub here_row : (rows : List StoredRow) (k : ℕ) (d : StoredRow) → k < length rows → is_at o pair
+      (row_of (get_or rows k d)) ≡ true → row_at o pair (map row_of (drop k rows)) ≡ Some (row_of (get_or rows k d))
+  here_row rows k d lt same = ap (λ (l : List StoredRow). row_at o pair (map row_of l)) (drop_more rows k d lt)
+      ∙ ap (λ (b : Bool). found_by b (get_or rows k d) (drop (k + 1) rows)) same
 
   pub no_row : (rows : List StoredRow) (k : ℕ) → length rows ≤ k → row_at o pair (map row_of (drop k rows)) ≡ None
   no_row rows k le = ap (λ (l : List StoredRow). row_at o pair (map row_of l)) (drop_all k rows le)
@@ -84,63 +105,89 @@ module _ (o : Organization) (pair : Pair) where
 
   in_place_none : (new : Row) (rows : List Row) → Behind pair rows → in_place o pair new rows ≡ rows
   in_place_none new [] all = refl
-  in_place_none new (row ∷ rows) all = ap (λ (b : Bool). cond b new row ∷ in_place o pair new rows) (not_at row all.0) ∙ ap (λ (l : List Row). row ∷ l) (in_place_none new rows all.1)
+  in_place_none new (row ∷ rows) all = ap (λ (b : Bool). cond b new row ∷ in_place o pair new rows) (not_at row all.0)
+      ∙ ap (λ (l : List Row). row ∷ l) (in_place_none new rows all.1)
 
   without_none : (rows : List Row) → Behind pair rows → without_pair o pair rows ≡ rows
   without_none [] all = refl
-  without_none (row ∷ rows) all = ap (λ (b : Bool). cond (not b) (row ∷ without_pair o pair rows) (without_pair o pair rows)) (not_at row all.0) ∙ ap (λ (l : List Row). row ∷ l) (without_none rows all.1)
+  without_none (row ∷ rows) all =
+      ap (λ (b : Bool). cond (not b) (row ∷ without_pair o pair rows) (without_pair o pair rows)) (not_at row all.0)
+      ∙ ap (λ (l : List Row). row ∷ l) (without_none rows all.1)
 
-  at : (p : Pair) (rows : List StoredRow) (i : ℕ) (d : StoredRow) → i < length rows → Behind p (map row_of rows) → pair_cmp p (prime_pair o (row_of (get_or rows i d))) ≡ Less
+  at : (p : Pair) (rows : List StoredRow) (i : ℕ) (d : StoredRow) → i < length rows → Behind p (map row_of rows)
+      → pair_cmp p (prime_pair o (row_of (get_or rows i d))) ≡ Less
   at p [] i d lt all = absurd (omega (arith, lt))
   at p (row ∷ rows) zero d lt all = all.0
   at p (row ∷ rows) (suc i) d lt all = at p rows i d (omega (arith, lt)) all.1
 
-  before_at : (row : StoredRow) (rows : List StoredRow) (i : ℕ) (d : StoredRow) → i < length rows → RowsAscend o (map row_of (row ∷ rows)) → is_at o pair (row_of (get_or rows i d)) ≡ true → is_at o pair (row_of row) ≡ false
+  before_at : (row : StoredRow) (rows : List StoredRow) (i : ℕ) (d : StoredRow)
+      → i < length rows → RowsAscend o (map row_of (row ∷ rows)) → is_at o pair (row_of (get_or rows i d)) ≡ true
+      → is_at o pair (row_of row) ≡ false
   before_at row rows i d lt ascend is =
-      let less = at (prime_pair o (row_of row)) rows i d lt (sorted_head pair_cmp (prime_pair o (row_of row)) (map (prime_pair o) (map row_of rows)) ascend) in
-      ap is_eq (subst (λ (p : Pair). pair_cmp (prime_pair o (row_of row)) p ≡ Less) (pair_same (prime_pair o (row_of (get_or rows i d))) pair is) less)
+      let less = at (prime_pair o (row_of row)) rows i d lt
+      (sorted_head pair_cmp (prime_pair o (row_of row)) (map (prime_pair o) (map row_of rows)) ascend) in
+      ap is_eq (subst (λ (p : Pair). pair_cmp (prime_pair o (row_of row)) p ≡ Less)
+      (pair_same (prime_pair o (row_of (get_or rows i d))) pair is) less)
 
-  behind_at : (row : StoredRow) (rows : List StoredRow) → RowsAscend o (map row_of (row ∷ rows)) → is_at o pair (row_of row) ≡ true → Behind pair (map row_of rows)
-  behind_at row rows ascend is = subst (λ (p : Pair). Behind p (map row_of rows)) (pair_same (prime_pair o (row_of row)) pair is)
+  behind_at : (row : StoredRow) (rows : List StoredRow) → RowsAscend o (map row_of (row ∷ rows))
+      → is_at o pair (row_of row) ≡ true → Behind pair (map row_of rows)
+  behind_at row rows ascend is =
+      subst (λ (p : Pair). Behind p (map row_of rows)) (pair_same (prime_pair o (row_of row)) pair is)
       (sorted_head pair_cmp (prime_pair o (row_of row)) (map (prime_pair o) (map row_of rows)) ascend)
 
-  rest_ascend : (row : StoredRow) (rows : List StoredRow) → RowsAscend o (map row_of (row ∷ rows)) → RowsAscend o (map row_of rows)
-  rest_ascend row rows ascend = sorted_tail pair_cmp (prime_pair o (row_of row)) (map (prime_pair o) (map row_of rows)) ascend
+  rest_ascend : (row : StoredRow) (rows : List StoredRow) → RowsAscend o (map row_of (row ∷ rows))
+      → RowsAscend o (map row_of rows)
+  rest_ascend row rows ascend =
+      sorted_tail pair_cmp (prime_pair o (row_of row)) (map (prime_pair o) (map row_of rows)) ascend
 
-  pub in_place_at : (rows : List StoredRow) (i : ℕ) (d new : StoredRow) → i < length rows → RowsAscend o (map row_of rows) → is_at o pair (row_of (get_or rows i d)) ≡ true
+  pub in_place_at : (rows : List StoredRow) (i : ℕ) (d new : StoredRow) → i < length rows
+      → RowsAscend o (map row_of rows) → is_at o pair (row_of (get_or rows i d)) ≡ true
       → map row_of (set rows i new) ≡ in_place o pair (row_of new) (map row_of rows)
   in_place_at [] i d new lt ascend is = absurd (omega (arith, lt))
   in_place_at (row ∷ rows) zero d new lt ascend is = sym (
       ap (λ (b : Bool). cond b (row_of new) (row_of row) ∷ in_place o pair (row_of new) (map row_of rows)) is
-      ∙ ap (λ (l : List Row). row_of new ∷ l) (in_place_none (row_of new) (map row_of rows) (behind_at row rows ascend is)))
+      ∙ ap (λ (l : List Row). row_of new ∷ l)
+      (in_place_none (row_of new) (map row_of rows) (behind_at row rows ascend is)))
   in_place_at (row ∷ rows) (suc i) d new lt ascend is =
-      ap (λ (l : List Row). row_of row ∷ l) (in_place_at rows i d new (omega (arith, lt)) (rest_ascend row rows ascend) is)
-      ∙ sym (ap (λ (b : Bool). cond b (row_of new) (row_of row) ∷ in_place o pair (row_of new) (map row_of rows)) (before_at row rows i d (omega (arith, lt)) ascend is))
+      ap (λ (l : List Row). row_of row ∷ l)
+      (in_place_at rows i d new (omega (arith, lt)) (rest_ascend row rows ascend) is)
+      ∙ sym (ap (λ (b : Bool). cond b (row_of new) (row_of row) ∷ in_place o pair (row_of new) (map row_of rows))
+      (before_at row rows i d (omega (arith, lt)) ascend is))
 
-  pub without_at : (rows : List StoredRow) (i : ℕ) (d : StoredRow) → i < length rows → RowsAscend o (map row_of rows) → is_at o pair (row_of (get_or rows i d)) ≡ true
+  pub without_at : (rows : List StoredRow) (i : ℕ) (d : StoredRow) → i < length rows → RowsAscend o (map row_of rows)
+      → is_at o pair (row_of (get_or rows i d)) ≡ true
       → map row_of (remove rows i) ≡ without_pair o pair (map row_of rows)
   without_at [] i d lt ascend is = absurd (omega (arith, lt))
   without_at (row ∷ rows) zero d lt ascend is = sym (
-      ap (λ (b : Bool). cond (not b) (row_of row ∷ without_pair o pair (map row_of rows)) (without_pair o pair (map row_of rows))) is
+      ap (λ (b : Bool).
+      cond (not b) (row_of row ∷ without_pair o pair (map row_of rows)) (without_pair o pair (map row_of rows))) is
       ∙ without_none (map row_of rows) (behind_at row rows ascend is))
   without_at (row ∷ rows) (suc i) d lt ascend is =
       ap (λ (l : List Row). row_of row ∷ l) (without_at rows i d (omega (arith, lt)) (rest_ascend row rows ascend) is)
-      ∙ sym (ap (λ (b : Bool). cond (not b) (row_of row ∷ without_pair o pair (map row_of rows)) (without_pair o pair (map row_of rows))) (before_at row rows i d (omega (arith, lt)) ascend is))
+      ∙ sym (ap (λ (b : Bool). cond (not b) (row_of row ∷ without_pair o pair (map row_of rows))
+      (without_pair o pair (map row_of rows))) (before_at row rows i d (omega (arith, lt)) ascend is))
 
 -- what a change of a row comes to
-pub found_row : (o : Organization) (pair pair' : Pair) (rows seen : List StoredRow) (i : ℕ) (old : StoredRow) → seen ≡ rows → pair ≡ pair' → get_or rows i old ≡ old
-    → (row_at o pair (map row_of seen) ≡ Some (row_of (get_or seen i old))) × (is_at o pair (row_of (get_or seen i old)) ≡ true)
+pub found_row : (o : Organization) (pair pair' : Pair) (rows seen : List StoredRow) (i : ℕ) (old : StoredRow)
+    → seen ≡ rows → pair ≡ pair' → get_or rows i old ≡ old
+    → (row_at o pair (map row_of seen) ≡ Some (row_of (get_or seen i old)))
+    × (is_at o pair (row_of (get_or seen i old)) ≡ true)
     → (row_at o pair' (map row_of rows) ≡ Some (row_of old)) × (is_at o pair' (row_of (get_or rows i old)) ≡ true)
 found_row o pair pair' rows seen i old same named here found =
-    let F : List StoredRow → Type 0 = λ l. (row_at o pair (map row_of l) ≡ Some (row_of (get_or l i old))) × (is_at o pair (row_of (get_or l i old)) ≡ true) in
-    let G : Pair → Type 0 = λ p. (row_at o p (map row_of rows) ≡ Some (row_of (get_or rows i old))) × (is_at o p (row_of (get_or rows i old)) ≡ true) in
+    let F : List StoredRow → Type 0 = λ l. (row_at o pair (map row_of l) ≡ Some (row_of (get_or l i old)))
+    × (is_at o pair (row_of (get_or l i old)) ≡ true) in
+    let G : Pair → Type 0 = λ p. (row_at o p (map row_of rows) ≡ Some (row_of (get_or rows i old)))
+    × (is_at o p (row_of (get_or rows i old)) ≡ true) in
     let there = subst G named (subst F same found) in
     (there.0 ∙ ap (λ (r : StoredRow). Some (row_of r)) here, there.1)
 
-pub four : {A B C D R : Type 0} (f : A → B → C → D → R) (a a' : A) (b b' : B) (c c' : C) (d d' : D) → a ≡ a' → b ≡ b' → c ≡ c' → d ≡ d' → f a b c d ≡ f a' b' c' d'
-four f a a' b b' c c' d d' p q r s = ap (λ x. f x b c d) p ∙ ap (λ x. f a' x c d) q ∙ ap (λ x. f a' b' x d) r ∙ ap (λ x. f a' b' c' x) s
+pub four : {A B C D R : Type 0} (f : A → B → C → D → R) (a a' : A) (b b' : B) (c c' : C) (d d' : D) → a ≡ a' → b ≡ b'
+    → c ≡ c' → d ≡ d' → f a b c d ≡ f a' b' c' d'
+four f a a' b b' c c' d d' p q r s =
+    ap (λ x. f x b c d) p ∙ ap (λ x. f a' x c d) q ∙ ap (λ x. f a' b' x d) r ∙ ap (λ x. f a' b' c' x) s
 
-module _ (file : File) (number : ℕ) (bytes : List ℕ) (row : Row) (found : row_at file.spec.organization (named_pair file.spec.organization number bytes) file.rows ≡ Some row) where
+module _ (file : File) (number : ℕ) (bytes : List ℕ) (row : Row)
+    (found : row_at file.spec.organization (named_pair file.spec.organization number bytes) file.rows ≡ Some row) where
   abbrev named : Pair
   named = named_pair file.spec.organization number bytes
 
@@ -151,19 +198,27 @@ module _ (file : File) (number : ℕ) (bytes : List ℕ) (row : Row) (found : ro
   others = without_pair file.spec.organization named file.rows
 
   abbrev next : ℕ
-  next = cond (list_any (λ key. changes row.bytes bytes key) file.spec.alternates) (file.next_arrival + 1) file.next_arrival
+  next = cond (list_any (λ key. changes row.bytes bytes key) file.spec.alternates) (file.next_arrival + 1)
+      file.next_arrival
 
   abbrev after : FileChange
-  after = record { outcome = done_outcome (is_duplicate keys others bytes); file = record file { rows = in_place file.spec.organization named (changed_row file bytes row) file.rows; next_arrival = next } }
+  after = record {
+    outcome = done_outcome (is_duplicate keys others bytes);
+    file = record file
+        { rows = in_place file.spec.organization named (changed_row file bytes row) file.rows; next_arrival = next };
+  }
 
   pub replaced_taken : is_taken keys others bytes ≡ true → replacement number bytes file ≡ without_change Taken file
-  replaced_taken is = ap (replaced_row named bytes file) found ∙ cond-true (is_taken keys others bytes) (without_change Taken file) after is
+  replaced_taken is = ap (replaced_row named bytes file) found
+      ∙ cond-true (is_taken keys others bytes) (without_change Taken file) after is
 
   pub replaced_done : is_taken keys others bytes ≡ false → replacement number bytes file ≡ after
-  replaced_done is = ap (replaced_row named bytes file) found ∙ cond-false (is_taken keys others bytes) (without_change Taken file) after is
+  replaced_done is = ap (replaced_row named bytes file) found
+      ∙ cond-false (is_taken keys others bytes) (without_change Taken file) after is
 
 pub removed_done : (file : File) (pair : Pair) (row : Row) → row_at file.spec.organization pair file.rows ≡ Some row
-    → removal pair file ≡ record { outcome = Done; file = record file { rows = without_pair file.spec.organization pair file.rows } }
+    → removal pair file
+    ≡ record { outcome = Done; file = record file { rows = without_pair file.spec.organization pair file.rows } }
 removed_done file pair row found = ap (removed_row pair file) found
 
 pub done_changes : (b : Bool) → is_change (done_outcome b) ≡ true

@@ -8,7 +8,8 @@ use Rattle.half_store.specs.Write.{IsFull}
 use Rattle.half_store.specs.Stands.{LacksRoom}
 
 -- the volume that a disk holds at rest is the one that is full
-pub lacks_room : (n g : ℕ) (disk : Disk) (before after : Files) → Rests n g disk before → IsFull n g (length (files_bytes after)) ⊎ (255 < length after) → LacksRoom disk.present after
+pub lacks_room : (n g : ℕ) (disk : Disk) (before after : Files) → Rests n g disk before
+    → IsFull n g (length (files_bytes after)) ⊎ (255 < length after) → LacksRoom disk.present after
 lacks_room n g disk before after rests short =
     let roots = rests.holds.roots in
     let bytes : ℕ = length (files_bytes after) in

@@ -14,7 +14,9 @@ use Rattle.half_store.specs.Write.{SpellsRoot}
 abbrev mark : List ℕ
 mark = 67 ∷ 79 ∷ 66 ∷ 72 ∷ 65 ∷ 76 ∷ 70 ∷ 49 ∷ []
 
-pub spells : (root : Root) (bytes : ℕ) (sector : Sector) → root.mark ≡ 0 → big_number 8 root.payload ≡ bytes → list_all (λ byte. byte == 0) (drop 8 root.payload) ≡ true → root.generation < 2 ^ 63 → 1024 ≤ root.sectors → root.sectors ≤ 921600
+pub spells : (root : Root) (bytes : ℕ) (sector : Sector) → root.mark ≡ 0 → big_number 8 root.payload ≡ bytes
+    → list_all (λ byte. byte == 0) (drop 8 root.payload) ≡ true → root.generation < 2 ^ 63 → 1024 ≤ root.sectors
+    → root.sectors ≤ 921600
     → sector ≡ root_bytes mark root → SpellsRoot root.sectors root.generation bytes sector
 spells root bytes sector own counted zeros generation least most spelled = record {
   root = root;
@@ -24,9 +26,13 @@ spells root bytes sector own counted zeros generation least most spelled = recor
   counted = counted;
   zeros = zeros;
   valid = λ n there. rw spelled (reads_back known_marks n (root.generation % 2) mark root refl refl (ap Some (sym own))
-      (and_from (nat_lt root.generation (2 ^ 63) && (root.generation % 2 == root.generation % 2) && nat_le 1024 root.sectors && nat_le root.sectors 921600) (nat_le root.sectors n)
-      (and_from (nat_lt root.generation (2 ^ 63) && (root.generation % 2 == root.generation % 2) && nat_le 1024 root.sectors) (nat_le root.sectors 921600)
-      (and_from (nat_lt root.generation (2 ^ 63) && (root.generation % 2 == root.generation % 2)) (nat_le 1024 root.sectors)
-      (and_from (nat_lt root.generation (2 ^ 63)) (root.generation % 2 == root.generation % 2) (lt-ltb root.generation (2 ^ 63) generation) (eq-eqb (root.generation % 2) (root.generation % 2) refl))
+      (and_from (nat_lt root.generation (2 ^ 63) && (root.generation % 2 == root.generation % 2)
+      && nat_le 1024 root.sectors && nat_le root.sectors 921600) (nat_le root.sectors n)
+      (and_from (nat_lt root.generation (2 ^ 63) && (root.generation % 2 == root.generation % 2)
+      && nat_le 1024 root.sectors) (nat_le root.sectors 921600)
+      (and_from (nat_lt root.generation (2 ^ 63) && (root.generation % 2 == root.generation % 2))
+      (nat_le 1024 root.sectors)
+      (and_from (nat_lt root.generation (2 ^ 63)) (root.generation % 2 == root.generation % 2)
+      (lt-ltb root.generation (2 ^ 63) generation) (eq-eqb (root.generation % 2) (root.generation % 2) refl))
       (le-leb 1024 root.sectors least)) (le-leb root.sectors 921600 most)) (le-leb root.sectors n there)));
 }

@@ -22,7 +22,9 @@ pub(crate) fn insert_in(
     number: u64,
     bytes: &[u8],
 ) -> Result<Outcome, StoreFault>
-    ensures becomes { (held : File) → Has (files_of files.old.items) spec.now held → AreFiles (files_of files.old.items) → BecomesIn result spec.now.name.items (insertion number bytes.now held) held files.old.items files.new.items }
+    ensures becomes { (held : File) → Has (files_of files.old.items) spec.now held
+        → AreFiles (files_of files.old.items) → BecomesIn result spec.now.name.items
+        (insertion number bytes.now held) held files.old.items files.new.items }
     ensures cause { IfErr result IsMemoryCause }
 {
     match find_file(files, &spec.name) {
@@ -39,7 +41,9 @@ pub(crate) fn replace_in(
     number: u64,
     bytes: &[u8],
 ) -> Result<Outcome, StoreFault>
-    ensures becomes { (held : File) → Has (files_of files.old.items) spec.now held → AreFiles (files_of files.old.items) → BecomesIn result spec.now.name.items (replacement number bytes.now held) held files.old.items files.new.items }
+    ensures becomes { (held : File) → Has (files_of files.old.items) spec.now held
+        → AreFiles (files_of files.old.items) → BecomesIn result spec.now.name.items
+        (replacement number bytes.now held) held files.old.items files.new.items }
     ensures cause { IfErr result IsMemoryCause }
 {
     match find_file(files, &spec.name) {
@@ -55,7 +59,9 @@ pub(crate) fn remove_in(
     number: u64,
     key: &[u8],
 ) -> Result<Outcome, StoreFault>
-    ensures becomes { (held : File) → Has (files_of files.old.items) spec.now held → AreFiles (files_of files.old.items) → BecomesIn result spec.now.name.items (removal (pair_of spec.now.organization key.now number) held) held files.old.items files.new.items }
+    ensures becomes { (held : File) → Has (files_of files.old.items) spec.now held
+        → AreFiles (files_of files.old.items) → BecomesIn result spec.now.name.items (removal
+        (pair_of spec.now.organization key.now number) held) held files.old.items files.new.items }
     ensures cause { IfErr result IsMemoryCause }
 {
     match find_file(files, &spec.name) {

@@ -17,8 +17,10 @@ use records::{FileSpec, Organization};
 
 /// Whether files are those of a volume of this generation.
 pub(crate) fn are_files(files: &[StoredFile], generation: u64) -> bool
-    ensures yes { result ≡ true → AreFiles (files_of files.now) × AreEarly generation (files_of files.now) }
-    ensures no { result ≡ false → AreFiles (files_of files.now) → AreEarly generation (files_of files.now) → ⊥ }
+    ensures yes { result ≡ true
+        → AreFiles (files_of files.now) × AreEarly generation (files_of files.now) }
+    ensures no { result ≡ false → AreFiles (files_of files.now)
+        → AreEarly generation (files_of files.now) → ⊥ }
 {
     if files.len() > 255 {
         return false;
@@ -38,8 +40,12 @@ pub(crate) fn are_files(files: &[StoredFile], generation: u64) -> bool
 /// Whether the row behind this one, if there is one, comes behind it under the prime key.
 fn is_before_next(organization: Organization, rows: &[StoredRow], place: usize) -> bool
     requires { place < length rows.now }
-    ensures yes { result ≡ true → (d : StoredRow) → place + 1 < length rows.now → pair_cmp (prime_pair organization (row_of (get_or rows.now place d))) (prime_pair organization (row_of (get_or rows.now (place + 1) d))) ≡ Less }
-    ensures no { result ≡ false → (d : StoredRow) → (place + 1 < length rows.now) × (pair_cmp (prime_pair organization (row_of (get_or rows.now place d))) (prime_pair organization (row_of (get_or rows.now (place + 1) d))) ≡ Less → ⊥) }
+    ensures yes { result ≡ true → (d : StoredRow) → place + 1 < length rows.now
+        → pair_cmp (prime_pair organization (row_of (get_or rows.now place d)))
+        (prime_pair organization (row_of (get_or rows.now (place + 1) d))) ≡ Less }
+    ensures no { result ≡ false → (d : StoredRow) → (place + 1 < length rows.now)
+        × (pair_cmp (prime_pair organization (row_of (get_or rows.now place d)))
+        (prime_pair organization (row_of (get_or rows.now (place + 1) d))) ≡ Less → ⊥) }
 {
     if place + 1 >= rows.len() {
         return true;
@@ -50,8 +56,10 @@ fn is_before_next(organization: Organization, rows: &[StoredRow], place: usize) 
 
 /// Whether rows are those of such a file, and ascend.
 fn are_rows(spec: &FileSpec, next: u64, rows: &[StoredRow]) -> bool
-    ensures yes { result ≡ true → AllByRecursion (IsRow (spec_of spec.now) next) (map row_of rows.now) × RowsAscend spec.now.organization (map row_of rows.now) }
-    ensures no { result ≡ false → AllByRecursion (IsRow (spec_of spec.now) next) (map row_of rows.now) → RowsAscend spec.now.organization (map row_of rows.now) → ⊥ }
+    ensures yes { result ≡ true → AllByRecursion (IsRow (spec_of spec.now) next)
+        (map row_of rows.now) × RowsAscend spec.now.organization (map row_of rows.now) }
+    ensures no { result ≡ false → AllByRecursion (IsRow (spec_of spec.now) next)
+        (map row_of rows.now) → RowsAscend spec.now.organization (map row_of rows.now) → ⊥ }
 {
     for back in 0..rows.len() {
         let place = rows.len() - 1 - back;
@@ -68,7 +76,8 @@ fn are_rows(spec: &FileSpec, next: u64, rows: &[StoredRow]) -> bool
 /// Whether a file is one of a volume of this generation.
 fn is_file(file: &StoredFile, generation: u64) -> bool
     ensures yes { result ≡ true → IsFile (file_of file.now) × (file.now.next_arrival ≤ generation) }
-    ensures no { result ≡ false → IsFile (file_of file.now) → file.now.next_arrival ≤ generation → ⊥ }
+    ensures no { result ≡ false → IsFile (file_of file.now) → file.now.next_arrival ≤ generation
+        → ⊥ }
 {
     if file.next_arrival < 1 {
         return false;
@@ -82,8 +91,12 @@ fn is_file(file: &StoredFile, generation: u64) -> bool
 /// Whether the file behind this one, if there is one, has a greater name.
 fn is_named_before_next(files: &[StoredFile], place: usize) -> bool
     requires { place < length files.now }
-    ensures yes { result ≡ true → (d : StoredFile) → place + 1 < length files.now → bytes_cmp (get_or files.now place d).spec.name.items (get_or files.now (place + 1) d).spec.name.items ≡ Less }
-    ensures no { result ≡ false → (d : StoredFile) → (place + 1 < length files.now) × (bytes_cmp (get_or files.now place d).spec.name.items (get_or files.now (place + 1) d).spec.name.items ≡ Less → ⊥) }
+    ensures yes { result ≡ true → (d : StoredFile)
+        → place + 1 < length files.now → bytes_cmp (get_or files.now place d).spec.name.items
+        (get_or files.now (place + 1) d).spec.name.items ≡ Less }
+    ensures no { result ≡ false → (d : StoredFile)
+        → (place + 1 < length files.now) × (bytes_cmp (get_or files.now place d).spec.name.items
+        (get_or files.now (place + 1) d).spec.name.items ≡ Less → ⊥) }
 {
     if place + 1 >= files.len() {
         return true;

@@ -24,14 +24,22 @@ impl HalfStore {
         ensures only { OnlyWrites D.Device (result ≡ Err StoreFault.Device) device.old device.new }
         ensures rest { self.new ≡ record self.old { generation = self.new.generation } }
         ensures cause { IfErr result IsCause }
-        ensures full { result ≡ Err StoreFault.Full → IsFull self.old.sectors self.old.generation (length (files_bytes (files_of self.old.files.items))) }
-        ensures unwritten { result ≡ Err StoreFault.Full → D.is_honest device.old → D.state device.new ≡ D.state device.old }
-        ensures moments { D.is_honest device.old → (before : Files) → Rests self.old.sectors self.old.generation (D.state device.old).disk before
-            → AreFiles (files_of self.old.files.items) → AreEarly (self.old.generation + 1) (files_of self.old.files.items) →
-            Through (D.history device.old) (D.history device.new) (D.state device.new) (CrashLeaves (D.state device.old).events (Either Holds before (files_of self.old.files.items))) }
-        ensures rests { D.is_honest device.old → (before : Files) → Rests self.old.sectors self.old.generation (D.state device.old).disk before
-            → AreFiles (files_of self.old.files.items) → AreEarly (self.old.generation + 1) (files_of self.old.files.items) →
-            OnOk result (Rests self.new.sectors self.new.generation (D.state device.new).disk (files_of self.old.files.items)) }
+        ensures full { result ≡ Err StoreFault.Full → IsFull self.old.sectors self.old.generation
+            (length (files_bytes (files_of self.old.files.items))) }
+        ensures unwritten { result ≡ Err StoreFault.Full → D.is_honest device.old
+            → D.state device.new ≡ D.state device.old }
+        ensures moments { D.is_honest device.old → (before : Files)
+            → Rests self.old.sectors self.old.generation (D.state device.old).disk before
+            → AreFiles (files_of self.old.files.items)
+            → AreEarly (self.old.generation + 1) (files_of self.old.files.items) →
+            Through (D.history device.old) (D.history device.new) (D.state device.new) (CrashLeaves
+            (D.state device.old).events (Either Holds before (files_of self.old.files.items))) }
+        ensures rests { D.is_honest device.old → (before : Files)
+            → Rests self.old.sectors self.old.generation (D.state device.old).disk before
+            → AreFiles (files_of self.old.files.items)
+            → AreEarly (self.old.generation + 1) (files_of self.old.files.items) →
+            OnOk result (Rests self.new.sectors self.new.generation (D.state device.new).disk
+            (files_of self.old.files.items)) }
     {
         let mut bytes = spell(self.alloc, &self.files)?;
         write_half(
@@ -58,12 +66,18 @@ impl HalfStore {
         ensures unspent { OnOk result (self.new.spent ≡ false) }
         ensures spent { OnErr result (self.new.spent ≡ self.old.spent) }
         ensures cause { IfErr result IsCause }
-        ensures idle { is_change outcome ≡ false → D.is_honest device.old → D.state device.new ≡ D.state device.old }
+        ensures idle { is_change outcome ≡ false → D.is_honest device.old
+            → D.state device.new ≡ D.state device.old }
         ensures changes { result ≡ Err StoreFault.Full → is_change outcome ≡ true }
-        ensures unwritten { result ≡ Err StoreFault.Full → D.is_honest device.old → D.state device.new ≡ D.state device.old }
-        ensures settles { (before after : Files) → D.is_honest device.old → Rests self.old.sectors self.old.generation (D.state device.old).disk before
-            → files_of self.old.files.items ≡ after → AreFiles after → AreEarly (self.old.generation + 1) after → (is_change outcome ≡ false → after ≡ before)
-            → CommitsFiles D.Device result self.old.sectors self.old.generation before after device.old self.new device.new }
+        ensures unwritten { result ≡ Err StoreFault.Full → D.is_honest device.old
+            → D.state device.new ≡ D.state device.old }
+        ensures settles { (before after : Files) → D.is_honest device.old
+            → Rests self.old.sectors self.old.generation (D.state device.old).disk before
+            → files_of self.old.files.items ≡ after
+            → AreFiles after → AreEarly (self.old.generation + 1) after
+            → (is_change outcome ≡ false → after ≡ before)
+            → CommitsFiles D.Device result self.old.sectors self.old.generation before after
+            device.old self.new device.new }
     {
         if !is_done(outcome) {
             self.spent = false;

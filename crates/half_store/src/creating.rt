@@ -21,9 +21,11 @@ pub(crate) fn create_in(
     files: &mut Vec<StoredFile>,
     spec: &FileSpec,
 ) -> Result<(), StoreFault>
-    ensures after { OnOk result (files_of files.new.items ≡ with_file spec.now.name.items (empty_file (spec_of spec.now)) (files_of files.old.items)) }
+    ensures after { OnOk result (files_of files.new.items ≡ with_file spec.now.name.items
+        (empty_file (spec_of spec.now)) (files_of files.old.items)) }
     ensures count { length files.old.items ≤ 255 → OnOk result (length files.new.items ≤ 255) }
-    ensures full { result ≡ Err StoreFault.Full → 255 < length (with_file spec.now.name.items (empty_file (spec_of spec.now)) (files_of files.old.items)) }
+    ensures full { result ≡ Err StoreFault.Full → 255 < length
+        (with_file spec.now.name.items (empty_file (spec_of spec.now)) (files_of files.old.items)) }
     ensures cause { IfErr result IsMemoryCause }
     ensures sound { result ≢ Err StoreFault.Damaged }
 {
@@ -50,8 +52,10 @@ pub(crate) fn create_in(
 /// The place of the first file whose name isn't before this one.
 fn place_of_name(files: &[StoredFile], name: &[u8]) -> usize
     ensures bound { result ≤ length files.now }
-    ensures place { (file : File) → with_file name.now file (files_of files.now) ≡ files_of (take result files.now) ++ with_file name.now file (files_of (drop result files.now)) }
-    ensures behind { (d : StoredFile) → result < length files.now → is_lt (bytes_cmp (get_or files.now result d).spec.name.items name.now) ≡ false }
+    ensures place { (file : File) → with_file name.now file (files_of files.now) ≡ files_of
+        (take result files.now) ++ with_file name.now file (files_of (drop result files.now)) }
+    ensures behind { (d : StoredFile) → result < length files.now
+        → is_lt (bytes_cmp (get_or files.now result d).spec.name.items name.now) ≡ false }
 {
     for place in 0..files.len() {
         if !files[place].spec.name.as_slice().cmp(name).is_lt() {
@@ -63,7 +67,8 @@ fn place_of_name(files: &[StoredFile], name: &[u8]) -> usize
 
 /// A file's description once more.
 fn spec_copy(alloc: Global, spec: &FileSpec) -> Result<FileSpec, StoreFault>
-    ensures copy { IfOk result (λ copy. (copy.name.items ≡ spec.now.name.items) × (spec_of copy ≡ spec_of spec.now)) }
+    ensures copy { IfOk result
+        (λ copy. (copy.name.items ≡ spec.now.name.items) × (spec_of copy ≡ spec_of spec.now)) }
     ensures memory { IsOkUnless result StoreFault.Memory }
 {
     let mut name = Vec::new(alloc);
@@ -80,7 +85,8 @@ fn spec_copy(alloc: Global, spec: &FileSpec) -> Result<FileSpec, StoreFault>
 
 /// A file without rows.
 fn fresh_file(alloc: Global, spec: &FileSpec) -> Result<StoredFile, StoreFault>
-    ensures file { IfOk result (λ file. (file.spec.name.items ≡ spec.now.name.items) × (file_of file ≡ empty_file (spec_of spec.now))) }
+    ensures file { IfOk result (λ file. (file.spec.name.items ≡ spec.now.name.items)
+        × (file_of file ≡ empty_file (spec_of spec.now))) }
     ensures memory { IsOkUnless result StoreFault.Memory }
 {
     let spec = spec_copy(alloc, spec)?;

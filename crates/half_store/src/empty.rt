@@ -14,8 +14,10 @@ pub fn format<D: Device>(device: &mut D) -> Result<(), DeviceError>
     ensures only { OnlyWrites D.Device (IsErr result) device.old device.new }
 
     // After `Ok` a crash leaves no files.
-    ensures empty { D.is_honest device.old → OnOk result (EachImage (λ image. Holds image []) (D.state device.new)) }
-    ensures rests { D.is_honest device.old → OnOk result (Rests (D.sectors device.old) 0 (D.state device.new).disk []) }
+    ensures empty { D.is_honest device.old
+        → OnOk result (EachImage (λ image. Holds image []) (D.state device.new)) }
+    ensures rests { D.is_honest device.old
+        → OnOk result (Rests (D.sectors device.old) 0 (D.state device.new).disk []) }
 {
     let root = root_bytes(device.count(), 0, 0);
     device.write(1, &[0; 4096])?;

@@ -17,7 +17,9 @@ use records::{AlternateKey, FileSpec, KeyPlace, Organization, Presence};
 pub(crate) fn find_file(files: &[StoredFile], name: &[u8]) -> Option<usize>
     ensures bound { IfSome result (λ i. i < length files.now) }
     ensures absent { result ≡ None → file_at name.now (files_of files.now) ≡ None }
-    ensures found { IfSome result (λ i. (d : StoredFile) → (file_at name.now (files_of files.now) ≡ Some (file_of (get_or files.now i d))) × (same_bytes (get_or files.now i d).spec.name.items name.now ≡ true)) }
+    ensures found { IfSome result (λ i. (d : StoredFile)
+        → (file_at name.now (files_of files.now) ≡ Some (file_of (get_or files.now i d)))
+        × (same_bytes (get_or files.now i d).spec.name.items name.now ≡ true)) }
 {
     for place in 0..files.len() {
         if files[place].spec.name.as_slice().cmp(name).is_eq() {
@@ -35,9 +37,12 @@ pub(crate) fn find_row(
     key: &[u8],
 ) -> Option<usize>
     ensures bound { IfSome result (λ i. i < length rows.now) }
-    ensures absent { result ≡ None → row_at organization (pair_of organization key.now number) (map row_of rows.now) ≡ None }
-    ensures found { IfSome result (λ i. (d : StoredRow) → (row_at organization (pair_of organization key.now number) (map row_of rows.now) ≡ Some (row_of (get_or rows.now i d)))
-        × (is_at organization (pair_of organization key.now number) (row_of (get_or rows.now i d)) ≡ true)) }
+    ensures absent { result ≡ None
+        → row_at organization (pair_of organization key.now number) (map row_of rows.now) ≡ None }
+    ensures found { IfSome result (λ i. (d : StoredRow) → (row_at organization (pair_of organization
+        key.now number) (map row_of rows.now) ≡ Some (row_of (get_or rows.now i d)))
+        × (is_at organization (pair_of organization key.now number) (row_of (get_or rows.now i d))
+        ≡ true)) }
 {
     for place in 0..rows.len() {
         if pair_cmp(organization, &rows[place], number, key).is_eq() {
@@ -65,7 +70,8 @@ fn is_same_organization(one: Organization, two: Organization) -> bool
 }
 
 fn is_same_key(one: &AlternateKey, two: &AlternateKey) -> bool
-    ensures { result ≡ (same_place one.now.place two.now.place && same_bool one.now.duplicates two.now.duplicates) }
+    ensures { result ≡ (same_place one.now.place two.now.place
+        && same_bool one.now.duplicates two.now.duplicates) }
 {
     is_same_place(one.place, two.place) && one.duplicates == two.duplicates
 }
@@ -81,7 +87,8 @@ fn are_same_keys(ones: &[AlternateKey], twos: &[AlternateKey]) -> bool
 
 /// A file that is there, beside what a program says of it.
 pub(crate) fn presence_of(there: &FileSpec, said: &FileSpec) -> Presence
-    ensures { result ≡ (if same_spec (spec_of there.now) (spec_of said.now) then Presence.Present else Presence.Different) }
+    ensures { result ≡ (if same_spec (spec_of there.now) (spec_of said.now) then Presence.Present
+        else Presence.Different) }
 {
     if is_same_organization(there.organization, said.organization)
         && there.record_length == said.record_length

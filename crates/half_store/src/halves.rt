@@ -60,10 +60,12 @@ fn draft_half(
 ) -> Result<Draft, StoreFault>
     requires least { 1024 ≤ sectors }
     requires most { sectors ≤ 921600 }
-    ensures draft { IfOk result (λ draft. IsDraft sectors generation bytes.old.items draft.blocks.items draft.root) }
+    ensures draft { IfOk result
+        (λ draft. IsDraft sectors generation bytes.old.items draft.blocks.items draft.root) }
     ensures cause { IfErr result IsCause }
     ensures device { result ≢ Err StoreFault.Device }
-    ensures full { result ≡ Err StoreFault.Full → IsFull sectors generation (length bytes.old.items) }
+    ensures full { result ≡ Err StoreFault.Full
+        → IsFull sectors generation (length bytes.old.items) }
     ensures generation { OnOk result (generation + 1 < 2 ^ 63) }
 {
     let length = bytes.len();
@@ -95,15 +97,21 @@ pub(crate) fn write_half<D: Device>(
     requires most { sectors ≤ 921600 }
     ensures only { OnlyWrites D.Device (result ≡ Err StoreFault.Device) device.old device.new }
     ensures cause { IfErr result IsCause }
-    ensures full { result ≡ Err StoreFault.Full → IsFull sectors generation (length bytes.old.items) }
-    ensures unwritten { result ≡ Err StoreFault.Full → D.is_honest device.old → D.state device.new ≡ D.state device.old }
+    ensures full { result ≡ Err StoreFault.Full
+        → IsFull sectors generation (length bytes.old.items) }
+    ensures unwritten { result ≡ Err StoreFault.Full → D.is_honest device.old
+        → D.state device.new ≡ D.state device.old }
 
     // At each moment a crash leaves the files before, or those that the bytes spell.
-    ensures moments { D.is_honest device.old → (before after : Files) → Rests sectors generation (D.state device.old).disk before
+    ensures moments { D.is_honest device.old → (before after : Files)
+        → Rests sectors generation (D.state device.old).disk before
         → bytes.old.items ≡ files_bytes after → AreFiles after → AreEarly (generation + 1) after →
-        Through (D.history device.old) (D.history device.new) (D.state device.new) (CrashLeaves (D.state device.old).events (Either Holds before after)) }
-    ensures rests { D.is_honest device.old → (before after : Files) → Rests sectors generation (D.state device.old).disk before
-        → bytes.old.items ≡ files_bytes after → AreFiles after → AreEarly (generation + 1) after → OnOk result (Rests sectors (generation + 1) (D.state device.new).disk after) }
+        Through (D.history device.old) (D.history device.new) (D.state device.new)
+        (CrashLeaves (D.state device.old).events (Either Holds before after)) }
+    ensures rests { D.is_honest device.old → (before after : Files)
+        → Rests sectors generation (D.state device.old).disk before
+        → bytes.old.items ≡ files_bytes after → AreFiles after → AreEarly (generation + 1) after
+        → OnOk result (Rests sectors (generation + 1) (D.state device.new).disk after) }
     ensures generation { OnOk result (generation + 1 < 2 ^ 63) }
 {
     let draft = draft_half(alloc, sectors, generation, bytes)?;

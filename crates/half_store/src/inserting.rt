@@ -31,7 +31,8 @@ pub(crate) fn insert_row(
     number: u64,
     bytes: &[u8],
 ) -> Result<Outcome, StoreFault>
-    ensures becomes { Becomes result (insertion number bytes.now (file_of file.old)) file.old file.new }
+    ensures becomes { Becomes result (insertion number bytes.now (file_of file.old)) file.old
+        file.new }
     ensures cause { IfErr result IsMemoryCause }
 {
     let spec = &file.spec;
@@ -58,8 +59,10 @@ pub(crate) fn insert_row(
 /// Where a new row comes to stand.
 fn place_in(rows: &[StoredRow], organization: Organization, number: u64, bytes: &[u8]) -> usize
     ensures bound { result ≤ length rows.now }
-    ensures place { (new : Row) → prime_pair organization new ≡ named_pair organization number bytes.now →
-        with_row organization new (map row_of rows.now) ≡ map row_of (take result rows.now) ++ new ∷ map row_of (drop result rows.now) }
+    ensures place { (new : Row)
+        → prime_pair organization new ≡ named_pair organization number bytes.now →
+        with_row organization new (map row_of rows.now)
+        ≡ map row_of (take result rows.now) ++ new ∷ map row_of (drop result rows.now) }
 {
     for place in 0..rows.len() {
         if !prime_cmp(organization, &rows[place], number, bytes).is_lt() {
@@ -77,7 +80,8 @@ fn row_with(
     keys: &[AlternateKey],
     arrival: u64,
 ) -> Result<StoredRow, StoreFault>
-    ensures row { IfOk result (λ row. row_of row ≡ record { number = number; bytes = bytes.now; arrivals = map (λ key. arrival) keys.now }) }
+    ensures row { IfOk result (λ row. row_of row
+        ≡ record { number = number; bytes = bytes.now; arrivals = map (λ key. arrival) keys.now }) }
     ensures memory { IsOkUnless result StoreFault.Memory }
 {
     let mut copy = Vec::new(alloc);

@@ -6,5 +6,6 @@ ghost use Rattle.half_store.specs.Half.{Holds};
 
 /// An image holds at most one list of files.
 pub fn one_list_of_files()
-    ensures { (image : List Sector) (one other : Files) → Holds image one → Holds image other → one ≡ other }
+    ensures { (image : List Sector) (one other : Files) → Holds image one → Holds image other
+        → one ≡ other }
 {}

@@ -33,13 +33,21 @@ use std::alloc::Global;
 /// The files that a volume holds. Nothing is written.
 pub fn recover<D: Device>(alloc: Global, device: &mut D) -> Result<Vec<StoredFile>, StoreFault>
     ensures only { OnlyWrites D.Device (result ≡ Err StoreFault.Device) device.old device.new }
-    ensures moments { D.is_honest device.old → Through (D.history device.old) (D.history device.new) (D.state device.new) (IsOpening (D.state device.old)) }
-    ensures state { D.is_honest device.old → OnOk result (D.state device.new ≡ state_after_sync (D.state device.old)) }
-    ensures unwritten { D.is_honest device.old → OnErr result ((D.state device.new ≡ D.state device.old) ⊎ (D.state device.new ≡ state_after_sync (D.state device.old))) }
-    ensures holds { D.is_honest device.old → IfOk result (λ files. Holds (D.state device.old).disk.present (files_of files.items)) }
-    ensures refused { D.is_honest device.old → IfErr result (λ fault. IsOpenRefusal (D.state device.old).disk.present fault) }
-    ensures opens { D.is_honest device.old → (files : Files) → Holds (D.state device.old).disk.present files → IfErr result IsReadCause }
-    ensures foreign { D.is_honest device.old → IsForeign (D.state device.old).disk.present → FailsWith StoreFault.Layout result }
+    ensures moments { D.is_honest device.old → Through (D.history device.old) (D.history device.new)
+        (D.state device.new) (IsOpening (D.state device.old)) }
+    ensures state { D.is_honest device.old
+        → OnOk result (D.state device.new ≡ state_after_sync (D.state device.old)) }
+    ensures unwritten { D.is_honest device.old
+        → OnErr result ((D.state device.new ≡ D.state device.old)
+        ⊎ (D.state device.new ≡ state_after_sync (D.state device.old))) }
+    ensures holds { D.is_honest device.old
+        → IfOk result (λ files. Holds (D.state device.old).disk.present (files_of files.items)) }
+    ensures refused { D.is_honest device.old
+        → IfErr result (λ fault. IsOpenRefusal (D.state device.old).disk.present fault) }
+    ensures opens { D.is_honest device.old → (files : Files)
+        → Holds (D.state device.old).disk.present files → IfErr result IsReadCause }
+    ensures foreign { D.is_honest device.old → IsForeign (D.state device.old).disk.present
+        → FailsWith StoreFault.Layout result }
 {
     match HalfStore::open(alloc, device) {
         Ok(store) => Ok(store.files),
@@ -109,7 +117,8 @@ fn are_half_roots(roots: &Roots) -> bool
 fn read_sector<D: Device>(device: &mut D, sector: u32) -> Result<[u8; 4096], DeviceError>
     requires { sector < D.sectors device.old }
     ensures only { OnlyReads D.Device (IsErr result) device.old device.new }
-    ensures bytes { D.is_honest device.old → IfOk result (λ bytes. bytes ≡ sector_at (D.state device.old).disk.present sector) }
+    ensures bytes { D.is_honest device.old
+        → IfOk result (λ bytes. bytes ≡ sector_at (D.state device.old).disk.present sector) }
     ensures long { IfOk result (λ bytes. length bytes ≡ 4096) }
 {
     let mut bytes = [0; 4096];
@@ -127,10 +136,12 @@ fn read_sectors<D: Device>(
     requires there { from + count ≤ D.sectors device.old }
     requires bound { from + count < 2 ^ 32 }
     ensures only { OnlyReads D.Device (result ≡ Err StoreFault.Device) device.old device.new }
-    ensures bytes { D.is_honest device.old → IfOk result (λ bytes. bytes.items ≡ bytes_of_sectors (D.state device.old).disk.present from count) }
+    ensures bytes { D.is_honest device.old → IfOk result
+        (λ bytes. bytes.items ≡ bytes_of_sectors (D.state device.old).disk.present from count) }
     ensures long { IfOk result (λ bytes. length bytes.items ≡ 4096 * count) }
     ensures cause { IfErr result IsReadCause }
-    ensures refused { IfErr result (λ fault. IsOpenRefusal (D.state device.old).disk.present fault) }
+    ensures refused { IfErr result
+        (λ fault. IsOpenRefusal (D.state device.old).disk.present fault) }
 {
     let mut bytes = Vec::new(alloc);
     for sector in 0..count {
@@ -147,10 +158,12 @@ fn read_half<D: Device>(alloc: Global, device: &mut D, root: &Root) -> Result<Ve
     requires there { root.now.sectors ≤ D.sectors device.old }
     requires fits { named_length root.now ≤ 4096 * half root.now.sectors }
     ensures only { OnlyReads D.Device (result ≡ Err StoreFault.Device) device.old device.new }
-    ensures bytes { D.is_honest device.old → IfOk result (λ bytes. bytes.items ≡ named_bytes (D.state device.old).disk.present root.now) }
+    ensures bytes { D.is_honest device.old → IfOk result
+        (λ bytes. bytes.items ≡ named_bytes (D.state device.old).disk.present root.now) }
     ensures long { IfOk result (λ bytes. length bytes.items ≡ named_length root.now) }
     ensures cause { IfErr result IsReadCause }
-    ensures refused { IfErr result (λ fault. IsOpenRefusal (D.state device.old).disk.present fault) }
+    ensures refused { IfErr result
+        (λ fault. IsOpenRefusal (D.state device.old).disk.present fault) }
 {
     let length = length_in(root) as usize;
     let from = start_of(root.sectors, root.generation);
@@ -172,8 +185,11 @@ fn spelled_files(
     generation: u64,
 ) -> Result<Option<Vec<StoredFile>>, StoreFault>
     requires { generation < 2 ^ 63 }
-    ensures some { IfOk result (λ found. IfSome found (λ files. (bytes.now ≡ files_bytes (files_of files.items)) × AreFiles (files_of files.items) × AreEarly generation (files_of files.items))) }
-    ensures none { result ≡ Ok None → (files : Files) → bytes.now ≡ files_bytes files → AreFiles files → AreEarly generation files → ⊥ }
+    ensures some { IfOk result
+        (λ found. IfSome found (λ files. (bytes.now ≡ files_bytes (files_of files.items))
+        × AreFiles (files_of files.items) × AreEarly generation (files_of files.items))) }
+    ensures none { result ≡ Ok None → (files : Files) → bytes.now ≡ files_bytes files
+        → AreFiles files → AreEarly generation files → ⊥ }
     ensures memory { IsOkUnless result StoreFault.Memory }
 {
     let Some(files) = read_files(alloc, bytes)? else {
@@ -192,10 +208,13 @@ fn spelled_files(
 /// The roots of a volume of halves.
 fn own_roots<D: Device>(device: &mut D) -> Result<Roots, StoreFault>
     ensures only { OnlyReads D.Device (result ≡ Err StoreFault.Device) device.old device.new }
-    ensures roots { D.is_honest device.old → IfOk result (λ roots. roots_in known_marks 1 (D.state device.old).disk.present ≡ Ok roots) }
+    ensures roots { D.is_honest device.old → IfOk result
+        (λ roots. roots_in known_marks 1 (D.state device.old).disk.present ≡ Ok roots) }
     ensures within { IfOk result (λ roots. EachRoot (IsWithinVolume (D.sectors device.old)) roots) }
-    ensures refused { D.is_honest device.old → IfErr result (λ fault. IsOpenRefusal (D.state device.old).disk.present fault) }
-    ensures foreign { D.is_honest device.old → IsForeign (D.state device.old).disk.present → FailsWith StoreFault.Layout result }
+    ensures refused { D.is_honest device.old
+        → IfErr result (λ fault. IsOpenRefusal (D.state device.old).disk.present fault) }
+    ensures foreign { D.is_honest device.old → IsForeign (D.state device.old).disk.present
+        → FailsWith StoreFault.Layout result }
 {
     match read_roots(device, &[MARK, FOREIGN_MARK], 1) {
         Ok(roots) => Ok(roots),
@@ -206,10 +225,14 @@ fn own_roots<D: Device>(device: &mut D) -> Result<Roots, StoreFault>
 /// The store of the volume that a device has. Nothing is written.
 fn read_volume<D: Device>(alloc: Global, device: &mut D) -> Result<HalfStore, StoreFault>
     ensures only { OnlyReads D.Device (result ≡ Err StoreFault.Device) device.old device.new }
-    ensures holds { D.is_honest device.old → IfOk result (λ store. HoldsAt store.sectors store.generation (D.state device.old).disk.present (files_of store.files.items)) }
-    ensures there { IfOk result (λ store. (store.sectors ≤ D.sectors device.old) × (store.spent ≡ false)) }
-    ensures refused { D.is_honest device.old → IfErr result (λ fault. IsOpenRefusal (D.state device.old).disk.present fault) }
-    ensures foreign { D.is_honest device.old → IsForeign (D.state device.old).disk.present → FailsWith StoreFault.Layout result }
+    ensures holds { D.is_honest device.old → IfOk result (λ store. HoldsAt store.sectors
+        store.generation (D.state device.old).disk.present (files_of store.files.items)) }
+    ensures there { IfOk result
+        (λ store. (store.sectors ≤ D.sectors device.old) × (store.spent ≡ false)) }
+    ensures refused { D.is_honest device.old
+        → IfErr result (λ fault. IsOpenRefusal (D.state device.old).disk.present fault) }
+    ensures foreign { D.is_honest device.old → IsForeign (D.state device.old).disk.present
+        → FailsWith StoreFault.Layout result }
 {
     let roots = own_roots(device)?;
     if !are_half_roots(&roots) {
@@ -237,19 +260,29 @@ impl HalfStore {
         ensures only { OnlyWrites D.Device (result ≡ Err StoreFault.Device) device.old device.new }
 
         // Until the first sync has succeeded, a crash leaves what was possible before.
-        ensures moments { D.is_honest device.old → Through (D.history device.old) (D.history device.new) (D.state device.new) (IsOpening (D.state device.old)) }
-        ensures state { D.is_honest device.old → OnOk result (D.state device.new ≡ state_after_sync (D.state device.old)) }
-        ensures unwritten { D.is_honest device.old → OnErr result ((D.state device.new ≡ D.state device.old) ⊎ (D.state device.new ≡ state_after_sync (D.state device.old))) }
+        ensures moments { D.is_honest device.old → Through (D.history device.old)
+            (D.history device.new) (D.state device.new) (IsOpening (D.state device.old)) }
+        ensures state { D.is_honest device.old
+            → OnOk result (D.state device.new ≡ state_after_sync (D.state device.old)) }
+        ensures unwritten { D.is_honest device.old
+            → OnErr result ((D.state device.new ≡ D.state device.old)
+            ⊎ (D.state device.new ≡ state_after_sync (D.state device.old))) }
 
         // It stands for the files of the image, and isn't spent.
-        ensures stands { D.is_honest device.old → IfOk result (λ store. Represents store (D.state device.new).disk (files_of store.files.items)) }
-        ensures holds { D.is_honest device.old → IfOk result (λ store. Holds (D.state device.old).disk.present (files_of store.files.items)) }
-        ensures there { IfOk result (λ store. (store.sectors ≤ D.sectors device.old) × (store.spent ≡ false)) }
-        ensures refused { D.is_honest device.old → IfErr result (λ fault. IsOpenRefusal (D.state device.old).disk.present fault) }
+        ensures stands { D.is_honest device.old → IfOk result
+            (λ store. Represents store (D.state device.new).disk (files_of store.files.items)) }
+        ensures holds { D.is_honest device.old → IfOk result
+            (λ store. Holds (D.state device.old).disk.present (files_of store.files.items)) }
+        ensures there { IfOk result
+            (λ store. (store.sectors ≤ D.sectors device.old) × (store.spent ≡ false)) }
+        ensures refused { D.is_honest device.old
+            → IfErr result (λ fault. IsOpenRefusal (D.state device.old).disk.present fault) }
 
         // Where it holds files, only the device and memory refuse. `Layout` comes exactly where its newest root has the other format's mark.
-        ensures opens { D.is_honest device.old → (files : Files) → Holds (D.state device.old).disk.present files → IfErr result IsReadCause }
-        ensures foreign { D.is_honest device.old → IsForeign (D.state device.old).disk.present → FailsWith StoreFault.Layout result }
+        ensures opens { D.is_honest device.old → (files : Files)
+            → Holds (D.state device.old).disk.present files → IfErr result IsReadCause }
+        ensures foreign { D.is_honest device.old → IsForeign (D.state device.old).disk.present
+            → FailsWith StoreFault.Layout result }
     {
         device.sync()?;
         read_volume(alloc, device)

@@ -23,7 +23,8 @@ const HEAD_BYTES: usize = 121;
 
 /// The files that bytes spell, if they spell any. It may find files that spell other bytes.
 pub(crate) fn read_files(alloc: Global, bytes: &[u8]) -> Result<Option<Vec<StoredFile>>, StoreFault>
-    ensures files { (files : Files) → AllByRecursion IsReadable files → bytes.now ≡ files_bytes files → IfRead result (λ found. files_of found.items ≡ files) }
+    ensures files { (files : Files) → AllByRecursion IsReadable files
+        → bytes.now ≡ files_bytes files → IfRead result (λ found. files_of found.items ≡ files) }
     ensures memory { IsOkUnless result StoreFault.Memory }
 {
     let mut files = Vec::new(alloc);
@@ -67,7 +68,8 @@ fn read_first_row(alloc: Global, bytes: &[u8], spec: &FileSpec) -> Result<Stored
 /// The row from a place on.
 fn row_at(alloc: Global, bytes: &[u8], at: usize, spec: &FileSpec) -> Result<StoredRow, StoreFault>
     requires { at + read.row_size (spec_of spec.now) ≤ length bytes.now }
-    ensures row { IfOk result (λ row. row_of row ≡ first_row (spec_of spec.now) (drop at bytes.now)) }
+    ensures row { IfOk result
+        (λ row. row_of row ≡ first_row (spec_of spec.now) (drop at bytes.now)) }
     ensures memory { IsOkUnless result StoreFault.Memory }
 {
     read_first_row(alloc, &bytes[at..], spec)
@@ -90,9 +92,12 @@ fn read_rows(
 ) -> Result<Option<FoundRows>, StoreFault>
     requires keys { length spec.now.alternates.items ≤ 7 }
     requires at { at ≤ length bytes.now }
-    ensures rows { IfOk result (λ found. IfSome found (λ r. map row_of r.rows.items ≡ rows_in (spec_of spec.now) count (drop at bytes.now))) }
-    ensures end { IfOk result (λ found. IfSome found (λ r. (r.end ≡ at + read.row_size (spec_of spec.now) * count) × (r.end ≤ length bytes.now))) }
-    ensures none { result ≡ Ok None → length bytes.now < at + read.row_size (spec_of spec.now) * count }
+    ensures rows { IfOk result (λ found. IfSome found
+        (λ r. map row_of r.rows.items ≡ rows_in (spec_of spec.now) count (drop at bytes.now))) }
+    ensures end { IfOk result (λ found. IfSome found (λ r.
+        (r.end ≡ at + read.row_size (spec_of spec.now) * count) × (r.end ≤ length bytes.now))) }
+    ensures none { result ≡ Ok None
+        → length bytes.now < at + read.row_size (spec_of spec.now) * count }
     ensures memory { IsOkUnless result StoreFault.Memory }
 {
     let size = row_size(spec);
@@ -113,7 +118,8 @@ fn read_rows(
 fn read_front(alloc: Global, bytes: &[u8]) -> Result<Option<FileSpec>, StoreFault>
     requires { 121 ≤ length bytes.now }
     ensures keys { IfOk result (λ found. IfSome found (λ f. length f.alternates.items ≤ 7)) }
-    ensures spec { (name : List ℕ) (spec : Spec) (more : List ℕ) → is_name name ≡ true → is_spec spec ≡ true → bytes.now ≡ padded_name name ++ spec_bytes spec ++ more →
+    ensures spec { (name : List ℕ) (spec : Spec) (more : List ℕ) → is_name name ≡ true
+        → is_spec spec ≡ true → bytes.now ≡ padded_name name ++ spec_bytes spec ++ more →
         IfRead result (λ f. (f.name.items ≡ name) × (spec_of f ≡ spec)) }
     ensures memory { IsOkUnless result StoreFault.Memory }
 {
@@ -124,7 +130,8 @@ fn read_front(alloc: Global, bytes: &[u8]) -> Result<Option<FileSpec>, StoreFaul
 fn spec_at(alloc: Global, bytes: &[u8], at: usize) -> Result<Option<FileSpec>, StoreFault>
     requires { at + 121 ≤ length bytes.now }
     ensures keys { IfOk result (λ found. IfSome found (λ f. length f.alternates.items ≤ 7)) }
-    ensures spec { (name : List ℕ) (spec : Spec) (more : List ℕ) → is_name name ≡ true → is_spec spec ≡ true → drop at bytes.now ≡ padded_name name ++ spec_bytes spec ++ more →
+    ensures spec { (name : List ℕ) (spec : Spec) (more : List ℕ) → is_name name ≡ true
+        → is_spec spec ≡ true → drop at bytes.now ≡ padded_name name ++ spec_bytes spec ++ more →
         IfRead result (λ f. (f.name.items ≡ name) × (spec_of f ≡ spec)) }
     ensures memory { IsOkUnless result StoreFault.Memory }
 {
@@ -141,8 +148,10 @@ struct FoundFile {
 /// The file from a place on.
 fn read_file(alloc: Global, bytes: &[u8], at: usize) -> Result<Option<FoundFile>, StoreFault>
     requires { at ≤ length bytes.now }
-    ensures end { IfOk result (λ found. IfSome found (λ f. (at < f.end) × (f.end ≤ length bytes.now))) }
-    ensures file { (one : NamedFile) (more : List ℕ) → IsReadable one → drop at bytes.now ≡ file_bytes one ++ more →
+    ensures end { IfOk result
+        (λ found. IfSome found (λ f. (at < f.end) × (f.end ≤ length bytes.now))) }
+    ensures file { (one : NamedFile) (more : List ℕ) → IsReadable one
+        → drop at bytes.now ≡ file_bytes one ++ more →
         IfRead result (λ f. (named_of f.file ≡ one) × (drop f.end bytes.now ≡ more)) }
     ensures memory { IsOkUnless result StoreFault.Memory }
 {

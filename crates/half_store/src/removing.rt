@@ -16,7 +16,9 @@ pub(crate) fn remove_row(
     number: u64,
     key: &[u8],
 ) -> Result<Outcome, StoreFault>
-    ensures becomes { RowsAscend file.old.spec.organization (map row_of file.old.rows.items) → Becomes result (removal (pair_of file.old.spec.organization key.now number) (file_of file.old)) file.old file.new }
+    ensures becomes { RowsAscend file.old.spec.organization (map row_of file.old.rows.items)
+        → Becomes result (removal (pair_of file.old.spec.organization key.now number)
+        (file_of file.old)) file.old file.new }
     ensures cause { IfErr result IsMemoryCause }
 {
     match find_row(&file.rows, file.spec.organization, number, key) {

@@ -24,7 +24,8 @@ pub(crate) fn replace_row(
     number: u64,
     bytes: &[u8],
 ) -> Result<Outcome, StoreFault>
-    ensures becomes { RowsAscend file.old.spec.organization (map row_of file.old.rows.items) → Becomes result (replacement number bytes.now (file_of file.old)) file.old file.new }
+    ensures becomes { RowsAscend file.old.spec.organization (map row_of file.old.rows.items)
+        → Becomes result (replacement number bytes.now (file_of file.old)) file.old file.new }
     ensures cause { IfErr result IsMemoryCause }
 {
     let spec = &file.spec;
@@ -89,7 +90,9 @@ fn stands_elsewhere(
     bytes: &[u8],
     key: &AlternateKey,
 ) -> bool
-    ensures { result ≡ list_any (λ (row : StoredRow). not (is_at organization (pair_of organization prime.now number) (row_of row)) && same_bytes (part key.now.place row.bytes.items) (part key.now.place bytes.now)) rows.now }
+    ensures { result ≡ list_any (λ (row : StoredRow).
+        not (is_at organization (pair_of organization prime.now number) (row_of row)) && same_bytes
+        (part key.now.place row.bytes.items) (part key.now.place bytes.now)) rows.now }
 {
     rows.iter().any(|row| {
         !pair_cmp(organization, row, number, prime).is_eq() && has_value(key, row, bytes)
@@ -105,7 +108,8 @@ fn is_repeated_elsewhere(
     bytes: &[u8],
     key: &AlternateKey,
 ) -> bool
-    ensures { result ≡ repeats (without_pair organization (pair_of organization prime.now number) (map row_of rows.now)) bytes.now key.now }
+    ensures { result ≡ repeats (without_pair organization (pair_of organization prime.now number)
+        (map row_of rows.now)) bytes.now key.now }
 {
     stands_elsewhere(rows, organization, number, prime, bytes, key)
 }
@@ -119,7 +123,9 @@ fn is_any_taken(
     old: &[u8],
     bytes: &[u8],
 ) -> bool
-    ensures { result ≡ list_any (λ key. changes old.now bytes.now key && (not key.duplicates && repeats (without_pair organization (pair_of organization prime.now number) (map row_of rows.now)) bytes.now key)) keys.now }
+    ensures { result ≡ list_any (λ key.
+        changes old.now bytes.now key && (not key.duplicates && repeats (without_pair organization
+        (pair_of organization prime.now number) (map row_of rows.now)) bytes.now key)) keys.now }
 {
     keys.iter().any(|key| {
         is_changed(key, old, bytes)
@@ -138,7 +144,8 @@ fn has_other_taken(
     old: &[u8],
     bytes: &[u8],
 ) -> bool
-    ensures { result ≡ is_taken (filter (changes old.now bytes.now) keys.now) (without_pair organization (pair_of organization prime.now number) (map row_of rows.now)) bytes.now }
+    ensures { result ≡ is_taken (filter (changes old.now bytes.now) keys.now) (without_pair
+        organization (pair_of organization prime.now number) (map row_of rows.now)) bytes.now }
 {
     is_any_taken(keys, rows, organization, number, prime, old, bytes)
 }
@@ -152,7 +159,9 @@ fn is_any_duplicate(
     old: &[u8],
     bytes: &[u8],
 ) -> bool
-    ensures { result ≡ list_any (λ key. changes old.now bytes.now key && (key.duplicates && repeats (without_pair organization (pair_of organization prime.now number) (map row_of rows.now)) bytes.now key)) keys.now }
+    ensures { result ≡ list_any (λ key.
+        changes old.now bytes.now key && (key.duplicates && repeats (without_pair organization
+        (pair_of organization prime.now number) (map row_of rows.now)) bytes.now key)) keys.now }
 {
     keys.iter().any(|key| {
         is_changed(key, old, bytes)
@@ -171,7 +180,8 @@ fn has_other_duplicate(
     old: &[u8],
     bytes: &[u8],
 ) -> bool
-    ensures { result ≡ is_duplicate (filter (changes old.now bytes.now) keys.now) (without_pair organization (pair_of organization prime.now number) (map row_of rows.now)) bytes.now }
+    ensures { result ≡ is_duplicate (filter (changes old.now bytes.now) keys.now) (without_pair
+        organization (pair_of organization prime.now number) (map row_of rows.now)) bytes.now }
 {
     is_any_duplicate(keys, rows, organization, number, prime, old, bytes)
 }
@@ -195,7 +205,8 @@ fn arrivals_with(
     next: u64,
     keys: &[AlternateKey],
 ) -> Result<SmallVec<u64, 2>, StoreFault>
-    ensures arrivals { IfOk result (λ arrivals. arrivals.items ≡ arrivals_after row.now.bytes.items bytes.now next keys.now row.now.arrivals.items) }
+    ensures arrivals { IfOk result (λ arrivals. arrivals.items
+        ≡ arrivals_after row.now.bytes.items bytes.now next keys.now row.now.arrivals.items) }
     ensures memory { IsOkUnless result StoreFault.Memory }
 {
     let mut arrivals = SmallVec::new(alloc);
@@ -216,7 +227,11 @@ fn row_after(
     next: u64,
     keys: &[AlternateKey],
 ) -> Result<StoredRow, StoreFault>
-    ensures row { IfOk result (λ new. row_of new ≡ record { number = row.now.number; bytes = bytes.now; arrivals = arrivals_after row.now.bytes.items bytes.now next keys.now row.now.arrivals.items }) }
+    ensures row { IfOk result (λ new. row_of new ≡ record {
+      number = row.now.number;
+      bytes = bytes.now;
+      arrivals = arrivals_after row.now.bytes.items bytes.now next keys.now row.now.arrivals.items;
+    }) }
     ensures memory { IsOkUnless result StoreFault.Memory }
 {
     let arrivals = arrivals_with(alloc, row, bytes, next, keys)?;

@@ -20,7 +20,8 @@ pub(crate) fn prime_cmp(
     number: u64,
     bytes: &[u8],
 ) -> Ordering
-    ensures { result ≡ spec.pair_cmp (prime_pair organization (row_of row.now)) (named_pair organization number bytes.now) }
+    ensures { result ≡ spec.pair_cmp (prime_pair organization (row_of row.now))
+        (named_pair organization number bytes.now) }
 {
     match organization {
         Organization::Sequential => row.number.cmp(&number),
@@ -37,7 +38,8 @@ pub(crate) fn pair_cmp(
     number: u64,
     key: &[u8],
 ) -> Ordering
-    ensures { result ≡ spec.pair_cmp (prime_pair organization (row_of row.now)) (pair_of organization key.now number) }
+    ensures { result ≡ spec.pair_cmp (prime_pair organization (row_of row.now))
+        (pair_of organization key.now number) }
 {
     match organization {
         Organization::Sequential => row.number.cmp(&number),
@@ -48,7 +50,8 @@ pub(crate) fn pair_cmp(
 
 /// The prime key of a record, of no bytes where the file has none.
 pub(crate) fn prime_key(organization: Organization, bytes: &[u8]) -> &[u8]
-    ensures { (number : ℕ) → pair_of organization result.now number ≡ named_pair organization number bytes.now }
+    ensures { (number : ℕ)
+        → pair_of organization result.now number ≡ named_pair organization number bytes.now }
 {
     match organization {
         Organization::Indexed(place) => part_of(place, bytes),
@@ -58,7 +61,8 @@ pub(crate) fn prime_key(organization: Organization, bytes: &[u8]) -> &[u8]
 
 /// Whether a row has this record's value of a key.
 pub(crate) fn has_value(key: &AlternateKey, row: &StoredRow, bytes: &[u8]) -> bool
-    ensures { result ≡ same_bytes (part key.now.place row.now.bytes.items) (part key.now.place bytes.now) }
+    ensures { result
+        ≡ same_bytes (part key.now.place row.now.bytes.items) (part key.now.place bytes.now) }
 {
     part_of(key.place, &row.bytes)
         .cmp(part_of(key.place, bytes))
@@ -66,7 +70,8 @@ pub(crate) fn has_value(key: &AlternateKey, row: &StoredRow, bytes: &[u8]) -> bo
 }
 
 fn has_value_in(rows: &[StoredRow], bytes: &[u8], key: &AlternateKey) -> bool
-    ensures { result ≡ list_any (λ (row : StoredRow). same_bytes (part key.now.place row.bytes.items) (part key.now.place bytes.now)) rows.now }
+    ensures { result ≡ list_any (λ (row : StoredRow).
+        same_bytes (part key.now.place row.bytes.items) (part key.now.place bytes.now)) rows.now }
 {
     rows.iter().any(|row| has_value(key, row, bytes))
 }
@@ -95,7 +100,8 @@ pub(crate) fn has_duplicate(keys: &[AlternateKey], rows: &[StoredRow], bytes: &[
 }
 
 fn stands_in(rows: &[StoredRow], organization: Organization, number: u64, bytes: &[u8]) -> bool
-    ensures { result ≡ list_any (λ (row : StoredRow). is_at organization (named_pair organization number bytes.now) (row_of row)) rows.now }
+    ensures { result ≡ list_any (λ (row : StoredRow).
+        is_at organization (named_pair organization number bytes.now) (row_of row)) rows.now }
 {
     rows.iter()
         .any(|row| prime_cmp(organization, row, number, bytes).is_eq())
@@ -108,7 +114,8 @@ pub(crate) fn has_prime_row(
     number: u64,
     bytes: &[u8],
 ) -> bool
-    ensures { result ≡ list_any (is_at organization (named_pair organization number bytes.now)) (map row_of rows.now) }
+    ensures { result ≡ list_any (is_at organization (named_pair organization number bytes.now))
+        (map row_of rows.now) }
 {
     stands_in(rows, organization, number, bytes)
 }

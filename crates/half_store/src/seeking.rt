@@ -48,8 +48,12 @@ pub(crate) fn seek_in(
     bytes: &mut [u8],
 ) -> Result<Option<Found>, StoreFault>
     requires { IsKey (spec_of spec.now) key }
-    ensures found { RowsAscend spec.now.organization (map row_of rows.now) → IfOk result (λ answer. answer ≡ option_map (found_row (spec_of spec.now) key (map row_of rows.now)) (sought_row (spec_of spec.now) key (bound_at side value.now number) (map row_of rows.now))) }
-    ensures bytes { RowsAscend spec.now.organization (map row_of rows.now) → OnOk result (bytes.new ≡ record_of bytes.old (sought_row (spec_of spec.now) key (bound_at side value.now number) (map row_of rows.now))) }
+    ensures found { RowsAscend spec.now.organization (map row_of rows.now) → IfOk result (λ answer.
+        answer ≡ option_map (found_row (spec_of spec.now) key (map row_of rows.now)) (sought_row
+        (spec_of spec.now) key (bound_at side value.now number) (map row_of rows.now))) }
+    ensures bytes { RowsAscend spec.now.organization (map row_of rows.now)
+        → OnOk result (bytes.new ≡ record_of bytes.old (sought_row (spec_of spec.now) key
+        (bound_at side value.now number) (map row_of rows.now))) }
     ensures kept { OnErr result (bytes.new ≡ bytes.old) }
     ensures cause { IfErr result (λ fault. fault ≡ StoreFault.Damaged) }
     ensures sound { AreRecords (length bytes.old) (map row_of rows.now) → IsOk result }
@@ -105,7 +109,8 @@ fn cmp_under(
     number: u64,
 ) -> Ordering
     requires { IsKey (spec_of spec.now) key }
-    ensures { result ≡ pair_cmp (pair_under (spec_of spec.now) key (row_of row.now)) (record { value = value.now; number = number }) }
+    ensures { result ≡ pair_cmp (pair_under (spec_of spec.now) key (row_of row.now))
+        (record { value = value.now; number = number }) }
 {
     value_under(spec, key, row)
         .cmp(value)
@@ -122,7 +127,8 @@ fn stands_behind(
     number: u64,
 ) -> bool
     requires { IsKey (spec_of spec.now) key }
-    ensures { result ≡ is_after side (record { value = value.now; number = number }) (pair_under (spec_of spec.now) key (row_of row.now)) }
+    ensures { result ≡ is_after side (record { value = value.now; number = number })
+        (pair_under (spec_of spec.now) key (row_of row.now)) }
 {
     match side {
         Side::From => !cmp_under(spec, key, row, value, number).is_lt(),
@@ -142,7 +148,8 @@ fn stands_behind(
 /// Whether a row comes behind another in the order of a key.
 fn comes_behind(spec: &FileSpec, key: KeyOfReference, row: &StoredRow, other: &StoredRow) -> bool
     requires { IsKey (spec_of spec.now) key }
-    ensures { result ≡ is_gt (pair_cmp (pair_under (spec_of spec.now) key (row_of row.now)) (pair_under (spec_of spec.now) key (row_of other.now))) }
+    ensures { result ≡ is_gt (pair_cmp (pair_under (spec_of spec.now) key (row_of row.now))
+        (pair_under (spec_of spec.now) key (row_of other.now))) }
 {
     cmp_under(
         spec,
@@ -169,7 +176,9 @@ fn better(
     requires place { place < length rows.now }
     requires best { IfSome best (λ i. i < length rows.now) }
     ensures bound { IfSome result (λ i. i < length rows.now) }
-    ensures best { IsBest (spec_of spec.now) key (bound_at side value.now number) rows.now (place + 1) best → IsBest (spec_of spec.now) key (bound_at side value.now number) rows.now place result }
+    ensures best { IsBest
+        (spec_of spec.now) key (bound_at side value.now number) rows.now (place + 1) best
+        → IsBest (spec_of spec.now) key (bound_at side value.now number) rows.now place result }
 {
     if !stands_behind(spec, key, &rows[place], side, value, number) {
         return best;
@@ -196,7 +205,9 @@ fn seek_through(
 ) -> Option<usize>
     requires { IsKey (spec_of spec.now) key }
     ensures bound { IfSome result (λ i. i < length rows.now) }
-    ensures row { (d : StoredRow) → sought_row (spec_of spec.now) key (bound_at side value.now number) (map row_of rows.now) ≡ option_map (λ i. row_of (get_or rows.now i d)) result }
+    ensures row { (d : StoredRow)
+        → sought_row (spec_of spec.now) key (bound_at side value.now number)
+        (map row_of rows.now) ≡ option_map (λ i. row_of (get_or rows.now i d)) result }
 {
     let mut best: Option<usize> = None;
     for back in 0..rows.len() {
@@ -216,11 +227,14 @@ fn seek_prime(
 ) -> Option<usize>
     ensures bound { IfSome result (λ i. i < length rows.now) }
     ensures row { RowsAscend spec.now.organization (map row_of rows.now) → (d : StoredRow) →
-        sought_row (spec_of spec.now) Prime (bound_at side value.now number) (map row_of rows.now) ≡ option_map (λ i. row_of (get_or rows.now i d)) result }
+        sought_row (spec_of spec.now) Prime (bound_at side value.now number) (map row_of rows.now)
+        ≡ option_map (λ i. row_of (get_or rows.now i d)) result }
 {
     let place = rows.partition_point(
         |row: &StoredRow| -> bool
-            ensures { result ≡ not (is_after side (record { value = value.entry.now; number = number }) (prime_pair spec.entry.now.organization (row_of row.now))) }
+            ensures { result
+                ≡ not (is_after side (record { value = value.entry.now; number = number })
+                (prime_pair spec.entry.now.organization (row_of row.now))) }
         { !stands_behind(spec, KeyOfReference::Prime, row, side, value, number) },
     );
     if place < rows.len() {
@@ -242,7 +256,8 @@ fn seek_row(
     requires { IsKey (spec_of spec.now) key }
     ensures bound { IfSome result (λ i. i < length rows.now) }
     ensures row { RowsAscend spec.now.organization (map row_of rows.now) → (d : StoredRow) →
-        sought_row (spec_of spec.now) key (bound_at side value.now number) (map row_of rows.now) ≡ option_map (λ i. row_of (get_or rows.now i d)) result }
+        sought_row (spec_of spec.now) key (bound_at side value.now number) (map row_of rows.now)
+        ≡ option_map (λ i. row_of (get_or rows.now i d)) result }
 {
     match key {
         KeyOfReference::Prime => seek_prime(rows, spec, side, value, number),
@@ -253,8 +268,11 @@ fn seek_row(
 /// Whether the row behind this one has its value.
 fn has_repeat(rows: &[StoredRow], spec: &FileSpec, key: KeyOfReference, row: &StoredRow) -> bool
     requires { IsKey (spec_of spec.now) key }
-    ensures { result ≡ has_value (spec_of spec.now) key (pair_under (spec_of spec.now) key (row_of row.now)).value
-        (sought_row (spec_of spec.now) key (record { side = After; pair = pair_under (spec_of spec.now) key (row_of row.now) }) (map row_of rows.now)) }
+    ensures { result ≡ has_value (spec_of spec.now) key
+        (pair_under (spec_of spec.now) key (row_of row.now)).value
+        (sought_row (spec_of spec.now)
+        key (record { side = After; pair = pair_under (spec_of spec.now) key (row_of row.now) })
+        (map row_of rows.now)) }
 {
     let value = value_under(spec, key, row);
     let number = number_under(spec, key, row);

@@ -42,7 +42,8 @@ fn push_rows(
     organization: Organization,
     rows: &[StoredRow],
 ) -> Result<(), StoreFault>
-    ensures bytes { OnOk result (out.new.items ≡ out.old.items ++ flat_map (row_bytes organization) (map row_of rows.now)) }
+    ensures bytes { OnOk result
+        (out.new.items ≡ out.old.items ++ flat_map (row_bytes organization) (map row_of rows.now)) }
     ensures memory { IsOkUnless result StoreFault.Memory }
 {
     for row in rows {
@@ -57,7 +58,8 @@ fn push_row(
     organization: Organization,
     row: &StoredRow,
 ) -> Result<(), StoreFault>
-    ensures bytes { OnOk result (out.new.items ≡ out.old.items ++ row_bytes organization (row_of row.now)) }
+    ensures bytes { OnOk result
+        (out.new.items ≡ out.old.items ++ row_bytes organization (row_of row.now)) }
     ensures memory { IsOkUnless result StoreFault.Memory }
 {
     push_row_key(out, organization, row.number, &row.bytes)?;

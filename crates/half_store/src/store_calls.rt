@@ -25,7 +25,8 @@ impl Keeps for HalfStore {
 }
 
 impl Store for HalfStore {
-    ghost held = { λ store disk image files stands crash. held_law store disk image files stands crash };
+    ghost held = { λ store disk image files stands crash.
+        held_law store disk image files stands crash };
 
     fn find<D: Device>(
         &mut self,

@@ -43,9 +43,11 @@ first_taken : (item : Item) (values : List ValueRange) → each (range_rules ite
 first_taken item [] e = tt
 first_taken item (one ∷ more) e =
     let range = front_nil (range_rules item one) (each (range_rules item) more) e in
-    has_value false item (Some one.first) (front_nil (where_so (wrong_value item.kind item.length one.first.value) 47 one.first.place) (last_rules item one.first one.last) range)
+    has_value false item (Some one.first) (front_nil (where_so (wrong_value item.kind item.length one.first.value) 47
+    one.first.place) (last_rules item one.first one.last) range)
 
-all_taken : (item : Item) (conditions : List ConditionEntry) → each (condition_rules item) conditions ≡ [] → AllByRecursion (Takes item) conditions
+all_taken : (item : Item) (conditions : List ConditionEntry) → each (condition_rules item) conditions ≡ []
+    → AllByRecursion (Takes item) conditions
 all_taken item [] e = tt
 all_taken item (one ∷ more) e = (
   first_taken item one.values (front_nil (condition_rules item one) (each (condition_rules item) more) e),
@@ -57,7 +59,8 @@ all_taken item (one ∷ more) e = (
 abbrev AreTaken : Around → Forest → Type 0
 AreTaken around End = Unit {0}
 AreTaken around (Tree one conditions inner next) =
-    AllByRecursion (Takes (item_with around one inner)) conditions × AreTaken (inside around one) inner × AreTaken around next
+    AllByRecursion (Takes (item_with around one inner)) conditions × AreTaken (inside around one) inner
+    × AreTaken around next
 
 third_and_others : (a b c d : List RuleBreach) → a ++ (b ++ (c ++ d)) ≡ [] → (a ≡ []) × (c ≡ []) × (d ≡ [])
 third_and_others a b c d e =
@@ -69,12 +72,14 @@ taken at last End e = tt
 taken at last (Tree one conditions inner next) e =
     let item : Item = item_with at.around one inner in
     let after : Option Redefinable = redefinable_after one (occurrences one * item.length) last in
-    let parts = third_and_others (forest_rules (below at one inner) None inner) (own_rules at one item inner last) (each (condition_rules item) conditions) (forest_rules at after next) e in
+    let parts = third_and_others (forest_rules (below at one inner) None inner) (own_rules at one item inner last)
+    (each (condition_rules item) conditions) (forest_rules at after next) e in
     (all_taken item conditions parts.1, taken (below at one inner) None inner parts.0, taken at after next parts.2)
 
 -- ---- where they stand
 
-places_taken : (around : Surroundings) (last here : ℕ) (F : Forest) → AreTaken around.around F → AllByRecursion TakesAll (places around last here F)
+places_taken : (around : Surroundings) (last here : ℕ) (F : Forest) → AreTaken around.around F
+    → AllByRecursion TakesAll (places around last here F)
 places_taken around last here End h = tt
 places_taken around last here (Tree one conditions inner next) h =
     let item : Item = item_with around.around one inner in
@@ -92,11 +97,14 @@ storage_taken areas (Tree one conditions inner next) h =
     all_append TakesAll (places (top area []) 0 0 (Tree one conditions inner End)) (storage_places (area + 1) next)
     (places_taken (top area []) 0 0 (Tree one conditions inner End) (h.0, h.1, tt)) (storage_taken (area + 1) next h.2)
 
-record_taken : (file : Name) (F : Forest) → AreTaken nothing_around F → (area : ℕ) → AllByRecursion TakesAll (record_places area file F)
+record_taken : (file : Name) (F : Forest) → AreTaken nothing_around F → (area : ℕ)
+    → AllByRecursion TakesAll (record_places area file F)
 record_taken file End h area = tt
 record_taken file (Tree one conditions inner next) h area =
-    all_append TakesAll (places (top area (file ∷ [])) 0 0 (Tree one conditions inner End)) (record_places area file next)
-    (places_taken (top area (file ∷ [])) 0 0 (Tree one conditions inner End) (h.0, h.1, tt)) (record_taken file next h.2 area)
+    all_append TakesAll (places (top area (file ∷ [])) 0 0 (Tree one conditions inner End))
+    (record_places area file next)
+    (places_taken (top area (file ∷ [])) 0 0 (Tree one conditions inner End) (h.0, h.1, tt))
+    (record_taken file next h.2 area)
 
 -- ---- the condition names of all items
 
@@ -108,15 +116,20 @@ kind_of kind.AlphanumericEdited length h = tt
 kind_of (kind.NumericEdited blank) length h = tt
 kind_of (kind.Numeric numeric) length h = h
 
-of_item : (item : LocatedItem) (conditions : List ConditionEntry) → IsFormed item → AllByRecursion (Takes item.item) conditions → AllByRecursion CanBeSet (conditions_of item conditions)
+of_item : (item : LocatedItem) (conditions : List ConditionEntry) → IsFormed item
+    → AllByRecursion (Takes item.item) conditions → AllByRecursion CanBeSet (conditions_of item conditions)
 of_item item [] form h = tt
-of_item item (one ∷ more) form h = (record { kind = kind_of item.item.kind item.item.length form.form; value = h.0 }, of_item item more form h.1)
+of_item item (one ∷ more) form h =
+    (record { kind = kind_of item.item.kind item.item.length form.form; value = h.0 }, of_item item more form h.1)
 
-of_items : (items : List LocatedItem) → AllByRecursion IsFormed items → AllByRecursion TakesAll items → AllByRecursion CanBeSet (all_conditions items)
+of_items : (items : List LocatedItem) → AllByRecursion IsFormed items → AllByRecursion TakesAll items
+    → AllByRecursion CanBeSet (all_conditions items)
 of_items [] form h = tt
-of_items (one ∷ more) form h = all_append CanBeSet (conditions_of one one.conditions) (all_conditions more) (of_item one one.conditions form.0 h.0) (of_items more form.1 h.1)
+of_items (one ∷ more) form h = all_append CanBeSet (conditions_of one one.conditions) (all_conditions more)
+    (of_item one one.conditions form.0 h.0) (of_items more form.1 h.1)
 
-pub all_can_be_set : (program : Program) → entry_rules program.storage ≡ [] → descriptions_rules program.storage program.files ≡ [] → All CanBeSet (all_conditions (program_items program))
+pub all_can_be_set : (program : Program) → entry_rules program.storage ≡ []
+    → descriptions_rules program.storage program.files ≡ [] → All CanBeSet (all_conditions (program_items program))
 all_can_be_set program e f =
     let parts = rule_parts program.storage e in
     All-from_recursion CanBeSet (all_conditions (program_items program))
@@ -124,4 +137,5 @@ all_can_be_set program e f =
     (all_append TakesAll (items_of program.storage) (file_places (storage_areas program.storage) program.files)
     (storage_taken 0 (forest_of program.storage) (taken (outermost false) None (forest_of program.storage) parts.1))
     (of_files TakesAll (storage_areas program.storage) program.files
-    (of_descriptions _ (λ one kept. record_taken one.name (forest_of one.entries) (taken (outermost true) None (forest_of one.entries) kept.forest)) program.files (descriptions program.storage program.files f)))))
+    (of_descriptions _ (λ one kept. record_taken one.name (forest_of one.entries) (taken (outermost true) None
+    (forest_of one.entries) kept.forest)) program.files (descriptions program.storage program.files f)))))

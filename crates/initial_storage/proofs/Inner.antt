@@ -1,5 +1,6 @@
 -- The items of groups are no 01.
-use Rattle.std.proofs.Common.{◌≡◌, ℕ, ◌≤◌, ◌==◌, nat_lt, nat_le, Bool, true, false, not, ◌&&◌, ◌||◌, if◌then◌else◌, List, [], ◌∷◌, refl, lit≤, arith}
+use Rattle.std.proofs.Common.{◌≡◌, ℕ, ◌≤◌, ◌==◌, nat_lt, nat_le, Bool, true, false, not, ◌&&◌, ◌||◌, if◌then◌else◌}
+use Rattle.std.proofs.Common.{List, [], ◌∷◌, refl, lit≤, arith}
 use Rattle.source_tree.specs.declared.entry.ItemEntry.{ItemEntry}
 use Rattle.source_tree.specs.declared.entry.Entry.{Entry}
 use Rattle.source_tree.specs.declared.entry.Entry.TheVariants.{Item, Condition}
@@ -37,12 +38,17 @@ inner_deeper : (level : ℕ) → 1 ≤ level → (F : Forest) → Outer F → In
 inner_deeper level some End h = tt
 inner_deeper level some (Tree one conditions inner next) h =
     inner_if (nat_lt level (level_of one)) (Tree one conditions inner (deeper level next))
-    (λ e. (no_record (number_of one.level == 77) level (number_of one.level) some e, h.0, inner_deeper level some next h.1))
+    (λ e. (
+      no_record (number_of one.level == 77) level (number_of one.level) some e,
+      h.0,
+      inner_deeper level some next h.1,
+    ))
 
 outer_beyond : (level : ℕ) (F : Forest) → Outer F → Outer (beyond level F)
 outer_beyond level End h = tt
 outer_beyond level (Tree one conditions inner next) h =
-    outer_if (nat_lt level (level_of one)) (beyond level next) (Tree one conditions inner next) (outer_beyond level next h.1) h
+    outer_if (nat_lt level (level_of one)) (beyond level next) (Tree one conditions inner next)
+    (outer_beyond level next h.1) h
 
 from_one : (n : ℕ) (b : Bool) → ((nat_le 1 n && nat_le n 49) || b) ≡ true → 1 ≤ (if b then 1 else n)
 from_one n true e = lit≤ tt
@@ -53,11 +59,16 @@ from_one n false e = at_least n (nat_le n 49) e
 
 level_some : (one : ItemEntry) → level_rules (Item one) ≡ [] → 1 ≤ level_of one
 level_some one e =
-    from_one (number_of one.level) (number_of one.level == 77) (true_where (is_level (number_of one.level)) (kept (not (is_level (number_of one.level))) 43 one.level.place e))
+    from_one (number_of one.level) (number_of one.level == 77)
+    (true_where (is_level (number_of one.level)) (kept (not (is_level (number_of one.level))) 43 one.level.place e))
 
 pub outer_nested : (entries : List Entry) → each level_rules entries ≡ [] → Outer (forest_of entries)
 outer_nested [] e = tt
 outer_nested (Item one ∷ more) e =
-    let rest : Outer (forest_of more) = outer_nested more (back_nil (level_rules (Item one)) (each level_rules more) e) in
-    (inner_deeper (level_of one) (level_some one (front_nil (level_rules (Item one)) (each level_rules more) e)) (forest_of more) rest, outer_beyond (level_of one) (forest_of more) rest)
+    let rest : Outer (forest_of more) =
+    outer_nested more (back_nil (level_rules (Item one)) (each level_rules more) e) in (
+      inner_deeper (level_of one) (level_some one (front_nil (level_rules (Item one)) (each level_rules more) e))
+          (forest_of more) rest,
+      outer_beyond (level_of one) (forest_of more) rest,
+    )
 outer_nested (Condition one ∷ more) e = outer_nested more e

@@ -1,5 +1,6 @@
 -- Areas are as long as their records say.
-use Rattle.std.proofs.Common.{◌≡◌, ℕ, ◌-◌, Bool, true, false, if◌then◌else◌, List, [], ◌∷◌, ◌++◌, length, take, refl, ap, ◌∙◌, length-append, length-take, arith}
+use Rattle.std.proofs.Common.{◌≡◌, ℕ, ◌-◌, Bool, true, false, if◌then◌else◌, List, [], ◌∷◌, ◌++◌, length, take, refl}
+use Rattle.std.proofs.Common.{ap, ◌∙◌, length-append, length-take, arith}
 use Rattle.std.specs.Prelude.{map, replicate}
 use Rattle.std.proofs.lemmas.List.{length-replicate, map-append}
 use Rattle.items.specs.Texts.{padded_text}
@@ -13,7 +14,12 @@ use Rattle.source_tree.specs.Records.{record_length, record_areas, program_areas
 use Rattle.initial_storage.specs.Reach.{record_area_lengths, program_area_lengths}
 
 pub length-padded : (size : ℕ) (text : List ℕ) → length (padded_text size text) ≡ size
-length-padded size text = omega (arith, length-append (take size text) (replicate (size - length text) 32), length-take size text, length-replicate {A = ℕ} (size - length text) 32)
+length-padded size text = omega (
+  arith,
+  length-append (take size text) (replicate (size - length text) 32),
+  length-take size text,
+  length-replicate {A = ℕ} (size - length text) 32,
+)
 
 either : (b : Bool) (one two : List (List ℕ)) (lengths more : List ℕ) → map length one ≡ lengths → map length two ≡ more
     → map length (if b then one else two) ≡ (if b then lengths else more)
@@ -25,13 +31,15 @@ lengths_of End = refl
 lengths_of (Tree one conditions inner next) =
     let size : ℕ = area_length one conditions inner next in
     let bytes : List ℕ = start nothing_around (Tree one conditions inner End) in
-    either (redefines one) (areas_from next) (padded_text size bytes ∷ areas_from next) (area_lengths next) (size ∷ area_lengths next) (lengths_of next)
+    either (redefines one) (areas_from next) (padded_text size bytes ∷ areas_from next) (area_lengths next)
+    (size ∷ area_lengths next) (lengths_of next)
     (ap (λ n. n ∷ map length (areas_from next)) (length-padded size bytes) ∙ ap (λ l. size ∷ l) (lengths_of next))
 
 record_lengths : (files : List FileDescription) → map length (record_areas files) ≡ record_area_lengths files
 record_lengths [] = refl
 record_lengths (one ∷ more) =
-    ap (λ n. n ∷ map length (record_areas more)) (length-padded (record_length one.entries) []) ∙ ap (λ l. record_length one.entries ∷ l) (record_lengths more)
+    ap (λ n. n ∷ map length (record_areas more)) (length-padded (record_length one.entries) [])
+    ∙ ap (λ l. record_length one.entries ∷ l) (record_lengths more)
 
 pub program_lengths : (program : Program) → map length (program_areas program) ≡ program_area_lengths program
 program_lengths program =

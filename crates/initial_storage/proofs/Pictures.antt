@@ -1,5 +1,6 @@
 -- An item with a picture has the form of its kind, and the picture that edits it.
-use Rattle.std.proofs.Common.{◌≡◌, ℕ, ◌+◌, ◌≤◌, nat_le, nat_lt, Bool, true, false, if◌then◌else◌, List, [], ◌∷◌, length, Some, Ok, inl, inr, refl, ap, arith}
+use Rattle.std.proofs.Common.{◌≡◌, ℕ, ◌+◌, ◌≤◌, nat_le, nat_lt, Bool, true, false, if◌then◌else◌, List, [], ◌∷◌, length}
+use Rattle.std.proofs.Common.{Some, Ok, inl, inr, refl, ap, arith}
 use Rattle.picture.specs.declared.run.Run.{Run}
 use Rattle.picture.specs.declared.place.Place.{Place}
 use Rattle.picture.specs.declared.picture.Picture.{Picture}
@@ -37,7 +38,8 @@ is_text category.Numeric = false
 is_text category.NumericEdited = false
 is_text _ = true
 
-has_characters : (b : Bool) (text : Category) (number : Bool) → is_text (if b then text else if number then category.Numeric else category.NumericEdited) ≡ true → b ≡ true
+has_characters : (b : Bool) (text : Category) (number : Bool)
+    → is_text (if b then text else if number then category.Numeric else category.NumericEdited) ≡ true → b ≡ true
 unfolding is_text
 has_characters true text number e = refl
 has_characters false text true e = cc
@@ -49,8 +51,10 @@ not_none n e = grind arith
 some_characters : (runs : List Run) → is_text (kind_of runs) ≡ true → 1 ≤ symbol_count runs
 unfolding kind_of
 some_characters runs e =
-    let text : Category = if contains_class c.SimpleInsertions runs then category.AlphanumericEdited else if contains_class c.CharactersAndNines runs then category.Alphanumeric else category.Alphabetic in
-    let there : contains_class c.LettersAndCharacters runs ≡ true = has_characters (contains_class c.LettersAndCharacters runs) text (is_empty (runs_past c.Numeric runs)) e in
+    let text : Category = if contains_class c.SimpleInsertions runs then category.AlphanumericEdited
+    else if contains_class c.CharactersAndNines runs then category.Alphanumeric else category.Alphabetic in
+    let there : contains_class c.LettersAndCharacters runs ≡ true =
+    has_characters (contains_class c.LettersAndCharacters runs) text (is_empty (runs_past c.Numeric runs)) e in
     let some : 1 ≤ occurrences c.LettersAndCharacters runs = not_none (occurrences c.LettersAndCharacters runs) there in
     omega (arith, some, at_most_all c.LettersAndCharacters runs)
 
@@ -59,44 +63,60 @@ unfolding digits_in
 digits_within [] = omega arith
 digits_within (place ∷ right) = one_more (is_digit_place place) (digits_within right)
   where
-    one_more : (b : Bool) → digits_in right ≤ length right → (if b then 1 else 0) + digits_in right ≤ length (place ∷ right)
+    one_more : (b : Bool) → digits_in right ≤ length right
+        → (if b then 1 else 0) + digits_in right ≤ length (place ∷ right)
     one_more true h = omega (arith, h)
     one_more false h = omega (arith, h)
 
-some_digits : (places : List Place) (digits size : ℕ) → 1 ≤ digits → digits_in places ≡ digits → length places ≡ size → 1 ≤ size
+some_digits : (places : List Place) (digits size : ℕ) → 1 ≤ digits → digits_in places ≡ digits → length places ≡ size
+    → 1 ≤ size
 some_digits places digits size some numbered all = omega (arith, some, numbered, all, digits_within places)
 
-some_by_category : (category : Category) (picture : Picture) → kind_of picture.runs ≡ category → digits_in picture.places ≡ picture.digits → IsWithinBounds category picture → 1 ≤ picture.size
+some_by_category : (category : Category) (picture : Picture) → kind_of picture.runs ≡ category
+    → digits_in picture.places ≡ picture.digits → IsWithinBounds category picture → 1 ≤ picture.size
 unfolding is_text
-some_by_category category.Alphabetic picture kind numbered h = omega (arith, some_characters picture.runs (ap is_text kind), h.2)
-some_by_category category.Alphanumeric picture kind numbered h = omega (arith, some_characters picture.runs (ap is_text kind), h.2)
-some_by_category category.AlphanumericEdited picture kind numbered h = omega (arith, some_characters picture.runs (ap is_text kind), h.2)
-some_by_category category.Numeric picture kind numbered h = some_digits picture.places picture.digits picture.size h.0 numbered h.3
-some_by_category category.NumericEdited picture kind numbered h = some_digits picture.places picture.digits picture.size h.0.0 numbered h.0.3
+some_by_category category.Alphabetic picture kind numbered h =
+    omega (arith, some_characters picture.runs (ap is_text kind), h.2)
+some_by_category category.Alphanumeric picture kind numbered h =
+    omega (arith, some_characters picture.runs (ap is_text kind), h.2)
+some_by_category category.AlphanumericEdited picture kind numbered h =
+    omega (arith, some_characters picture.runs (ap is_text kind), h.2)
+some_by_category category.Numeric picture kind numbered h =
+    some_digits picture.places picture.digits picture.size h.0 numbered h.3
+some_by_category category.NumericEdited picture kind numbered h =
+    some_digits picture.places picture.digits picture.size h.0.0 numbered h.0.3
 
 some_places : (picture : Picture) → IsAnyPicture picture → 1 ≤ picture.size
-some_places picture h = some_by_category picture.category picture h.1.form.kind (any_editing picture h).numbered (any_bounded picture h)
+some_places picture h =
+    some_by_category picture.category picture h.1.form.kind (any_editing picture h).numbered (any_bounded picture h)
 
 -- ---- its item
 
 abbrev IsFormedBy : Picture → Kind → Type 0
 IsFormedBy picture kind =
-    IsOfLength kind (length_by kind picture) × IsEditing (record { kind = kind; length = length_by kind picture }) (editing_by kind picture)
+    IsOfLength kind (length_by kind picture)
+    × IsEditing (record { kind = kind; length = length_by kind picture }) (editing_by kind picture)
 
-by_category : (category : Category) (justified blank : Bool) (around : Around) (one : ItemEntry) (picture : Picture) → picture.category ≡ category → IsWithinBounds category picture
-    → 1 ≤ picture.size → length_by (kind_by category justified blank (numeric_by around one picture)) picture ≤ most_length
+by_category : (category : Category) (justified blank : Bool) (around : Around) (one : ItemEntry) (picture : Picture)
+    → picture.category ≡ category → IsWithinBounds category picture
+    → 1 ≤ picture.size
+    → length_by (kind_by category justified blank (numeric_by around one picture)) picture ≤ most_length
     → IsFormedBy picture (kind_by category justified blank (numeric_by around one picture))
 by_category category.Alphabetic justified blank around one picture e h some most = ((some, most), tt)
 by_category category.Alphanumeric justified blank around one picture e h some most = ((some, most), tt)
 by_category category.AlphanumericEdited justified blank around one picture e h some most = ((some, most), (e, refl))
 by_category category.NumericEdited justified blank around one picture e h some most = ((some, most), (inl e, refl))
 by_category category.Numeric justified true around one picture e h some most = ((some, most), (inr e, refl))
-by_category category.Numeric justified false around one picture e h some most = ((record { some = h.0; most = h.1; decimals = h.2 }, refl), tt)
+by_category category.Numeric justified false around one picture e h some most =
+    ((record { some = h.0; most = h.1; decimals = h.2 }, refl), tt)
 
-pub elementary_formed : (around : Around) (one : ItemEntry) (picture : Picture) → IsAnyPicture picture → (elementary around one picture).length ≤ most_length
-    → IsItem (elementary around one picture) × IsEditing (elementary around one picture) (editing_by (clauses.kind_of around one picture) picture)
+pub elementary_formed : (around : Around) (one : ItemEntry) (picture : Picture) → IsAnyPicture picture
+    → (elementary around one picture).length ≤ most_length
+    → IsItem (elementary around one picture)
+    × IsEditing (elementary around one picture) (editing_by (clauses.kind_of around one picture) picture)
 elementary_formed around one picture h most =
-    by_category picture.category one.justified one.blank_when_zero around one picture refl (any_bounded picture h) (some_places picture h) most
+    by_category picture.category one.justified one.blank_when_zero around one picture refl (any_bounded picture h)
+    (some_places picture h) most
 
 -- ---- an item with its form has a byte at least
 
@@ -116,7 +136,8 @@ some_of_kind (kind.Alphabetic justified) length h = h.0
 some_of_kind (kind.Alphanumeric justified) length h = h.0
 some_of_kind kind.AlphanumericEdited length h = h.0
 some_of_kind (kind.NumericEdited blank) length h = h.0
-some_of_kind (kind.Numeric numeric) length h = let some = some_of_usage numeric.usage numeric.digits h.0.some in omega (arith, some, h.1)
+some_of_kind (kind.Numeric numeric) length h = let some =
+    some_of_usage numeric.usage numeric.digits h.0.some in omega (arith, some, h.1)
 
 pub some_bytes : (item : Item) → IsItem item → 1 ≤ item.length
 some_bytes item h = some_of_kind item.kind item.length h

@@ -1,5 +1,6 @@
 -- Bytes over and over.
-use Rattle.std.proofs.Common.{◌≡◌, ℕ, zero, suc, ◌+◌, ◌-◌, ◌*◌, ◌≤◌, List, ◌++◌, length, take, drop, sym, ap, ◌∙◌, length-append, length-drop, arith}
+use Rattle.std.proofs.Common.{◌≡◌, ℕ, zero, suc, ◌+◌, ◌-◌, ◌*◌, ◌≤◌, List, ◌++◌, length, take, drop, sym, ap, ◌∙◌}
+use Rattle.std.proofs.Common.{length-append, length-drop, arith}
 use Rattle.std.specs.Prelude.{slice_range}
 use Rattle.std.specs.List.{repeat}
 use Rattle.std.proofs.lemmas.List.{append_assoc, append-nil, take-append-drop, drop-append-le}
@@ -14,13 +15,16 @@ other_end zero xs = append-nil xs
 other_end (suc n) xs = ap (λ t. xs ++ t) (other_end n xs) ∙ sym (append_assoc xs (repeat n xs) xs)
 
 -- one more behind those that are there
-pub once_more : {A : Type 0} (n : ℕ) (xs old now new : List A) → now ≡ old ++ repeat n xs → new ≡ now ++ xs → new ≡ old ++ repeat (n + 1) xs
+pub once_more : {A : Type 0} (n : ℕ) (xs old now new : List A) → now ≡ old ++ repeat n xs → new ≡ now ++ xs
+    → new ≡ old ++ repeat (n + 1) xs
 once_more {A} n xs old now new before added =
     let next : suc n ≡ n + 1 = omega arith in
-    added ∙ ap (λ l. l ++ xs) before ∙ append_assoc old (repeat n xs) xs ∙ ap (λ l. old ++ l) (sym (other_end n xs)) ∙ ap (λ k. old ++ repeat k xs) next
+    added ∙ ap (λ l. l ++ xs) before ∙ append_assoc old (repeat n xs) xs ∙ ap (λ l. old ++ l) (sym (other_end n xs))
+    ∙ ap (λ k. old ++ repeat k xs) next
 
 -- what stood from a place to the end, whatever is behind it
-part_of : {A : Type 0} (begin end : ℕ) (first behind : List A) → begin ≤ length first → end ≡ length first → slice_range (first ++ behind) begin end ≡ drop begin first
+part_of : {A : Type 0} (begin end : ℕ) (first behind : List A) → begin ≤ length first → end ≡ length first
+    → slice_range (first ++ behind) begin end ≡ drop begin first
 part_of begin end first behind h e =
     let all : length (drop begin first) ≡ end - begin = omega (arith, length-drop begin first) in
     ap (take (end - begin)) (drop-append-le begin first behind h)
@@ -28,17 +32,20 @@ part_of begin end first behind h e =
     ∙ take-append_seam (drop begin first) behind
 
 -- one turn
-pub turn : {A : Type 0} (n begin end : ℕ) (first now new : List A) → 1 ≤ n → begin ≤ length first → end ≡ length first → now ≡ first ++ repeat (n - 1) (drop begin first)
+pub turn : {A : Type 0} (n begin end : ℕ) (first now new : List A) → 1 ≤ n → begin ≤ length first → end ≡ length first
+    → now ≡ first ++ repeat (n - 1) (drop begin first)
     → new ≡ now ++ slice_range now begin end → new ≡ first ++ repeat (n + 1 - 1) (drop begin first)
 turn {A} n begin end first now new some h e before added =
     let xs : List A = drop begin first in
     let once : n + 1 - 1 ≡ suc (n - 1) = omega arith in
-    added ∙ ap (λ l. l ++ slice_range l begin end) before ∙ ap (λ l. (first ++ repeat (n - 1) xs) ++ l) (part_of begin end first (repeat (n - 1) xs) h e)
+    added ∙ ap (λ l. l ++ slice_range l begin end) before
+    ∙ ap (λ l. (first ++ repeat (n - 1) xs) ++ l) (part_of begin end first (repeat (n - 1) xs) h e)
     ∙ append_assoc first (repeat (n - 1) xs) xs
     ∙ ap (λ l. first ++ l) (sym (other_end (n - 1) xs))
     ∙ ap (λ k. first ++ repeat k xs) (sym once)
 
-pub all_turns : {A : Type 0} (n times begin : ℕ) (first now : List A) → 1 ≤ times → n ≡ times → now ≡ first ++ repeat (n - 1) (drop begin first)
+pub all_turns : {A : Type 0} (n times begin : ℕ) (first now : List A) → 1 ≤ times → n ≡ times
+    → now ≡ first ++ repeat (n - 1) (drop begin first)
     → now ≡ take begin first ++ repeat times (drop begin first)
 all_turns {A} n times begin first now some e before =
     let xs : List A = drop begin first in
@@ -49,7 +56,8 @@ all_turns {A} n times begin first now some e before =
     ∙ ap (λ k. take begin first ++ repeat k xs) once
 
 -- All occurrences of bytes behind others.
-pub repeated_behind : {A : Type 0} (begin times : ℕ) (old own now new : List A) → begin ≡ length old → now ≡ old ++ own → new ≡ take begin now ++ repeat times (drop begin now)
+pub repeated_behind : {A : Type 0} (begin times : ℕ) (old own now new : List A) → begin ≡ length old → now ≡ old ++ own
+    → new ≡ take begin now ++ repeat times (drop begin now)
     → new ≡ old ++ repeat times own
 repeated_behind begin times old own now new e put repeated =
     repeated ∙ ap (λ l. take begin l ++ repeat times (drop begin l)) put
@@ -58,9 +66,11 @@ repeated_behind begin times old own now new e put repeated =
     ∙ ap (λ l. old ++ repeat times l) (drop-append_seam old own)
 
 -- and how many bytes those are
-pub repeated_length : (times most size : ℕ) (old own now new : List ℕ) → times ≡ most → length now ≡ length old + size → now ≡ old ++ own → new ≡ old ++ repeat times own
+pub repeated_length : (times most size : ℕ) (old own now new : List ℕ) → times ≡ most → length now ≡ length old + size
+    → now ≡ old ++ own → new ≡ old ++ repeat times own
     → length new ≡ length old + most * size
 repeated_length times most size old own now new count room put repeated =
     let one : length own ≡ size = omega (arith, ap length put, length-append old own, room) in
-    let every : length (repeat times own) ≡ most * size = length-repeat times own ∙ ap (λ n. n * length own) count ∙ ap (λ n. most * n) one in
+    let every : length (repeat times own) ≡ most * size =
+    length-repeat times own ∙ ap (λ n. n * length own) count ∙ ap (λ n. most * n) one in
     omega (arith, ap length repeated, length-append old (repeat times own), every)

@@ -13,5 +13,7 @@ or_last false true c e = refl
 or_last false false c e = e
 
 -- A number is moved, and no long text.
-pub short : (item : Item) (taken : Taken) (numeric : Numeric) → item.kind ≡ kind.Numeric numeric → Suits item.kind taken → is_short item taken ≡ true
-short item taken numeric e h = or_last (not (needs_number item.kind)) (is_group taken) (is_number_sender taken) (subst (λ k. Suits k taken) e h)
+pub short : (item : Item) (taken : Taken) (numeric : Numeric) → item.kind ≡ kind.Numeric numeric → Suits item.kind taken
+    → is_short item taken ≡ true
+short item taken numeric e h =
+    or_last (not (needs_number item.kind)) (is_group taken) (is_number_sender taken) (subst (λ k. Suits k taken) e h)

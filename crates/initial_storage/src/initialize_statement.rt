@@ -50,7 +50,8 @@ fn marks_of(alloc: Global, pattern: &[Option<u8>]) -> Result<Items<u8>, AllocErr
 /// Puts the item that is named: an elementary one as MOVE moves zero or spaces into it, FILLER or not, and of a group its items.
 fn put_named(alloc: Global, found: Found<'_>, out: &mut Vec<Option<u8>>) -> Result<(), AllocError>
     requires { IsWellFormedEntry found.around found.one.entry.now (forest_of found.one.inner.now) }
-    ensures { OnOk result (out.new.items ≡ out.old.items ++ spec.outline_pattern (spec.outline found.entry.around found.entry.one.entry.now (forest_of found.entry.one.inner.now))) }
+    ensures { OnOk result (out.new.items ≡ out.old.items ++ spec.outline_pattern (spec.outline
+        found.entry.around found.entry.one.entry.now (forest_of found.entry.one.inner.now))) }
 {
     let Found { around, one } = found;
     match picture_of(alloc, one.entry)? {
@@ -71,7 +72,8 @@ fn pattern_at(
 ) -> Result<Vec<Option<u8>>, AllocError>
     requires storage { entry_rules storage.now ≡ [] }
     requires files { descriptions_rules storage.now files.now ≡ [] }
-    ensures { IfOk result (λ pattern. pattern.items ≡ spec.pattern_at (slice_get (items_with storage.now files.now) number)) }
+    ensures { IfOk result (λ pattern. pattern.items
+        ≡ spec.pattern_at (slice_get (items_with storage.now files.now) number)) }
 {
     levels_are_told();
     record_levels_are_told();
@@ -95,8 +97,10 @@ pub fn initialized_item(
 ) -> Result<NewBytes, AllocError>
     requires storage { entry_rules storage.now ≡ [] }
     requires files { descriptions_rules storage.now files.now ≡ [] }
-    ensures bytes { IfOk result (λ new. new.bytes ≡ bytes_of_pattern (spec.pattern_at (slice_get (items_with storage.now files.now) number))) }
-    ensures marks { IfOk result (λ new. new.marks ≡ marks_of_pattern (spec.pattern_at (slice_get (items_with storage.now files.now) number))) }
+    ensures bytes { IfOk result (λ new. new.bytes ≡ bytes_of_pattern
+        (spec.pattern_at (slice_get (items_with storage.now files.now) number))) }
+    ensures marks { IfOk result (λ new. new.marks ≡ marks_of_pattern
+        (spec.pattern_at (slice_get (items_with storage.now files.now) number))) }
 {
     let pattern = pattern_at(alloc, storage, files, number)?;
     let bytes = bytes_of(alloc, &pattern)?;

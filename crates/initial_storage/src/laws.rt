@@ -16,26 +16,39 @@ ghost use Rattle.initial_storage.specs.Reach.{IsWithinArea, Lies, program_area_l
 
 /// Each item has the form of its kind, and an edited one the picture that edits it.
 pub fn items_have_their_form()
-    ensures { (program : Program) → entry_rules program.storage ≡ [] → descriptions_rules program.storage program.files ≡ [] → All IsFormed (program_items program) }
+    ensures { (program : Program)
+        → entry_rules program.storage ≡ [] → descriptions_rules program.storage program.files ≡ []
+        → All IsFormed (program_items program) }
 {}
 
 /// Each item lies within its area, with all its occurrences, and so does the place that a reference names, whatever storage
 /// holds.
 pub fn items_lie_within_areas()
-    ensures items { (program : Program) → entry_rules program.storage ≡ [] → descriptions_rules program.storage program.files ≡ [] → All (IsWithinArea (program_area_lengths program)) (program_items program) }
+    ensures items { (program : Program)
+        → entry_rules program.storage ≡ [] → descriptions_rules program.storage program.files ≡ []
+        → All (IsWithinArea (program_area_lengths program)) (program_items program) }
     // There is an area for each item, and its last occurrence ends within it.
-    ensures lie { (program : Program) → entry_rules program.storage ≡ [] → descriptions_rules program.storage program.files ≡ [] → All (Lies (program_areas program)) (program_items program) }
-    ensures places { (program : Program) (reference : Reference) (storage : Storage) (place : ItemPlace) → entry_rules program.storage ≡ [] → descriptions_rules program.storage program.files ≡ [] →
-        place_of (program_items program) reference storage ≡ Ok place → place.offset + place.item.length ≤ slice_index (program_area_lengths program) place.area }
+    ensures lie { (program : Program) → entry_rules program.storage ≡ []
+        → descriptions_rules program.storage program.files ≡ []
+        → All (Lies (program_areas program)) (program_items program) }
+    ensures places { (program : Program) (reference : Reference)
+        (storage : Storage) (place : ItemPlace) → entry_rules program.storage ≡ []
+        → descriptions_rules program.storage program.files ≡ [] →
+        place_of (program_items program) reference storage ≡ Ok place → place.offset
+        + place.item.length ≤ slice_index (program_area_lengths program) place.area }
 {}
 
 /// 32 bits hold the length of each area.
 pub fn areas_are_small()
-    ensures { (program : Program) → entry_rules program.storage ≡ [] → descriptions_rules program.storage program.files ≡ [] →
-        (k : ℕ) (area : List ℕ) → slice_get (program_areas program) k ≡ Some area → length area < 2 ^ 32 }
+    ensures { (program : Program) → entry_rules program.storage ≡ []
+        → descriptions_rules program.storage program.files ≡ [] →
+        (k : ℕ) (area : List ℕ) → slice_get (program_areas program) k ≡ Some area
+        → length area < 2 ^ 32 }
 {}
 
 /// The item of each condition name takes its first value, so `set_value` may be called with the two.
 pub fn condition_values_suit()
-    ensures { (program : Program) → entry_rules program.storage ≡ [] → descriptions_rules program.storage program.files ≡ [] → All CanBeSet (all_conditions (program_items program)) }
+    ensures { (program : Program)
+        → entry_rules program.storage ≡ [] → descriptions_rules program.storage program.files ≡ []
+        → All CanBeSet (all_conditions (program_items program)) }
 {}

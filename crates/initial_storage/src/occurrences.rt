@@ -25,8 +25,11 @@ pub fn put_item(
 ) -> Result<(), AllocError>
     requires fits { FitsEntry around one.entry.now (forest_of one.inner.now) }
     requires within { Fits (clauses.inside around one.entry.now) (forest_of one.inner.now) }
-    ensures bytes { OnOk result (out.new.items ≡ out.old.items ++ spec.all_occurrences around one.entry.entry.now (forest_of one.entry.inner.now)) }
-    ensures length { OnOk result (length out.new.items ≡ length out.old.items + extent around one.entry.entry.now (room (clauses.inside around one.entry.entry.now) (forest_of one.entry.inner.now))) }
+    ensures bytes { OnOk result (out.new.items ≡ out.old.items
+        ++ spec.all_occurrences around one.entry.entry.now (forest_of one.entry.inner.now)) }
+    ensures length { OnOk
+        result (length out.new.items ≡ length out.old.items + extent around one.entry.entry.now
+        (room (clauses.inside around one.entry.entry.now) (forest_of one.entry.inner.now))) }
 {
     let begin = out.len();
     put_occurrence(alloc, around, one, out)?;
@@ -44,7 +47,8 @@ fn start_from(
     requires kind { HasKind item }
     requires value { HasValue item.kind entry.now.value }
     requires length { begin + item.length ≡ length out.old.items }
-    ensures bytes { OnOk result (out.new.items ≡ take begin out.old.items ++ initial_bytes item entry.now.value (drop begin out.old.items)) }
+    ensures bytes { OnOk result (out.new.items ≡ take begin out.old.items
+        ++ initial_bytes item entry.now.value (drop begin out.old.items)) }
     ensures length { length out.new.items ≡ length out.old.items }
 {
     write_start(alloc, item, entry, &mut out[begin..])
@@ -60,8 +64,10 @@ fn put_occurrence(
 ) -> Result<(), AllocError>
     requires fits { FitsEntry around one.entry.now (forest_of one.inner.now) }
     requires within { Fits (clauses.inside around one.entry.now) (forest_of one.inner.now) }
-    ensures bytes { OnOk result (out.new.items ≡ out.old.items ++ spec.occurrence around one.entry.entry.now (forest_of one.entry.inner.now)) }
-    ensures length { OnOk result (length out.new.items ≡ length out.old.items + (item_with around one.entry.entry.now (forest_of one.entry.inner.now)).length) }
+    ensures bytes { OnOk result (out.new.items ≡ out.old.items
+        ++ spec.occurrence around one.entry.entry.now (forest_of one.entry.inner.now)) }
+    ensures length { OnOk result (length out.new.items ≡ length out.old.items
+        + (item_with around one.entry.entry.now (forest_of one.entry.inner.now)).length) }
 {
     let begin = out.len();
     match picture_of(alloc, one.entry)? {
@@ -89,8 +95,12 @@ fn put_unless_redefining(
 ) -> Result<(), AllocError>
     requires fits { FitsEntry around one.entry.now (forest_of one.inner.now) }
     requires within { Fits (clauses.inside around one.entry.now) (forest_of one.inner.now) }
-    ensures bytes { OnOk result (out.new.items ≡ out.old.items ++ (if redefines one.entry.entry.now then [] else spec.all_occurrences around one.entry.entry.now (forest_of one.entry.inner.now))) }
-    ensures length { OnOk result (length out.new.items ≡ length out.old.items + (if redefines one.entry.entry.now then 0 else extent around one.entry.entry.now (room (clauses.inside around one.entry.entry.now) (forest_of one.entry.inner.now)))) }
+    ensures bytes { OnOk result
+        (out.new.items ≡ out.old.items ++ (if redefines one.entry.entry.now then []
+        else spec.all_occurrences around one.entry.entry.now (forest_of one.entry.inner.now))) }
+    ensures length { OnOk result (length out.new.items ≡ length out.old.items
+        + (if redefines one.entry.entry.now then 0 else extent around one.entry.entry.now
+        (room (clauses.inside around one.entry.entry.now) (forest_of one.entry.inner.now)))) }
 {
     if one.entry.redefines.is_some() {
         return Ok(());
@@ -107,8 +117,10 @@ fn put_group(
     out: &mut Vec<u8>,
 ) -> Result<(), AllocError>
     requires { Fits around (forest_of entries.now) }
-    ensures bytes { OnOk result (out.new.items ≡ out.old.items ++ start around (forest_of entries.now)) }
-    ensures length { OnOk result (length out.new.items ≡ length out.old.items + room around (forest_of entries.now)) }
+    ensures bytes { OnOk result
+        (out.new.items ≡ out.old.items ++ start around (forest_of entries.now)) }
+    ensures length { OnOk result
+        (length out.new.items ≡ length out.old.items + room around (forest_of entries.now)) }
 {
     let mut rest = entries;
     'items: while let Some(one) = next_item(rest) {

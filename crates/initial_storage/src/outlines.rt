@@ -22,7 +22,8 @@ pub struct Found<'a> {
 
 /// How many of the entries are items.
 fn count_items(entries: &[Entry]) -> usize
-    ensures { (around : surrounding.Around) → result ≡ length (outlines around (forest_of entries.now)) }
+    ensures { (around : surrounding.Around)
+        → result ≡ length (outlines around (forest_of entries.now)) }
 {
     let mut count = 0;
     for entry in entries {

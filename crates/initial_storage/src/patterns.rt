@@ -47,7 +47,8 @@ pub fn put_within(
 ) -> Result<(), AllocError>
     requires fits { Fits around (forest_of entries.now) }
     requires formed { AreFormed around (forest_of entries.now) }
-    ensures { OnOk result (out.new.items ≡ out.old.items ++ spec.entries_pattern around (forest_of entries.now)) }
+    ensures { OnOk result
+        (out.new.items ≡ out.old.items ++ spec.entries_pattern around (forest_of entries.now)) }
 {
     let mut rest = entries;
     'items: while let Some(one) = next_item(rest) {
@@ -72,7 +73,8 @@ fn write_initialized(item: Item, editing: &Option<Picture>, bytes: &mut [u8])
     requires form { IsItem item }
     requires editing { IsEditing item editing.now }
     requires length { length bytes.old ≡ item.length }
-    ensures { bytes.new ≡ or_initial item (moved_by editing.now item (spec.initial_sender item.kind)) }
+    ensures { bytes.new
+        ≡ or_initial item (moved_by editing.now item (spec.initial_sender item.kind)) }
 {
     initialize(item, bytes);
     let taken = Taken::Figurative(initial_constant(item.kind));
@@ -106,7 +108,8 @@ fn put_old(count: u32, out: &mut Vec<Option<u8>>) -> Result<(), AllocError>
 fn repeat_pattern(out: &mut Vec<Option<u8>>, begin: usize, times: u32) -> Result<(), AllocError>
     requires begin { begin ≤ length out.old.items }
     requires some { 1 ≤ times }
-    ensures { OnOk result (out.new.items ≡ take begin out.old.items ++ repeat times (drop begin out.old.items)) }
+    ensures { OnOk result
+        (out.new.items ≡ take begin out.old.items ++ repeat times (drop begin out.old.items)) }
 {
     let end = out.len();
     for _turn in 1..times {
@@ -124,8 +127,12 @@ fn put_elementary(
     out: &mut Vec<Option<u8>>,
 ) -> Result<(), AllocError>
     requires length { (clauses.elementary around entry.now picture).length ≤ most_item_bytes }
-    requires form { HasForm (clauses.elementary around entry.now picture) (clauses.editing_by (clauses.kind_of around entry.now picture) picture) }
-    ensures { OnOk result (out.new.items ≡ out.old.items ++ spec.unless_filler entry.now.name (clauses.elementary around entry.now picture) (spec.initial_pattern (clauses.editing_by (clauses.kind_of around entry.now picture) picture) (clauses.elementary around entry.now picture))) }
+    requires form { HasForm (clauses.elementary around entry.now picture)
+        (clauses.editing_by (clauses.kind_of around entry.now picture) picture) }
+    ensures { OnOk result (out.new.items ≡ out.old.items
+        ++ spec.unless_filler entry.now.name (clauses.elementary around entry.now picture)
+        (spec.initial_pattern (clauses.editing_by (clauses.kind_of around entry.now picture)
+        picture) (clauses.elementary around entry.now picture))) }
 {
     let item = elementary(around, entry, &picture);
     let editing = editing(around, entry, picture);
@@ -145,9 +152,13 @@ fn put_one(
 ) -> Result<(), AllocError>
     requires fits { FitsEntry around one.entry.now (forest_of one.inner.now) }
     requires within { Fits (clauses.inside around one.entry.now) (forest_of one.inner.now) }
-    requires form { HasForm (item_with around one.entry.now (forest_of one.inner.now)) (clauses.editing_of around one.entry.now) }
+    requires form { HasForm (item_with around one.entry.now (forest_of one.inner.now))
+        (clauses.editing_of around one.entry.now) }
     requires formed { AreFormed (clauses.inside around one.entry.now) (forest_of one.inner.now) }
-    ensures { OnOk result (out.new.items ≡ out.old.items ++ spec.entry_pattern around one.entry.entry.now (item_with around one.entry.entry.now (forest_of one.entry.inner.now)) (spec.entries_pattern (clauses.inside around one.entry.entry.now) (forest_of one.entry.inner.now))) }
+    ensures { OnOk
+        result (out.new.items ≡ out.old.items ++ spec.entry_pattern around one.entry.entry.now
+        (item_with around one.entry.entry.now (forest_of one.entry.inner.now)) (spec.entries_pattern
+        (clauses.inside around one.entry.entry.now) (forest_of one.entry.inner.now))) }
 {
     match picture_of(alloc, one.entry)? {
         Some(picture) => put_elementary(alloc, around, one.entry, picture, out),
@@ -165,9 +176,13 @@ fn put_all(
 ) -> Result<(), AllocError>
     requires fits { FitsEntry around one.entry.now (forest_of one.inner.now) }
     requires within { Fits (clauses.inside around one.entry.now) (forest_of one.inner.now) }
-    requires form { HasForm (item_with around one.entry.now (forest_of one.inner.now)) (clauses.editing_of around one.entry.now) }
+    requires form { HasForm (item_with around one.entry.now (forest_of one.inner.now))
+        (clauses.editing_of around one.entry.now) }
     requires formed { AreFormed (clauses.inside around one.entry.now) (forest_of one.inner.now) }
-    ensures { OnOk result (out.new.items ≡ out.old.items ++ repeat (clauses.occurrences one.entry.entry.now) (spec.entry_pattern around one.entry.entry.now (item_with around one.entry.entry.now (forest_of one.entry.inner.now)) (spec.entries_pattern (clauses.inside around one.entry.entry.now) (forest_of one.entry.inner.now)))) }
+    ensures { OnOk result (out.new.items ≡ out.old.items ++ repeat
+        (clauses.occurrences one.entry.entry.now) (spec.entry_pattern around one.entry.entry.now
+        (item_with around one.entry.entry.now (forest_of one.entry.inner.now)) (spec.entries_pattern
+        (clauses.inside around one.entry.entry.now) (forest_of one.entry.inner.now)))) }
 {
     let begin = out.len();
     put_one(alloc, around, one, out)?;
@@ -184,9 +199,14 @@ fn put_unless_redefining(
 ) -> Result<(), AllocError>
     requires fits { FitsEntry around one.entry.now (forest_of one.inner.now) }
     requires within { Fits (clauses.inside around one.entry.now) (forest_of one.inner.now) }
-    requires form { HasForm (item_with around one.entry.now (forest_of one.inner.now)) (clauses.editing_of around one.entry.now) }
+    requires form { HasForm (item_with around one.entry.now (forest_of one.inner.now))
+        (clauses.editing_of around one.entry.now) }
     requires formed { AreFormed (clauses.inside around one.entry.now) (forest_of one.inner.now) }
-    ensures { OnOk result (out.new.items ≡ out.old.items ++ (if redefines one.entry.entry.now then [] else repeat (clauses.occurrences one.entry.entry.now) (spec.entry_pattern around one.entry.entry.now (item_with around one.entry.entry.now (forest_of one.entry.inner.now)) (spec.entries_pattern (clauses.inside around one.entry.entry.now) (forest_of one.entry.inner.now))))) }
+    ensures { OnOk result
+        (out.new.items ≡ out.old.items ++ (if redefines one.entry.entry.now then [] else repeat
+        (clauses.occurrences one.entry.entry.now) (spec.entry_pattern around one.entry.entry.now
+        (item_with around one.entry.entry.now (forest_of one.entry.inner.now)) (spec.entries_pattern
+        (clauses.inside around one.entry.entry.now) (forest_of one.entry.inner.now))))) }
 {
     if one.entry.redefines.is_some() {
         return Ok(());

@@ -9,7 +9,8 @@ use std::alloc::AllocError;
 pub fn repeat_from(out: &mut Vec<u8>, begin: usize, times: u32) -> Result<(), AllocError>
     requires begin { begin ≤ length out.old.items }
     requires some { 1 ≤ times }
-    ensures { OnOk result (out.new.items ≡ take begin out.old.items ++ repeat times (drop begin out.old.items)) }
+    ensures { OnOk result
+        (out.new.items ≡ take begin out.old.items ++ repeat times (drop begin out.old.items)) }
 {
     let end = out.len();
     for _turn in 1..times {

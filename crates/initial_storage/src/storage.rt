@@ -50,7 +50,8 @@ fn next_redefinition(entries: &[Entry]) -> Option<Sibling<'_>>
 /// The bytes of the longest of the 01 at the front that redefine.
 fn longest_redefinition(alloc: Global, entries: &[Entry]) -> Result<usize, AllocError>
     requires { Fits nothing_around (forest_of entries.now) }
-    ensures { IfOk result (λ bytes. bytes ≡ longest nothing_around (leading_redefinitions (forest_of entries.now))) }
+    ensures { IfOk result
+        (λ bytes. bytes ≡ longest nothing_around (leading_redefinitions (forest_of entries.now))) }
 {
     let mut bytes: usize = 0;
     let mut rest = entries;
@@ -68,7 +69,10 @@ fn area(alloc: Global, one: Sibling<'_>) -> Result<Items<u8>, AllocError>
     requires fits { FitsEntry nothing_around one.entry.now (forest_of one.inner.now) }
     requires within { Fits (clauses.inside nothing_around one.entry.now) (forest_of one.inner.now) }
     requires next { Fits nothing_around (forest_of one.next.now) }
-    ensures { IfOk result (λ area. area ≡ padded_text (area_length one.entry.entry.now (leading_conditions one.entry.inner.now) (forest_of one.entry.inner.now) (forest_of one.entry.next.now)) (spec.all_occurrences nothing_around one.entry.entry.now (forest_of one.entry.inner.now))) }
+    ensures { IfOk result (λ area.
+        area ≡ padded_text (area_length one.entry.entry.now (leading_conditions one.entry.inner.now)
+        (forest_of one.entry.inner.now) (forest_of one.entry.next.now))
+        (spec.all_occurrences nothing_around one.entry.entry.now (forest_of one.entry.inner.now))) }
 {
     let mut bytes = Vec::new(alloc);
     put_item(alloc, NOTHING_AROUND, one, &mut bytes)?;
@@ -141,7 +145,8 @@ impl InitialStorage {
         requires storage { entry_rules program.now.storage ≡ [] }
         requires files { descriptions_rules program.now.storage program.now.files ≡ [] }
         ensures areas { IfOk result (λ storage. storage.areas ≡ program_areas program.now) }
-        ensures lengths { IfOk result (λ storage. map length storage.areas ≡ program_area_lengths program.now) }
+        ensures lengths { IfOk result
+            (λ storage. map length storage.areas ≡ program_area_lengths program.now) }
     {
         levels_are_told();
         record_levels_are_told();

@@ -17,7 +17,8 @@ pub(crate) fn write_sent(item: Item, sender: &Sender, bytes: &mut [u8])
     requires form { IsTaken sender.now.taken sender.now.bytes }
     requires suits { Suits item.kind sender.now.taken }
     requires length { length bytes.old ≡ item.length }
-    ensures { bytes.new ≡ spec.value_by item.kind item (record { taken = sender.now.taken; bytes = sender.now.bytes }) }
+    ensures { bytes.new ≡ spec.value_by item.kind item
+        (record { taken = sender.now.taken; bytes = sender.now.bytes }) }
 {
     match item.kind {
         Kind::Numeric(_) => {

@@ -1,5 +1,7 @@
 -- Entries that keep the rules are within the limits.
-use Rattle.std.proofs.Common.{◌≡◌, ℕ, ◌-◌, ◌*◌, ◌≤◌, ◌<◌, ◌==◌, nat_lt, nat_le, Bool, true, false, not, ◌&&◌, ◌||◌, if◌then◌else◌, List, [], ◌∷◌, ◌++◌, length, drop, None, Some, is_some, refl, ap, subst, length-drop, lit<, lit≤, arith}
+use Rattle.std.proofs.Common.{◌≡◌, ℕ, ◌-◌, ◌*◌, ◌≤◌, ◌<◌, ◌==◌, nat_lt, nat_le, Bool, true, false, not, ◌&&◌, ◌||◌}
+use Rattle.std.proofs.Common.{if◌then◌else◌, List, [], ◌∷◌, ◌++◌, length, drop, None, Some, is_some, refl, ap, subst}
+use Rattle.std.proofs.Common.{length-drop, lit<, lit≤, arith}
 use Rattle.std.specs.Prelude.{Option}
 use Rattle.items.specs.declared.item.Item as Items
 use Rattle.lexical.specs.declared.place.Place.{Place}
@@ -13,10 +15,13 @@ use Rattle.source_tree.specs.Levels.{Forest, End, Tree, level_of, deeper, beyond
 use Rattle.source_tree.specs.Clauses.{nothing_around, inside, form_of, item_by, occurrences}
 use Rattle.source_tree.specs.Rooms.{redefines, room, item_with}
 use Rattle.source_tree.specs.Broken.{RuleBreach, where_so, each}
-use Rattle.source_tree.specs.ClauseRules.{most_item_bytes, most_occurrences, too_large, too_many, wrong_clause, wrong_picture}
+use Rattle.source_tree.specs.ClauseRules.{most_item_bytes, most_occurrences, too_large, too_many, wrong_clause}
+use Rattle.source_tree.specs.ClauseRules.{wrong_picture}
 use Rattle.source_tree.specs.RedefinitionRules.{Redefinable, redefinable_after}
 use Rattle.source_tree.specs.ValueRules.{value_rules, condition_rules}
-use Rattle.source_tree.specs.EntryRules.{Position, outermost, is_outermost, is_level, level_rules, wrong_level, redefinition_rules, own_rules, below, forest_rules, storage_rules, excess, homeless, most_entries, entry_rules}
+use Rattle.source_tree.specs.EntryRules.{Position, outermost, is_outermost, is_level, level_rules, wrong_level}
+use Rattle.source_tree.specs.EntryRules.{redefinition_rules, own_rules, below, forest_rules, storage_rules, excess}
+use Rattle.source_tree.specs.EntryRules.{homeless, most_entries, entry_rules}
 use Rattle.layout.specs.Fits.{FitsEntry, Fits}
 
 pub front_nil : {A : Type 0} (xs ys : List A) → xs ++ ys ≡ [] → xs ≡ []
@@ -56,12 +61,14 @@ leveled_if false F G f g = g
 leveled_deeper : (level : ℕ) (F : Forest) → Leveled F → Leveled (deeper level F)
 leveled_deeper level End h = tt
 leveled_deeper level (Tree one conditions inner next) h =
-    leveled_if (nat_lt level (level_of one)) (Tree one conditions inner (deeper level next)) End (h.0, h.1, leveled_deeper level next h.2) tt
+    leveled_if (nat_lt level (level_of one)) (Tree one conditions inner (deeper level next)) End
+    (h.0, h.1, leveled_deeper level next h.2) tt
 
 leveled_beyond : (level : ℕ) (F : Forest) → Leveled F → Leveled (beyond level F)
 leveled_beyond level End h = tt
 leveled_beyond level (Tree one conditions inner next) h =
-    leveled_if (nat_lt level (level_of one)) (beyond level next) (Tree one conditions inner next) (leveled_beyond level next h.2) h
+    leveled_if (nat_lt level (level_of one)) (beyond level next) (Tree one conditions inner next)
+    (leveled_beyond level next h.2) h
 
 second_of : (d c : Bool) → ((d && c) || false) ≡ true → c ≡ true
 second_of true true e = refl
@@ -81,13 +88,17 @@ true_where false e = cc
 
 known_level : (one : ItemEntry) → level_rules (Item one) ≡ [] → level_of one < 100000
 known_level one e =
-    known_by (number_of one.level == 77) (number_of one.level) (true_where (is_level (number_of one.level)) (kept (not (is_level (number_of one.level))) 43 one.level.place e))
+    known_by (number_of one.level == 77) (number_of one.level)
+    (true_where (is_level (number_of one.level)) (kept (not (is_level (number_of one.level))) 43 one.level.place e))
 
 pub leveled : (entries : List Entry) → each level_rules entries ≡ [] → Leveled (forest_of entries)
 leveled [] e = tt
 leveled (Item one ∷ more) e =
-    let rest = leveled more (back_nil (level_rules (Item one)) (each level_rules more) e) in
-    (known_level one (front_nil (level_rules (Item one)) (each level_rules more) e), leveled_deeper (level_of one) (forest_of more) rest, leveled_beyond (level_of one) (forest_of more) rest)
+    let rest = leveled more (back_nil (level_rules (Item one)) (each level_rules more) e) in (
+      known_level one (front_nil (level_rules (Item one)) (each level_rules more) e),
+      leveled_deeper (level_of one) (forest_of more) rest,
+      leveled_beyond (level_of one) (forest_of more) rest,
+    )
 leveled (Condition one ∷ more) e = leveled more e
 
 -- ---- lengths
@@ -100,7 +111,8 @@ none_of None b e = refl
 none_of (Some text) b e = cc
 
 -- A group's length is the room of its items; an elementary item has none.
-within_of : (around : Around) (one : ItemEntry) (inner : Forest) → wrong_picture one inner ≡ false → (item_with around one inner).length ≤ most_item_bytes
+within_of : (around : Around) (one : ItemEntry) (inner : Forest) → wrong_picture one inner ≡ false
+    → (item_with around one inner).length ≤ most_item_bytes
     → room (inside around one) inner ≤ most_item_bytes
 within_of around one End e h = lit≤ tt
 within_of around one (Tree other conditions inner next) e h =
@@ -113,7 +125,8 @@ three_parts a b c d e =
     (front_nil a (b ++ (c ++ d)) e, front_nil b (c ++ d) rest, back_nil c d (back_nil b (c ++ d) rest))
 
 own_parts : (times bytes level clause picture : Bool) (place : Place) (redefinition value : List RuleBreach)
-    → where_so times 69 place ++ where_so bytes 48 place ++ where_so level 43 place ++ where_so clause 44 place ++ where_so picture 45 place ++ redefinition ++ value ≡ []
+    → where_so times 69 place ++ where_so bytes 48 place ++ where_so level 43 place ++ where_so clause 44 place
+    ++ where_so picture 45 place ++ redefinition ++ value ≡ []
     → (times ≡ false) × (bytes ≡ false) × (picture ≡ false)
 own_parts true bytes level clause picture place redefinition value e = cc
 own_parts false true level clause picture place redefinition value e = cc
@@ -126,30 +139,50 @@ entry_fits : (at : Position) (one : ItemEntry) (inner : Forest) (last : Option R
     → own_rules at one (item_with at.around one inner) inner last ≡ [] → FitsEntry at.around one inner
 entry_fits at one inner last level e =
     let item : Items.Item = item_with at.around one inner in
-    let parts = own_parts (too_many one) (too_large item) (wrong_level at.in_file at.level (number_of one.level) inner) (wrong_clause (is_outermost at) at.nesting at.around one item) (wrong_picture one inner) one.level.place
-    (redefinition_rules (is_outermost at && at.in_file) one (occurrences one * item.length) one.redefines last) (value_rules (at.in_file || at.has_no_value || redefines one) item one.value) e in
+    let parts = own_parts (too_many one) (too_large item) (wrong_level at.in_file at.level (number_of one.level) inner)
+    (wrong_clause (is_outermost at) at.nesting at.around one item) (wrong_picture one inner) one.level.place
+    (redefinition_rules (is_outermost at && at.in_file) one (occurrences one * item.length) one.redefines last)
+    (value_rules (at.in_file || at.has_no_value || redefines one) item one.value) e in
     let bytes = at_most most_item_bytes item.length parts.1 in
-    record { level = level; times = at_most most_occurrences (occurrences one) parts.0; bytes = bytes; within = within_of at.around one inner parts.2 bytes }
+    record {
+      level = level;
+      times = at_most most_occurrences (occurrences one) parts.0;
+      bytes = bytes;
+      within = within_of at.around one inner parts.2 bytes;
+    }
 
-pub of_forest : (at : Position) (last : Option Redefinable) (F : Forest) → Leveled F → forest_rules at last F ≡ [] → Fits at.around F
+pub of_forest : (at : Position) (last : Option Redefinable) (F : Forest) → Leveled F → forest_rules at last F ≡ []
+    → Fits at.around F
 of_forest at last End levels e = tt
 of_forest at last (Tree one conditions inner next) levels e =
     let item : Items.Item = item_with at.around one inner in
     let after : Option Redefinable = redefinable_after one (occurrences one * item.length) last in
-    let parts = three_parts (forest_rules (below at one inner) None inner) (own_rules at one item inner last) (each (condition_rules item) conditions) (forest_rules at after next) e in
-    (entry_fits at one inner last levels.0 parts.1, of_forest (below at one inner) None inner levels.1 parts.0, of_forest at after next levels.2 parts.2)
+    let parts = three_parts (forest_rules (below at one inner) None inner) (own_rules at one item inner last)
+    (each (condition_rules item) conditions) (forest_rules at after next) e in (
+      entry_fits at one inner last levels.0 parts.1,
+      of_forest (below at one inner) None inner levels.1 parts.0,
+      of_forest at after next levels.2 parts.2,
+    )
 
 -- ---- all of working storage
 
 pub fits : (entries : List Entry) → entry_rules entries ≡ [] → Fits nothing_around (forest_of entries)
 fits entries e =
-    let counted = back_nil (each excess (drop most_entries entries)) (each level_rules entries ++ (each homeless (leading_conditions entries) ++ (forest_rules (outermost false) None (forest_of entries) ++ storage_rules 0 (forest_of entries)))) e in
-    let parts = three_parts (each level_rules entries) (each homeless (leading_conditions entries)) (forest_rules (outermost false) None (forest_of entries)) (storage_rules 0 (forest_of entries)) counted in
-    let rest = back_nil (each homeless (leading_conditions entries)) (forest_rules (outermost false) None (forest_of entries) ++ storage_rules 0 (forest_of entries))
-    (back_nil (each level_rules entries) (each homeless (leading_conditions entries) ++ (forest_rules (outermost false) None (forest_of entries) ++ storage_rules 0 (forest_of entries))) counted) in
-    of_forest (outermost false) None (forest_of entries) (leveled entries parts.0) (front_nil (forest_rules (outermost false) None (forest_of entries)) (storage_rules 0 (forest_of entries)) rest)
+    let counted = back_nil
+    (each excess (drop most_entries entries)) (each level_rules entries ++ (each homeless (leading_conditions entries)
+    ++ (forest_rules (outermost false) None (forest_of entries) ++ storage_rules 0 (forest_of entries)))) e in
+    let parts = three_parts (each level_rules entries) (each homeless (leading_conditions entries))
+    (forest_rules (outermost false) None (forest_of entries)) (storage_rules 0 (forest_of entries)) counted in
+    let rest = back_nil (each homeless (leading_conditions entries))
+    (forest_rules (outermost false) None (forest_of entries) ++ storage_rules 0 (forest_of entries))
+    (back_nil (each level_rules entries) (each homeless (leading_conditions entries)
+    ++ (forest_rules (outermost false) None (forest_of entries) ++ storage_rules 0 (forest_of entries))) counted) in
+    of_forest (outermost false) None (forest_of entries) (leveled entries parts.0)
+    (front_nil (forest_rules (outermost false) None (forest_of entries)) (storage_rules 0 (forest_of entries)) rest)
 
 pub not_many : (entries : List Entry) → entry_rules entries ≡ [] → length entries ≤ most_entries
 not_many entries e =
     dropped_all most_entries entries (few (drop most_entries entries)
-    (front_nil (each excess (drop most_entries entries)) (each level_rules entries ++ (each homeless (leading_conditions entries) ++ (forest_rules (outermost false) None (forest_of entries) ++ storage_rules 0 (forest_of entries)))) e))
+    (front_nil (each excess (drop most_entries entries))
+    (each level_rules entries ++ (each homeless (leading_conditions entries)
+    ++ (forest_rules (outermost false) None (forest_of entries) ++ storage_rules 0 (forest_of entries)))) e))

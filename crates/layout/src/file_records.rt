@@ -49,7 +49,8 @@ pub fn record_length(alloc: Global, file: &FileDescription) -> Result<u32, Alloc
 /// a group.
 pub fn sent_item(alloc: Global, file: &FileDescription) -> Result<Item, AllocError>
     requires { description_rules file.now ≡ [] }
-    ensures { IfOk result (λ item. item ≡ sent_of (tree.record_length file.now.entries) (forest_of file.now.entries)) }
+    ensures { IfOk result (λ item. item
+        ≡ sent_of (tree.record_length file.now.entries) (forest_of file.now.entries)) }
 {
     sent_of(alloc, file.entries.as_slice())
 }
@@ -63,7 +64,8 @@ fn place_records(
 ) -> Result<(), AllocError>
     requires fits { Fits nothing_around (forest_of entries.now) }
     requires most { length entries.now ≤ most_entries }
-    ensures { OnOk result (out.new.items ≡ out.old.items ++ spec.record_items area (forest_of entries.now)) }
+    ensures { OnOk result
+        (out.new.items ≡ out.old.items ++ spec.record_items area (forest_of entries.now)) }
 {
     let around = Surroundings {
         around: NOTHING_AROUND,
@@ -96,7 +98,8 @@ fn longest(alloc: Global, entries: &[Entry]) -> Result<u32, AllocError>
 /// The only one of some records, or a group as long as the longest.
 fn sent_of(alloc: Global, entries: &[Entry]) -> Result<Item, AllocError>
     requires { Fits nothing_around (forest_of entries.now) }
-    ensures { IfOk result (λ item. item ≡ sent_of (tree.record_length entries.now) (forest_of entries.now)) }
+    ensures { IfOk result
+        (λ item. item ≡ sent_of (tree.record_length entries.now) (forest_of entries.now)) }
 {
     if let Some(one) = next_item(entries) {
         if next_item(one.next).is_none() {

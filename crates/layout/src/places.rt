@@ -37,7 +37,8 @@ fn dimensions_of(
     length: u32,
 ) -> Result<Items<Dimension>, AllocError>
     requires { clauses.occurrences entry.now ≤ most_occurrences }
-    ensures { IfOk result (λ dimensions. dimensions ≡ tree.with_dimension entry.now.occurs length around.now) }
+    ensures { IfOk result
+        (λ dimensions. dimensions ≡ tree.with_dimension entry.now.occurs length around.now) }
 {
     let mut dimensions = Vec::from_slice(alloc, around)?;
     if let Some(count) = &entry.occurs {
@@ -72,8 +73,11 @@ pub fn place_item(
     requires fits { FitsEntry around.around one.entry.now (forest_of one.inner.now) }
     requires within { Fits (clauses.inside around.around one.entry.now) (forest_of one.inner.now) }
     requires offset { offset + 65536 * length one.inner.now ≤ most_offset }
-    ensures items { OnOk result (out.new.items ≡ out.old.items ++ spec.entry_items around.entry.around around.entry.area around.entry.dimensions.now one.entry.entry.now (forest_of one.entry.inner.now) offset) }
-    ensures bytes { IfOk result (λ bytes. bytes ≡ spec.occupied_bytes around.entry.around one.entry.entry.now (forest_of one.entry.inner.now)) }
+    ensures items { OnOk result
+        (out.new.items ≡ out.old.items ++ spec.entry_items around.entry.around around.entry.area
+        around.entry.dimensions.now one.entry.entry.now (forest_of one.entry.inner.now) offset) }
+    ensures bytes { IfOk result (λ bytes. bytes ≡ spec.occupied_bytes around.entry.around
+        one.entry.entry.now (forest_of one.entry.inner.now)) }
 {
     let described = describe(alloc, around.around, one.entry, one.inner)?;
     let length = described.item.length;
@@ -107,7 +111,8 @@ fn place_group(
     requires fits { Fits around.around (forest_of entries.now) }
     requires most { room around.around (forest_of entries.now) ≤ most_item_bytes }
     requires offset { start + 65536 * length entries.now ≤ most_offset }
-    ensures { OnOk result (out.new.items ≡ out.old.items ++ spec.group_items around.entry.around around.entry.area around.entry.dimensions.now start start (forest_of entries.now)) }
+    ensures { OnOk result (out.new.items ≡ out.old.items ++ spec.group_items around.entry.around
+        around.entry.area around.entry.dimensions.now start start (forest_of entries.now)) }
 {
     let mut last = start;
     let mut here = start;

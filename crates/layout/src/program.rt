@@ -27,7 +27,8 @@ impl Layout {
         requires storage { entry_rules program.now.storage ≡ [] }
         requires files { descriptions_rules program.now.storage program.now.files ≡ [] }
         // Each item stands where its clauses and those around it say.
-        ensures { IfOk result (λ layout. layout.items ≡ map placed_item (program_items program.now)) }
+        ensures { IfOk result
+            (λ layout. layout.items ≡ map placed_item (program_items program.now)) }
     {
         let storage = program.storage.as_slice();
         let mut items = Vec::new(alloc);

@@ -33,7 +33,8 @@ pub fn extent(entry: &ItemEntry, length: u32) -> u32
 pub fn taken(entry: &ItemEntry, length: u32) -> u32
     requires times { clauses.occurrences entry.now ≤ most_occurrences }
     requires most { length ≤ most_item_bytes }
-    ensures { result ≡ (if spec.redefines entry.now then 0 else clauses.occurrences entry.now * length) }
+    ensures { result
+        ≡ (if spec.redefines entry.now then 0 else clauses.occurrences entry.now * length) }
 {
     if entry.redefines.is_some() {
         0
@@ -50,9 +51,11 @@ pub fn describe(
     entry: &ItemEntry,
     inner: &[Entry],
 ) -> Result<Described, AllocError>
-    requires length { (spec.item_with around entry.now (forest_of inner.now)).length ≤ most_item_bytes }
+    requires length { (spec.item_with around entry.now (forest_of inner.now)).length
+        ≤ most_item_bytes }
     requires fits { Fits (clauses.inside around entry.now) (forest_of inner.now) }
-    ensures item { IfOk result (λ d. d.item ≡ spec.item_with around entry.now (forest_of inner.now)) }
+    ensures item { IfOk result
+        (λ d. d.item ≡ spec.item_with around entry.now (forest_of inner.now)) }
     ensures editing { IfOk result (λ d. d.editing ≡ clauses.editing_of around entry.now) }
 {
     match picture_of(alloc, entry)? {

@@ -23,7 +23,8 @@ pub(crate) fn place_storage(
 ) -> Result<(), AllocError>
     requires fits { Fits nothing_around (forest_of entries.now) }
     requires most { length entries.now ≤ most_entries }
-    ensures { OnOk result (out.new.items ≡ out.old.items ++ spec.storage_items 0 (forest_of entries.now)) }
+    ensures { OnOk result
+        (out.new.items ≡ out.old.items ++ spec.storage_items 0 (forest_of entries.now)) }
 {
     let mut areas: u32 = 0;
     let mut rest = entries;

@@ -1,5 +1,7 @@
 -- The digits of numeric literals.
-use Rattle.std.proofs.Common.{◌≡◌, ℕ, ◌+◌, ◌-◌, ◌*◌, ◌^◌, ◌≤◌, ◌<◌, Bool, true, false, not, ◌&&◌, ◌||◌, nat_le, if◌then◌else◌, List, [], ◌∷◌, ◌++◌, length, Some, None, refl, sym, ap, subst, ◌∙◌, length-append, pow-add, arith}
+use Rattle.std.proofs.Common.{◌≡◌, ℕ, ◌+◌, ◌-◌, ◌*◌, ◌^◌, ◌≤◌, ◌<◌, Bool, true, false, not, ◌&&◌, ◌||◌, nat_le}
+use Rattle.std.proofs.Common.{if◌then◌else◌, List, [], ◌∷◌, ◌++◌, length, Some, None, refl, sym, ap, subst, ◌∙◌}
+use Rattle.std.proofs.Common.{length-append, pow-add, arith}
 use Rattle.std.proofs.Math.Nat.{pow-le-pow_right, mul-le-mul_right}
 use Rattle.std.specs.Prelude.{zero, suc, unsigned_abs}
 use Rattle.std.specs.Char.{is_ascii_digit}
@@ -27,7 +29,8 @@ at_most limit n e = grind arith
 pub few : (one : NumericLiteral) → has_form (literal.Numeric one) ≡ true → length one.whole + length one.decimals ≤ 18
 few one e =
     let all : ℕ = length (one.whole ++ one.decimals) in
-    let h : all ≤ 18 = at_most 18 all (last_of (list_all is_ascii_digit one.whole) (list_all is_ascii_digit one.decimals) (nat_le 1 all) (nat_le all 18) e) in
+    let h : all ≤ 18 = at_most 18 all (last_of (list_all is_ascii_digit one.whole)
+    (list_all is_ascii_digit one.decimals) (nat_le 1 all) (nat_le all 18) e) in
     omega (arith, h, length-append one.whole one.decimals)
 
 behind_all : (n : ℕ) (front back : List ℕ) → digits_after n (front ++ back) ≡ digits_after (digits_after n front) back
@@ -42,13 +45,15 @@ times_pow number some more below =
     omega (arith, k, e)
 
 -- The digits before the point fit, and those behind it too.
-pub first_room : (one : NumericLiteral) (front : List ℕ) → has_form (literal.Numeric one) ≡ true → front ≡ one.whole → 1 * 10 ^ length front ≤ 1000000000000000000
+pub first_room : (one : NumericLiteral) (front : List ℕ) → has_form (literal.Numeric one) ≡ true → front ≡ one.whole
+    → 1 * 10 ^ length front ≤ 1000000000000000000
 first_room one front form e =
     let h : length front ≤ 18 = omega (arith, few one form, ap length e) in
     let top : 10 ^ length front ≤ 10 ^ 18 = pow-le-pow_right (omega arith) h in
     omega (arith, top)
 
-pub room : (one : NumericLiteral) (front back : List ℕ) (whole : ℕ) → has_form (literal.Numeric one) ≡ true → front ≡ one.whole → back ≡ one.decimals
+pub room : (one : NumericLiteral) (front back : List ℕ) (whole : ℕ) → has_form (literal.Numeric one) ≡ true
+    → front ≡ one.whole → back ≡ one.decimals
     → whole < 1 * 10 ^ length front → (whole + 1) * 10 ^ length back ≤ 1000000000000000000
 room one front back whole form e f below =
     let h : length front + length back ≤ 18 = omega (arith, few one form, ap length e, ap length f) in
@@ -59,15 +64,19 @@ told : (b : Bool) (m n : ℕ) → Some m ≡ (if b then Some n else None) → m 
 told true m n e = cc
 told false m n e = cc
 
-pub magnitude_of : (one : NumericLiteral) (front back : List ℕ) (whole magnitude : ℕ) → front ≡ one.whole → back ≡ one.decimals
-    → Some whole ≡ number_after 0 front → Some magnitude ≡ number_after whole back → magnitude ≡ digits_after 0 (one.whole ++ one.decimals)
+pub magnitude_of : (one : NumericLiteral) (front back : List ℕ) (whole magnitude : ℕ) → front ≡ one.whole
+    → back ≡ one.decimals
+    → Some whole ≡ number_after 0 front → Some magnitude ≡ number_after whole back
+    → magnitude ≡ digits_after 0 (one.whole ++ one.decimals)
 magnitude_of one front back whole magnitude e f first last =
     told (list_all is_ascii_digit back) magnitude (digits_after whole back) last
     ∙ ap (digits_after whole) f
-    ∙ ap (λ n. digits_after n one.decimals) (told (list_all is_ascii_digit front) whole (digits_after 0 front) first ∙ ap (digits_after 0) e)
+    ∙ ap (λ n. digits_after n one.decimals) (told (list_all is_ascii_digit front) whole (digits_after 0 front) first
+    ∙ ap (digits_after 0) e)
     ∙ sym (behind_all 0 one.whole one.decimals)
 
-pub number_of : (one : NumericLiteral) (negative : Bool) (magnitude scale : ℕ) → negative ≡ is_minus one.sign → magnitude ≡ digits_after 0 (one.whole ++ one.decimals) → scale ≡ length one.decimals
+pub number_of : (one : NumericLiteral) (negative : Bool) (magnitude scale : ℕ) → negative ≡ is_minus one.sign
+    → magnitude ≡ digits_after 0 (one.whole ++ one.decimals) → scale ≡ length one.decimals
     → of_parts negative magnitude scale ≡ literal_number one
 number_of one negative magnitude scale e f g = cc
 
@@ -77,20 +86,25 @@ size_of true (suc magnitude) = refl
 size_of false magnitude = refl
 
 -- a sign where one is written
-signed_so : (one : Sign) (digits scale magnitude : ℕ) → (is_signed (record { digits = digits; scale = scale; usage = usage.Display (literal_sign one) }) || not (is_negative (signed_integer (is_minus one) magnitude))) ≡ true
+signed_so : (one : Sign) (digits scale magnitude : ℕ)
+    → (is_signed (record { digits = digits; scale = scale; usage = usage.Display (literal_sign one) })
+    || not (is_negative (signed_integer (is_minus one) magnitude))) ≡ true
 signed_so sign.Unsigned digits scale magnitude = refl
 signed_so sign.Plus digits scale magnitude = refl
 signed_so sign.Minus digits scale magnitude = refl
 
 -- The item of the literal's digits can hold it.
-pub held : (one : NumericLiteral) (x : Fraction) (front back : List ℕ) (whole magnitude : ℕ) → front ≡ one.whole → back ≡ one.decimals
+pub held : (one : NumericLiteral) (x : Fraction) (front back : List ℕ) (whole magnitude : ℕ) → front ≡ one.whole
+    → back ≡ one.decimals
     → x ≡ literal_number one → magnitude ≡ digits_after 0 (one.whole ++ one.decimals)
     → whole < 1 * 10 ^ length front → magnitude < (whole + 1) * 10 ^ length back → CanHold (literal_numeric one) x
 held one x front back whole magnitude e f is m below bound =
     let all : ℕ = digits_after 0 (one.whole ++ one.decimals) in
     let size : unsigned_abs (literal_number one).coefficient ≡ all = size_of (is_minus one.sign) all in
-    let top : (whole + 1) * 10 ^ length back ≤ 10 ^ (length front + length back) = times_pow whole (length front) (length back) below in
-    let count : length (one.whole ++ one.decimals) ≡ length front + length back = omega (arith, length-append one.whole one.decimals, ap length e, ap length f) in
+    let top : (whole + 1) * 10 ^ length back ≤ 10 ^ (length front + length back) =
+    times_pow whole (length front) (length back) below in
+    let count : length (one.whole ++ one.decimals) ≡ length front + length back =
+    omega (arith, length-append one.whole one.decimals, ap length e, ap length f) in
     let same : 10 ^ length (one.whole ++ one.decimals) ≡ 10 ^ (length front + length back) = ap (λ n. 10 ^ n) count in
     subst (CanHold (literal_numeric one)) (sym is) (record {
       scale = refl;

@@ -35,12 +35,17 @@ numeric_formed : (one : NumericLiteral) → has_form (literal.Numeric one) ≡ t
 numeric_formed one e =
     let all : ℕ = length (one.whole ++ one.decimals) in
     let count : (1 ≤ all) × (all ≤ most_literal_digits) =
-    counted most_literal_digits all (last_of (list_all is_ascii_digit one.whole) (list_all is_ascii_digit one.decimals) (are_some most_literal_digits all) e) in
+    counted most_literal_digits all (last_of (list_all is_ascii_digit one.whole) (list_all is_ascii_digit one.decimals)
+    (are_some most_literal_digits all) e) in
     record { some = count.0; most = count.1; decimals = omega (arith, length-append one.whole one.decimals) }
 
 -- A minus is held with the last digit.
 marked_length : (digits magnitude : ℕ) → length (with_minus_mark (digits - 1) (digit_text digits magnitude)) ≡ digits
-marked_length digits magnitude = omega (arith, length-set (digit_text digits magnitude) (digits - 1) (slice_index (digit_text digits magnitude) (digits - 1) + 64), text_length digits magnitude)
+marked_length digits magnitude = omega (
+  arith,
+  length-set (digit_text digits magnitude) (digits - 1) (slice_index (digit_text digits magnitude) (digits - 1) + 64),
+  text_length digits magnitude,
+)
 
 display_length : (one : Sign) (digits : ℕ) (negative : Bool) (magnitude : ℕ)
     → length (display_bytes (literal_sign one) digits negative magnitude) ≡ digits + sign_length (literal_sign one)
@@ -50,14 +55,18 @@ display_length sign.Plus digits false magnitude = omega (arith, text_length digi
 display_length sign.Minus digits true magnitude = omega (arith, marked_length digits magnitude)
 display_length sign.Minus digits false magnitude = omega (arith, text_length digits magnitude)
 
-number_length : (one : NumericLiteral) (x : Fraction) → length (bytes_of (literal_numeric one) x) ≡ length_of (literal_numeric one)
+number_length : (one : NumericLiteral) (x : Fraction)
+    → length (bytes_of (literal_numeric one) x) ≡ length_of (literal_numeric one)
 unfolding bytes_of
-number_length one x = display_length one.sign (length (one.whole ++ one.decimals)) (is_negative x.coefficient) (unsigned_abs x.coefficient)
+number_length one x = display_length one.sign (length (one.whole ++ one.decimals)) (is_negative x.coefficient)
+    (unsigned_abs x.coefficient)
 
 -- ---- all literals
 
-pub sender_formed : (value : LiteralValue) → has_form value ≡ true → IsTaken (literal_sender value).taken (literal_sender value).bytes
-sender_formed (literal.Numeric one) e = record { form = (numeric_formed one e, refl); size = number_length one (literal_number one) }
+pub sender_formed : (value : LiteralValue) → has_form value ≡ true
+    → IsTaken (literal_sender value).taken (literal_sender value).bytes
+sender_formed (literal.Numeric one) e =
+    record { form = (numeric_formed one e, refl); size = number_length one (literal_number one) }
 sender_formed (literal.Nonnumeric bytes) e =
     let some = counted most_literal_characters (length bytes) e in
     record { form = (some.0, omega (arith, some.1)); size = refl }

@@ -8,5 +8,6 @@ ghost use Rattle.source_tree.specs.declared.literal.LiteralValue.{LiteralValue};
 
 /// What a literal of a source text sends has the bytes of what it counts as.
 pub fn senders_have_their_form()
-    ensures { (value : LiteralValue) → has_form value ≡ true → IsTaken (literal_sender value).taken (literal_sender value).bytes }
+    ensures { (value : LiteralValue) → has_form value ≡ true
+        → IsTaken (literal_sender value).taken (literal_sender value).bytes }
 {}

@@ -73,8 +73,10 @@ impl Sender {
     /// 18 digits, 1 to 160 characters.
     pub fn of(alloc: Global, literal: &LiteralValue) -> Result<Sender, AllocError>
         requires { has_form literal.now ≡ true }
-        ensures taken { IfOk result (λ sender. sender.taken ≡ (spec.literal_sender literal.now).taken) }
-        ensures bytes { IfOk result (λ sender. sender.bytes ≡ (spec.literal_sender literal.now).bytes) }
+        ensures taken { IfOk result
+            (λ sender. sender.taken ≡ (spec.literal_sender literal.now).taken) }
+        ensures bytes { IfOk result
+            (λ sender. sender.bytes ≡ (spec.literal_sender literal.now).bytes) }
         // It may be moved and edited.
         ensures form { IfOk result (λ sender. IsTaken sender.taken sender.bytes) }
     {

@@ -1,5 +1,6 @@
 -- A run in progress, over a file statement.
-use Rattle.std.proofs.Common.{◌≡◌, ◌≢◌, ◌⊎◌, Bool, true, ℕ, suc, ◌+◌, List, [], ◌∷◌, ◌++◌, length, Option, Some, refl, sym, ◌∙◌, ap, subst, append_assoc, inl, inr, arith}
+use Rattle.std.proofs.Common.{◌≡◌, ◌≢◌, ◌⊎◌, Bool, true, ℕ, suc, ◌+◌, List, [], ◌∷◌, ◌++◌, length, Option, Some, refl}
+use Rattle.std.proofs.Common.{sym, ◌∙◌, ap, subst, append_assoc, inl, inr, arith}
 use Rattle.std.specs.Prelude.{slice_get, false, Result, OnOk, OnErr}
 use Rattle.std.proofs.lemmas.List.{length-append}
 use Rattle.station.specs.declared.note.Note.{Note}
@@ -49,11 +50,14 @@ use Rattle.machine.proofs.Steps.{here_goes, files_now}
 no_zero : (n m k : ℕ) → n ≡ m + suc k → n ≡ 0 → (let never : Type 0 = ⊥ in never)
 no_zero n m k sum none = omega arith
 
-module _ (code : Code) (day : List ℕ) (run : Run) (before : State) (files : Files) (connectors : List Connector) (address left : ℕ)
+module _ (code : Code) (day : List ℕ) (run : Run) (before : State) (files : Files) (connectors : List Connector)
+    (address left : ℕ)
     (r : Registers) (now : State) (so_far : IsRunning code day run before files connectors address left r now)
-    (file_index : FileIndex) (verb : Verb) (one : CodeFile) (here : slice_get code.instructions address ≡ Some (instruction.File file_index verb))
+    (file_index : FileIndex) (verb : Verb) (one : CodeFile)
+    (here : slice_get code.instructions address ≡ Some (instruction.File file_index verb))
     (there : slice_get code.files file_index.number ≡ Some one) (did : file.Step)
-    (is : did ≡ step_by (entries_of code.tables code.files) (places_of code.tables file_index.number one) verb files connectors r.scratch.areas) where
+    (is : did ≡ step_by (entries_of code.tables code.files) (places_of code.tables file_index.number one) verb files
+    connectors r.scratch.areas) where
   abbrev p : Point
   p = so_far.point
 
@@ -62,9 +66,12 @@ module _ (code : Code) (day : List ℕ) (run : Run) (before : State) (files : Fi
 
   at_point : step_on (entries_of code.tables code.files) places verb p.state ≡ did
   at_point =
-      ap (λ (fs : Files). step_by (entries_of code.tables code.files) places verb fs p.state.connectors p.state.storage) so_far.files_are
-      ∙ ap (λ (cs : List Connector). step_by (entries_of code.tables code.files) places verb files cs p.state.storage) so_far.connectors_are
-      ∙ ap (λ (s : Scratch). step_by (entries_of code.tables code.files) places verb files connectors s.storage) so_far.worked
+      ap (λ (fs : Files). step_by (entries_of code.tables code.files) places verb fs p.state.connectors p.state.storage)
+      so_far.files_are
+      ∙ ap (λ (cs : List Connector). step_by (entries_of code.tables code.files) places verb files cs p.state.storage)
+      so_far.connectors_are
+      ∙ ap (λ (s : Scratch). step_by (entries_of code.tables code.files) places verb files connectors s.storage)
+      so_far.worked
       ∙ sym is
 
   abbrev next_point : Point
@@ -72,7 +79,8 @@ module _ (code : Code) (day : List ℕ) (run : Run) (before : State) (files : Fi
 
   file_goes : (k : ℕ) × (exec_code code k next_point ≡ Some run)
   file_goes =
-      let o = here_goes code day run before files connectors address left r now so_far (instruction.File file_index verb) here in (
+      let o = here_goes code day run before files connectors address left r now so_far
+      (instruction.File file_index verb) here in (
         o.0,
         sym (ap (λ (s : file.Step). exec_code code o.0 (received_point code file_index.number one s p)) at_point)
             ∙ sym (ap (λ (c : Option CodeFile). filed_from code file_index.number verb c (exec_code code o.0) p) there)
@@ -109,9 +117,15 @@ module _ (code : Code) (day : List ℕ) (run : Run) (before : State) (files : Fi
       (ap note_count comes ∙ notes_append p.state.events (Noted note ∷ later.told)) none
 
   -- while it is under way
-  pub during : (holds : List Sector → Files → Type 0) (s : State) → CrashLeaves now.events (Either holds files did.files) s → Moment holds run before s
+  pub during : (holds : List Sector → Files → Type 0) (s : State)
+      → CrashLeaves now.events (Either holds files did.files) s → Moment holds run before s
   during holds s leaves = record {
-    told = record { seen = p.state.events; rest = Noted note ∷ later.told; since = leaves.events ∙ so_far.told; begins = comes };
+    told = record {
+      seen = p.state.events;
+      rest = Noted note ∷ later.told;
+      since = leaves.events ∙ so_far.told;
+      begins = comes;
+    };
     files = λ image crash. by_side image (leaves.images image crash);
     console = inr (note, later.told, refl);
     disk = λ none. absurd (some_note none);
@@ -123,7 +137,8 @@ module _ (code : Code) (day : List ℕ) (run : Run) (before : State) (files : Fi
       by_side image (inr new) = inr (subst (holds image) (sym files_then) new, (note, later.told, refl))
 
   -- where it was given up
-  pub given_up : (s : State) → s.events ≡ now.events → s.lines ≡ now.lines → is_barring did.status ≡ false → BeforeNote run before s
+  pub given_up : (s : State) → s.events ≡ now.events → s.lines ≡ now.lines → is_barring did.status ≡ false
+      → BeforeNote run before s
   given_up s events lines asks = record {
     seen = p.state.events;
     file = file_index.number;
@@ -140,7 +155,8 @@ module _ (code : Code) (day : List ℕ) (run : Run) (before : State) (files : Fi
     pub changes : has_changed verb did.status ≡ true
     pub room : lacks_room s.disk.present (makes_file verb) one.name files did.files
 
-  no_room : (lacks_room : List Sector → Bool → List ℕ → Files → Files → Type 0) (s : State) → s.events ≡ now.events → s.lines ≡ now.lines → is_barring did.status ≡ false
+  no_room : (lacks_room : List Sector → Bool → List ℕ → Files → Files → Type 0) (s : State) → s.events ≡ now.events
+      → s.lines ≡ now.lines → is_barring did.status ≡ false
       → NoRoom lacks_room s → LacksRoomForChange lacks_room (entries_of code.tables code.files) run before s
   unfolding step_by given_up
   no_room lacks_room s events lines asks lacking = record {
@@ -159,18 +175,24 @@ module _ (code : Code) (day : List ℕ) (run : Run) (before : State) (files : Fi
         (sym (ap (λ (e : Entry). e.name) (entry_here code.tables code.files file_index.number one there))) lacking.room;
   }
 
-  pub refused_by : (holds : List Sector → Files → Type 0) (lacks_room : List Sector → Bool → List ℕ → Files → Files → Type 0) (s : State) (refusal : Refusal) (why : StoreFault) → why ≡ store_fault refusal → why ≢ fault.Damaged
-      → is_barring did.status ≡ false → s.events ≡ now.events → s.lines ≡ now.lines → (why ≡ fault.Full → NoRoom lacks_room s)
+  pub refused_by : (holds : List Sector → Files → Type 0) (lacks_room : List Sector → Bool → List ℕ → Files → Files
+      → Type 0) (s : State) (refusal : Refusal) (why : StoreFault) → why ≡ store_fault refusal → why ≢ fault.Damaged
+      → is_barring did.status ≡ false → s.events ≡ now.events → s.lines ≡ now.lines
+      → (why ≡ fault.Full → NoRoom lacks_room s)
       → EndsAs holds lacks_room (entries_of code.tables code.files) run before (Refused refusal) s
-  refused_by holds lacks_room s Device why is sound asks events lines full = as_many_taken before now s so_far.console lines
-  refused_by holds lacks_room s Full why is sound asks events lines full = no_room lacks_room s events lines asks (full is)
+  refused_by holds lacks_room s Device why is sound asks events lines full =
+      as_many_taken before now s so_far.console lines
+  refused_by holds lacks_room s Full why is sound asks events lines full =
+      no_room lacks_room s events lines asks (full is)
   refused_by holds lacks_room s Damaged why is sound asks events lines full = absurd (sound is)
   refused_by holds lacks_room s Memory why is sound asks events lines full = given_up s events lines asks
 
   -- where its status was received
-  pub after_file : (s : State) (new : Registers) (status : Status) (after : List Connector) → s.events ≡ now.events ++ Noted (record { file = file_index.number; status = bytes_of status }) ∷ []
+  pub after_file : (s : State) (new : Registers) (status : Status) (after : List Connector)
+      → s.events ≡ now.events ++ Noted (record { file = file_index.number; status = bytes_of status }) ∷ []
       → s.lines ≡ now.lines → status ≡ did.status → after ≡ connectors_after connectors file_index.number did
-      → held.scratch_of new.scratch ≡ record (held.scratch_of r.scratch) { storage = stored_by places did r.scratch.areas }
+      → held.scratch_of new.scratch
+      ≡ record (held.scratch_of r.scratch) { storage = stored_by places did r.scratch.areas }
       → new.counters.items ≡ r.counters.items → new.returns ≡ r.returns → new.line ≡ r.line → new.status ≡ status
       → IsRunning code day run before did.files after (address + 1) left new s
   after_file s new status after events lines status_is connectors_are does counters returns line status_now = record {
@@ -184,13 +206,17 @@ module _ (code : Code) (day : List ℕ) (run : Run) (before : State) (files : Fi
     line_is = so_far.line_is ∙ sym line;
     day_is = so_far.day_is;
     files_are = refl;
-    connectors_are = ap (λ (cs : List Connector). connectors_after cs file_index.number did) so_far.connectors_are ∙ sym connectors_are;
+    connectors_are = ap (λ (cs : List Connector). connectors_after cs file_index.number did) so_far.connectors_are
+        ∙ sym connectors_are;
     one_each = one_each;
     lines_are = lines ∙ so_far.lines_are;
-    told = events ∙ ap (λ (st : Status). now.events ++ Noted (record { file = file_index.number; status = bytes_of st }) ∷ []) status_is
-        ∙ ap (λ (es : List Event). es ++ Noted note ∷ []) so_far.told ∙ append_assoc before.events p.state.events (Noted note ∷ []);
+    told = events ∙ ap (λ (st : Status).
+        now.events ++ Noted (record { file = file_index.number; status = bytes_of st }) ∷ []) status_is
+        ∙ ap (λ (es : List Event). es ++ Noted note ∷ []) so_far.told
+        ∙ append_assoc before.events p.state.events (Noted note ∷ []);
     console = as_many_taken before now s so_far.console lines;
-    disk = λ none. absurd (no_zero (note_count (p.state.events ++ Noted note ∷ [])) (note_count p.state.events) 0 one_more_note none);
+    disk = λ none. absurd
+        (no_zero (note_count (p.state.events ++ Noted note ∷ [])) (note_count p.state.events) 0 one_more_note none);
     goes = file_goes;
   }
 
@@ -198,18 +224,21 @@ module _ (code : Code) (day : List ℕ) (run : Run) (before : State) (files : Fi
       (through : Through old h s (CrashLeaves now.events (Either holds files did.files))) where
     -- until the status is to be received
     pub under_way : Through old h s (Moment holds run before)
-    under_way = weakens old h s (CrashLeaves now.events (Either holds files did.files)) (Moment holds run before) (during holds) through
+    under_way = weakens old h s (CrashLeaves now.events (Either holds files did.files)) (Moment holds run before)
+        (during holds) through
 
     -- once it was received
     received_then : (new : State) (status : Status) → s.lines ≡ now.lines → status ≡ did.status
-        → new ≡ state_after_note s (record { file = file_index.number; status = bytes_of status }) → EachImage (λ image. holds image did.files) s
+        → new ≡ state_after_note s (record { file = file_index.number; status = bytes_of status })
+        → EachImage (λ image. holds image did.files) s
         → Moment holds run before new
     received_then new status lines status_is is images = record {
       told = record {
         seen = p.state.events ++ Noted note ∷ [];
         rest = later.told;
         since = ap (λ (u : State). u.events) is
-            ∙ ap (λ (st : Status). s.events ++ Noted (record { file = file_index.number; status = bytes_of st }) ∷ []) status_is
+            ∙ ap (λ (st : Status). s.events ++ Noted (record { file = file_index.number; status = bytes_of st }) ∷ [])
+            status_is
             ∙ ap (λ (es : List Event). es ++ Noted note ∷ []) (through.now.events ∙ so_far.told)
             ∙ append_assoc before.events p.state.events (Noted note ∷ []);
         begins = later.events_are;
@@ -222,9 +251,12 @@ module _ (code : Code) (day : List ℕ) (run : Run) (before : State) (files : Fi
     }
 
     -- heard, or not heard
-    pub noted_through : {E : Type 0} (r : Result (Unit {0}) E) (h2 : List State) (new : State) (status : Status) → Moves h s h2 new
-        → s.lines ≡ now.lines → status ≡ did.status → OnOk r (new ≡ state_after_note s (record { file = file_index.number; status = bytes_of status }))
-        → OnErr r (new ≡ s) → EachImage (λ image. holds image did.files) s → Through old h2 new (Moment holds run before)
+    pub noted_through : {E : Type 0} (r : Result (Unit {0}) E) (h2 : List State) (new : State) (status : Status)
+        → Moves h s h2 new
+        → s.lines ≡ now.lines → status ≡ did.status
+        → OnOk r (new ≡ state_after_note s (record { file = file_index.number; status = bytes_of status }))
+        → OnErr r (new ≡ s) → EachImage (λ image. holds image did.files) s
+        → Through old h2 new (Moment holds run before)
     noted_through r h2 new status moves lines status_is heard unheard images =
         moves_on old h h2 s new (Moment holds run before) under_way moves
         (either r (Moment holds run before new) heard unheard (λ is. received_then new status lines status_is is images)

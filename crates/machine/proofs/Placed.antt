@@ -1,5 +1,6 @@
 -- What a file statement finds.
-use Rattle.std.proofs.Common.{◌≡◌, ◌<◌, ◌+◌, ℕ, zero, suc, List, [], ◌∷◌, length, map, get_or, Option, Some, None, Result, Ok, Err, refl, sym, ◌∙◌, ap, subst, arith}
+use Rattle.std.proofs.Common.{◌≡◌, ◌<◌, ◌+◌, ℕ, zero, suc, List, [], ◌∷◌, length, map, get_or, Option, Some, None}
+use Rattle.std.proofs.Common.{Result, Ok, Err, refl, sym, ◌∙◌, ap, subst, arith}
 use Rattle.std.specs.Prelude.{slice_get, slice_index_or, IfSome, OnOk}
 use Rattle.std.specs.Option.{option_map}
 use Rattle.std.proofs.lemmas.Option.{same_Some, slice_get_within}
@@ -17,7 +18,8 @@ use Rattle.data_machine.proofs.Inspects.{entry_read}
 use Rattle.data_machine.proofs.ReadyTogether.{stands_there}
 use Rattle.file_image.specs.declared.file.CodeFile.{CodeFile}
 use Rattle.file_image.specs.declared.file.FileIndex.{FileIndex}
-use Rattle.file_image.specs.Files.{place_of_item, place_at, entry_of, entries_of, IsItemIndex, IsTwoCharacters, NamesPlaces, IsCodeFile}
+use Rattle.file_image.specs.Files.{place_of_item, place_at, entry_of, entries_of, IsItemIndex, IsTwoCharacters}
+use Rattle.file_image.specs.Files.{NamesPlaces, IsCodeFile}
 use Rattle.code_image.specs.declared.code.Code.{Code}
 use Rattle.code_image.specs.declared.instruction.Instruction.TheVariants as instruction
 use Rattle.code_image.specs.Demands.{IsVerified}
@@ -42,11 +44,13 @@ pub record FileHere (code : Code) (address : ℕ) (file : FileIndex) (verb : Ver
   pub suits : Suits (entry_of code.tables one) verb
 
 pub at_file : (code : Code) → IsVerified code → (address : ℕ) (file : FileIndex) (verb : Verb)
-    → slice_get code.instructions address ≡ Some (instruction.File file verb) → (files : List CodeFile) (one : CodeFile) → files ≡ code.files
+    → slice_get code.instructions address ≡ Some (instruction.File file verb) → (files : List CodeFile) (one : CodeFile)
+    → files ≡ code.files
     → one ≡ get_or files file.number one → FileHere code address file verb one
 at_file code verified address file verb here files one same read =
     let w = files_within code verified address file verb here in
-    let there = entry_read files code.files file.number one same (slice_get_within code.files file.number w.one w.there) read in
+    let there =
+    entry_read files code.files file.number one same (slice_get_within code.files file.number w.one w.there) read in
     let is : w.one ≡ one = same_Some w.one one (sym w.there ∙ there) in
     record {
       next = w.next;
@@ -86,21 +90,30 @@ some_there (x ∷ xs) zero within = (x, refl)
 some_there (x ∷ xs) (suc n) within = some_there xs n (omega (arith, within))
 
 module _ (tables : DataTables) (d : Data) (shape : Shape) (at : IsAt tables d shape) where
-  number_found : (area : ℕ) (item : Option ItemIndex) → IfSome item (IsItemIndex tables) → IfSome (place_at tables item) (IsRelativeKey area)
+  number_found : (area : ℕ) (item : Option ItemIndex) → IfSome item (IsItemIndex tables)
+      → IfSome (place_at tables item) (IsRelativeKey area)
       → IfSome item (FindsNumber tables d.areas)
   number_found area None there sound = tt
   number_found area (Some index) there sound =
       let one = some_there tables.items index.number there in
       let found = stands_there tables d shape at index one.0 one.1 in
-      record { found = found; kind = (subst (λ (o : Option DataItem). IfSome (option_map place_of_item o) (IsRelativeKey area)) found.here sound).kind }
+      record {
+        found = found;
+        kind = (subst (λ (o : Option DataItem). IfSome (option_map place_of_item o) (IsRelativeKey area)) found.here
+            sound).kind;
+      }
 
-  status_found : (item : Option ItemIndex) → IfSome item (IsItemIndex tables) → IfSome (place_at tables item) IsTwoCharacters
+  status_found : (item : Option ItemIndex) → IfSome item (IsItemIndex tables)
+      → IfSome (place_at tables item) IsTwoCharacters
       → IfSome item (FindsStatus tables d.areas)
   status_found None there sound = tt
   status_found (Some index) there sound =
       let one = some_there tables.items index.number there in
       let found = stands_there tables d shape at index one.0 one.1 in
-      record { found = found; kind = subst (λ (o : Option DataItem). IfSome (option_map place_of_item o) IsTwoCharacters) found.here sound }
+      record {
+        found = found;
+        kind = subst (λ (o : Option DataItem). IfSome (option_map place_of_item o) IsTwoCharacters) found.here sound;
+      }
 
   pub finds_places : (one : CodeFile) → NamesPlaces tables one → IsCodeFile tables one → FindsPlaces tables d.areas one
   finds_places one names sound =

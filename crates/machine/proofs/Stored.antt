@@ -1,5 +1,6 @@
 -- What a file statement leaves in storage.
-use Rattle.std.proofs.Common.{◌≡◌, ◌≢◌, ◌<◌, ℕ, zero, suc, ◌%◌, ◌^◌, ◌==◌, Bool, true, false, List, [], ◌∷◌, length, map, Option, Some, None, refl, sym, ◌∙◌, ap, inl, inr, arith, if◌then◌else◌}
+use Rattle.std.proofs.Common.{◌≡◌, ◌≢◌, ◌<◌, ℕ, zero, suc, ◌%◌, ◌^◌, ◌==◌, Bool, true, false, List, [], ◌∷◌, length}
+use Rattle.std.proofs.Common.{map, Option, Some, None, refl, sym, ◌∙◌, ap, inl, inr, arith, if◌then◌else◌}
 use Rattle.std.specs.Prelude.{slice_get, slice_set, slice_index_or, IfSome}
 use Rattle.std.specs.Option.{option_map}
 use Rattle.std.proofs.lemmas.Bool.Decides.{nat_tests}
@@ -34,7 +35,8 @@ many_as_long (x ∷ xs) (y ∷ ys) e = ap suc (many_as_long xs ys (tails e))
     tails : length x ∷ map length xs ≡ length y ∷ map length ys → map length xs ≡ map length ys
     tails e = cc
 
-area_as_long : (xs ys : Storage) (k : ℕ) → map length xs ≡ map length ys → length (slice_index_or xs k []) ≡ length (slice_index_or ys k [])
+area_as_long : (xs ys : Storage) (k : ℕ) → map length xs ≡ map length ys
+    → length (slice_index_or xs k []) ≡ length (slice_index_or ys k [])
 area_as_long [] [] k e = refl
 area_as_long [] (y ∷ ys) k e = absurd cc
 area_as_long (x ∷ xs) [] k e = absurd cc
@@ -48,7 +50,8 @@ area_as_long (x ∷ xs) (y ∷ ys) (suc k) e = area_as_long xs ys k (tails e)
     tails e = cc
 
 module _ (tables : DataTables) (old new : Storage) where
-  pub status_as_long : (item : Option ItemIndex) → map length new ≡ map length old → IfSome item (FindsStatus tables old) → IfSome item (FindsStatus tables new)
+  pub status_as_long : (item : Option ItemIndex) → map length new ≡ map length old
+      → IfSome item (FindsStatus tables old) → IfSome item (FindsStatus tables new)
   status_as_long None long found = tt
   status_as_long (Some index) long is =
       let many = many_as_long new old long in
@@ -57,12 +60,18 @@ module _ (tables : DataTables) (old new : Storage) where
         found = record {
           one = is.found.one;
           here = is.found.here;
-          stands = record { form = is.found.stands.form; editing = is.found.stands.editing; area = omega (arith, many, is.found.stands.area); within = omega (arith, as_long, is.found.stands.within) };
+          stands = record {
+            form = is.found.stands.form;
+            editing = is.found.stands.editing;
+            area = omega (arith, many, is.found.stands.area);
+            within = omega (arith, as_long, is.found.stands.within);
+          };
         };
         kind = is.kind;
       }
 
-  pub number_as_long : (item : Option ItemIndex) → map length new ≡ map length old → IfSome item (FindsNumber tables old) → IfSome item (FindsNumber tables new)
+  pub number_as_long : (item : Option ItemIndex) → map length new ≡ map length old
+      → IfSome item (FindsNumber tables old) → IfSome item (FindsNumber tables new)
   number_as_long None long found = tt
   number_as_long (Some index) long is =
       let many = many_as_long new old long in
@@ -71,7 +80,12 @@ module _ (tables : DataTables) (old new : Storage) where
         found = record {
           one = is.found.one;
           here = is.found.here;
-          stands = record { form = is.found.stands.form; editing = is.found.stands.editing; area = omega (arith, many, is.found.stands.area); within = omega (arith, as_long, is.found.stands.within) };
+          stands = record {
+            form = is.found.stands.form;
+            editing = is.found.stands.editing;
+            area = omega (arith, many, is.found.stands.area);
+            within = omega (arith, as_long, is.found.stands.within);
+          };
         };
         kind = is.kind;
       }
@@ -83,12 +97,14 @@ set_again [] i x y = refl
 set_again (first ∷ more) zero x y = refl
 set_again (first ∷ more) (suc i) x y = ap (λ ys. first ∷ ys) (set_again more i x y)
 
-set_lengths : (xs : Storage) (i : ℕ) (ys : List ℕ) → length ys ≡ length (slice_index_or xs i []) → map length (slice_set xs i ys) ≡ map length xs
+set_lengths : (xs : Storage) (i : ℕ) (ys : List ℕ) → length ys ≡ length (slice_index_or xs i [])
+    → map length (slice_set xs i ys) ≡ map length xs
 set_lengths [] i ys e = refl
 set_lengths (x ∷ xs) zero ys e = ap (λ n. n ∷ map length xs) e
 set_lengths (x ∷ xs) (suc i) ys e = ap (λ ns. length x ∷ ns) (set_lengths xs i ys e)
 
-module _ (old given back : Storage) (i : ℕ) (x bytes new : List ℕ) (gives : given ≡ slice_set old i x) (takes : back ≡ slice_set given i new) where
+module _ (old given back : Storage) (i : ℕ) (x bytes new : List ℕ) (gives : given ≡ slice_set old i x)
+    (takes : back ≡ slice_set given i new) where
   pub taken_back : back ≡ slice_set old i new
   taken_back = takes ∙ ap (λ (s : Storage). slice_set s i new) gives ∙ set_again old i x new
 
@@ -96,7 +112,8 @@ module _ (old given back : Storage) (i : ℕ) (x bytes new : List ℕ) (gives : 
   back_lengths bytes_are long = ap (map length) taken_back ∙ set_lengths old i new (long ∙ ap length bytes_are)
 
 -- the name of a file's entry, and its digits
-pub entry_digits : (tables : DataTables) (one : CodeFile) (entry : Entry) → entry ≡ entry_of tables one → entry.key_digits ≡ digits_at (place_at tables one.relative_key)
+pub entry_digits : (tables : DataTables) (one : CodeFile) (entry : Entry) → entry ≡ entry_of tables one
+    → entry.key_digits ≡ digits_at (place_at tables one.relative_key)
 entry_digits tables one entry is = ap (λ (e : Entry). e.key_digits) is
 
 -- ---- the number and the status
@@ -116,14 +133,18 @@ number_whole : (place : Option ItemPlace) (old new : ℕ) (storage : Storage) �
 number_whole None old new storage fits = refl
 number_whole (Some place) old new storage (inl same) =
     let yes : (old == new) ≡ true = ap (λ n. old == n) same ∙ same_test old in
-    ap (λ (b : Bool). if b then storage else number_stored place.item.kind place (new % 10 ^ digits_in place.item.kind) storage) yes
+    ap (λ (b : Bool). if b then storage
+    else number_stored place.item.kind place (new % 10 ^ digits_in place.item.kind) storage) yes
     ∙ sym (ap (λ (b : Bool). if b then storage else number_stored place.item.kind place new storage) yes)
 number_whole (Some place) old new storage (inr less) =
-    ap (λ n. if old == new then storage else number_stored place.item.kind place n storage) (low_same new (digits_in place.item.kind) less)
+    ap (λ n. if old == new then storage else number_stored place.item.kind place n storage)
+    (low_same new (digits_in place.item.kind) less)
 
 -- What was stored is what the step leaves.
-pub storage_left : (places : FilePlaces) (did : Step) (answered : Status) (old back left : Storage) (before after : ℕ) (bytes : List ℕ)
-    → before ≡ (area_of places old).number → area bytes after ≡ did.area → answered ≡ did.status → back ≡ slice_set old places.area bytes
+pub storage_left :
+    (places : FilePlaces) (did : Step) (answered : Status) (old back left : Storage) (before after : ℕ) (bytes : List ℕ)
+    → before ≡ (area_of places old).number → area bytes after ≡ did.area → answered ≡ did.status
+    → back ≡ slice_set old places.area bytes
     → left ≡ with_status places.status answered (with_low_number places.relative_key before after back)
     → StaysOrFits (digits_at places.relative_key) (area_of places old).number did.area.number
     → left ≡ stored_by places did old
@@ -133,41 +154,52 @@ storage_left places did answered old back left before after bytes before_is area
     ∙ ap (λ (s : Status). with_status places.status s (with_low_number places.relative_key before after back)) status_is
     ∙ ap (λ (st : Storage). with_status places.status did.status st)
     (ap (λ n. with_low_number places.relative_key n after back) before_is
-    ∙ ap (λ n. with_low_number places.relative_key (area_of places old).number n back) (ap (λ (a : Area). a.number) area_is)
+    ∙ ap (λ n. with_low_number places.relative_key (area_of places old).number n back)
+    (ap (λ (a : Area). a.number) area_is)
     ∙ ap (with_low_number places.relative_key (area_of places old).number did.area.number)
     (back_is ∙ ap (slice_set old places.area) (ap (λ (a : Area). a.bytes) area_is))
-    ∙ number_whole places.relative_key (area_of places old).number did.area.number (slice_set old places.area did.area.bytes) fits)
+    ∙ number_whole places.relative_key (area_of places old).number did.area.number
+    (slice_set old places.area did.area.bytes) fits)
 
 -- the step of a verb is the table's, with the area that the file has
-pub step_of : (entries : List Entry) (places : FilePlaces) (verb : Verb) (files : Files) (connectors : List Connector) (storage : Storage) (bytes : List ℕ) (number : ℕ)
+pub step_of : (entries : List Entry) (places : FilePlaces) (verb : Verb) (files : Files) (connectors : List Connector)
+    (storage : Storage) (bytes : List ℕ) (number : ℕ)
     → bytes ≡ (area_of places storage).bytes → number ≡ (area_of places storage).number
-    → file_step entries files connectors places.number verb (area bytes number) ≡ step_by entries places verb files connectors storage
+    → file_step entries files connectors places.number verb (area bytes number)
+    ≡ step_by entries places verb files connectors storage
 unfolding step_by
 step_of entries places verb files connectors storage bytes number bytes_are number_is =
     ap (λ (bs : List ℕ). file_step entries files connectors places.number verb (area bs number)) bytes_are
     ∙ ap (λ n. file_step entries files connectors places.number verb (area (area_of places storage).bytes n)) number_is
 
-pub step_number_fits : (entries : List Entry) (places : FilePlaces) (verb : Verb) (files : Files) (connectors : List Connector) (storage : Storage)
+pub step_number_fits : (entries : List Entry) (places : FilePlaces) (verb : Verb) (files : Files)
+    (connectors : List Connector) (storage : Storage)
     → is_spec (entry_at entries places.number).spec ≡ true → Suits (entry_at entries places.number) verb
-    → StaysOrFits (entry_at entries places.number).key_digits (area_of places storage).number (step_by entries places verb files connectors storage).area.number
+    → StaysOrFits (entry_at entries places.number).key_digits (area_of places storage).number
+    (step_by entries places verb files connectors storage).area.number
 unfolding step_by
-step_number_fits entries places verb files connectors storage is suits = number_fits entries files connectors places.number verb (area_of places storage) is suits
+step_number_fits entries places verb files connectors storage is suits =
+    number_fits entries files connectors places.number verb (area_of places storage) is suits
 
 -- what looks at files is barred by no connector
-pub step_looks : (entries : List Entry) (places : FilePlaces) (verb : Verb) (files : Files) (connectors : List Connector) (storage : Storage)
-    → needs_no_store entries connectors places.number verb ≡ false → is_barring (step_by entries places verb files connectors storage).status ≡ false
+pub step_looks : (entries : List Entry) (places : FilePlaces) (verb : Verb) (files : Files)
+    (connectors : List Connector) (storage : Storage)
+    → needs_no_store entries connectors places.number verb ≡ false
+    → is_barring (step_by entries places verb files connectors storage).status ≡ false
 unfolding step_by
 step_looks entries places verb files connectors storage asks =
     looks_at_files entries files connectors places.number verb (area_of places storage) asks
 
 -- ---- an item where it stands
 
-pub low_number_stored : (tables : DataTables) (item : Option ItemIndex) (index : ItemIndex) (one : DataItem) (old new : ℕ) (storage after : Storage)
+pub low_number_stored : (tables : DataTables) (item : Option ItemIndex) (index : ItemIndex) (one : DataItem)
+    (old new : ℕ) (storage after : Storage)
     → item ≡ Some index → slice_get tables.items index.number ≡ Some one → (old == new) ≡ false
     → after ≡ number_stored one.item.kind (place_of_item one) (new % 10 ^ digits_in one.item.kind) storage
     → after ≡ with_low_number (place_at tables item) old new storage
 low_number_stored tables item index one old new storage after some here other is =
     is
-    ∙ ap (λ (b : Bool). if b then storage else number_stored one.item.kind (place_of_item one) (new % 10 ^ digits_in one.item.kind) storage) (sym other)
+    ∙ ap (λ (b : Bool). if b then storage
+    else number_stored one.item.kind (place_of_item one) (new % 10 ^ digits_in one.item.kind) storage) (sym other)
     ∙ ap (λ (o : Option DataItem). with_low_number (option_map place_of_item o) old new storage) (sym here)
     ∙ ap (λ (i : Option ItemIndex). with_low_number (place_at tables i) old new storage) (sym some)

@@ -31,11 +31,17 @@ pub(crate) fn accept_line<S: Station>(
     ensures honest { S.is_honest station.old ↔ S.is_honest station.new }
     ensures failures { CountsFailure result (S.failures station.old) (S.failures station.new) }
     ensures device { IfErr result (λ refusal. refusal ≡ Device) }
-    ensures taken { S.is_honest station.old → OnOk result (S.state station.new ≡ took_line (S.state station.old)) }
-    ensures untaken { S.is_honest station.old → OnErr result (S.state station.new ≡ S.state station.old) }
-    ensures moves { S.is_honest station.old → Moves (S.history station.old) (S.state station.old) (S.history station.new) (S.state station.new) }
-    ensures stored { OnOk result ((line : List ℕ) × (accept_step tables.now line (scratch_of scratch.old) ≡ Continues (scratch_of scratch.new))) }
-    ensures accepted { S.is_honest station.old → OnOk result (accept_step tables.now (next_line (S.state station.old).lines) (scratch_of scratch.old) ≡ Continues (scratch_of scratch.new)) }
+    ensures taken { S.is_honest station.old
+        → OnOk result (S.state station.new ≡ took_line (S.state station.old)) }
+    ensures untaken { S.is_honest station.old
+        → OnErr result (S.state station.new ≡ S.state station.old) }
+    ensures moves { S.is_honest station.old → Moves (S.history station.old) (S.state station.old)
+        (S.history station.new) (S.state station.new) }
+    ensures stored { OnOk result ((line : List ℕ) × (accept_step tables.now line
+        (scratch_of scratch.old) ≡ Continues (scratch_of scratch.new))) }
+    ensures accepted { S.is_honest station.old
+        → OnOk result (accept_step tables.now (next_line (S.state station.old).lines)
+        (scratch_of scratch.old) ≡ Continues (scratch_of scratch.new)) }
     ensures keeps { OnOk result (KeepsRoom scratch.old scratch.new) }
 {
     cutting_law();

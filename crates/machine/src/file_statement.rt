@@ -52,17 +52,28 @@ pub(crate) fn file_statement<S: Station, F: FileVerbs>(
     ensures file { file.number < length code.now.files }
     ensures stands { OnOk result (IsReadyAt code.now registers.new (address + 1)) }
     ensures returns { registers.new.returns ≡ registers.old.returns }
-    ensures serves { OnOk result (Serves F.Keeps F.entries code.now (S.sectors station.new) verbs.new) }
+    ensures serves { OnOk result
+        (Serves F.Keeps F.entries code.now (S.sectors station.new) verbs.new) }
     // A crash leaves the files before it or those after it, and the run goes on with those.
-    ensures moments { (day : List ℕ) (run : Run) (before : State) (left : ℕ) (files : Files) → Represents F.Keeps S.Device verbs.old station.old files →
-        IsRunning code.now day run before files (F.connectors verbs.old) address left registers.old (S.state station.old) →
-        Through (S.history station.old) (S.history station.new) (S.state station.new) (Moment F.holds run before) }
-    ensures on { (day : List ℕ) (run : Run) (before : State) (left : ℕ) (files : Files) → Represents F.Keeps S.Device verbs.old station.old files →
-        IsRunning code.now day run before files (F.connectors verbs.old) address left registers.old (S.state station.old) →
-        OnOk result ((after : Files) × Represents F.Keeps S.Device verbs.new station.new after × IsRunning code.now day run before after (F.connectors verbs.new) (address + 1) left registers.new (S.state station.new)) }
-    ensures over { (day : List ℕ) (run : Run) (before : State) (left : ℕ) (files : Files) → Represents F.Keeps S.Device verbs.old station.old files →
-        IsRunning code.now day run before files (F.connectors verbs.old) address left registers.old (S.state station.old) →
-        IfErr result (λ ended. EndsAs F.holds F.lacks_room (entries_of code.now.tables code.now.files) run before ended (S.state station.new)) }
+    ensures moments { (day : List ℕ) (run : Run) (before : State) (left : ℕ) (files : Files)
+        → Represents F.Keeps S.Device verbs.old station.old files →
+        IsRunning code.now day run before files (F.connectors verbs.old) address left registers.old
+        (S.state station.old) →
+        Through (S.history station.old) (S.history station.new) (S.state station.new)
+        (Moment F.holds run before) }
+    ensures on { (day : List ℕ) (run : Run) (before : State) (left : ℕ) (files : Files)
+        → Represents F.Keeps S.Device verbs.old station.old files →
+        IsRunning code.now day run before files (F.connectors verbs.old) address left registers.old
+        (S.state station.old) →
+        OnOk result ((after : Files) × Represents F.Keeps S.Device verbs.new station.new after
+        × IsRunning code.now day run before after (F.connectors verbs.new) (address + 1) left
+        registers.new (S.state station.new)) }
+    ensures over { (day : List ℕ) (run : Run) (before : State) (left : ℕ) (files : Files)
+        → Represents F.Keeps S.Device verbs.old station.old files →
+        IsRunning code.now day run before files (F.connectors verbs.old) address left registers.old
+        (S.state station.old) →
+        IfErr result (λ ended. EndsAs F.holds F.lacks_room
+        (entries_of code.now.tables code.now.files) run before ended (S.state station.new)) }
 {
     let one = &code.files.as_slice()[file.number as usize];
     let areas = &mut registers.scratch.areas;
@@ -127,7 +138,8 @@ fn put_status(areas: &mut Areas, tables: &DataTables, item: Option<ItemIndex>, s
 fn leave(areas: &mut Areas, tables: &DataTables, one: &CodeFile, old: u64, new: u64, status: Status)
     requires relative_key { IfSome one.now.relative_key (FindsNumber tables.now areas.old) }
     requires status { IfSome one.now.status (FindsStatus tables.now areas.old) }
-    ensures stores { areas.new ≡ meaning.with_status (place_at tables.now one.now.status) status (with_low_number (place_at tables.now one.now.relative_key) old new areas.old) }
+    ensures stores { areas.new ≡ meaning.with_status (place_at tables.now one.now.status) status
+        (with_low_number (place_at tables.now one.now.relative_key) old new areas.old) }
     ensures lengths { map length areas.new ≡ map length areas.old }
 {
     put_relative_number(areas, tables, one.relative_key, old, new);
@@ -154,17 +166,22 @@ fn perform<D: Device, F: FileVerbs>(
     ensures changes { Changes F.Keeps D.Device result verbs.old device.old verbs.new device.new }
     ensures entries { F.entries verbs.new ≡ F.entries verbs.old }
     ensures lengths { map length areas.new ≡ map length areas.old }
-    ensures asks { OnErr result (needs_no_store (F.entries verbs.old) (F.connectors verbs.old) file.number verb ≡ false) }
+    ensures asks { OnErr result
+        (needs_no_store (F.entries verbs.old) (F.connectors verbs.old) file.number verb ≡ false) }
     ensures did { (files : Files) → Represents F.Keeps D.Device verbs.old device.old files →
         IfOk result (λ status. Did (places_of tables.now file.number one.now)
-        (meaning.step_by (F.entries verbs.old) (places_of tables.now file.number one.now) verb files (F.connectors verbs.old) areas.old)
+        (meaning.step_by (F.entries verbs.old) (places_of tables.now file.number one.now) verb files
+        (F.connectors verbs.old) areas.old)
         status (F.connectors verbs.old) (F.connectors verbs.new) areas.old areas.new) }
     ensures turns { (files : Files) → Represents F.Keeps D.Device verbs.old device.old files →
         ChangesFiles F.Keeps D.Device result (makes_file verb) one.now.name files
-        (meaning.step_by (F.entries verbs.old) (places_of tables.now file.number one.now) verb files (F.connectors verbs.old) areas.old).files
+        (meaning.step_by (F.entries verbs.old) (places_of tables.now file.number one.now) verb files
+        (F.connectors verbs.old) areas.old).files
         verbs.old device.old verbs.new device.new }
-    ensures full { (files : Files) → Represents F.Keeps D.Device verbs.old device.old files → result ≡ Err StoreFault.Full →
-        has_changed verb (meaning.step_by (F.entries verbs.old) (places_of tables.now file.number one.now) verb files (F.connectors verbs.old) areas.old).status ≡ true }
+    ensures full { (files : Files) → Represents F.Keeps D.Device verbs.old device.old files
+        → result ≡ Err StoreFault.Full →
+        has_changed verb (meaning.step_by (F.entries verbs.old) (places_of tables.now file.number
+        one.now) verb files (F.connectors verbs.old) areas.old).status ≡ true }
 {
     let old = relative_number(areas, tables, one.relative_key);
     let mut number = old;
@@ -194,9 +211,12 @@ fn note<S: Station>(station: &mut S, file: FileIndex, status: Status) -> Result<
     ensures cause { IsCaused result (S.failures station.old) (S.failures station.new) }
     ensures refused { IfErr result IsRefused }
     ensures device { IfErr result (λ ended. ended ≡ Ended.Refused Refusal.Device) }
-    ensures noted { S.is_honest station.old → OnOk result (S.state station.new ≡ state_after_note (S.state station.old) (record { file = file.number; status = bytes_of status })) }
-    ensures unheard { S.is_honest station.old → OnErr result (S.state station.new ≡ S.state station.old) }
-    ensures moves { S.is_honest station.old → Moves (S.history station.old) (S.state station.old) (S.history station.new) (S.state station.new) }
+    ensures noted { S.is_honest station.old → OnOk result (S.state station.new ≡ state_after_note
+        (S.state station.old) (record { file = file.number; status = bytes_of status })) }
+    ensures unheard { S.is_honest station.old
+        → OnErr result (S.state station.new ≡ S.state station.old) }
+    ensures moves { S.is_honest station.old → Moves (S.history station.old) (S.state station.old)
+        (S.history station.new) (S.state station.new) }
 {
     let note = Note {
         file: file.number,

@@ -66,7 +66,8 @@ pub(crate) fn count(counters: &mut [u64], counter: CounterIndex, turns: u64)
 pub(crate) fn turn(counters: &mut [u64], counter: CounterIndex) -> bool
     requires { counter.number < length counters.old }
     ensures back { IsTrue result → 0 < slice_index counters.old counter.number }
-    ensures lowered { IsTrue result → counters.new ≡ slice_set counters.old counter.number (slice_index counters.old counter.number - 1) }
+    ensures lowered { IsTrue result → counters.new ≡ slice_set counters.old counter.number
+        (slice_index counters.old counter.number - 1) }
     ensures on { IsFalse result → slice_index counters.old counter.number ≡ 0 }
     ensures same { IsFalse result → counters.new ≡ counters.old }
 {

@@ -49,7 +49,10 @@ impl Model for Returns {
 
     ghost coded = { coded_held coded_return };
 
-    ghost view = { λ it. record { room = length it.room.items; newest_first = reverse (take it.used it.room.items) } };
+    ghost view = { λ it. record {
+      room = length it.room.items;
+      newest_first = reverse (take it.used it.room.items);
+    } };
 
     ghost invariant = { λ it. it.used ≤ length it.room.items };
 }
@@ -58,7 +61,8 @@ impl Returns {
     /// Room for one for each code paragraph, with none in it. No more are open at once, since each code paragraph performs
     /// lower ones only.
     pub(crate) fn new(alloc: Global, code: &Code) -> Result<Returns, AllocError>
-        ensures { IfOk result (λ returns. returns ≡ record { room = length code.now.starts; newest_first = [] }) }
+        ensures { IfOk result
+            (λ returns. returns ≡ record { room = length code.now.starts; newest_first = [] }) }
     {
         let room = vec![in alloc; NO_RETURN; code.starts.len()]?;
         Ok(Returns { room, used: 0 })
@@ -66,7 +70,8 @@ impl Returns {
 
     pub(crate) fn push(&mut self, newest: Return)
         requires { length self.old.newest_first < self.old.room }
-        ensures { self.new ≡ record { room = self.old.room; newest_first = newest ∷ self.old.newest_first } }
+        ensures { self.new
+            ≡ record { room = self.old.room; newest_first = newest ∷ self.old.newest_first } }
     {
         self.room[self.used] = newest;
         self.used += 1;
@@ -74,7 +79,8 @@ impl Returns {
 
     /// At the end of a code paragraph: where the newest `perform` comes back to, if this is the last one that it performs.
     pub(crate) fn come_back(&mut self, paragraph: ParagraphIndex) -> Option<usize>
-        ensures comes { ComesBack result paragraph.number self.old.newest_first self.new.newest_first }
+        ensures comes { ComesBack result paragraph.number self.old.newest_first
+            self.new.newest_first }
         ensures room { self.new.room ≡ self.old.room }
     {
         if self.used == 0 {

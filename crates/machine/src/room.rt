@@ -18,8 +18,10 @@ const NO_ROOM: Room = Room {
 
 /// The least room for what is known along code, from its first instruction on.
 pub(crate) fn room_along(alloc: Global, code: &Code) -> Result<Room, AllocError>
-    ensures holds { IfOk result (λ room. HasRoomAlong code.now.tables room code.now.instructions empty) }
-    ensures least { IfOk result (λ room. (other : Room) → HasRoomAlong code.now.tables other code.now.instructions empty → IsNoMore room other) }
+    ensures holds { IfOk result
+        (λ room. HasRoomAlong code.now.tables room code.now.instructions empty) }
+    ensures least { IfOk result (λ room. (other : Room)
+        → HasRoomAlong code.now.tables other code.now.instructions empty → IsNoMore room other) }
 {
     let mut room = NO_ROOM;
     let mut shape = Shape::empty(alloc);
@@ -39,7 +41,8 @@ pub(crate) fn room_along(alloc: Global, code: &Code) -> Result<Room, AllocError>
 fn widened(room: Room, shape: &Shape) -> Room
     ensures holds { HasRoomFor result shape.now }
     ensures wider { IsNoMore room result }
-    ensures least { (other : Room) → HasRoomFor other shape.now → IsNoMore room other → IsNoMore result other }
+    ensures least { (other : Room) → HasRoomFor other shape.now → IsNoMore room other
+        → IsNoMore result other }
 {
     Room {
         numbers: room.numbers.max(shape.stacks.numbers),

@@ -19,9 +19,11 @@ pub(crate) fn show_line<S: Station>(station: &mut S, scratch: &mut Data) -> Resu
     ensures honest { S.is_honest station.old ↔ S.is_honest station.new }
     ensures failures { CountsFailure result (S.failures station.old) (S.failures station.new) }
     ensures device { IfErr result (λ refusal. refusal ≡ Device) }
-    ensures shown { S.is_honest station.old → OnOk result (S.state station.new ≡ state_after_show (S.state station.old) scratch.old.line.bytes) }
+    ensures shown { S.is_honest station.old → OnOk result
+        (S.state station.new ≡ state_after_show (S.state station.old) scratch.old.line.bytes) }
     ensures moments { S.is_honest station.old →
-        Through (S.history station.old) (S.history station.new) (S.state station.new) (HasShownSome (S.state station.old) scratch.old.line.bytes) }
+        Through (S.history station.old) (S.history station.new) (S.state station.new)
+        (HasShownSome (S.state station.old) scratch.old.line.bytes) }
     ensures empty { OnOk result (scratch_of scratch.new ≡ after_showing (scratch_of scratch.old)) }
     ensures keeps { OnOk result (KeepsRoom scratch.old scratch.new) }
 {
@@ -36,9 +38,11 @@ fn show<S: Station>(station: &mut S, bytes: &[u8]) -> Result<(), Refusal>
     ensures honest { S.is_honest station.old ↔ S.is_honest station.new }
     ensures failures { CountsFailure result (S.failures station.old) (S.failures station.new) }
     ensures device { IfErr result (λ refusal. refusal ≡ Device) }
-    ensures shown { S.is_honest station.old → OnOk result (S.state station.new ≡ state_after_show (S.state station.old) bytes.now) }
+    ensures shown { S.is_honest station.old
+        → OnOk result (S.state station.new ≡ state_after_show (S.state station.old) bytes.now) }
     ensures moments { S.is_honest station.old →
-        Through (S.history station.old) (S.history station.new) (S.state station.new) (HasShownSome (S.state station.old) bytes.now) }
+        Through (S.history station.old) (S.history station.new) (S.state station.new)
+        (HasShownSome (S.state station.old) bytes.now) }
 {
     station.show(bytes)?;
     Ok(())

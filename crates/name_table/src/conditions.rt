@@ -50,8 +50,10 @@ impl<'a> ConditionNames<'a> {
         requires table { IsTable self.names }
         requires item { item < length (calls_in items.now) }
         ensures table { IfOk result (λ all. IsTable all.names) }
-        ensures calls { IfOk result (λ all. calls_in all.names ≡ calls_in self.entry.names ++ spec.condition_at (calls_in items.now) (condition.now, item) ∷ []) }
-        ensures conditions { IfOk result (λ all. pairs_in all ≡ pairs_in self.entry ++ (condition.now, item) ∷ []) }
+        ensures calls { IfOk result (λ all. calls_in all.names ≡ calls_in self.entry.names
+            ++ spec.condition_at (calls_in items.now) (condition.now, item) ∷ []) }
+        ensures conditions { IfOk result
+            (λ all. pairs_in all ≡ pairs_in self.entry ++ (condition.now, item) ∷ []) }
     {
         let ConditionNames {
             names,
@@ -83,7 +85,8 @@ fn with_entries<'a>(
     requires told { AreCalled (calls_in items.now) passed.conditions }
     ensures items { IfOk result (λ new. new.items ≡ passed.entry.items + item_count entries.now) }
     ensures told { IfOk result (λ new. AreCalled (calls_in items.now) new.conditions) }
-    ensures pairs { IfOk result (λ new. pairs_in new.conditions ≡ pairs_in passed.entry.conditions ++ conditions_after passed.entry.items passed.entry.items entries.now) }
+    ensures pairs { IfOk result (λ new. pairs_in new.conditions ≡ pairs_in passed.entry.conditions
+        ++ conditions_after passed.entry.items passed.entry.items entries.now) }
 {
     let before = passed.items;
     let mut count = before;
@@ -113,7 +116,8 @@ fn with_records<'a>(
     requires items { passed.items + record_item_count files.now ≤ length (calls_in items.now) }
     requires told { AreCalled (calls_in items.now) passed.conditions }
     ensures told { IfOk result (AreCalled (calls_in items.now)) }
-    ensures pairs { IfOk result (λ new. pairs_in new ≡ pairs_in passed.entry.conditions ++ behind_records passed.entry.items files.now) }
+    ensures pairs { IfOk result (λ new. pairs_in new
+        ≡ pairs_in passed.entry.conditions ++ behind_records passed.entry.items files.now) }
 {
     let mut so_far = passed;
     for file in files {

@@ -23,7 +23,8 @@ pub(crate) fn names_within<'a>(
     name: Option<&'a Name>,
     groups: &[&'a Name],
 ) -> Result<Vec<&'a Name>, AllocError>
-    ensures { IfOk result (λ all. names_of all.items ≡ with_name (option_copied name.entry) (names_of groups.now)) }
+    ensures { IfOk result
+        (λ all. names_of all.items ≡ with_name (option_copied name.entry) (names_of groups.now)) }
 {
     let mut all = Vec::from_slice(alloc, groups)?;
     if let Some(name) = name {
@@ -43,7 +44,8 @@ fn declare_item<'a>(
     requires told { AreTold (forest_of one.inner.now) }
     requires table { IsTable table }
     ensures table { IfOk result IsTable }
-    ensures calls { IfOk result (λ new. calls_in new ≡ calls_in table.entry ++ spec.entry_calls (names_of groups.now) one.entry.entry.now (forest_of one.entry.inner.now)) }
+    ensures calls { IfOk result (λ new. calls_in new ≡ calls_in table.entry ++ spec.entry_calls
+        (names_of groups.now) one.entry.entry.now (forest_of one.entry.inner.now)) }
 {
     let name = one.entry.name.as_ref();
     let around = Vec::from_slice(alloc, groups)?;
@@ -63,7 +65,8 @@ fn declare_group<'a>(
     requires told { AreTold (forest_of entries.now) }
     requires table { IsTable table }
     ensures table { IfOk result IsTable }
-    ensures calls { IfOk result (λ new. calls_in new ≡ calls_in table.entry ++ spec.item_calls (names_of groups.now) (forest_of entries.now)) }
+    ensures calls { IfOk result (λ new. calls_in new
+        ≡ calls_in table.entry ++ spec.item_calls (names_of groups.now) (forest_of entries.now)) }
 {
     let mut declared = table;
     let mut rest = entries;
@@ -83,7 +86,8 @@ fn declare_records<'a>(
     requires rules { each description_rules files.now ≡ [] }
     requires table { IsTable table }
     ensures table { IfOk result IsTable }
-    ensures calls { IfOk result (λ new. calls_in new ≡ calls_in table.entry ++ spec.record_calls files.now) }
+    ensures calls { IfOk result
+        (λ new. calls_in new ≡ calls_in table.entry ++ spec.record_calls files.now) }
 {
     record_levels_are_told();
     let mut declared = table;
@@ -100,7 +104,8 @@ pub fn item_names<'a>(alloc: Global, program: &'a Program) -> Result<NameTable<'
     requires storage { entry_rules program.now.storage ≡ [] }
     requires files { each description_rules program.now.files ≡ [] }
     ensures table { IfOk result IsTable }
-    ensures calls { IfOk result (λ new. calls_in new ≡ map spec.called_item (program_items program.now)) }
+    ensures calls { IfOk result
+        (λ new. calls_in new ≡ map spec.called_item (program_items program.now)) }
 {
     levels_are_told();
     let storage = program.storage.as_slice();

@@ -33,7 +33,8 @@ pub fn file_names<'a>(alloc: Global, selects: &'a [Select]) -> Result<FileNames<
 impl FileNames<'_> {
     /// The number of the first file of that name.
     pub fn file_named(&self, name: &Name) -> Option<usize>
-        ensures { (items : List LocatedItem) (program : Program) → AreFileNames program.selects self.now → IsFileNamed (files_of items program) name.now result }
+        ensures { (items : List LocatedItem) (program : Program) → AreFileNames program.selects
+            self.now → IsFileNamed (files_of items program) name.now result }
     {
         self.numbers.get(name.characters.as_slice()).copied()
     }

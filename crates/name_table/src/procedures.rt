@@ -97,7 +97,8 @@ impl<'a> ProcedureNames<'a> {
         section: &'a Section,
         first: usize,
     ) -> Result<usize, ProcedureNamesError>
-        ensures next { IfOk result (λ next. next ≡ first + length (paragraphs_or_one section.now.paragraphs)) }
+        ensures next { IfOk result
+            (λ next. next ≡ first + length (paragraphs_or_one section.now.paragraphs)) }
         ensures noted { Notes (section_procedures first section.now) result self.old self.new }
     {
         let paragraphs = section.paragraphs.as_slice();
@@ -116,14 +117,16 @@ impl<'a> ProcedureNames<'a> {
 
     /// The paragraphs of the procedure of that name.
     pub fn range_named(&self, name: &Name) -> Option<ParagraphRange>
-        ensures { (procedures : List Procedure) → AreProcedures procedures self.now → option_map range_at result ≡ spec.range_named procedures name.now }
+        ensures { (procedures : List Procedure) → AreProcedures procedures self.now
+            → option_map range_at result ≡ spec.range_named procedures name.now }
     {
         self.ranges.get(name.characters.as_slice()).copied()
     }
 
     /// The paragraphs from one procedure to the end of another, or of one alone.
     pub fn range_of(&self, first: &Name, last: &Option<Name>) -> Option<ParagraphRange>
-        ensures { (procedures : List Procedure) → AreProcedures procedures self.now → option_map range_at result ≡ spec.range_of procedures first.now last.now }
+        ensures { (procedures : List Procedure) → AreProcedures procedures self.now
+            → option_map range_at result ≡ spec.range_of procedures first.now last.now }
     {
         let from = self.range_named(first)?;
         let Some(last) = last else {

@@ -64,7 +64,8 @@ impl<'a> NameTable<'a> {
     ) -> Result<NameTable<'a>, AllocError>
         requires { IsTable self }
         ensures table { IfOk result IsTable }
-        ensures calls { IfOk result (λ table. calls_in table ≡ calls_in self.entry ++ name_path name.entry around.entry.items ∷ []) }
+        ensures calls { IfOk result (λ table. calls_in table
+            ≡ calls_in self.entry ++ name_path name.entry around.entry.items ∷ []) }
     {
         let NameTable {
             mut declared,

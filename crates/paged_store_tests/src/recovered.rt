@@ -31,7 +31,8 @@ pub fn recovers(
     station: &mut MemoryStation,
     files: &[ModelFile],
 )
-    ensures { ⟦<MemoryStation as Device>⟧.sectors station.new ≡ ⟦<MemoryStation as Device>⟧.sectors station.old }
+    ensures { ⟦<MemoryStation as Device>⟧.sectors station.new
+        ≡ ⟦<MemoryStation as Device>⟧.sectors station.old }
 {
     match recover(alloc, station) {
         Ok(stored) => assert!(rt; are_files(&stored, files), "{case:?}"),

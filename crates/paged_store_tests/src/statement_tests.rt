@@ -92,9 +92,12 @@ fn perform<T: Store + Drop>(
     verb: Verb,
     area: Area,
 ) -> Result<Told, StoreFault>
-    requires { ⟦<Connectors<T> as Keeps>⟧.needs verbs.old ≤ ⟦<MemoryStation as Device>⟧.sectors station.old }
-    ensures needs { ⟦<Connectors<T> as Keeps>⟧.needs verbs.new ≡ ⟦<Connectors<T> as Keeps>⟧.needs verbs.old }
-    ensures sectors { ⟦<MemoryStation as Device>⟧.sectors station.new ≡ ⟦<MemoryStation as Device>⟧.sectors station.old }
+    requires { ⟦<Connectors<T> as Keeps>⟧.needs verbs.old
+        ≤ ⟦<MemoryStation as Device>⟧.sectors station.old }
+    ensures needs { ⟦<Connectors<T> as Keeps>⟧.needs verbs.new
+        ≡ ⟦<Connectors<T> as Keeps>⟧.needs verbs.old }
+    ensures sectors { ⟦<MemoryStation as Device>⟧.sectors station.new
+        ≡ ⟦<MemoryStation as Device>⟧.sectors station.old }
 {
     let mut record = record_of(shape, &area.bytes);
     let mut relative = area.number;
@@ -283,9 +286,12 @@ fn tells<T: Store + Drop>(
     step: &Step,
     statement: u32,
 )
-    requires { ⟦<Connectors<T> as Keeps>⟧.needs verbs.old ≤ ⟦<MemoryStation as Device>⟧.sectors station.old }
-    ensures needs { ⟦<Connectors<T> as Keeps>⟧.needs verbs.new ≡ ⟦<Connectors<T> as Keeps>⟧.needs verbs.old }
-    ensures sectors { ⟦<MemoryStation as Device>⟧.sectors station.new ≡ ⟦<MemoryStation as Device>⟧.sectors station.old }
+    requires { ⟦<Connectors<T> as Keeps>⟧.needs verbs.old
+        ≤ ⟦<MemoryStation as Device>⟧.sectors station.old }
+    ensures needs { ⟦<Connectors<T> as Keeps>⟧.needs verbs.new
+        ≡ ⟦<Connectors<T> as Keeps>⟧.needs verbs.old }
+    ensures sectors { ⟦<MemoryStation as Device>⟧.sectors station.new
+        ≡ ⟦<MemoryStation as Device>⟧.sectors station.old }
 {
     let told = perform(
         rt,
@@ -315,7 +321,8 @@ fn recovered(
     files: &[ModelFile],
     statement: u32,
 )
-    ensures { ⟦<MemoryStation as Device>⟧.sectors station.new ≡ ⟦<MemoryStation as Device>⟧.sectors station.old }
+    ensures { ⟦<MemoryStation as Device>⟧.sectors station.new
+        ≡ ⟦<MemoryStation as Device>⟧.sectors station.old }
 {
     if statement % BETWEEN == BETWEEN - 1 {
         station.crash(&[]);

@@ -1,5 +1,6 @@
 -- The next volume, once its blocks and its root are there.
-use Rattle.std.proofs.Common.{◌≡◌, inl, inr, ⊎_elim, ◌≤◌, ◌%◌, ℕ, List, [], length, set, refl, sym, ◌∙◌, ap, subst, arith, get_or-set_other}
+use Rattle.std.proofs.Common.{◌≡◌, inl, inr, ⊎_elim, ◌≤◌, ◌%◌, ℕ, List, [], length, set, refl, sym, ◌∙◌, ap, subst}
+use Rattle.std.proofs.Common.{arith, get_or-set_other}
 use Rattle.std.specs.Prelude.{Option, Some}
 use Rattle.std.proofs.lemmas.List.Elements.{Contains-append_right}
 use Rattle.station.specs.Disk.{Disk, Sector, idle_disk, IsCrashImage}
@@ -21,13 +22,16 @@ use Rattle.pages.proofs.Frame.{SameAt, pages_same, same_maps, newest_same, still
 use Rattle.pages.proofs.Staging.{keeps_used}
 
 -- a crash leaves the map of a volume at rest
-pub at_rest : (v : Volume) (after : Map) (s : State) → IsCommitted v s.disk → CrashLeaves s.events (BeforeOrAfter (map_of s.disk.present v) after) s
+pub at_rest : (v : Volume) (after : Map) (s : State) → IsCommitted v s.disk
+    → CrashLeaves s.events (BeforeOrAfter (map_of s.disk.present v) after) s
 at_rest v after s rests = record {
   events = refl;
-  images = λ image crash. inl (subst (λ (l : List Sector). IsImageOf l (map_of s.disk.present v)) (sym (settled_image s.disk.present image (subst (λ (d : Disk). IsCrashImage d image) rests.settled crash))) (v, rests.reads, refl));
+  images = λ image crash. inl (subst (λ (l : List Sector). IsImageOf l (map_of s.disk.present v)) (sym (settled_image
+      s.disk.present image (subst (λ (d : Disk). IsCrashImage d image) rests.settled crash))) (v, rests.reads, refl));
 }
 
-module _ (v w : Volume) (base : List Sector) (blocks : List Block) (changes : List Change) (bytes : Sector) (reads : Reads base v) (plan : IsPlan v w blocks changes) (spells : SpellsRoot w.root bytes) where
+module _ (v w : Volume) (base : List Sector) (blocks : List Block) (changes : List Change) (bytes : Sector)
+    (reads : Reads base v) (plan : IsPlan v w blocks changes) (spells : SpellsRoot w.root bytes) where
   abbrev staged : List Sector
   staged = with_all base blocks
 
@@ -44,31 +48,45 @@ module _ (v w : Volume) (base : List Sector) (blocks : List Block) (changes : Li
   keeps = keeps_used v base blocks staged plan.free (all_same_outside base blocks)
 
   valid : root_in known_marks (length staged) (spells.root.generation % 2) bytes ≡ Valid spells.root
-  valid = subst (λ (g : ℕ). root_in known_marks (length staged) (g % 2) bytes ≡ Valid spells.root) (sym spells.generation) (spells.valid (length staged) (omega (arith, plan.sectors, all, with_all_count base blocks)))
+  valid =
+      subst (λ (g : ℕ). root_in known_marks (length staged) (g % 2) bytes ≡ Valid spells.root) (sym spells.generation)
+      (spells.valid (length staged) (omega (arith, plan.sectors, all, with_all_count base blocks)))
 
   image_newest : newest image ≡ Some w.root
   image_newest = ap (λ (g : ℕ). newest (set staged (g % 2) bytes)) (sym spells.generation)
-      ∙ next_newest staged v.root spells.root w.root bytes (newest_same v base staged keeps ∙ reads.root) spells.mark (spells.generation ∙ plan.generation) (spells.sectors ∙ plan.sectors) spells.reads valid
+      ∙ next_newest staged v.root spells.root w.root bytes (newest_same v base staged keeps ∙ reads.root) spells.mark
+      (spells.generation ∙ plan.generation) (spells.sectors ∙ plan.sectors) spells.reads valid
 
   same_named : SameAt image staged (names w)
-  same_named s has = ⊎_elim (λ none. inl none) (λ place. inr (get_or-set_other staged root s bytes [] (λ e. omega (arith, e, place.0)))) ((plan.maps base all reads).places s has)
+  same_named s has = ⊎_elim
+      (λ none. inl none) (λ place. inr (get_or-set_other staged root s bytes [] (λ e. omega (arith, e, place.0))))
+      ((plan.maps base all reads).places s has)
 
   pub next_reads : Reads image w
   next_reads = record { root = image_newest; maps = same_maps w staged image (plan.maps base all reads) same_named }
 
   next_pages : pages_in image w.table ≡ pages_after (pages_in base v.table) changes
-  next_pages = pages_same image staged w.table (λ s has. same_named s (Contains-append_right w.root.maps w.table s has)) ∙ plan.pages base all reads
+  next_pages = pages_same image staged w.table (λ s has. same_named s (Contains-append_right w.root.maps w.table s has))
+      ∙ plan.pages base all reads
 
   pub next_is : map_of image w ≡ next_map (map_of base v) changes w.root.catalog
-  next_is = ap (λ (pages : List (Option Sector)). record { generation = w.root.generation; catalog = w.root.catalog; pages = pages }) next_pages
-      ∙ ap (λ (g : ℕ). record { generation = g; catalog = w.root.catalog; pages = pages_after (pages_in base v.table) changes }) plan.generation
+  next_is = ap (λ (pages : List (Option Sector)).
+      record { generation = w.root.generation; catalog = w.root.catalog; pages = pages }) next_pages
+      ∙ ap (λ (g : ℕ).
+      record { generation = g; catalog = w.root.catalog; pages = pages_after (pages_in base v.table) changes })
+      plan.generation
 
-  before_or_after : (left : List Sector) → OldOrNew base blocks root bytes left → BeforeOrAfter (map_of base v) (next_map (map_of base v) changes w.root.catalog) left
-  before_or_after left (Old spares) = inl (still_holds v base left reads (keeps_used v base blocks left plan.free spares))
-  before_or_after left (New is) = inr (subst (λ (l : List Sector). IsImageOf l (next_map (map_of base v) changes w.root.catalog)) (sym is) (w, next_reads, next_is))
+  before_or_after : (left : List Sector) → OldOrNew base blocks root bytes left
+      → BeforeOrAfter (map_of base v) (next_map (map_of base v) changes w.root.catalog) left
+  before_or_after left (Old spares) =
+      inl (still_holds v base left reads (keeps_used v base blocks left plan.free spares))
+  before_or_after left (New is) = inr (subst (λ (l : List Sector).
+      IsImageOf l (next_map (map_of base v) changes w.root.catalog)) (sym is) (w, next_reads, next_is))
 
-  pub amid_maps : (seen : List Event) (s : State) → CrashLeaves seen (OldOrNew base blocks root bytes) s → CrashLeaves seen (BeforeOrAfter (map_of base v) (next_map (map_of base v) changes w.root.catalog)) s
-  amid_maps seen s amid = record { events = amid.events; images = λ left crash. before_or_after left (amid.images left crash) }
+  pub amid_maps : (seen : List Event) (s : State) → CrashLeaves seen (OldOrNew base blocks root bytes) s
+      → CrashLeaves seen (BeforeOrAfter (map_of base v) (next_map (map_of base v) changes w.root.catalog)) s
+  amid_maps seen s amid =
+      record { events = amid.events; images = λ left crash. before_or_after left (amid.images left crash) }
 
   pub now_committed : (d : Disk) → d ≡ idle_disk image → IsCommitted w d
   now_committed d is = subst (IsCommitted w) (sym is) (record { settled = refl; reads = next_reads })
@@ -77,8 +95,13 @@ module _ (v w : Volume) (base : List Sector) (blocks : List Block) (changes : Li
   now_is d is = ap (λ (e : Disk). map_of e.present w) is ∙ next_is
 
   -- the same, with the catalog's page by another name
-  pub amid_maps_as : (page : ℕ) → w.root.catalog ≡ page → (seen : List Event) (s : State) → CrashLeaves seen (OldOrNew base blocks root bytes) s → CrashLeaves seen (BeforeOrAfter (map_of base v) (next_map (map_of base v) changes page)) s
-  amid_maps_as page is seen s amid = subst (λ (n : ℕ). CrashLeaves seen (BeforeOrAfter (map_of base v) (next_map (map_of base v) changes n)) s) is (amid_maps seen s amid)
+  pub amid_maps_as : (page : ℕ) → w.root.catalog ≡ page
+      → (seen : List Event) (s : State) → CrashLeaves seen (OldOrNew base blocks root bytes) s
+      → CrashLeaves seen (BeforeOrAfter (map_of base v) (next_map (map_of base v) changes page)) s
+  amid_maps_as page is seen s amid =
+      subst (λ (n : ℕ). CrashLeaves seen (BeforeOrAfter (map_of base v) (next_map (map_of base v) changes n)) s) is
+      (amid_maps seen s amid)
 
-  pub now_is_as : (page : ℕ) → w.root.catalog ≡ page → (d : Disk) → d ≡ idle_disk image → map_of d.present w ≡ next_map (map_of base v) changes page
+  pub now_is_as : (page : ℕ) → w.root.catalog ≡ page → (d : Disk) → d ≡ idle_disk image
+      → map_of d.present w ≡ next_map (map_of base v) changes page
   now_is_as page is d same = now_is d same ∙ ap (next_map (map_of base v) changes) is

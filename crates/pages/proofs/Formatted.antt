@@ -1,8 +1,11 @@
 -- A volume without pages, once it stands on the disk.
-use Rattle.std.proofs.Common.{◌≡◌, inl, ⊎_elim, ◌<◌, ◌≤◌, ◌+◌, ◌*◌, ◌-◌, true, ℕ, zero, suc, List, [], ◌∷◌, ◌++◌, length, set, get_or, take, replicate, refl, sym, ◌∙◌, ap, subst, arith, get_or-set_other, get_or-set_same, length-set}
+use Rattle.std.proofs.Common.{◌≡◌, inl, ⊎_elim, ◌<◌, ◌≤◌, ◌+◌, ◌*◌, ◌-◌, true, ℕ, zero, suc, List, [], ◌∷◌, ◌++◌}
+use Rattle.std.proofs.Common.{length, set, get_or, take, replicate, refl, sym, ◌∙◌, ap, subst, arith, get_or-set_other}
+use Rattle.std.proofs.Common.{get_or-set_same, length-set}
 use Rattle.std.specs.Prelude.{Option, Some, None, Ok, Err, Contains, nat_lt}
 use Rattle.std.proofs.lemmas.Bool.{cond-true, lt-ltb, cases_lt}
-use Rattle.std.proofs.lemmas.List.{replicate-append-replicate, get_or-replicate, length-replicate, drop-replicate, take-replicate, get_or_past}
+use Rattle.std.proofs.lemmas.List.{replicate-append-replicate, get_or-replicate, length-replicate, drop-replicate}
+use Rattle.std.proofs.lemmas.List.{take-replicate, get_or_past}
 use Rattle.station.specs.Disk.{Disk, Sector, sector_at, idle_disk, IsCrashImage}
 use Rattle.station.specs.State.{State}
 use Rattle.station.specs.History.{EachImage}
@@ -37,17 +40,20 @@ none_named m n s has =
 
 none_at : (m n i : ℕ) → get_or (blanks m ++ blanks n) i 0 ≡ 0
 none_at m n i = ap (λ (l : List ℕ). get_or l i 0) (replicate-append-replicate {A = ℕ} m n 0)
-    ∙ ⊎_elim (λ lt. get_or-replicate {A = ℕ} (m + n) i 0 0 lt) (λ past. get_or_past (blanks (m + n)) i 0 (omega (arith, past, length-blanks (m + n)))) (cases_lt i (m + n))
+    ∙ ⊎_elim (λ lt. get_or-replicate {A = ℕ} (m + n) i 0 0 lt)
+    (λ past. get_or_past (blanks (m + n)) i 0 (omega (arith, past, length-blanks (m + n)))) (cases_lt i (m + n))
 
 blank_part : (m i : ℕ) → i < m → zeros ≡ map_part (replicate (1024 * m) 0) i
 unfolding zeros
-blank_part m i lt = sym (ap (take 1024) (drop-replicate {X = ℕ} (1024 * i) (1024 * m) 0) ∙ take-replicate {X = ℕ} 1024 (1024 * m - 1024 * i) 0 (omega (arith, lt)))
+blank_part m i lt = sym (ap (take 1024) (drop-replicate {X = ℕ} (1024 * i) (1024 * m) 0)
+    ∙ take-replicate {X = ℕ} 1024 (1024 * m - 1024 * i) 0 (omega (arith, lt)))
 
 no_pages : (image : List Sector) (n : ℕ) → pages_in image (replicate n 0) ≡ replicate n None
 no_pages image zero = refl
 no_pages image (suc n) = ap (λ (l : List (Option Sector)). None ∷ l) (no_pages image n)
 
-module _ (base : List Sector) (sectors : ℕ) (bytes : Sector) (all : length base ≡ sectors) (least : 1024 ≤ sectors) (spells : SpellsRoot (empty_volume sectors).root bytes) where
+module _ (base : List Sector) (sectors : ℕ) (bytes : Sector) (all : length base ≡ sectors) (least : 1024 ≤ sectors)
+    (spells : SpellsRoot (empty_volume sectors).root bytes) where
   abbrev image : List Sector
   image = set (set base 1 (replicate 4096 0)) 0 bytes
 
@@ -55,13 +61,16 @@ module _ (base : List Sector) (sectors : ℕ) (bytes : Sector) (all : length bas
   count = length-set (set base 1 (replicate 4096 0)) 0 bytes ∙ length-set base 1 (replicate 4096 0) ∙ all
 
   first : sector_at image 0 ≡ bytes
-  first = get_or-set_same (set base 1 (replicate 4096 0)) 0 bytes [] (omega (arith, all, least, length-set base 1 (replicate 4096 0)))
+  first = get_or-set_same (set base 1 (replicate 4096 0)) 0 bytes []
+      (omega (arith, all, least, length-set base 1 (replicate 4096 0)))
 
   second : sector_at image 1 ≡ replicate 4096 0
-  second = get_or-set_other (set base 1 (replicate 4096 0)) 0 1 bytes [] (λ e. omega (arith, e)) ∙ get_or-set_same base 1 (replicate 4096 0) [] (omega (arith, all, least))
+  second = get_or-set_other (set base 1 (replicate 4096 0)) 0 1 bytes [] (λ e. omega (arith, e))
+      ∙ get_or-set_same base 1 (replicate 4096 0) [] (omega (arith, all, least))
 
   blank_there : root_in known_marks (length image) 1 (sector_at image 1) ≡ Blank
-  blank_there = ap (root_in known_marks (length image) 1) second ∙ cond-true (is_blank (replicate 4096 0)) Blank (root_with_mark (length image) 1 (replicate 4096 0) (mark_index known_marks (replicate 4096 0))) (all_blank 4096)
+  blank_there = ap (root_in known_marks (length image) 1) second ∙ cond-true (is_blank (replicate 4096 0)) Blank
+      (root_with_mark (length image) 1 (replicate 4096 0) (mark_index known_marks (replicate 4096 0))) (all_blank 4096)
 
   root_there : root_in known_marks (length image) 0 (sector_at image 0) ≡ Valid spells.root
   root_there = ap (root_in known_marks (length image) 0) first ∙ spells.valid (length image) (omega (arith, count))
@@ -69,19 +78,23 @@ module _ (base : List Sector) (sectors : ℕ) (bytes : Sector) (all : length bas
   newest_there : newest image ≡ Some (empty_volume sectors).root
   newest_there =
       let one : Roots = record { newest = spells.root; older = None } in
-      ap (λ (s : RootSector). root_of (newest_root 1 s (root_in known_marks (length image) 1 (sector_at image 1)))) root_there
+      ap (λ (s : RootSector). root_of (newest_root 1 s (root_in known_marks (length image) 1 (sector_at image 1))))
+      root_there
       ∙ ap (λ (s : RootSector). root_of (newest_root 1 (Valid spells.root) s)) blank_there
-      ∙ ap root_of (cond-true (nat_lt spells.root.mark 1) (Ok one) (Err ForeignMark) (lt-ltb spells.root.mark 1 (omega (arith, spells.mark))))
+      ∙ ap root_of (cond-true (nat_lt spells.root.mark 1) (Ok one) (Err ForeignMark)
+      (lt-ltb spells.root.mark 1 (omega (arith, spells.mark))))
       ∙ spells.reads
 
   pub empty_reads : Reads image (empty_volume sectors)
   empty_reads = record {
     root = newest_there;
     maps = record {
-      count = length-blanks (1024 * map_count sectors) ∙ ap (λ (n : ℕ). 1024 * n) (sym (length-blanks (map_count sectors)));
+      count =
+          length-blanks (1024 * map_count sectors) ∙ ap (λ (n : ℕ). 1024 * n) (sym (length-blanks (map_count sectors)));
       entries = λ i lt.
           let low : i < map_count sectors = omega (arith, lt, length-blanks (map_count sectors)) in
-          ap (map_at image) (get_or-replicate {A = ℕ} (map_count sectors) i 0 0 low) ∙ blank_part (map_count sectors) i low;
+          ap (map_at image) (get_or-replicate {A = ℕ} (map_count sectors) i 0 0 low)
+          ∙ blank_part (map_count sectors) i low;
       places = λ s has. inl (none_named (map_count sectors) (1024 * map_count sectors) s has);
       once = λ i j i_low j_low some same. absurd (some (none_at (map_count sectors) (1024 * map_count sectors) i));
       unused = none_at 0 (1024 * map_count sectors) 0;
@@ -89,10 +102,17 @@ module _ (base : List Sector) (sectors : ℕ) (bytes : Sector) (all : length bas
   }
 
   pub empty_holds : IsImageOf image (empty_map sectors)
-  empty_holds = (empty_volume sectors, empty_reads, ap (λ (pages : List (Option Sector)). record { generation = 0; catalog = 0; pages = pages }) (no_pages image (1024 * map_count sectors)))
+  empty_holds = (
+    empty_volume sectors,
+    empty_reads,
+    ap (λ (pages : List (Option Sector)). record { generation = 0; catalog = 0; pages = pages })
+        (no_pages image (1024 * map_count sectors)),
+  )
 
   pub empty_images : (s : State) → s.disk ≡ idle_disk image → EachImage (λ i. IsImageOf i (empty_map sectors)) s
-  empty_images s is left crash = subst (λ (l : List Sector). IsImageOf l (empty_map sectors)) (sym (settled_image image left (subst (λ (d : Disk). IsCrashImage d left) is crash))) empty_holds
+  empty_images s is left crash = subst (λ (l : List Sector). IsImageOf l (empty_map sectors))
+      (sym (settled_image image left (subst (λ (d : Disk). IsCrashImage d left) is crash))) empty_holds
 
   pub empty_committed : (d : Disk) → d ≡ idle_disk image → IsCommitted (empty_volume sectors) d
-  empty_committed d is = subst (IsCommitted (empty_volume sectors)) (sym is) (record { settled = refl; reads = empty_reads })
+  empty_committed d is =
+      subst (IsCommitted (empty_volume sectors)) (sym is) (record { settled = refl; reads = empty_reads })

@@ -1,5 +1,6 @@
 -- A draft with all its pages and maps is a plan.
-use Rattle.std.proofs.Common.{◌≡◌, ◌≤◌, inl, ◌<◌, ◌+◌, ◌*◌, ◌^◌, false, ℕ, List, [], ◌++◌, length, get_or, refl, sym, ◌∙◌, ap, subst, arith}
+use Rattle.std.proofs.Common.{◌≡◌, ◌≤◌, inl, ◌<◌, ◌+◌, ◌*◌, ◌^◌, false, ℕ, List, [], ◌++◌, length, get_or, refl, sym}
+use Rattle.std.proofs.Common.{◌∙◌, ap, subst, arith}
 use Rattle.std.specs.Prelude.{Contains, Vec}
 use Rattle.std.specs.List.{All}
 use Rattle.std.specs.declared.alloc.Global.{Global}
@@ -15,10 +16,12 @@ use Rattle.pages.specs.Image.{Volume, names, IsPlace, IsFree, pages_in, map_at, 
 use Rattle.pages.specs.Layout.{map_count}
 use Rattle.pages.specs.Use.{IsUse, use_after}
 use Rattle.pages.specs.Plan.{IsPlan}
-use Rattle.pages.specs.Volumes.{volume_of, IsSound, IsSoundAfter, IsDraft, IsMappedDraft, IsFresh, IsNext, SameSize, unused_count}
+use Rattle.pages.specs.Volumes.{volume_of, IsSound, IsSoundAfter, IsDraft, IsMappedDraft, IsFresh, IsNext, SameSize}
+use Rattle.pages.specs.Volumes.{unused_count}
 
 -- nothing is staged yet
-pub started : (m : VolumeMap) (d : Draft) (start : ℕ) → IsSound m → 2 ≤ start → IsFresh (length m.maps.items) start d → IsDraft (volume_of m) m d []
+pub started : (m : VolumeMap) (d : Draft) (start : ℕ) → IsSound m → 2 ≤ start → IsFresh (length m.maps.items) start d
+    → IsDraft (volume_of m) m d []
 started m d start sound some fresh = record {
   in_use = sound.in_use;
   some = omega (arith, sound.least);
@@ -27,7 +30,8 @@ started m d start sound some fresh = record {
     table_count = refl;
     changed_maps_count = ap length fresh.changed_maps ∙ length-replicate (length m.maps.items) false;
     unused = sound.unused;
-    free = subst (SectorsAre (IsFree (volume_of m))) (sym fresh.blocks) (All-nil (λ (b : Block). IsFree (volume_of m) b.sector));
+    free = subst (SectorsAre (IsFree (volume_of m))) (sym fresh.blocks)
+        (All-nil (λ (b : Block). IsFree (volume_of m) b.sector));
     clean = λ page is. refl;
     pages = λ base all reads. ap (λ (l : List Block). pages_in (with_all base l) m.table) fresh.blocks;
   };
@@ -36,20 +40,28 @@ started m d start sound some fresh = record {
     places = sound.places;
     once = sound.once;
     fresh = λ s has. inl has;
-    in_use = subst (λ (l : List UseChange). IsUse m.sectors (names (volume_of m)) (use_after m.used l)) (sym fresh.turns) sound.in_use;
-    turns_low = subst (All (λ (t : UseChange). t.sector < m.sectors)) (sym fresh.turns) (All-nil (λ (t : UseChange). t.sector < m.sectors));
+    in_use = subst (λ (l : List UseChange). IsUse m.sectors (names (volume_of m)) (use_after m.used l))
+        (sym fresh.turns) sound.in_use;
+    turns_low = subst (All (λ (t : UseChange). t.sector < m.sectors)) (sym fresh.turns)
+        (All-nil (λ (t : UseChange). t.sector < m.sectors));
   };
 }
 
 -- no map is on its way yet
-pub maps_started : (m after : VolumeMap) (d : Draft) (changes : List Change) → IsDraft (volume_of m) after d changes → after.maps ≡ m.maps → IsMappedDraft (volume_of m) after d changes 0
+pub maps_started : (m after : VolumeMap) (d : Draft) (changes : List Change) → IsDraft (volume_of m) after d changes
+    → after.maps ≡ m.maps → IsMappedDraft (volume_of m) after d changes 0
 maps_started m after d changes draft same = record {
   draft = draft;
-  mapped = record { spelled = λ base all reads i lt. absurd (omega (arith, lt)); others = λ i le. ap (λ (x : Vec ℕ Global). get_or x.items i 0) same };
+  mapped = record {
+    spelled = λ base all reads i lt. absurd (omega (arith, lt));
+    others = λ i le. ap (λ (x : Vec ℕ Global). get_or x.items i 0) same;
+  };
 }
 
-module _ (m staged : VolumeMap) (after : VolumeMap) (d : Draft) (changes : List Change) (catalog : ℕ) (sound : IsSound m) (done : IsMappedDraft (volume_of m) staged d changes (length m.maps.items)) (size : SameSize m staged)
-    (same_maps : after.maps ≡ staged.maps) (same_table : after.table ≡ staged.table) (same_used : after.used ≡ staged.used) (same_free : after.free ≡ staged.free) (same_sectors : after.sectors ≡ staged.sectors)
+module _ (m staged : VolumeMap) (after : VolumeMap) (d : Draft) (changes : List Change) (catalog : ℕ) (sound :
+    IsSound m) (done : IsMappedDraft (volume_of m) staged d changes (length m.maps.items)) (size : SameSize m staged)
+    (same_maps : after.maps ≡ staged.maps) (same_table : after.table ≡ staged.table) (same_used : after.used
+    ≡ staged.used) (same_free : after.free ≡ staged.free) (same_sectors : after.sectors ≡ staged.sectors)
     (generation : after.generation ≡ staged.generation + 1) (is_catalog : after.catalog ≡ catalog) where
   abbrev v : Volume
   v = volume_of m
@@ -67,7 +79,8 @@ module _ (m staged : VolumeMap) (after : VolumeMap) (d : Draft) (changes : List 
   sectors_is = same_sectors ∙ size.sectors
 
   places : (s : ℕ) → Contains (names (volume_of after)) s → IsPlace after.sectors s
-  places s has = subst (λ (n : ℕ). IsPlace n s) (sym sectors_is) (done.draft.naming.places s (subst (λ (l : List ℕ). Contains l s) named_is has))
+  places s has = subst (λ (n : ℕ). IsPlace n s) (sym sectors_is)
+      (done.draft.naming.places s (subst (λ (l : List ℕ). Contains l s) named_is has))
 
   unused : get_or after.table 0 0 ≡ 0
   unused = ap (λ (l : List ℕ). get_or l 0 0) table_is ∙ done.draft.staged.unused
@@ -82,12 +95,15 @@ module _ (m staged : VolumeMap) (after : VolumeMap) (d : Draft) (changes : List 
     free = done.draft.staged.free;
     maps = λ base all reads. record {
       count = count;
-      entries = λ i lt. ap (λ (l : List ℕ). map_at (with_all base d.blocks.items) (get_or l i 0)) maps_is ∙ done.mapped.spelled base all reads i (omega (arith, lt, ap length maps_is, size.maps)) ∙ ap (λ (l : List ℕ). map_part l i) (sym table_is);
+      entries = λ i lt. ap (λ (l : List ℕ). map_at (with_all base d.blocks.items) (get_or l i 0)) maps_is
+          ∙ done.mapped.spelled base all reads i (omega (arith, lt, ap length maps_is, size.maps))
+          ∙ ap (λ (l : List ℕ). map_part l i) (sym table_is);
       places = places;
       once = rw named_is done.draft.naming.once;
       unused = unused;
     };
-    pages = λ base all reads. ap (λ (l : List ℕ). pages_in (with_all base d.blocks.items) l) table_is ∙ done.draft.staged.pages base all reads;
+    pages = λ base all reads. ap (λ (l : List ℕ). pages_in (with_all base d.blocks.items) l) table_is
+        ∙ done.draft.staged.pages base all reads;
   }
 
   pub is_next : IsNext m after catalog
@@ -113,5 +129,6 @@ module _ (m staged : VolumeMap) (after : VolumeMap) (d : Draft) (changes : List 
     unused = unused;
     in_use = rw same_used (rw named_is (rw sectors_is done.draft.naming.in_use));
     free = same_free ∙ size.free ∙ sound.free ∙ ap unused_count (sym (same_used ∙ size.used));
-    turns_low = λ k d lt. omega (arith, done.draft.naming.turns_low k d lt, ap length (same_used ∙ size.used), sound.in_use.count);
+    turns_low = λ k d lt.
+        omega (arith, done.draft.naming.turns_low k d lt, ap length (same_used ∙ size.used), sound.in_use.count);
   }

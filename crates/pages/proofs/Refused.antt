@@ -28,30 +28,41 @@ named image v reads = record { places = reads.maps.places; once = reads.maps.onc
 -- an image with a newest root that no volume reads
 module _ (image : List Sector) (r : VolumeRoot) (is : newest image ≡ Some r) where
   damaged : ((v : Volume) → v.root ≡ r → Reads image v → ⊥) → IsDamaged image
-  damaged none = record { none = λ m holds. none holds.0 (one_root (newest image) holds.0.root r holds.1.root is) holds.1; own = root_is_own image r is }
+  damaged none = record {
+    none = λ m holds. none holds.0 (one_root (newest image) holds.0.root r holds.1.root is) holds.1;
+    own = root_is_own image r is;
+  }
 
   -- its map sectors aren't sectors behind the roots, each named once
   pub bad_maps : (AreNames r.sectors r.maps → ⊥) → IsDamaged image
-  bad_maps bad = damaged (λ v same reads. bad (subst (λ (q : VolumeRoot). AreNames q.sectors q.maps) same (front_names v.root.sectors v.root.maps v.table (named image v reads))))
+  bad_maps bad = damaged (λ v same reads. bad (subst (λ (q : VolumeRoot). AreNames q.sectors q.maps) same
+      (front_names v.root.sectors v.root.maps v.table (named image v reads))))
 
-  module _ (table : List ℕ) (count : length table ≡ 1024 * length r.maps) (entries : (i : ℕ) → i < length r.maps → map_at image (get_or r.maps i 0) ≡ map_part table i) where
+  module _ (table : List ℕ) (count : length table ≡ 1024 * length r.maps)
+      (entries : (i : ℕ) → i < length r.maps → map_at image (get_or r.maps i 0) ≡ map_part table i) where
     one_table : (v : Volume) → v.root ≡ r → Reads image v → v.table ≡ table
     one_table v same reads =
-        let v_count : length v.table ≡ 1024 * length r.maps = subst (λ (q : VolumeRoot). length v.table ≡ 1024 * length q.maps) same reads.maps.count in
-        let v_entries : (i : ℕ) → i < length r.maps → map_at image (get_or r.maps i 0) ≡ map_part v.table i = subst (λ (q : VolumeRoot). (i : ℕ) → i < length q.maps → map_at image (get_or q.maps i 0) ≡ map_part v.table i) same reads.maps.entries in
+        let v_count : length v.table ≡ 1024 * length r.maps =
+        subst (λ (q : VolumeRoot). length v.table ≡ 1024 * length q.maps) same reads.maps.count in
+        let v_entries : (i : ℕ) → i < length r.maps → map_at image (get_or r.maps i 0) ≡ map_part v.table i =
+        subst (λ (q : VolumeRoot). (i : ℕ) → i < length q.maps → map_at image (get_or q.maps i 0) ≡ map_part v.table i)
+        same reads.maps.entries in
         same_parts (length r.maps) v.table table v_count count (λ i lt. sym (v_entries i lt) ∙ entries i lt)
 
     -- its maps and pages aren't
     pub bad_table : (AreNames r.sectors (r.maps ++ table) → ⊥) → IsDamaged image
-    bad_table bad = damaged (λ v same reads. bad (subst (λ (t : List ℕ). AreNames r.sectors (r.maps ++ t)) (one_table v same reads)
+    bad_table bad =
+        damaged (λ v same reads. bad (subst (λ (t : List ℕ). AreNames r.sectors (r.maps ++ t)) (one_table v same reads)
         (subst (λ (q : VolumeRoot). AreNames q.sectors (q.maps ++ v.table)) same (named image v reads))))
 
     -- page 0 has a sector
     pub bad_first : get_or table 0 0 ≢ 0 → IsDamaged image
-    bad_first bad = damaged (λ v same reads. bad (sym (ap (λ (t : List ℕ). get_or t 0 0) (one_table v same reads)) ∙ reads.maps.unused))
+    bad_first bad = damaged
+        (λ v same reads. bad (sym (ap (λ (t : List ℕ). get_or t 0 0) (one_table v same reads)) ∙ reads.maps.unused))
 
 -- what holds a map is opened
-pub map_opens : {T : Type 0} (image : List Sector) (m : Map) (result : Result T PagesError) → IfErr result (λ error. RefusesImage image error) → IsImageOf image m → IsReadError result
+pub map_opens : {T : Type 0} (image : List Sector) (m : Map) (result : Result T PagesError)
+    → IfErr result (λ error. RefusesImage image error) → IsImageOf image m → IsReadError result
 map_opens image m (Ok x) refuses holds = tt
 map_opens image m (Err Device) refuses holds = inl refl
 map_opens image m (Err Full) never holds = absurd never
@@ -62,7 +73,8 @@ map_opens image m (Err ForeignMark) refuses holds = absurd (map_is_own image m h
 
 module _ (image : List Sector) where
   -- another format is told
-  pub foreign_told : (result : Result VolumeMap PagesError) → IfOk result (λ volume. Reads image (volume_of volume)) → IfErr result (λ error. RefusesImage image error) → IsForeign image → FailsWithError ForeignMark result
+  pub foreign_told : (result : Result VolumeMap PagesError) → IfOk result (λ volume. Reads image (volume_of volume))
+      → IfErr result (λ error. RefusesImage image error) → IsForeign image → FailsWithError ForeignMark result
   foreign_told (Ok m) reads _ foreign = root_is_own image (volume_of m).root reads.root foreign
   foreign_told (Err Device) _ refuses foreign = inr (inl refl)
   foreign_told (Err Full) _ never foreign = absurd never
@@ -72,7 +84,8 @@ module _ (image : List Sector) where
   foreign_told (Err ForeignMark) _ refuses foreign = inl refl
 
   -- damage is told
-  pub damage_told : (result : Result VolumeMap PagesError) → IfOk result (λ volume. Reads image (volume_of volume)) → IfErr result (λ error. RefusesImage image error) → IsDamaged image → FailsWithError Damaged result
+  pub damage_told : (result : Result VolumeMap PagesError) → IfOk result (λ volume. Reads image (volume_of volume))
+      → IfErr result (λ error. RefusesImage image error) → IsDamaged image → FailsWithError Damaged result
   damage_told (Ok m) reads _ damage = damage.none (map_of image (volume_of m)) (volume_of m, reads, refl)
   damage_told (Err Device) _ refuses damage = inr (inl refl)
   damage_told (Err Full) _ never damage = absurd never

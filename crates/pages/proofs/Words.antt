@@ -1,5 +1,6 @@
 -- Numbers of four bytes, read and written.
-use Rattle.std.proofs.Common.{◌≡◌, ◌<◌, ◌*◌, ◌^◌, ℕ, zero, suc, List, [], ◌∷◌, length, drop, get_or, refl, sym, ◌∙◌, ap, arith}
+use Rattle.std.proofs.Common.{◌≡◌, ◌<◌, ◌*◌, ◌^◌, ℕ, zero, suc, List, [], ◌∷◌, length, drop, get_or, refl, sym, ◌∙◌, ap}
+use Rattle.std.proofs.Common.{arith}
 use Rattle.std.specs.Prelude.{true, ◌==◌, replicate}
 use Rattle.std.specs.List.{All, list_all}
 use Rattle.std.proofs.lemmas.Bool.{and_parts, eqb-true}
@@ -30,9 +31,11 @@ word_at (suc n) k (a ∷ b ∷ c ∷ []) all lt = absurd (omega (arith, all))
 word_at (suc n) zero (a ∷ b ∷ c ∷ d ∷ more) all lt = refl
 word_at (suc n) (suc k) (a ∷ b ∷ c ∷ d ∷ more) all lt =
     let four : 4 * suc k ≡ suc (suc (suc (suc (4 * k)))) = omega arith in
-    word_at n k more (omega (arith, all)) (omega (arith, lt)) ∙ sym (ap (λ (m : ℕ). big_number 4 (drop m (a ∷ b ∷ c ∷ d ∷ more))) four)
+    word_at n k more (omega (arith, all)) (omega (arith, lt))
+    ∙ sym (ap (λ (m : ℕ). big_number 4 (drop m (a ∷ b ∷ c ∷ d ∷ more))) four)
 
-pub all_words : (n : ℕ) (xs numbers : List ℕ) → length xs ≡ 4 * n → length numbers ≡ n → IsRead big_number 4 xs numbers → numbers ≡ words xs
+pub all_words : (n : ℕ) (xs numbers : List ℕ) → length xs ≡ 4 * n → length numbers ≡ n → IsRead big_number 4 xs numbers
+    → numbers ≡ words xs
 all_words n xs numbers all count reads = ext_get_or 0 numbers (words xs) (count ∙ sym (length-words n xs all))
     (λ i lt. reads i lt ∙ sym (word_at n i xs all (omega (arith, lt, count))))
 
@@ -41,7 +44,8 @@ pub words-spelled : (numbers : List ℕ) → All (λ n. n < 2 ^ 32) numbers → 
 unfolding words
 words-spelled [] small = refl
 words-spelled (n ∷ numbers) small =
-    let first : big_number 4 (big_bytes 4 n) ≡ n = big_number-reads_back 4 n [] (All-head (λ (m : ℕ). m < 2 ^ 32) n numbers small) in
+    let first : big_number 4 (big_bytes 4 n) ≡ n =
+    big_number-reads_back 4 n [] (All-head (λ (m : ℕ). m < 2 ^ 32) n numbers small) in
     rw first (ap (λ (l : List ℕ). n ∷ l) (words-spelled numbers (All-tail (λ (m : ℕ). m < 2 ^ 32) n numbers small)))
 
 blanks : (numbers : List ℕ) → list_all (λ n. n == 0) numbers ≡ true → numbers ≡ replicate (length numbers) 0

@@ -31,7 +31,8 @@ pub(crate) fn new_cache(
 /// The page of a number, if the cache has it. It becomes the most recently used one.
 fn cached_page(cache: &mut LruCache<u32, PageBytes>, page: u32) -> Option<[u8; 4096]>
     ensures value { result ≡ lookup (nat_eq page) cache.old.entries }
-    ensures entries { cache.new ≡ lru_cache (promoted (nat_eq page) cache.old.entries) cache.old.cap }
+    ensures entries { cache.new
+        ≡ lru_cache (promoted (nat_eq page) cache.old.entries) cache.old.cap }
     ensures none { IfNone result (cache.new ≡ cache.old) }
 {
     match cache.get(&page) {
@@ -71,9 +72,14 @@ pub(crate) fn recall_page<D: Device>(
     ensures cause { OnErr result (result ≡ Err PagesError.Device) }
 
     // The page is that of the table, where the cache's pages are.
-    ensures page { (changed : List ℕ) → D.is_honest device.old → IsCacheOf (pages_in (D.state device.old).disk.present table.now) changed cache.old.entries →
-        IfOk result (λ bytes. bytes ≡ slice_index_or (pages_in (D.state device.old).disk.present table.now) page None) }
-    ensures right { (changed : List ℕ) → (Contains changed page → ⊥) → D.is_honest device.old → IsCacheOf (pages_in (D.state device.old).disk.present table.now) changed cache.old.entries →
+    ensures page { (changed : List ℕ) → D.is_honest device.old
+        → IsCacheOf (pages_in (D.state device.old).disk.present table.now) changed cache.old.entries
+        →
+        IfOk result (λ bytes. bytes
+        ≡ slice_index_or (pages_in (D.state device.old).disk.present table.now) page None) }
+    ensures right { (changed : List ℕ) → (Contains changed page → ⊥) → D.is_honest device.old
+        → IsCacheOf (pages_in (D.state device.old).disk.present table.now) changed cache.old.entries
+        →
         IsCacheOf (pages_in (D.state device.old).disk.present table.now) changed cache.new.entries }
 
     // The device isn't asked for a page of the cache, nor for one that the table hasn't.
@@ -147,9 +153,12 @@ pub(crate) fn load_page<D: Device>(
     requires { All (λ s. s < D.sectors device.old) table.now }
     ensures only { OnlyReads D.Device (result ≡ Err PagesError.Device) device.old device.new }
     ensures cause { OnErr result (result ≡ Err PagesError.Device) }
-    ensures right { (changed : List ℕ) → (Contains changed page → ⊥) → D.is_honest device.old → IsCacheOf (pages_in (D.state device.old).disk.present table.now) changed cache.old.entries →
+    ensures right { (changed : List ℕ) → (Contains changed page → ⊥) → D.is_honest device.old
+        → IsCacheOf (pages_in (D.state device.old).disk.present table.now) changed cache.old.entries
+        →
         IsCacheOf (pages_in (D.state device.old).disk.present table.now) changed cache.new.entries }
-    ensures absent { slice_index_or table.now page 0 ≡ 0 → (device.new ≡ device.old) × (cache.new ≡ cache.old) }
+    ensures absent { slice_index_or table.now page 0 ≡ 0
+        → (device.new ≡ device.old) × (cache.new ≡ cache.old) }
     ensures loads { Loads page cache.old cache.new }
     ensures err { OnErr result (cache.new ≡ cache.old) }
 {

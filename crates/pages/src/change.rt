@@ -52,7 +52,8 @@ pub(crate) fn find_change(
     page: u32,
 ) -> Option<usize>
     requires { ArePlaced changes.now places.now }
-    ensures found { IfSome result (λ i. (i < length changes.now) × HoldsAt (λ c. c.page ≡ page) changes.now i) }
+    ensures found { IfSome result
+        (λ i. (i < length changes.now) × HoldsAt (λ c. c.page ≡ page) changes.now i) }
     ensures absent { IfNone result (All (λ c. c.page ≢ page) changes.now) }
 {
     places.get(&page).copied()
@@ -66,7 +67,8 @@ pub(crate) fn reserve_change(
     requires placed { ArePlaced changes.old.items places.old }
     ensures placed { ArePlaced changes.new.items places.new }
     ensures items { changes.new.items ≡ changes.old.items }
-    ensures room { OnOk result ((vec_len changes.new < vec_capacity changes.new) × (0 < spare places.new)) }
+    ensures room { OnOk result
+        ((vec_len changes.new < vec_capacity changes.new) × (0 < spare places.new)) }
 {
     places.reserve(1)?;
     changes.reserve(1)
@@ -83,7 +85,8 @@ fn push_change(
     ensures placed { ArePlaced changes.new.items places.new }
     ensures ok { OnOk result (changes.new.items ≡ changes.old.items ++ change ∷ []) }
     ensures err { OnErr result (changes.new.items ≡ changes.old.items) }
-    ensures sure { vec_len changes.old < vec_capacity changes.old → 0 < spare places.old → IsOk result }
+    ensures sure { vec_len changes.old < vec_capacity changes.old → 0 < spare places.old
+        → IsOk result }
 {
     let page = change.page;
     places.reserve(1)?;
@@ -113,16 +116,24 @@ pub(crate) fn set_change(
     requires some { 0 < page }
     requires placed { ArePlaced changes.old.items places.old }
     ensures placed { ArePlaced changes.new.items places.new }
-    ensures changed { NamesOnce (changed_pages changes.old.items) → OnOk result ((pages : List (Option Sector)) → pages_after pages changes.new.items ≡ slice_set (pages_after pages changes.old.items) page bytes) }
-    ensures once { NamesOnce (changed_pages changes.old.items) → OnOk result (NamesOnce (changed_pages changes.new.items)) }
-    ensures changes_page { OnOk result (ChangesPage (changed_pages changes.old.items) page (changed_pages changes.new.items)) }
-    ensures filled { NamesOnce (changed_pages changes.old.items) → filled_count changes.new.items ≤ filled_count changes.old.items + (if is_some bytes then 1 else 0) }
-    ensures fills { NamesOnce (changed_pages changes.old.items) → OnOk result (IfSome bytes (λ _. Fills changes.old.items page changes.new.items)) }
-    ensures bounds { (n : ℕ) → page < n → All (λ c. (0 < c.page) × (c.page < n)) changes.old.items → OnOk result (All (λ c. (0 < c.page) × (c.page < n)) changes.new.items) }
+    ensures changed { NamesOnce (changed_pages changes.old.items)
+        → OnOk result ((pages : List (Option Sector)) → pages_after pages
+        changes.new.items ≡ slice_set (pages_after pages changes.old.items) page bytes) }
+    ensures once { NamesOnce (changed_pages changes.old.items)
+        → OnOk result (NamesOnce (changed_pages changes.new.items)) }
+    ensures changes_page { OnOk result
+        (ChangesPage (changed_pages changes.old.items) page (changed_pages changes.new.items)) }
+    ensures filled { NamesOnce (changed_pages changes.old.items) → filled_count
+        changes.new.items ≤ filled_count changes.old.items + (if is_some bytes then 1 else 0) }
+    ensures fills { NamesOnce (changed_pages changes.old.items)
+        → OnOk result (IfSome bytes (λ _. Fills changes.old.items page changes.new.items)) }
+    ensures bounds { (n : ℕ) → page < n → All (λ c. (0 < c.page) × (c.page < n)) changes.old.items
+        → OnOk result (All (λ c. (0 < c.page) × (c.page < n)) changes.new.items) }
     ensures err { OnErr result (changes.new.items ≡ changes.old.items) }
 
     // With room for one more change it succeeds.
-    ensures sure { vec_len changes.old < vec_capacity changes.old → 0 < spare places.old → IsOk result }
+    ensures sure { vec_len changes.old < vec_capacity changes.old → 0 < spare places.old
+        → IsOk result }
 {
     let change = Change { page, bytes };
     match find_change(changes, places, page) {
@@ -166,8 +177,10 @@ fn unused_between(
     requires end { end ≤ length table.now }
     requires once { NamesOnce (changed_pages changes.now) }
     requires placed { ArePlaced changes.now places.now }
-    ensures found { IfSome result (λ page. (start ≤ page) × (page < end) × (slice_index_or (mapped_after table.now changes.now) page false ≡ false)) }
-    ensures full { IfNone result ((n : ℕ) → start ≤ n → n < end → slice_index_or (mapped_after table.now changes.now) n false ≡ true) }
+    ensures found { IfSome result (λ page. (start ≤ page) × (page < end)
+        × (slice_index_or (mapped_after table.now changes.now) page false ≡ false)) }
+    ensures full { IfNone result ((n : ℕ) → start ≤ n → n < end
+        → slice_index_or (mapped_after table.now changes.now) n false ≡ true) }
 {
     for page in start..end {
         let number = page as u32;
@@ -191,7 +204,8 @@ fn unused_in_run(
     requires once { NamesOnce (changed_pages changes.now) }
     requires placed { ArePlaced changes.now places.now }
     requires run { run < length passed.now }
-    ensures { IfSome result (λ page. (0 < page) × (page < length table.now) × (slice_index_or (mapped_after table.now changes.now) page false ≡ false)) }
+    ensures { IfSome result (λ page. (0 < page) × (page < length table.now)
+        × (slice_index_or (mapped_after table.now changes.now) page false ≡ false)) }
 {
     if passed[run] {
         return None;
@@ -216,7 +230,8 @@ fn unused_from(
     requires few { length table.now < 2 ^ 32 }
     requires once { NamesOnce (changed_pages changes.now) }
     requires placed { ArePlaced changes.now places.now }
-    ensures { IfSome result (λ page. (0 < page) × (page < length table.now) × (slice_index_or (mapped_after table.now changes.now) page false ≡ false)) }
+    ensures { IfSome result (λ page. (0 < page) × (page < length table.now)
+        × (slice_index_or (mapped_after table.now changes.now) page false ≡ false)) }
 {
     for run in from / MAP_ENTRIES..passed.len() {
         if let Some(page) = unused_in_run(table, changes, places, from, passed, run) {
@@ -237,8 +252,10 @@ pub(crate) fn unused_page(
     requires few { length table.now < 2 ^ 32 }
     requires once { NamesOnce (changed_pages changes.now) }
     requires placed { ArePlaced changes.now places.now }
-    ensures found { IfSome result (λ page. (0 < page) × (page < length table.now) × (slice_index_or (mapped_after table.now changes.now) page false ≡ false)) }
-    ensures full { IfNone result ((n : ℕ) → 0 < n → n < length table.now → slice_index_or (mapped_after table.now changes.now) n false ≡ true) }
+    ensures found { IfSome result (λ page. (0 < page) × (page < length table.now)
+        × (slice_index_or (mapped_after table.now changes.now) page false ≡ false)) }
+    ensures full { IfNone result ((n : ℕ) → 0 < n → n < length table.now
+        → slice_index_or (mapped_after table.now changes.now) n false ≡ true) }
 {
     if let Some(page) = unused_from(table, changes, places, from, passed) {
         return Some(page);

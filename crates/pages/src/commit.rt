@@ -34,28 +34,42 @@ pub(crate) fn commit_volume<D: Device>(
     requires once { NamesOnce (changed_pages changes.now) }
     ensures honest { D.is_honest device.old ↔ D.is_honest device.new }
     ensures sectors { D.sectors device.new ≡ D.sectors device.old }
-    ensures failures { Blames (result ≡ Err PagesError.Device) (D.failures device.old) (D.failures device.new) }
+    ensures failures { Blames (result ≡ Err PagesError.Device) (D.failures device.old)
+        (D.failures device.new) }
     ensures cause { IsCommitError result }
-    ensures console { D.is_honest device.old → SameConsole (D.state device.old) (D.state device.new) }
+    ensures console { D.is_honest device.old
+        → SameConsole (D.state device.old) (D.state device.new) }
 
     // At each moment a crash leaves the map before, or the one after.
-    ensures moments { D.is_honest device.old → IsCommitted (volume_of volume.old) (D.state device.old).disk →
+    ensures moments { D.is_honest device.old
+        → IsCommitted (volume_of volume.old) (D.state device.old).disk →
         Through (D.history device.old) (D.history device.new) (D.state device.new)
-        (CrashLeaves (D.state device.old).events (BeforeOrAfter (map_of (D.state device.old).disk.present (volume_of volume.old))
-        (next_map (map_of (D.state device.old).disk.present (volume_of volume.old)) changes.now catalog))) }
+        (CrashLeaves (D.state device.old).events
+        (BeforeOrAfter (map_of (D.state device.old).disk.present (volume_of volume.old))
+        (next_map (map_of (D.state device.old).disk.present (volume_of volume.old)) changes.now
+        catalog))) }
 
     // After `Ok` it is the one after.
-    ensures committed { D.is_honest device.old → IsCommitted (volume_of volume.old) (D.state device.old).disk → OnOk result (IsCommitted (volume_of volume.new) (D.state device.new).disk) }
-    ensures map { D.is_honest device.old → IsCommitted (volume_of volume.old) (D.state device.old).disk → OnOk result (map_of (D.state device.new).disk.present (volume_of volume.new)
-        ≡ next_map (map_of (D.state device.old).disk.present (volume_of volume.old)) changes.now catalog) }
+    ensures committed { D.is_honest device.old
+        → IsCommitted (volume_of volume.old) (D.state device.old).disk
+        → OnOk result (IsCommitted (volume_of volume.new) (D.state device.new).disk) }
+    ensures map { D.is_honest device.old
+        → IsCommitted (volume_of volume.old) (D.state device.old).disk
+        → OnOk result (map_of (D.state device.new).disk.present (volume_of volume.new)
+        ≡ next_map (map_of (D.state device.old).disk.present (volume_of volume.old)) changes.now
+        catalog) }
     ensures sound { OnOk result (IsSound volume.new) }
     ensures same_sectors { volume.new.sectors ≡ volume.old.sectors }
-    ensures next { OnOk result ((volume.new.generation ≡ volume.old.generation + 1) × (volume.new.catalog ≡ catalog)) }
+    ensures next { OnOk result
+        ((volume.new.generation ≡ volume.old.generation + 1) × (volume.new.catalog ≡ catalog)) }
 
     // `Full` tells that too few sectors are free, or that no generation is left, and then nothing was done.
     ensures short { result ≡ Err PagesError.Full → LacksSectors (volume_of volume.old) changes.now }
-    ensures told { LacksSectors (volume_of volume.old) changes.now → (result ≡ Err PagesError.Full) ⊎ (result ≡ Err PagesError.Memory) }
-    ensures full { result ≡ Err PagesError.Full → D.is_honest device.old → (D.state device.new ≡ D.state device.old) × (D.history device.new ≡ D.history device.old) }
+    ensures told { LacksSectors (volume_of volume.old) changes.now
+        → (result ≡ Err PagesError.Full) ⊎ (result ≡ Err PagesError.Memory) }
+    ensures full { result ≡ Err PagesError.Full
+        → D.is_honest device.old → (D.state device.new ≡ D.state device.old)
+        × (D.history device.new ≡ D.history device.old) }
 {
     let draft = next_volume(alloc, volume, changes, catalog)?;
     let bytes = root_bytes_of(volume);

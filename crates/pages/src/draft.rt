@@ -57,8 +57,10 @@ pub(crate) fn place_block<'a>(
     bytes: SectorBytes<'a>,
 ) -> Result<u32, PagesError>
     requires { length used.now < 2 ^ 32 }
-    ensures placed { IfOk result (λ sector. PlacesBlock used.now draft.old draft.new sector bytes.entry) }
-    ensures full { result ≡ Err PagesError.Full → (s : ℕ) → draft.old.next ≤ s → s < length used.now → slice_index_or used.now s false ≡ true }
+    ensures placed { IfOk result
+        (λ sector. PlacesBlock used.now draft.old draft.new sector bytes.entry) }
+    ensures full { result ≡ Err PagesError.Full → (s : ℕ) → draft.old.next ≤ s → s < length used.now
+        → slice_index_or used.now s false ≡ true }
     ensures cause { IsPlanError result }
 {
     let sector = match used.next_unused(draft.next) {

@@ -20,8 +20,10 @@ pub fn format<D: Device>(device: &mut D) -> Result<(), DeviceError>
     ensures failures { CountsFailure result (D.failures device.old) (D.failures device.new) }
 
     // After `Ok` a crash leaves the empty map.
-    ensures empty { D.is_honest device.old → OnOk result (EachImage (λ image. IsImageOf image (empty_map (D.sectors device.old))) (D.state device.new)) }
-    ensures committed { D.is_honest device.old → OnOk result (IsCommitted (empty_volume (D.sectors device.old)) (D.state device.new).disk) }
+    ensures empty { D.is_honest device.old → OnOk result (EachImage
+        (λ image. IsImageOf image (empty_map (D.sectors device.old))) (D.state device.new)) }
+    ensures committed { D.is_honest device.old → OnOk result
+        (IsCommitted (empty_volume (D.sectors device.old)) (D.state device.new).disk) }
 {
     let root = empty_root(device.count());
     device.write(1, &[0; 4096])?;

@@ -5,8 +5,10 @@ ghost use Rattle.pages.specs.Marked.{IsMarked, AreNames};
 /// Marks a sector that is named. It is false where the sector is a root, isn't of the volume, or is marked; 0 names none.
 pub(crate) fn mark_name(used: &mut Vec<bool>, name: u32) -> bool
     ensures count { length used.new.items ≡ length used.old.items }
-    ensures marked { result ≡ true → (before : List ℕ) → IsMarked before used.old.items → IsMarked (before ++ name ∷ []) used.new.items }
-    ensures refused { result ≡ false → (before : List ℕ) → IsMarked before used.old.items → AreNames (length used.old.items) (before ++ name ∷ []) → ⊥ }
+    ensures marked { result ≡ true → (before : List ℕ) → IsMarked before used.old.items
+        → IsMarked (before ++ name ∷ []) used.new.items }
+    ensures refused { result ≡ false → (before : List ℕ) → IsMarked before used.old.items
+        → AreNames (length used.old.items) (before ++ name ∷ []) → ⊥ }
 {
     if name == 0 {
         return true;
@@ -25,8 +27,10 @@ pub(crate) fn mark_name(used: &mut Vec<bool>, name: u32) -> bool
 /// Marks each sector that is named, if each is behind the roots, within the volume, and named once.
 pub(crate) fn mark_names(used: &mut Vec<bool>, names: &[u32]) -> bool
     ensures count { length used.new.items ≡ length used.old.items }
-    ensures marked { result ≡ true → (before : List ℕ) → IsMarked before used.old.items → IsMarked (before ++ names.now) used.new.items }
-    ensures refused { result ≡ false → (before : List ℕ) → IsMarked before used.old.items → AreNames (length used.old.items) (before ++ names.now) → ⊥ }
+    ensures marked { result ≡ true → (before : List ℕ) → IsMarked before used.old.items
+        → IsMarked (before ++ names.now) used.new.items }
+    ensures refused { result ≡ false → (before : List ℕ) → IsMarked before used.old.items
+        → AreNames (length used.old.items) (before ++ names.now) → ⊥ }
 {
     for name in names {
         if !mark_name(used, *name) {

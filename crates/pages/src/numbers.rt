@@ -27,7 +27,8 @@ pub(crate) fn spelled_numbers(numbers: &[u32]) -> [u8; 4096]
 /// Puts a number in the place of another of a sector.
 pub(crate) fn put_number(bytes: &mut [u8; 4096], place: usize, number: u32)
     requires { place < 1024 }
-    ensures { (numbers : List ℕ) → length numbers ≡ 1024 → bytes.old ≡ number_bytes numbers → bytes.new ≡ number_bytes (slice_set numbers place number) }
+    ensures { (numbers : List ℕ) → length numbers ≡ 1024 → bytes.old ≡ number_bytes numbers
+        → bytes.new ≡ number_bytes (slice_set numbers place number) }
 {
     BigEndian::write_u32(&mut bytes[4 * place..], number);
 }

@@ -24,10 +24,12 @@ use std::alloc::{AllocError, Global};
 /// The volume that a device has. Nothing is written.
 pub(crate) fn read_volume<D: Device>(alloc: Global, device: &mut D) -> Result<VolumeMap, PagesError>
     ensures only { OnlyReads D.Device (result ≡ Err PagesError.Device) device.old device.new }
-    ensures reads { D.is_honest device.old → IfOk result (λ volume. Reads (D.state device.old).disk.present (volume_of volume)) }
+    ensures reads { D.is_honest device.old
+        → IfOk result (λ volume. Reads (D.state device.old).disk.present (volume_of volume)) }
     ensures sound { IfOk result (λ volume. IsSound volume) }
     ensures there { IfOk result (λ volume. volume.sectors ≤ D.sectors device.old) }
-    ensures refused { D.is_honest device.old → IfErr result (λ error. RefusesImage (D.state device.old).disk.present error) }
+    ensures refused { D.is_honest device.old
+        → IfErr result (λ error. RefusesImage (D.state device.old).disk.present error) }
     ensures cause { IsOpenError result }
 {
     let root = read_root(alloc, device)?;
@@ -63,23 +65,33 @@ pub(crate) fn read_volume<D: Device>(alloc: Global, device: &mut D) -> Result<Vo
 pub(crate) fn open_volume<D: Device>(alloc: Global, device: &mut D) -> Result<VolumeMap, PagesError>
     ensures honest { D.is_honest device.old ↔ D.is_honest device.new }
     ensures sectors { D.sectors device.new ≡ D.sectors device.old }
-    ensures failures { Blames (result ≡ Err PagesError.Device) (D.failures device.old) (D.failures device.new) }
+    ensures failures { Blames (result ≡ Err PagesError.Device) (D.failures device.old)
+        (D.failures device.new) }
 
     // Until it has succeeded, a crash leaves what was possible before. Nothing is written.
-    ensures moments { D.is_honest device.old → Through (D.history device.old) (D.history device.new) (D.state device.new) (IsOpening (D.state device.old)) }
-    ensures state { D.is_honest device.old → OnOk result (D.state device.new ≡ state_after_sync (D.state device.old)) }
-    ensures unwritten { D.is_honest device.old → OnErr result ((D.state device.new ≡ D.state device.old) ⊎ (D.state device.new ≡ state_after_sync (D.state device.old))) }
+    ensures moments { D.is_honest device.old → Through (D.history device.old) (D.history device.new)
+        (D.state device.new) (IsOpening (D.state device.old)) }
+    ensures state { D.is_honest device.old
+        → OnOk result (D.state device.new ≡ state_after_sync (D.state device.old)) }
+    ensures unwritten { D.is_honest device.old
+        → OnErr result ((D.state device.new ≡ D.state device.old)
+        ⊎ (D.state device.new ≡ state_after_sync (D.state device.old))) }
 
     // What was read is what the disk holds, and a crash leaves it.
-    ensures committed { D.is_honest device.old → IfOk result (λ volume. IsCommitted (volume_of volume) (D.state device.new).disk) }
+    ensures committed { D.is_honest device.old
+        → IfOk result (λ volume. IsCommitted (volume_of volume) (D.state device.new).disk) }
     ensures sound { IfOk result (λ volume. IsSound volume) }
     ensures there { IfOk result (λ volume. volume.sectors ≤ D.sectors device.old) }
 
     // `Damaged` where the present image holds no map, `ForeignMark` where its newest root is another format's.
-    ensures refused { D.is_honest device.old → IfErr result (λ error. RefusesImage (D.state device.old).disk.present error) }
-    ensures opens { D.is_honest device.old → (m : Map) → IsImageOf (D.state device.old).disk.present m → IsReadError result }
-    ensures foreign { D.is_honest device.old → IsForeign (D.state device.old).disk.present → FailsWithError PagesError.ForeignMark result }
-    ensures damaged { D.is_honest device.old → IsDamaged (D.state device.old).disk.present → FailsWithError PagesError.Damaged result }
+    ensures refused { D.is_honest device.old
+        → IfErr result (λ error. RefusesImage (D.state device.old).disk.present error) }
+    ensures opens { D.is_honest device.old → (m : Map)
+        → IsImageOf (D.state device.old).disk.present m → IsReadError result }
+    ensures foreign { D.is_honest device.old → IsForeign (D.state device.old).disk.present
+        → FailsWithError PagesError.ForeignMark result }
+    ensures damaged { D.is_honest device.old → IsDamaged (D.state device.old).disk.present
+        → FailsWithError PagesError.Damaged result }
     ensures cause { IsOpenError result }
 {
     device.sync()?;

@@ -51,7 +51,8 @@ impl PageBytes {
     pub(crate) fn fill<D: Device>(&mut self, device: &mut D, sector: u32) -> Result<(), PagesError>
         requires { sector < D.sectors device.old }
         ensures only { OnlyReads D.Device (result ≡ Err PagesError.Device) device.old device.new }
-        ensures bytes { D.is_honest device.old → OnOk result (self.new ≡ sector_at (D.state device.old).disk.present sector) }
+        ensures bytes { D.is_honest device.old
+            → OnOk result (self.new ≡ sector_at (D.state device.old).disk.present sector) }
         ensures cause { OnErr result (result ≡ Err PagesError.Device) }
     {
         device.read(sector, &mut *self.bytes)?;

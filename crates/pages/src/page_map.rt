@@ -72,26 +72,38 @@ impl PageMap {
         requires most { capacity ≤ 4096 }
         ensures honest { D.is_honest device.old ↔ D.is_honest device.new }
         ensures sectors { D.sectors device.new ≡ D.sectors device.old }
-        ensures failures { Blames (result ≡ Err PagesError.Device) (D.failures device.old) (D.failures device.new) }
+        ensures failures { Blames (result ≡ Err PagesError.Device) (D.failures device.old)
+            (D.failures device.new) }
 
         // Until it has succeeded, a crash leaves what was possible before.
-        ensures moments { D.is_honest device.old → Through (D.history device.old) (D.history device.new) (D.state device.new) (IsOpening (D.state device.old)) }
-        ensures state { D.is_honest device.old → OnOk result (D.state device.new ≡ state_after_sync (D.state device.old)) }
-        ensures unwritten { D.is_honest device.old → OnErr result ((D.state device.new ≡ D.state device.old) ⊎ (D.state device.new ≡ state_after_sync (D.state device.old))) }
+        ensures moments { D.is_honest device.old → Through (D.history device.old)
+            (D.history device.new) (D.state device.new) (IsOpening (D.state device.old)) }
+        ensures state { D.is_honest device.old
+            → OnOk result (D.state device.new ≡ state_after_sync (D.state device.old)) }
+        ensures unwritten { D.is_honest device.old
+            → OnErr result ((D.state device.new ≡ D.state device.old)
+            ⊎ (D.state device.new ≡ state_after_sync (D.state device.old))) }
 
         // The map is the one that the disk holds.
-        ensures agrees { D.is_honest device.old → IfOk result (λ pages. Agrees pages (D.state device.new).disk) }
-        ensures map { IfOk result (λ pages. (image : List Sector) → map_now pages image ≡ map_of image (committed_of pages)) }
-        ensures ready { IfOk result (λ pages. IsOpen pages × (is_spent pages ≡ false) × (sectors_of pages ≤ D.sectors device.old) × (changed_pages_of pages ≡ [])) }
+        ensures agrees { D.is_honest device.old
+            → IfOk result (λ pages. Agrees pages (D.state device.new).disk) }
+        ensures map { IfOk result (λ pages. (image : List Sector)
+            → map_now pages image ≡ map_of image (committed_of pages)) }
+        ensures ready { IfOk result (λ pages. IsOpen pages × (is_spent pages ≡ false)
+            × (sectors_of pages ≤ D.sectors device.old) × (changed_pages_of pages ≡ [])) }
         ensures filled { IfOk result (λ pages. filled_of pages ≡ 0) }
         ensures cache { IfOk result (λ pages. (cache_of pages).cap ≡ capacity) }
 
         // Where neither the device nor memory fails, it opens exactly what holds a map, and answers `ForeignMark` exactly where the
         // newest root is another format's, and `Damaged` otherwise.
-        ensures refused { D.is_honest device.old → IfErr result (λ error. RefusesImage (D.state device.old).disk.present error) }
-        ensures opens { D.is_honest device.old → (m : Map) → IsImageOf (D.state device.old).disk.present m → IsReadError result }
-        ensures foreign { D.is_honest device.old → IsForeign (D.state device.old).disk.present → FailsWithError PagesError.ForeignMark result }
-        ensures damaged { D.is_honest device.old → IsDamaged (D.state device.old).disk.present → FailsWithError PagesError.Damaged result }
+        ensures refused { D.is_honest device.old
+            → IfErr result (λ error. RefusesImage (D.state device.old).disk.present error) }
+        ensures opens { D.is_honest device.old → (m : Map)
+            → IsImageOf (D.state device.old).disk.present m → IsReadError result }
+        ensures foreign { D.is_honest device.old → IsForeign (D.state device.old).disk.present
+            → FailsWithError PagesError.ForeignMark result }
+        ensures damaged { D.is_honest device.old → IsDamaged (D.state device.old).disk.present
+            → FailsWithError PagesError.Damaged result }
         ensures cause { IsOpenError result }
     {
         let volume = open_volume(alloc, device)?;
@@ -122,7 +134,8 @@ impl PageMap {
     /// Sets the page of the catalog's root. It is a change, like that of a page.
     pub fn set_catalog(&mut self, page: u32)
         ensures catalog { catalog_of self.new ≡ page }
-        ensures pages { (image : List Sector) → (map_now self.new image).pages ≡ (map_now self.old image).pages }
+        ensures pages { (image : List Sector)
+            → (map_now self.new image).pages ≡ (map_now self.old image).pages }
         ensures changed_pages { changed_pages_of self.new ≡ changed_pages_of self.old }
         ensures filled { filled_of self.new ≡ filled_of self.old }
         ensures committed { SameCommitted self.old self.new }
@@ -178,7 +191,8 @@ impl PageMap {
     /// How many page numbers the volume has, 0 among them.
     pub fn page_count(&self) -> usize
         ensures count { result ≡ page_count self.now }
-        ensures pages { (image : List Sector) → length (map_now self.now image).pages ≡ page_count self.now }
+        ensures pages { (image : List Sector)
+            → length (map_now self.now image).pages ≡ page_count self.now }
         ensures few { IsOpen self.now → is_spent self.now ≡ false → result ≤ 921600 }
     {
         self.volume.table.entries().len()
@@ -216,24 +230,31 @@ impl PageMap {
         requires open { IsOpen self.old }
         requires sectors { sectors_of self.old ≤ D.sectors device.old }
         ensures only { OnlyReads D.Device (result ≡ Err PagesError.Device) device.old device.new }
-        ensures page { D.is_honest device.old → Agrees self.old (D.state device.old).disk → IfOk result (λ bytes. bytes ≡ page_of (map_now self.old (D.state device.old).disk.present) page) }
+        ensures page { D.is_honest device.old
+            → Agrees self.old (D.state device.old).disk → IfOk result
+            (λ bytes. bytes ≡ page_of (map_now self.old (D.state device.old).disk.present) page) }
 
         // The map stays, and what is known of it. A refusal changes nothing.
         ensures unchanged { IsUnchanged self.old self.new }
-        ensures agrees { D.is_honest device.old → Agrees self.old (D.state device.old).disk → Agrees self.new (D.state device.new).disk }
+        ensures agrees { D.is_honest device.old → Agrees self.old (D.state device.old).disk
+            → Agrees self.new (D.state device.new).disk }
         ensures open { IsOpen self.new }
         ensures err { OnErr result (self.new ≡ self.old) }
 
         // A page in memory is answered without the device, and so is none. The cache has another as its most recently used one, if memory has a place for it.
-        ensures changed { Contains (changed_pages_of self.old) page → (device.new ≡ device.old) × (self.new ≡ self.old) }
+        ensures changed { Contains (changed_pages_of self.old) page
+            → (device.new ≡ device.old) × (self.new ≡ self.old) }
         ensures absent { result ≡ Ok None → device.new ≡ device.old }
-        ensures hit { IsSome (lookup (nat_eq page) (cache_of self.old).entries) → device.new ≡ device.old }
-        ensures recalls { (Contains (changed_pages_of self.old) page → ⊥) → IfOk result (λ bytes. Recalls page bytes (cache_of self.old) (cache_of self.new)) }
+        ensures hit { IsSome (lookup (nat_eq page) (cache_of self.old).entries)
+            → device.new ≡ device.old }
+        ensures recalls { (Contains (changed_pages_of self.old) page → ⊥)
+            → IfOk result (λ bytes. Recalls page bytes (cache_of self.old) (cache_of self.new)) }
         ensures capacity { (cache_of self.new).cap ≡ (cache_of self.old).cap }
 
         // `Spent` comes exactly where the value is spent, and otherwise the device alone refuses.
         ensures spent { result ≡ Err PagesError.Spent ↔ is_spent self.old ≡ true }
-        ensures cause { OnErr result ((result ≡ Err PagesError.Device) ⊎ (result ≡ Err PagesError.Spent)) }
+        ensures cause { OnErr result
+            ((result ≡ Err PagesError.Device) ⊎ (result ≡ Err PagesError.Spent)) }
     {
         if self.spent {
             return Err(PagesError::Spent);
@@ -261,19 +282,24 @@ impl PageMap {
 
         // The map stays, and what is known of it. A refusal leaves the cache too.
         ensures unchanged { IsUnchanged self.old self.new }
-        ensures agrees { D.is_honest device.old → Agrees self.old (D.state device.old).disk → Agrees self.new (D.state device.new).disk }
+        ensures agrees { D.is_honest device.old → Agrees self.old (D.state device.old).disk
+            → Agrees self.new (D.state device.new).disk }
         ensures open { IsOpen self.new }
         ensures err { OnErr result (cache_of self.new ≡ cache_of self.old) }
 
         // What is in memory stays as it is, and the device isn't asked. Nor is it for a page that the map hasn't, and the cache stays.
-        ensures changed { Contains (changed_pages_of self.old) page → (device.new ≡ device.old) × (self.new ≡ self.old) }
-        ensures hit { IsSome (lookup (nat_eq page) (cache_of self.old).entries) → (device.new ≡ device.old) × (self.new ≡ self.old) }
-        ensures absent { (image : List Sector) → page_of (map_now self.old image) page ≡ None → (device.new ≡ device.old) × (cache_of self.new ≡ cache_of self.old) }
+        ensures changed { Contains (changed_pages_of self.old) page
+            → (device.new ≡ device.old) × (self.new ≡ self.old) }
+        ensures hit { IsSome (lookup (nat_eq page) (cache_of self.old).entries)
+            → (device.new ≡ device.old) × (self.new ≡ self.old) }
+        ensures absent { (image : List Sector) → page_of (map_now self.old image) page ≡ None
+            → (device.new ≡ device.old) × (cache_of self.new ≡ cache_of self.old) }
         ensures loads { Loads page (cache_of self.old) (cache_of self.new) }
 
         // `Spent` comes exactly where the value is spent, and otherwise the device alone refuses.
         ensures spent { result ≡ Err PagesError.Spent ↔ is_spent self.old ≡ true }
-        ensures cause { OnErr result ((result ≡ Err PagesError.Device) ⊎ (result ≡ Err PagesError.Spent)) }
+        ensures cause { OnErr result
+            ((result ≡ Err PagesError.Device) ⊎ (result ≡ Err PagesError.Spent)) }
     {
         if self.spent {
             return Err(PagesError::Spent);
@@ -298,9 +324,12 @@ impl PageMap {
     /// use stays; `note_use` changes it. A value that is spent has none.
     pub fn view(&self, page: u32) -> Option<&[u8; 4096]>
         requires { IsOpen self.now }
-        ensures page { (disk : Disk) → Agrees self.now disk → IfSome result (λ bytes. page_of (map_now self.now disk.present) page ≡ Some bytes.now) }
-        ensures changed { is_spent self.now ≡ false → Contains (changed_pages_of self.now) page → (image : List Sector) → option_copied result ≡ page_of (map_now self.now image) page }
-        ensures cached { is_spent self.now ≡ false → (Contains (changed_pages_of self.now) page → ⊥) → option_copied result ≡ lookup (nat_eq page) (cache_of self.now).entries }
+        ensures page { (disk : Disk) → Agrees self.now disk → IfSome result
+            (λ bytes. page_of (map_now self.now disk.present) page ≡ Some bytes.now) }
+        ensures changed { is_spent self.now ≡ false → Contains (changed_pages_of self.now) page
+            → (image : List Sector) → option_copied result ≡ page_of (map_now self.now image) page }
+        ensures cached { is_spent self.now ≡ false → (Contains (changed_pages_of self.now) page → ⊥)
+            → option_copied result ≡ lookup (nat_eq page) (cache_of self.now).entries }
         ensures spent { is_spent self.now ≡ true → result ≡ None }
     {
         if self.spent {
@@ -316,7 +345,8 @@ impl PageMap {
     pub fn note_use(&mut self, page: u32)
         ensures unchanged { IsUnchanged self.old self.new }
         ensures keeps { KeepsCommitted self.old self.new }
-        ensures cache { cache_of self.new ≡ lru_cache (promoted (nat_eq page) (cache_of self.old).entries) (cache_of self.old).cap }
+        ensures cache { cache_of self.new ≡ lru_cache
+            (promoted (nat_eq page) (cache_of self.old).entries) (cache_of self.old).cap }
     {
         promote_page(&mut self.cache, page);
     }
@@ -325,13 +355,16 @@ impl PageMap {
     pub fn edit(&mut self, page: u32, bytes: &[u8; 4096]) -> Result<(), PagesError>
         requires open { IsOpen self.old }
         requires page { IsPage self.old page }
-        ensures map { OnOk result ((image : List Sector) → (map_now self.new image).pages ≡ slice_set (map_now self.old image).pages page (Some bytes.now)) }
-        ensures changes_page { OnOk result (ChangesPage (changed_pages_of self.old) page (changed_pages_of self.new)) }
+        ensures map { OnOk result ((image : List Sector) → (map_now self.new image).pages
+            ≡ slice_set (map_now self.old image).pages page (Some bytes.now)) }
+        ensures changes_page { OnOk result
+            (ChangesPage (changed_pages_of self.old) page (changed_pages_of self.new)) }
         ensures unchanged { OnErr result (changed_pages_of self.new ≡ changed_pages_of self.old) }
         ensures filled { filled_of self.new ≤ filled_of self.old + 1 }
         ensures fills { OnOk result (FillsPage self.old page self.new) }
         ensures unfilled { OnErr result (filled_of self.new ≡ filled_of self.old) }
-        ensures err { OnErr result ((image : List Sector) → map_now self.new image ≡ map_now self.old image) }
+        ensures err { OnErr result
+            ((image : List Sector) → map_now self.new image ≡ map_now self.old image) }
         ensures capacity { (cache_of self.new).cap ≡ (cache_of self.old).cap }
         ensures forgets { OnOk result (cache_of self.new ≡ cache_without page (cache_of self.old)) }
         ensures cache { OnErr result (cache_of self.new ≡ cache_of self.old) }
@@ -353,19 +386,25 @@ impl PageMap {
     pub fn allocate(&mut self) -> Result<u32, PagesError>
         requires open { IsOpen self.old }
         ensures page { IfOk result (λ page. IsPage self.old page) }
-        ensures unused { IfOk result (λ page. (image : List Sector) → page_of (map_now self.old image) page ≡ None) }
-        ensures map { IfOk result (λ page. (image : List Sector) → (map_now self.new image).pages ≡ slice_set (map_now self.old image).pages page (Some (replicate 4096 0))) }
-        ensures changes_page { IfOk result (λ page. ChangesPage (changed_pages_of self.old) page (changed_pages_of self.new)) }
+        ensures unused { IfOk result
+            (λ page. (image : List Sector) → page_of (map_now self.old image) page ≡ None) }
+        ensures map { IfOk result (λ page. (image : List Sector) → (map_now self.new image).pages
+            ≡ slice_set (map_now self.old image).pages page (Some (replicate 4096 0))) }
+        ensures changes_page { IfOk result
+            (λ page. ChangesPage (changed_pages_of self.old) page (changed_pages_of self.new)) }
         ensures unchanged { OnErr result (changed_pages_of self.new ≡ changed_pages_of self.old) }
         ensures filled { filled_of self.new ≤ filled_of self.old + 1 }
         ensures fills { IfOk result (λ page. FillsPage self.old page self.new) }
         ensures unfilled { OnErr result (filled_of self.new ≡ filled_of self.old) }
-        ensures err { OnErr result ((image : List Sector) → map_now self.new image ≡ map_now self.old image) }
+        ensures err { OnErr result
+            ((image : List Sector) → map_now self.new image ≡ map_now self.old image) }
         ensures capacity { (cache_of self.new).cap ≡ (cache_of self.old).cap }
-        ensures forgets { IfOk result (λ page. cache_of self.new ≡ cache_without page (cache_of self.old)) }
+        ensures forgets { IfOk result
+            (λ page. cache_of self.new ≡ cache_without page (cache_of self.old)) }
         ensures cache { OnErr result (cache_of self.new ≡ cache_of self.old) }
         ensures keeps { KeepsCommitted self.old self.new }
-        ensures full { is_spent self.old ≡ false → (result ≡ Err PagesError.Full) ↔ HasEachPage self.old }
+        ensures full { is_spent self.old ≡ false
+            → (result ≡ Err PagesError.Full) ↔ HasEachPage self.old }
         ensures same { result ≡ Err PagesError.Full → self.new ≡ self.old }
         ensures cause { IsAllocateRefusal result }
         ensures spent { (result ≡ Err PagesError.Spent) ↔ (is_spent self.old ≡ true) }
@@ -394,12 +433,15 @@ impl PageMap {
     pub fn release(&mut self, page: u32) -> Result<(), PagesError>
         requires open { IsOpen self.old }
         requires page { IsPage self.old page }
-        ensures map { OnOk result ((image : List Sector) → (map_now self.new image).pages ≡ slice_set (map_now self.old image).pages page None) }
-        ensures changes_page { OnOk result (ChangesPage (changed_pages_of self.old) page (changed_pages_of self.new)) }
+        ensures map { OnOk result ((image : List Sector)
+            → (map_now self.new image).pages ≡ slice_set (map_now self.old image).pages page None) }
+        ensures changes_page { OnOk result
+            (ChangesPage (changed_pages_of self.old) page (changed_pages_of self.new)) }
         ensures unchanged { OnErr result (changed_pages_of self.new ≡ changed_pages_of self.old) }
         ensures filled { filled_of self.new ≤ filled_of self.old }
         ensures unfilled { OnErr result (filled_of self.new ≡ filled_of self.old) }
-        ensures err { OnErr result ((image : List Sector) → map_now self.new image ≡ map_now self.old image) }
+        ensures err { OnErr result
+            ((image : List Sector) → map_now self.new image ≡ map_now self.old image) }
         ensures capacity { (cache_of self.new).cap ≡ (cache_of self.old).cap }
         ensures forgets { OnOk result (cache_of self.new ≡ cache_without page (cache_of self.old)) }
         ensures cache { OnErr result (cache_of self.new ≡ cache_of self.old) }
@@ -419,13 +461,17 @@ impl PageMap {
     fn change(&mut self, page: u32, bytes: Option<PageBytes>) -> Result<(), PagesError>
         requires open { IsOpen self.old }
         requires page { IsPage self.old page }
-        ensures map { OnOk result ((image : List Sector) → (map_now self.new image).pages ≡ slice_set (map_now self.old image).pages page bytes) }
-        ensures changes_page { OnOk result (ChangesPage (changed_pages_of self.old) page (changed_pages_of self.new)) }
+        ensures map { OnOk result ((image : List Sector) → (map_now self.new image).pages
+            ≡ slice_set (map_now self.old image).pages page bytes) }
+        ensures changes_page { OnOk result
+            (ChangesPage (changed_pages_of self.old) page (changed_pages_of self.new)) }
         ensures unchanged { OnErr result (changed_pages_of self.new ≡ changed_pages_of self.old) }
-        ensures filled { filled_of self.new ≤ filled_of self.old + (if is_some bytes then 1 else 0) }
+        ensures filled { filled_of self.new
+            ≤ filled_of self.old + (if is_some bytes then 1 else 0) }
         ensures fills { OnOk result (IfSome bytes (λ _. FillsPage self.old page self.new)) }
         ensures unfilled { OnErr result (filled_of self.new ≡ filled_of self.old) }
-        ensures err { OnErr result ((image : List Sector) → map_now self.new image ≡ map_now self.old image) }
+        ensures err { OnErr result
+            ((image : List Sector) → map_now self.new image ≡ map_now self.old image) }
         ensures capacity { (cache_of self.new).cap ≡ (cache_of self.old).cap }
         ensures forgets { OnOk result (cache_of self.new ≡ cache_without page (cache_of self.old)) }
         ensures cache { OnErr result (cache_of self.new ≡ cache_of self.old) }
@@ -447,13 +493,16 @@ impl PageMap {
         requires page { IsPage self.old page }
         requires unspent { is_spent self.old ≡ false }
         requires cached { IsSome (lookup (nat_eq page) (cache_of self.old).entries) }
-        ensures map { OnOk result ((image : List Sector) → (map_now self.new image).pages ≡ slice_set (map_now self.old image).pages page (Some bytes.now)) }
-        ensures changes_page { OnOk result (ChangesPage (changed_pages_of self.old) page (changed_pages_of self.new)) }
+        ensures map { OnOk result ((image : List Sector) → (map_now self.new image).pages
+            ≡ slice_set (map_now self.old image).pages page (Some bytes.now)) }
+        ensures changes_page { OnOk result
+            (ChangesPage (changed_pages_of self.old) page (changed_pages_of self.new)) }
         ensures unchanged { OnErr result (changed_pages_of self.new ≡ changed_pages_of self.old) }
         ensures filled { filled_of self.new ≤ filled_of self.old + 1 }
         ensures fills { OnOk result (FillsPage self.old page self.new) }
         ensures unfilled { OnErr result (filled_of self.new ≡ filled_of self.old) }
-        ensures err { OnErr result ((image : List Sector) → map_now self.new image ≡ map_now self.old image) }
+        ensures err { OnErr result
+            ((image : List Sector) → map_now self.new image ≡ map_now self.old image) }
         ensures capacity { (cache_of self.new).cap ≡ (cache_of self.old).cap }
         ensures forgets { OnOk result (cache_of self.new ≡ cache_without page (cache_of self.old)) }
         ensures cache { OnErr result (cache_of self.new ≡ cache_of self.old) }
@@ -473,34 +522,52 @@ impl PageMap {
         requires sectors { sectors_of self.old ≤ D.sectors device.old }
         ensures honest { D.is_honest device.old ↔ D.is_honest device.new }
         ensures sectors { D.sectors device.new ≡ D.sectors device.old }
-        ensures failures { Blames (result ≡ Err PagesError.Device) (D.failures device.old) (D.failures device.new) }
-        ensures console { D.is_honest device.old → SameConsole (D.state device.old) (D.state device.new) }
+        ensures failures { Blames (result ≡ Err PagesError.Device) (D.failures device.old)
+            (D.failures device.new) }
+        ensures console { D.is_honest device.old
+            → SameConsole (D.state device.old) (D.state device.new) }
 
         // At each moment a crash leaves the map of the last commit, or this one.
         ensures moments { D.is_honest device.old → Agrees self.old (D.state device.old).disk →
             Through (D.history device.old) (D.history device.new) (D.state device.new)
-            (CrashLeaves (D.state device.old).events (BeforeOrAfter (map_of (D.state device.old).disk.present (committed_of self.old)) (next_generation (map_now self.old (D.state device.old).disk.present)))) }
+            (CrashLeaves (D.state device.old).events
+            (BeforeOrAfter (map_of (D.state device.old).disk.present (committed_of self.old))
+            (next_generation (map_now self.old (D.state device.old).disk.present)))) }
 
         // After `Ok` the disk holds this one.
-        ensures agrees { D.is_honest device.old → Agrees self.old (D.state device.old).disk → OnOk result (Agrees self.new (D.state device.new).disk) }
-        ensures map { D.is_honest device.old → Agrees self.old (D.state device.old).disk → OnOk result (SamePages (map_now self.old (D.state device.old).disk.present) (map_now self.new (D.state device.new).disk.present)) }
-        ensures committed { OnOk result ((image : List Sector) → map_now self.new image ≡ map_of image (committed_of self.new)) }
+        ensures agrees { D.is_honest device.old → Agrees self.old (D.state device.old).disk
+            → OnOk result (Agrees self.new (D.state device.new).disk) }
+        ensures map { D.is_honest device.old → Agrees self.old (D.state device.old).disk
+            → OnOk result (SamePages (map_now self.old (D.state device.old).disk.present)
+            (map_now self.new (D.state device.new).disk.present)) }
+        ensures committed { OnOk result ((image : List Sector)
+            → map_now self.new image ≡ map_of image (committed_of self.new)) }
         ensures changed_pages { OnOk result (changed_pages_of self.new ≡ []) }
         ensures filled { OnOk result (filled_of self.new ≡ 0) }
         ensures unspent { OnOk result (is_spent self.new ≡ false) }
 
         // Where something was changed, it is the map of the next generation, and else nothing is other than before.
-        ensures advances { D.is_honest device.old → Agrees self.old (D.state device.old).disk → HasChanges self.old → OnOk result (map_now self.new (D.state device.new).disk.present ≡ next_generation (map_now self.old (D.state device.old).disk.present)) }
-        ensures rests { (HasChanges self.old → ⊥) → is_spent self.old ≡ false → self.new ≡ self.old }
+        ensures advances { D.is_honest device.old → Agrees self.old (D.state device.old).disk
+            → HasChanges self.old → OnOk result (map_now self.new (D.state device.new).disk.present
+            ≡ next_generation (map_now self.old (D.state device.old).disk.present)) }
+        ensures rests { (HasChanges self.old → ⊥) → is_spent self.old ≡ false
+            → self.new ≡ self.old }
 
         // With nothing changed nothing is done.
-        ensures nothing { changed_pages_of self.old ≡ [] → catalog_of self.old ≡ (committed_of self.old).root.catalog → D.is_honest device.old → (D.state device.new ≡ D.state device.old) × (D.history device.new ≡ D.history device.old) }
-        ensures idle { is_spent self.old ≡ false → changed_pages_of self.old ≡ [] → catalog_of self.old ≡ (committed_of self.old).root.catalog → IsOk result }
+        ensures nothing { changed_pages_of self.old ≡ []
+            → catalog_of self.old ≡ (committed_of self.old).root.catalog
+            → D.is_honest device.old → (D.state device.new ≡ D.state device.old)
+            × (D.history device.new ≡ D.history device.old) }
+        ensures idle { is_spent self.old ≡ false → changed_pages_of self.old ≡ []
+            → catalog_of self.old ≡ (committed_of self.old).root.catalog → IsOk result }
 
         // `Full` tells that too few sectors are free, or that no generation is left, and then nothing was done.
         ensures full { result ≡ Err PagesError.Full → IsFull self.old }
-        ensures told { is_spent self.old ≡ false → IsFull self.old → (result ≡ Err PagesError.Full) ⊎ (result ≡ Err PagesError.Memory) }
-        ensures unchanged { result ≡ Err PagesError.Full → D.is_honest device.old → (D.state device.new ≡ D.state device.old) × (D.history device.new ≡ D.history device.old) }
+        ensures told { is_spent self.old ≡ false → IsFull self.old
+            → (result ≡ Err PagesError.Full) ⊎ (result ≡ Err PagesError.Memory) }
+        ensures unchanged { result ≡ Err PagesError.Full
+            → D.is_honest device.old → (D.state device.new ≡ D.state device.old)
+            × (D.history device.new ≡ D.history device.old) }
         ensures open { IsOpen self.new }
         ensures same_sectors { sectors_of self.new ≡ sectors_of self.old }
         ensures refused { OnErr result (is_spent self.new ≡ true) }
@@ -508,7 +575,8 @@ impl PageMap {
         ensures spent { (result ≡ Err PagesError.Spent) ↔ (is_spent self.old ≡ true) }
 
         // The pages that were changed come into the cache, so far as memory and its capacity allow.
-        ensures gathers { OnOk result ((image : List Sector) → Gathers (changed_pages_of self.old) (map_now self.old image).pages (cache_of self.old) (cache_of self.new)) }
+        ensures gathers { OnOk result ((image : List Sector) → Gathers (changed_pages_of self.old)
+            (map_now self.old image).pages (cache_of self.old) (cache_of self.new)) }
         ensures cache { OnErr result (cache_of self.new ≡ cache_of self.old) }
         ensures capacity { (cache_of self.new).cap ≡ (cache_of self.old).cap }
     {

@@ -26,7 +26,9 @@ pub(crate) fn root_bytes_with(
     requires least { 1024 ≤ sectors }
     requires most { sectors ≤ 921600 }
     requires maps { length maps.now ≡ map_count sectors }
-    ensures { SpellsRoot (record { generation = generation; sectors = sectors; catalog = catalog; maps = maps.now }) result }
+    ensures { SpellsRoot
+        (record { generation = generation; sectors = sectors; catalog = catalog; maps = maps.now })
+        result }
 {
     let mut bytes = payload_bytes(catalog, maps);
     put_head(&mut bytes, &MARK, generation, sectors);

@@ -44,7 +44,8 @@ pub(crate) fn next_volume<'a>(
     requires pages { All (λ c. (0 < c.page) × (c.page < length volume.old.table)) changes.now }
     requires once { NamesOnce (changed_pages changes.now) }
     ensures cause { IsPlanError result }
-    ensures plan { IfOk result (λ draft. IsPlan (volume_of volume.old) (volume_of volume.new) draft.blocks.items changes.now) }
+    ensures plan { IfOk result (λ draft.
+        IsPlan (volume_of volume.old) (volume_of volume.new) draft.blocks.items changes.now) }
     ensures sectors { volume.new.sectors ≡ volume.old.sectors }
     ensures next { OnOk result (IsNext volume.old volume.new catalog) }
     ensures sound { IfOk result (λ draft. IsSoundAfter volume.new draft.turns.items) }
@@ -52,7 +53,8 @@ pub(crate) fn next_volume<'a>(
     ensures room { OnOk result (¬ (LacksSectors (volume_of volume.old) changes.now)) }
 
     // Each changed page and each changed map sector is written once, in ascending sectors.
-    ensures blocks { IfOk result (λ draft. AreAscending draft.blocks.items × (length draft.blocks.items ≡ needed_sectors (volume_of volume.old) changes.now)) }
+    ensures blocks { IfOk result (λ draft. AreAscending draft.blocks.items
+        × (length draft.blocks.items ≡ needed_sectors (volume_of volume.old) changes.now)) }
 {
     if volume.generation + 1 >= GENERATIONS {
         return Err(PagesError::Full);

@@ -15,7 +15,8 @@ pub(crate) fn read_map<D: Device>(device: &mut D, sector: u32) -> Result<[u32; 1
     requires { sector < D.sectors device.old }
     ensures only { OnlyReads D.Device (result ≡ Err PagesError.Device) device.old device.new }
     ensures count { IfOk result (λ entries. length entries ≡ 1024) }
-    ensures entries { D.is_honest device.old → IfOk result (λ entries. entries ≡ map_at (D.state device.old).disk.present sector) }
+    ensures entries { D.is_honest device.old
+        → IfOk result (λ entries. entries ≡ map_at (D.state device.old).disk.present sector) }
     ensures cause { IsReadError result }
 {
     if sector == 0 {
@@ -35,7 +36,9 @@ pub(crate) fn read_table<D: Device>(
     requires { All (λ m. m < D.sectors device.old) maps.now }
     ensures only { OnlyReads D.Device (result ≡ Err PagesError.Device) device.old device.new }
     ensures count { IfOk result (λ table. length table.items ≡ 1024 * length maps.now) }
-    ensures entries { D.is_honest device.old → IfOk result (λ table. (i : ℕ) → i < length maps.now → map_at (D.state device.old).disk.present (slice_index maps.now i) ≡ map_part table.items i) }
+    ensures entries { D.is_honest device.old
+        → IfOk result (λ table. (i : ℕ) → i < length maps.now → map_at
+        (D.state device.old).disk.present (slice_index maps.now i) ≡ map_part table.items i) }
     ensures cause { IsReadError result }
 {
     let mut table = Vec::new(alloc);
@@ -61,7 +64,8 @@ pub(crate) fn read_page<D: Device>(
 ) -> Result<Option<[u8; 4096]>, PagesError>
     requires { All (λ s. s < D.sectors device.old) table.now }
     ensures only { OnlyReads D.Device (result ≡ Err PagesError.Device) device.old device.new }
-    ensures page { D.is_honest device.old → IfOk result (λ bytes. bytes ≡ slice_index_or (pages_in (D.state device.old).disk.present table.now) page None) }
+    ensures page { D.is_honest device.old → IfOk result (λ bytes. bytes
+        ≡ slice_index_or (pages_in (D.state device.old).disk.present table.now) page None) }
     ensures absent { result ≡ Ok None → device.new ≡ device.old }
     ensures cause { OnErr result (result ≡ Err PagesError.Device) }
 {

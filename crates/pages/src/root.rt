@@ -42,7 +42,8 @@ pub(crate) fn map_count_of(sectors: u32) -> usize
 pub(crate) fn payload_root(alloc: Global, root: &Root) -> Result<Option<FoundRoot>, AllocError>
     requires { root.now.sectors ≤ 921600 }
     ensures found { IfOk result (λ found. option_map found_root found ≡ volume_root root.now) }
-    ensures same { IfOk result (λ found. IfSome found (λ r. (r.generation ≡ root.now.generation) × (r.sectors ≡ root.now.sectors) × (length r.maps.items ≡ map_count root.now.sectors))) }
+    ensures same { IfOk result (λ found. IfSome found (λ r. (r.generation ≡ root.now.generation)
+        × (r.sectors ≡ root.now.sectors) × (length r.maps.items ≡ map_count root.now.sectors))) }
 {
     let numbers = payload_words_of(&root.payload);
     let count = map_count_of(root.sectors);
@@ -71,7 +72,8 @@ fn is_zeros(numbers: &[u32]) -> bool
 /// Whether the payload of an older root, if there is one, is that of a volume of pages.
 fn is_sound_beside(alloc: Global, older: &Option<Root>) -> Result<bool, AllocError>
     requires { IfSome older.now (λ root. root.sectors ≤ 921600) }
-    ensures { IfOk result (λ sound. (root : Option VolumeRoot) → beside older.now root ≡ (if sound then root else None)) }
+    ensures { IfOk result (λ sound. (root : Option VolumeRoot)
+        → beside older.now root ≡ (if sound then root else None)) }
 {
     match older {
         Some(root) => Ok(payload_root(alloc, root)?.is_some()),
@@ -82,9 +84,11 @@ fn is_sound_beside(alloc: Global, older: &Option<Root>) -> Result<bool, AllocErr
 /// The newest root of a device.
 pub(crate) fn read_root<D: Device>(alloc: Global, device: &mut D) -> Result<FoundRoot, PagesError>
     ensures only { OnlyReads D.Device (result ≡ Err PagesError.Device) device.old device.new }
-    ensures root { D.is_honest device.old → IfOk result (λ root. newest (D.state device.old).disk.present ≡ Some (found_root root)) }
+    ensures root { D.is_honest device.old
+        → IfOk result (λ root. newest (D.state device.old).disk.present ≡ Some (found_root root)) }
     ensures within { IfOk result (λ root. IsFoundWithin (D.sectors device.old) root) }
-    ensures refused { D.is_honest device.old → IfErr result (λ error. RefusesImage (D.state device.old).disk.present error) }
+    ensures refused { D.is_honest device.old
+        → IfErr result (λ error. RefusesImage (D.state device.old).disk.present error) }
     ensures cause { IsOpenError result }
 {
     let roots = read_roots(device, &[MARK, FOREIGN_MARK], 1)?;

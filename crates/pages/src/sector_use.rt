@@ -38,7 +38,8 @@ impl Model for SectorUse {
 fn count_run(used: &[bool], run: usize) -> u32
     requires few { length used.now ≤ 921600 }
     requires start { 1024 * run ≤ length used.now }
-    ensures { unused_below used.now (1024 * run + 1024) ≡ unused_below used.now (1024 * run) + result }
+    ensures { unused_below used.now (1024 * run + 1024)
+        ≡ unused_below used.now (1024 * run) + result }
 {
     let start = RUN * run;
     let end = used.len().min(start + RUN);
@@ -80,9 +81,12 @@ fn mark_bytes(alloc: Global, used: &[bool]) -> Result<Vec<u8>, AllocError>
 fn first_unused(used: &[u8], start: usize, end: usize) -> Option<u32>
     requires few { length used.now ≤ 921600 }
     requires end { end ≤ length used.now }
-    ensures found { IfSome result (λ s. (start ≤ s) × (s < end) × (slice_index_or (used_flags used.now) s false ≡ false)) }
-    ensures first { IfSome result (λ s. (t : ℕ) → start ≤ t → t < s → slice_index_or (used_flags used.now) t false ≡ true) }
-    ensures full { IfNone result ((t : ℕ) → start ≤ t → t < end → slice_index_or (used_flags used.now) t false ≡ true) }
+    ensures found { IfSome result
+        (λ s. (start ≤ s) × (s < end) × (slice_index_or (used_flags used.now) s false ≡ false)) }
+    ensures first { IfSome result (λ s. (t : ℕ) → start ≤ t → t < s
+        → slice_index_or (used_flags used.now) t false ≡ true) }
+    ensures full { IfNone result
+        ((t : ℕ) → start ≤ t → t < end → slice_index_or (used_flags used.now) t false ≡ true) }
 {
     let sectors = used.get(start..end)?;
     let place = memchr(UNUSED, sectors)?;
@@ -93,9 +97,12 @@ fn first_unused(used: &[u8], start: usize, end: usize) -> Option<u32>
 fn unused_in_run(used: &[u8], counts: &[u32], from: usize, run: usize) -> Option<u32>
     requires runs { AreRuns (used_flags used.now) counts.now }
     requires run { run < length counts.now }
-    ensures found { IfSome result (λ s. (from ≤ s) × (1024 * run ≤ s) × (s < length used.now) × (slice_index_or (used_flags used.now) s false ≡ false)) }
-    ensures first { IfSome result (λ s. (t : ℕ) → from ≤ t → 1024 * run ≤ t → t < s → slice_index_or (used_flags used.now) t false ≡ true) }
-    ensures full { IfNone result ((t : ℕ) → from ≤ t → 1024 * run ≤ t → t < 1024 * run + 1024 → t < length used.now → slice_index_or (used_flags used.now) t false ≡ true) }
+    ensures found { IfSome result (λ s. (from ≤ s) × (1024 * run ≤ s) × (s < length used.now)
+        × (slice_index_or (used_flags used.now) s false ≡ false)) }
+    ensures first { IfSome result (λ s. (t : ℕ) → from ≤ t → 1024 * run ≤ t → t < s
+        → slice_index_or (used_flags used.now) t false ≡ true) }
+    ensures full { IfNone result ((t : ℕ) → from ≤ t → 1024 * run ≤ t → t < 1024 * run + 1024
+        → t < length used.now → slice_index_or (used_flags used.now) t false ≡ true) }
 {
     if counts[run] == 0 {
         return None;
@@ -134,7 +141,8 @@ fn count_bytes(used: &[u8]) -> usize
 
 /// How many sectors from one place on and before another aren't used.
 fn count_between(used: &[u8], start: usize, end: usize) -> usize
-    ensures { unused_below (used_flags used.now) start + result ≤ unused_count (used_flags used.now) }
+    ensures { unused_below (used_flags used.now) start + result
+        ≤ unused_count (used_flags used.now) }
 {
     match used.get(start..end) {
         Some(sectors) => count_bytes(sectors),
@@ -176,9 +184,12 @@ impl SectorUse {
 
     /// The first sector from this one on that isn't used.
     pub(crate) fn next_unused(&self, from: u32) -> Option<u32>
-        ensures found { IfSome result (λ s. (from ≤ s) × (s < length self.now) × (slice_index_or self.now s false ≡ false)) }
-        ensures first { IfSome result (λ s. (t : ℕ) → from ≤ t → t < s → slice_index_or self.now t false ≡ true) }
-        ensures full { IfNone result ((t : ℕ) → from ≤ t → t < length self.now → slice_index_or self.now t false ≡ true) }
+        ensures found { IfSome result
+            (λ s. (from ≤ s) × (s < length self.now) × (slice_index_or self.now s false ≡ false)) }
+        ensures first { IfSome result
+            (λ s. (t : ℕ) → from ≤ t → t < s → slice_index_or self.now t false ≡ true) }
+        ensures full { IfNone result ((t : ℕ) → from ≤ t → t < length self.now
+            → slice_index_or self.now t false ≡ true) }
     {
         let from = from as usize;
         for run in from / RUN..self.unused.len() {

@@ -31,10 +31,18 @@ pub(crate) fn stage_change<'a>(
     ensures start { OnOk result (draft.new.start ≡ draft.old.start) }
     ensures size { OnOk result (SameSize volume.old volume.new) }
     ensures maps { OnOk result (volume.new.maps ≡ volume.old.maps) }
-    ensures changed_maps { OnOk result (length draft.new.changed_maps.items ≡ length draft.old.changed_maps.items) }
-    ensures staged { (v : Volume) (changes : List Change) → 0 < change.now.page → IsDraft v volume.old draft.old changes → OnOk result (IsDraft v volume.new draft.new (changes ++ change.now ∷ [])) }
-    ensures counted { (v : Volume) (changes : List Change) (maps : ℕ) → All (λ c. c.page ≢ change.now.page) changes → IsCounted v volume.old draft.old changes maps → OnOk result (IsCounted v volume.new draft.new (changes ++ change.now ∷ []) maps) }
-    ensures full { (v : Volume) (changes : List Change) (maps : ℕ) → IsCounted v volume.old draft.old changes maps → result ≡ Err PagesError.Full → (is_some change.now.bytes ≡ true) × (free_count v ≡ unused_below volume.old.used draft.old.start + (filled_count changes + maps)) }
+    ensures changed_maps { OnOk result
+        (length draft.new.changed_maps.items ≡ length draft.old.changed_maps.items) }
+    ensures staged { (v : Volume) (changes : List Change)
+        → 0 < change.now.page → IsDraft v volume.old draft.old changes
+        → OnOk result (IsDraft v volume.new draft.new (changes ++ change.now ∷ [])) }
+    ensures counted { (v : Volume) (changes : List Change) (maps : ℕ) → All
+        (λ c. c.page ≢ change.now.page) changes → IsCounted v volume.old draft.old changes maps
+        → OnOk result (IsCounted v volume.new draft.new (changes ++ change.now ∷ []) maps) }
+    ensures full { (v : Volume) (changes : List Change) (maps : ℕ)
+        → IsCounted v volume.old draft.old changes maps
+        → result ≡ Err PagesError.Full → (is_some change.now.bytes ≡ true) × (free_count v
+        ≡ unused_below volume.old.used draft.old.start + (filled_count changes + maps)) }
 {
     let page = change.page as usize;
     match &change.bytes {
@@ -79,10 +87,15 @@ pub(crate) fn stage_changes<'a>(
     ensures start { OnOk result (draft.new.start ≡ draft.old.start) }
     ensures size { OnOk result (SameSize volume.old volume.new) }
     ensures maps { OnOk result (volume.new.maps ≡ volume.old.maps) }
-    ensures changed_maps { OnOk result (length draft.new.changed_maps.items ≡ length draft.old.changed_maps.items) }
-    ensures staged { (v : Volume) → IsDraft v volume.old draft.old [] → OnOk result (IsDraft v volume.new draft.new changes.now) }
-    ensures counted { (v : Volume) → NamesOnce (changed_pages changes.now) → IsCounted v volume.old draft.old [] 0 → OnOk result (IsCounted v volume.new draft.new changes.now 0) }
-    ensures full { (v : Volume) → NamesOnce (changed_pages changes.now) → IsCounted v volume.old draft.old [] 0 → result ≡ Err PagesError.Full → free_count v < unused_below volume.old.used draft.old.start + filled_count changes.now }
+    ensures changed_maps { OnOk result
+        (length draft.new.changed_maps.items ≡ length draft.old.changed_maps.items) }
+    ensures staged { (v : Volume) → IsDraft v volume.old draft.old []
+        → OnOk result (IsDraft v volume.new draft.new changes.now) }
+    ensures counted { (v : Volume) → NamesOnce (changed_pages changes.now) → IsCounted v volume.old
+        draft.old [] 0 → OnOk result (IsCounted v volume.new draft.new changes.now 0) }
+    ensures full { (v : Volume) → NamesOnce (changed_pages changes.now)
+        → IsCounted v volume.old draft.old [] 0 → result ≡ Err PagesError.Full
+        → free_count v < unused_below volume.old.used draft.old.start + filled_count changes.now }
 {
     for change in changes {
         stage_change(volume, draft, change)?;
@@ -113,9 +126,15 @@ pub(crate) fn stage_map(
     ensures start { OnOk result (draft.new.start ≡ draft.old.start) }
     ensures size { OnOk result (SameSize volume.old volume.new) }
     ensures changed_maps { OnOk result (draft.new.changed_maps ≡ draft.old.changed_maps) }
-    ensures mapped { (v : Volume) (changes : List Change) → IsMappedDraft v volume.old draft.old changes map → OnOk result (IsMappedDraft v volume.new draft.new changes (map + 1)) }
-    ensures counted { (v : Volume) (changes : List Change) → IsCounted v volume.old draft.old changes (written_below v changes map) → OnOk result (IsCounted v volume.new draft.new changes (written_below v changes (map + 1))) }
-    ensures full { (v : Volume) (changes : List Change) → IsCounted v volume.old draft.old changes (written_below v changes map) → result ≡ Err PagesError.Full → free_count v < unused_below volume.old.used draft.old.start + (filled_count changes + written_below v changes (map + 1)) }
+    ensures mapped { (v : Volume) (changes : List Change) → IsMappedDraft v volume.old draft.old
+        changes map → OnOk result (IsMappedDraft v volume.new draft.new changes (map + 1)) }
+    ensures counted { (v : Volume) (changes : List Change)
+        → IsCounted v volume.old draft.old changes (written_below v changes map) → OnOk result
+        (IsCounted v volume.new draft.new changes (written_below v changes (map + 1))) }
+    ensures full { (v : Volume) (changes : List Change)
+        → IsCounted v volume.old draft.old changes (written_below v changes map)
+        → result ≡ Err PagesError.Full → free_count v < unused_below volume.old.used
+        draft.old.start + (filled_count changes + written_below v changes (map + 1)) }
 {
     if !draft.changed_maps[map] {
         return Ok(());
@@ -141,9 +160,15 @@ pub(crate) fn stage_maps(
     ensures sectors { volume.new.sectors ≡ volume.old.sectors }
     ensures start { OnOk result (draft.new.start ≡ draft.old.start) }
     ensures size { OnOk result (SameSize volume.old volume.new) }
-    ensures mapped { (v : Volume) (changes : List Change) → IsMappedDraft v volume.old draft.old changes 0 → OnOk result (IsMappedDraft v volume.new draft.new changes (length volume.old.maps.items)) }
-    ensures counted { (v : Volume) (changes : List Change) → IsCounted v volume.old draft.old changes 0 → OnOk result (IsCounted v volume.new draft.new changes (written_below v changes (length volume.old.maps.items))) }
-    ensures full { (v : Volume) (changes : List Change) → IsCounted v volume.old draft.old changes 0 → result ≡ Err PagesError.Full → free_count v < unused_below volume.old.used draft.old.start + (filled_count changes + written_below v changes (length volume.old.maps.items)) }
+    ensures mapped { (v : Volume) (changes : List Change)
+        → IsMappedDraft v volume.old draft.old changes 0 → OnOk result
+        (IsMappedDraft v volume.new draft.new changes (length volume.old.maps.items)) }
+    ensures counted { (v : Volume) (changes : List Change)
+        → IsCounted v volume.old draft.old changes 0 → OnOk result (IsCounted v volume.new draft.new
+        changes (written_below v changes (length volume.old.maps.items))) }
+    ensures full { (v : Volume) (changes : List Change) → IsCounted v volume.old draft.old changes 0
+        → result ≡ Err PagesError.Full → free_count v < unused_below volume.old.used draft.old.start
+        + (filled_count changes + written_below v changes (length volume.old.maps.items)) }
 {
     for map in 0..volume.maps.len() {
         stage_map(alloc, volume, draft, map)?;

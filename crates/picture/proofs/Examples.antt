@@ -195,7 +195,10 @@ without_form = (
                                       refl,
                                       (
                                         refl,
-                                        (refl, (refl, (refl, (refl, (refl, (refl, (refl, (refl, (refl, (refl, tt)))))))))),
+                                        (
+                                          refl,
+                                          (refl, (refl, (refl, (refl, (refl, (refl, (refl, (refl, (refl, tt))))))))),
+                                        ),
                                       ),
                                     ),
                                   ),

@@ -1,5 +1,6 @@
 -- Images and their one code.
-use Rattle.std.proofs.Common.{◌≡◌, ◌∙◌, ℕ, List, [], ◌∷◌, length, Vec, Result, Ok, Err, refl, subst, ap, arith, inl, inr}
+use Rattle.std.proofs.Common.{◌≡◌, ◌∙◌, ℕ, List, [], ◌∷◌, length, Vec, Result, Ok, Err, refl, subst, ap, arith, inl}
+use Rattle.std.proofs.Common.{inr}
 use Rattle.std.specs.Prelude.{IfOk, OnOk}
 use Rattle.std.specs.declared.alloc.AllocError.{AllocError}
 use Rattle.std.specs.declared.alloc.Global.{Global}
@@ -30,7 +31,8 @@ pub read_again : OneSpelling → (image : List ℕ) (code : Code) → IsImageOf 
 read_again spelt image code is = ap code_at is.bytes ∙ spelt code is.spelt
 
 -- an image is of one code
-pub one_code : OneSpelling → (image : List ℕ) (code other : Code) → IsImageOf image code → IsImageOf image other → code ≡ other
+pub one_code : OneSpelling → (image : List ℕ) (code other : Code) → IsImageOf image code → IsImageOf image other
+    → code ≡ other
 one_code spelt image code other a b = value (read_again spelt image code a) (read_again spelt image other b)
 
 -- verified code breaks no demand
@@ -45,13 +47,17 @@ err_not_ok : (r : Result Code ImageFault) (fault : ImageFault) (code : Code) →
 err_not_ok r fault code bad good = cc
 
 -- and never refused
-never_refused : OneSpelling → (image : List ℕ) (code : Code) (fault : ImageFault) → IsImageOf image code → RefusesImage image fault → ⊥
-never_refused spelt image code fault is (inl bad) = err_not_ok (code_at image) fault code bad (read_again spelt image code is)
+never_refused : OneSpelling → (image : List ℕ) (code : Code) (fault : ImageFault) → IsImageOf image code
+    → RefusesImage image fault → ⊥
+never_refused spelt image code fault is (inl bad) =
+    err_not_ok (code_at image) fault code bad (read_again spelt image code is)
 never_refused spelt image code fault is (inr refused) =
-    keeps_demands refused.0 fault (subst IsVerified (value (read_again spelt image code is) refused.1) is.verified) refused.2
+    keeps_demands refused.0 fault (subst IsVerified (value (read_again spelt image code is) refused.1) is.verified)
+    refused.2
 
 -- so its run ends otherwise
-pub end_of_image : OneSpelling → (image : List ℕ) (ended : Ended) → IsImage image → ForImage ended image → IsEndOfImage ended
+pub end_of_image : OneSpelling → (image : List ℕ) (ended : Ended) → IsImage image → ForImage ended image
+    → IsEndOfImage ended
 end_of_image spelt image Stopped is for = tt
 end_of_image spelt image Budget is for = tt
 end_of_image spelt image (Faulted fault line) is for = tt
@@ -62,11 +68,20 @@ end_of_image spelt image (Refused Damaged) is for = tt
 end_of_image spelt image (Refused Memory) is for = tt
 
 -- what is written of a tree's code is an image that means the same
-pub made : (tree : Program) (code : Code) (written : Result (Vec ℕ Global) AllocError) → ((given : RunInput) → Runs code given (meaning tree given))
-    → length code.files ≡ length tree.selects → entries_of code.tables code.files ≡ entries_of_tree tree → IsVerified code
-    → IfOk written (λ bytes. bytes.items ≡ code_bytes code) → OnOk written (HasSpelling code) → IfOk written (λ image. MeansAs tree image.items)
+pub made : (tree : Program) (code : Code) (written : Result (Vec ℕ Global) AllocError)
+    → ((given : RunInput) → Runs code given (meaning tree given))
+    → length code.files ≡ length tree.selects → entries_of code.tables code.files ≡ entries_of_tree tree
+    → IsVerified code
+    → IfOk written (λ bytes. bytes.items ≡ code_bytes code) → OnOk written (HasSpelling code)
+    → IfOk written (λ image. MeansAs tree image.items)
 made tree code (Ok image) ends files entries verified bytes spelt =
-    record { code = code; is = record { bytes = bytes; spelt = spelt; verified = verified }; files = files; entries = entries; runs = ends }
+    record {
+      code = code;
+      is = record { bytes = bytes; spelt = spelt; verified = verified };
+      files = files;
+      entries = entries;
+      runs = ends;
+    }
 made tree code (Err e) ends files entries verified bytes spelt = tt
 
 -- of two lists of one length both are empty, or none

@@ -37,30 +37,37 @@ use Rattle.run_unit.specs.declared.ended.Ended.TheVariants.{Refused}
 
 -- The files are those that it was given.
 files_first : (code : Code) (given : RunInput) (run : Run) → Runs code given run → files_at run 0 ≡ given.files
-files_first code given run runs = files_here (first_point code given) run (tells_more code runs.0 (first_point code given) run runs.1) refl
+files_first code given run runs =
+    files_here (first_point code given) run (tells_more code runs.0 (first_point code given) run runs.1) refl
 
 -- Nothing was told yet.
-pub at_first : (holds : List Sector → Files → Type 0) (code : Code) (files : Files) (run : Run) (day : List ℕ) (budget : ℕ) (s : State)
+pub at_first : (holds : List Sector → Files → Type 0) (code : Code) (files : Files) (run : Run) (day : List ℕ)
+    (budget : ℕ) (s : State)
     → Runs code (given_over files s day budget) run → EachImage (λ image. holds image files) s → Moment holds run s s
 unfolding given_over
 at_first holds code files run day budget s runs held = record {
   told = record { seen = []; rest = run.events; since = sym (append-nil s.events); begins = refl };
-  files = λ image crash. inl (subst (holds image) (sym (files_first code (given_over files s day budget) run runs)) (held image crash));
+  files = λ image crash.
+      inl (subst (holds image) (sym (files_first code (given_over files s day budget) run runs)) (held image crash));
   console = inl (nothing_taken s);
   disk = λ none. refl;
 }
 
 -- A machine has the run of its code, on its day.
-pub runs_as : (machine : Machine) (code : Code) (day : List ℕ) (files : Files) (s : State) (budget : ℕ) (run : Run) → code_of machine ≡ code → day_of machine ≡ day
-    → Runs code (given_over files s day budget) run → Runs (code_of machine) (given_over files s (day_of machine) budget) run
+pub runs_as : (machine : Machine) (code : Code) (day : List ℕ) (files : Files) (s : State) (budget : ℕ) (run : Run)
+    → code_of machine ≡ code → day_of machine ≡ day
+    → Runs code (given_over files s day budget) run
+    → Runs (code_of machine) (given_over files s (day_of machine) budget) run
 runs_as machine code day files s budget run same_code same_day runs =
     subst (λ (c : Code). Runs c (given_over files s (day_of machine) budget) run) (sym same_code)
     (subst (λ (d : List ℕ). Runs code (given_over files s d budget) run) (sym same_day) runs)
 
 -- where an image lacks room by one sense, it does by another
 pub room_under : (lacks lacks' : List Sector → Bool → List ℕ → Files → Files → Type 0)
-    → ((image : List Sector) (is_new : Bool) (name : List ℕ) (before after : Files) → lacks image is_new name before after → lacks' image is_new name before after)
-    → (entries : List Entry) (run : Run) (old now : State) → LacksRoomForChange lacks entries run old now → LacksRoomForChange lacks' entries run old now
+    → ((image : List Sector) (is_new : Bool) (name : List ℕ) (before after : Files)
+    → lacks image is_new name before after → lacks' image is_new name before after)
+    → (entries : List Entry) (run : Run) (old now : State) → LacksRoomForChange lacks entries run old now
+    → LacksRoomForChange lacks' entries run old now
 room_under lacks lacks' under entries run old now is = record {
   given_up = is.given_up;
   verb = is.verb;
@@ -73,14 +80,17 @@ room_under lacks lacks' under entries run old now is = record {
   after_is = is.after_is;
   status_is = is.status_is;
   changes = is.changes;
-  room = under now.disk.present (makes_file is.verb) (entry_at entries is.given_up.file).name is.before is.step.files is.room;
+  room = under now.disk.present (makes_file is.verb) (entry_at entries is.given_up.file).name is.before is.step.files
+      is.room;
 }
 
 -- ---- where what an image holds by one sense, it holds by another
 
-module _ (here below : List Sector → Files → Type 0) (under : (image : List Sector) (files : Files) → here image files → below image files)
+module _ (here below : List Sector → Files → Type 0) (under : (image : List Sector) (files : Files) → here image files
+    → below image files)
     (run : Run) (old : State) where
-  so_far_below : (seen rest : List Event) (image : List Sector) → HoldsSoFar here run seen rest image → HoldsSoFar below run seen rest image
+  so_far_below : (seen rest : List Event) (image : List Sector) → HoldsSoFar here run seen rest image
+      → HoldsSoFar below run seen rest image
   so_far_below seen rest image (inl held) = inl (under image (files_at run (note_count seen)) held)
   so_far_below seen rest image (inr held) = inr (under image (files_at run (note_count seen + 1)) held.0, held.1)
 
@@ -103,15 +113,18 @@ module _ (here below : List Sector → Files → Type 0) (under : (image : List 
 
   -- and where it lacks room by the one sense, it does by the other
   module _ (lacks lacks' : List Sector → Bool → List ℕ → Files → Files → Type 0)
-      (under_room : (image : List Sector) (is_new : Bool) (name : List ℕ) (before after : Files) → lacks image is_new name before after → lacks' image is_new name before after)
+      (under_room : (image : List Sector) (is_new : Bool) (name : List ℕ) (before after : Files)
+      → lacks image is_new name before after → lacks' image is_new name before after)
       (entries entries' : List Entry) (same : entries ≡ entries') where
-    ends_below : (ended : MachineEnded) (now : State) → EndsAs here lacks entries run old ended now → EndsOver below (LacksRoomForChange lacks' entries') run old (ended_of ended) now
+    ends_below : (ended : MachineEnded) (now : State) → EndsAs here lacks entries run old ended now
+        → EndsOver below (LacksRoomForChange lacks' entries') run old (ended_of ended) now
     ends_below machine.Stopped now ends = finished_below end.Stopped now ends
     ends_below machine.Budget now ends = finished_below end.Budget now ends
     ends_below (machine.Faulted fault line) now ends = finished_below (end.Faulted (fault_of fault) line) now ends
     ends_below (machine.Refused refused.Device) now ends = ends
     ends_below (machine.Refused refused.Full) now ends =
-        subst (λ (es : List Entry). LacksRoomForChange lacks' es run old now) same (room_under lacks lacks' under_room entries run old now ends)
+        subst (λ (es : List Entry). LacksRoomForChange lacks' es run old now) same
+        (room_under lacks lacks' under_room entries run old now ends)
     ends_below (machine.Refused refused.Damaged) now ends = ends
     ends_below (machine.Refused refused.Memory) now ends = inl ends
 
@@ -126,14 +139,18 @@ module _ (here below : List Sector → Files → Type 0) (under : (image : List 
     }
 
 -- memory ran out before the run
-pub never_ran : (holds : List Sector → Files → Type 0) (no_room : Run → State → State → Type 0) (run : Run) (past : List State) (old : State)
+pub never_ran : (holds : List Sector → Files → Type 0) (no_room : Run → State → State → Type 0) (run : Run)
+    (past : List State) (old : State)
     → Moment holds run old old → RunsOver holds no_room run past old (Refused Memory) past old
-never_ran holds no_room run past old first = record { first = first; moments = stays past old (Moment holds run old) first; ends = inr refl }
+never_ran holds no_room run past old first =
+    record { first = first; moments = stays past old (Moment holds run old) first; ends = inr refl }
 
 -- files that are there aren't found damaged
-pub no_damage_over : (holds : List Sector → Files → Type 0) (no_room : Run → State → State → Type 0) (run : Run) (old : State) (ended : Ended) (now : State)
+pub no_damage_over : (holds : List Sector → Files → Type 0) (no_room : Run → State → State → Type 0) (run : Run)
+    (old : State) (ended : Ended) (now : State)
     → EndsOver holds no_room run old ended now → ended ≡ Refused Damaged → ⊥
-no_damage_over holds no_room run old ended now ends is = subst (λ (e : Ended). EndsOver holds no_room run old e now) is ends
+no_damage_over holds no_room run old ended now ends is =
+    subst (λ (e : Ended). EndsOver holds no_room run old e now) is ends
 
 -- ---- runs without files
 
@@ -147,11 +164,13 @@ no_note seen rest none (note, more, is) =
     let one : note_count rest ≡ suc (note_count more) = ap note_count is in
     omega (arith, sum, one, none)
 
-lines_taken : (all seen rest : List Event) (old now : State) → note_count all ≡ 0 → all ≡ seen ++ rest → TakesLines old now ⊎ NoteComes rest → TakesLines old now
+lines_taken : (all seen rest : List Event) (old now : State) → note_count all ≡ 0 → all ≡ seen ++ rest
+    → TakesLines old now ⊎ NoteComes rest → TakesLines old now
 lines_taken all seen rest old now none is (inl takes) = takes
 lines_taken all seen rest old now none is (inr comes) = absurd (no_note seen rest (sym (ap note_count is) ∙ none) comes)
 
-module _ (holds : List Sector → Files → Type 0) (lacks : List Sector → Bool → List ℕ → Files → Files → Type 0) (entries : List Entry) (run : Run) (old : State) (none : note_count run.events ≡ 0) where
+module _ (holds : List Sector → Files → Type 0) (lacks : List Sector → Bool → List ℕ → Files → Files → Type 0)
+    (entries : List Entry) (run : Run) (old : State) (none : note_count run.events ≡ 0) where
   alone_of : (now : State) → Moment holds run old now → Alone run old now
   alone_of now moment = record {
     told = moment.told;
@@ -162,7 +181,8 @@ module _ (holds : List Sector → Files → Type 0) (lacks : List Sector → Boo
   finished_alone : (how : End) (now : State) → IsFinished holds run how old now → FinishedAlone run how old now
   finished_alone how now is = record { end = is.end; told = is.told; lines = is.lines; disk = is.disk none }
 
-  ends_alone : (ended : MachineEnded) (now : State) → IsOwnEnd ended → EndsAs holds lacks entries run old ended now → EndsAlone run old (ended_of ended) now
+  ends_alone : (ended : MachineEnded) (now : State) → IsOwnEnd ended → EndsAs holds lacks entries run old ended now
+      → EndsAlone run old (ended_of ended) now
   ends_alone machine.Stopped now own ends = finished_alone end.Stopped now ends
   ends_alone machine.Budget now own ends = finished_alone end.Budget now ends
   ends_alone (machine.Faulted fault line) now own ends = finished_alone (end.Faulted (fault_of fault) line) now ends
@@ -181,7 +201,8 @@ module _ (holds : List Sector → Files → Type 0) (lacks : List Sector → Boo
 
   -- a machine ran
   pub ran_alone : (past later : List State) (new : State) (ended : MachineEnded) → IsOwnEnd ended
-      → Through past later new (Moment holds run old) → EndsAs holds lacks entries run old ended new → RunsAlone run past old (ended_of ended) later new
+      → Through past later new (Moment holds run old) → EndsAs holds lacks entries run old ended new
+      → RunsAlone run past old (ended_of ended) later new
   ran_alone past later new ended own moments ends = record {
     first = first_alone;
     moments = weakens past later new (Moment holds run old) (Alone run old) alone_of moments;

@@ -49,7 +49,8 @@ unopened store.Damaged = tt
 unopened store.Spent = tt
 unopened store.Layout = tt
 
-pub left_closed : (fault : StoreFault) (refusal : Refusal) (past later : List State) (old new : State) → refusal ≡ of_opening fault
+pub left_closed : (fault : StoreFault) (refusal : Refusal) (past later : List State) (old new : State)
+    → refusal ≡ of_opening fault
     → Through past later new (IsOpening old) → IsUnwritten old new → LeavesClosed past old (Refused refusal) later new
 left_closed fault refusal past later old new is moments unwritten = record {
   why = subst (λ (r : Refusal). IsUnopened (Refused r)) (sym is) (unopened fault);
@@ -58,13 +59,16 @@ left_closed fault refusal past later old new is moments unwritten = record {
 }
 
 -- a sync takes no line, so that a run is given the same after it
-pub given_after : (files : Files) (old mid : State) (day : List ℕ) (budget : ℕ) → mid ≡ state_after_sync old → given_over files old day budget ≡ given_over files mid day budget
+pub given_after : (files : Files) (old mid : State) (day : List ℕ) (budget : ℕ) → mid ≡ state_after_sync old
+    → given_over files old day budget ≡ given_over files mid day budget
 unfolding given_over
 given_after files old mid day budget is = sym (ap (λ (s : State). given_over files s day budget) is)
 
 -- the run over what was opened
-pub ran_on : (holds : List Sector → Files → Type 0) (no_room : Run → State → State → Type 0) (run : Run) (past opened later : List State) (old mid new : State) (ended : Ended)
-    → Through past opened mid (IsOpening old) → mid ≡ state_after_sync old → RunsOver holds no_room run opened mid ended later new
+pub ran_on : (holds : List Sector → Files → Type 0) (no_room : Run → State → State → Type 0) (run : Run)
+    (past opened later : List State) (old mid new : State) (ended : Ended)
+    → Through past opened mid (IsOpening old) → mid ≡ state_after_sync old
+    → RunsOver holds no_room run opened mid ended later new
     → RunsOnVolume holds no_room run past old ended later new
 ran_on holds no_room run past opened later old mid new ended opening is runs =
     Opened opened opening.spans (subst (λ (s : State). RunsOver holds no_room run opened s ended later new) is runs)
@@ -85,16 +89,21 @@ pub present_after : (old mid : State) → IsUnwritten old mid → mid.disk.prese
 present_after old mid (inl is) = ap (λ (s : State). s.disk.present) is
 present_after old mid (inr is) = ap (λ (s : State). s.disk.present) is
 
-pub given_later : (files : Files) (old mid : State) (day : List ℕ) (budget : ℕ) → IsUnwritten old mid → given_over files old day budget ≡ given_over files mid day budget
+pub given_later : (files : Files) (old mid : State) (day : List ℕ) (budget : ℕ) → IsUnwritten old mid
+    → given_over files old day budget ≡ given_over files mid day budget
 given_later files old mid day budget (inl is) = sym (ap (λ (s : State). given_over files s day budget) is)
 given_later files old mid day budget (inr is) = given_after files old mid day budget is
 
 opening_then : (old mid : State) → IsOpening old mid → (s : State) → IsOpening mid s → IsOpening old s
-opening_then old mid first s second = record { events = second.events ∙ first.events; images = λ image crash. first.images image (second.images image crash) }
+opening_then old mid first s second = record {
+  events = second.events ∙ first.events;
+  images = λ image crash. first.images image (second.images image crash);
+}
 
 -- a call that doesn't open it either
 closed_then : (past looked later : List State) (old mid new : State) (ended : Ended)
-    → Through past looked mid (IsOpening old) → IsUnwritten old mid → LeavesClosed looked mid ended later new → LeavesClosed past old ended later new
+    → Through past looked mid (IsOpening old) → IsUnwritten old mid → LeavesClosed looked mid ended later new
+    → LeavesClosed past old ended later new
 closed_then past looked later old mid new ended first is closed = record {
   why = closed.why;
   moments = goes past looked later mid new (IsOpening old) first
@@ -102,23 +111,29 @@ closed_then past looked later old mid new ended first is closed = record {
   unwritten = unwritten_then old mid new is closed.unwritten;
 }
 
-pub on_volume_then : (holds : List Sector → Files → Type 0) (no_room : Run → State → State → Type 0) (run : Run) (past looked later : List State) (old mid new : State) (ended : Ended)
-    → Through past looked mid (IsOpening old) → IsUnwritten old mid → RunsOnVolume holds no_room run looked mid ended later new
+pub on_volume_then : (holds : List Sector → Files → Type 0) (no_room : Run → State → State → Type 0) (run : Run)
+    (past looked later : List State) (old mid new : State) (ended : Ended)
+    → Through past looked mid (IsOpening old) → IsUnwritten old mid
+    → RunsOnVolume holds no_room run looked mid ended later new
     → RunsOnVolume holds no_room run past old ended later new
 on_volume_then holds no_room run past looked later old mid new ended first is (Unopened closed) =
     Unopened (closed_then past looked later old mid new ended first is closed)
 on_volume_then holds no_room run past looked later old mid new ended first is (Opened opened spans runs) =
-    Opened opened (then past looked opened (IsOpening old) first.spans (weaker looked opened (IsOpening mid) (IsOpening old) (opening_then old mid first.now) spans))
+    Opened opened (then past looked opened (IsOpening old) first.spans
+    (weaker looked opened (IsOpening mid) (IsOpening old) (opening_then old mid first.now) spans))
     (subst (λ (s : State). RunsOver holds no_room run opened s ended later new) (synced_after old mid is) runs)
 
-pub on_halves_then : (entries : List Entry) (run : Files → Run) (past looked later : List State) (old mid new : State) (ended : Ended)
-    → Through past looked mid (IsOpening old) → IsUnwritten old mid → RunsOnHalves entries run looked mid ended later new
+pub on_halves_then :
+    (entries : List Entry) (run : Files → Run) (past looked later : List State) (old mid new : State) (ended : Ended)
+    → Through past looked mid (IsOpening old) → IsUnwritten old mid
+    → RunsOnHalves entries run looked mid ended later new
     → RunsOnHalves entries run past old ended later new
 on_halves_then entries run past looked later old mid new ended first is (NotOpened closed) =
     NotOpened (closed_then past looked later old mid new ended first is closed)
 on_halves_then entries run past looked later old mid new ended first is (HeldFiles files held runs) =
     HeldFiles files (subst (λ (image : List Sector). HoldsHalf image files) (present_after old mid is) held)
-    (on_volume_then HoldsHalf (LacksRoomForChange lacks_half entries) (run files) past looked later old mid new ended first is runs)
+    (on_volume_then HoldsHalf (LacksRoomForChange lacks_half entries) (run files) past looked later old mid new ended
+    first is runs)
 
 -- ---- where what an image holds by one store, it holds by either
 
@@ -126,28 +141,37 @@ on_halves_then entries run past looked later old mid new ended first is (HeldFil
 abbrev pub lacks_trees : List Sector → Bool → List ℕ → Files → Files → Type 0
 lacks_trees image is_new name before after = LacksTrees image is_new name after
 
-module _ (here either : List Sector → Files → Type 0) (also : (image : List Sector) (files : Files) → here image files → either image files)
-    (run : Run) (no_room none_either : Run → State → State → Type 0) (also_none : (old now : State) → no_room run old now → none_either run old now) where
-  ends_either : (old : State) (ended : Ended) (now : State) → EndsOver here no_room run old ended now → EndsOver either none_either run old ended now
+module _ (here either : List Sector → Files → Type 0) (also : (image : List Sector) (files : Files) → here image files
+    → either image files)
+    (run : Run) (no_room none_either : Run → State → State → Type 0)
+    (also_none : (old now : State) → no_room run old now → none_either run old now) where
+  ends_either : (old : State) (ended : Ended) (now : State) → EndsOver here no_room run old ended now
+      → EndsOver either none_either run old ended now
   ends_either old Stopped now ends = finished_below here either also run old end.Stopped now ends
   ends_either old Budget now ends = finished_below here either also run old end.Budget now ends
-  ends_either old (Faulted fault line) now ends = finished_below here either also run old (end.Faulted (fault_of fault) line) now ends
+  ends_either old (Faulted fault line) now ends =
+      finished_below here either also run old (end.Faulted (fault_of fault) line) now ends
   ends_either old (Refused (Image fault)) now ends = ends
   ends_either old (Refused Device) now ends = ends
   ends_either old (Refused Full) now ends = also_none old now ends
   ends_either old (Refused Damaged) now ends = ends
   ends_either old (Refused Memory) now ends = ends
 
-  over_either : (past : List State) (old : State) (ended : Ended) (later : List State) (new : State) → RunsOver here no_room run past old ended later new → RunsOver either none_either run past old ended later new
+  over_either : (past : List State) (old : State) (ended : Ended) (later : List State) (new : State)
+      → RunsOver here no_room run past old ended later new → RunsOver either none_either run past old ended later new
   over_either past old ended later new runs = record {
     first = moment_below here either also run old old runs.first;
-    moments = weakens past later new (Moment here run old) (Moment either run old) (moment_below here either also run old) runs.moments;
+    moments = weakens past later new (Moment here run old) (Moment either run old)
+        (moment_below here either also run old) runs.moments;
     ends = ends_either old ended new runs.ends;
   }
 
-  pub on_either : (past : List State) (old : State) (ended : Ended) (later : List State) (new : State) → RunsOnVolume here no_room run past old ended later new → RunsOnVolume either none_either run past old ended later new
+  pub on_either : (past : List State) (old : State) (ended : Ended) (later : List State) (new : State)
+      → RunsOnVolume here no_room run past old ended later new
+      → RunsOnVolume either none_either run past old ended later new
   on_either past old ended later new (Unopened closed) = Unopened closed
-  on_either past old ended later new (Opened opened spans runs) = Opened opened spans (over_either opened (state_after_sync old) ended later new runs)
+  on_either past old ended later new (Opened opened spans runs) =
+      Opened opened spans (over_either opened (state_after_sync old) ended later new runs)
 
 -- where only the device and memory refuse, the other store's layout isn't told
 pub no_layout : IsReadCause store.Layout → ⊥

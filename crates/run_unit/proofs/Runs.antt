@@ -47,7 +47,8 @@ module _ (code loaded : Code) (same : loaded ≡ code) (means : RunInput → Run
   abbrev pub DidOnVolume : Type 0
   DidOnVolume = (files : Files) → HoldsFiles call.old.disk.present files
       → (run : Run) → Runs loaded (given_files call files) run
-      → RunsOnVolume HoldsFiles (LacksRoomForChange lacks_either (entries_of loaded.tables loaded.files)) run call.past call.old call.ended call.later call.new
+      → RunsOnVolume HoldsFiles (LacksRoomForChange lacks_either (entries_of loaded.tables loaded.files)) run call.past
+      call.old call.ended call.later call.new
 
   -- and over one of halves
   abbrev pub DidOnHalves : Type 0
@@ -74,10 +75,12 @@ module _ (code loaded : Code) (same : loaded ≡ code) (means : RunInput → Run
   runs_files some volume halves sound = record {
     alone = λ zero. absurd (some (subst (λ (c : Code). c.files ≡ []) (sym same) (no_files code zero)));
     volume = λ with files held.
-        subst (λ (c : Code). RunsOnVolume HoldsFiles (LacksRoomForChange lacks_either (entries_of c.tables c.files)) (means (given_files call files)) call.past call.old call.ended call.later call.new) same
+        subst (λ (c : Code). RunsOnVolume HoldsFiles (LacksRoomForChange lacks_either (entries_of c.tables c.files))
+        (means (given_files call files)) call.past call.old call.ended call.later call.new) same
         (volume files held (means (given_files call files)) (runs_loaded (given_files call files)));
     halves = λ with of_halves.
-        subst (λ (c : Code). RunsOnHalves (entries_of c.tables c.files) (λ files. means (given_files call files)) call.past call.old call.ended call.later call.new) same
+        subst (λ (c : Code). RunsOnHalves (entries_of c.tables c.files) (λ files. means (given_files call files))
+        call.past call.old call.ended call.later call.new) same
         (halves of_halves (λ files. means (given_files call files)) (λ files. runs_loaded (given_files call files)));
     sound = sound;
   }
@@ -100,4 +103,5 @@ module _ (source image : List ℕ) (compiled : IsCompiled source image) where
   compiled_runs one call runs tree is =
       let has = compiled_tree one tree is in
       subst (λ (entries : List Entry). RunsAsMeant entries (meaning tree) (length tree.selects) call) has.entries
-      (subst (λ (count : ℕ). RunsAsMeant (entries_of has.code.tables has.code.files) (meaning tree) count call) has.files (runs has.code has.is (meaning tree) has.runs))
+      (subst (λ (count : ℕ). RunsAsMeant (entries_of has.code.tables has.code.files) (meaning tree) count call)
+      has.files (runs has.code has.is (meaning tree) has.runs))

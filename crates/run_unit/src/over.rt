@@ -36,13 +36,15 @@ pub(crate) fn connect<T: Store + Drop>(
     ensures connectors { IfOk result (λ all.
         ⟦<Connectors<T> as FileVerbs>⟧.connectors all ≡ all_closed code.now) }
     ensures needs { IfOk result (λ all. ⟦<Connectors<T> as Keeps>⟧.needs all ≡ T.needs store) }
-    ensures spent { IfOk result (λ all. ⟦<Connectors<T> as Keeps>⟧.is_spent all ≡ T.is_spent store) }
+    ensures spent { IfOk result
+        (λ all. ⟦<Connectors<T> as Keeps>⟧.is_spent all ≡ T.is_spent store) }
     ensures holds { (image : List Sector) (files : Files) →
         ⟦<Connectors<T> as Keeps>⟧.holds image files → T.holds image files }
     ensures stands { IfOk result (λ all. (disk : Disk) (files : Files) →
         T.stands store disk files → ⟦<Connectors<T> as Keeps>⟧.stands all disk files) }
     ensures room { (image : List Sector) (is_new : Bool) (name : List ℕ) (before after : Files) →
-        ⟦<Connectors<T> as Keeps>⟧.lacks_room image is_new name before after → T.lacks_room image is_new name before after }
+        ⟦<Connectors<T> as Keeps>⟧.lacks_room image is_new name before after
+        → T.lacks_room image is_new name before after }
     ensures memory { IfErr result (λ refusal. refusal ≡ Memory) }
 {
     let mut connectors = Connectors::new(alloc, store);
@@ -80,7 +82,8 @@ pub fn run_over<S: Station, T: Store + Drop>(
     // a disk that lacks room for that.
     ensures runs { (files : Files) → Represents T.Keeps S.Device store station.old files →
         (run : Run) → Runs code (given_over files (S.state station.old) day budget) run →
-        RunsOver T.holds (LacksRoomForChange T.lacks_room (entries_of code.tables code.files)) run (S.history station.old) (S.state station.old)
+        RunsOver T.holds (LacksRoomForChange T.lacks_room (entries_of code.tables code.files)) run
+        (S.history station.old) (S.state station.old)
         result (S.history station.new) (S.state station.new) }
     // 82 isn't reported of files that the store stands for.
     ensures sound { (files : Files) → Represents T.Keeps S.Device store station.old files →

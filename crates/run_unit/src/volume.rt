@@ -74,16 +74,20 @@ fn run_on_halves<S: Station>(
     ensures volume { S.is_honest station.old →
         (files : Files) → HoldsHalf (S.state station.old).disk.present files →
         (run : Run) → Runs code (given_over files (S.state station.old) day budget) run →
-        RunsOnVolume HoldsHalf (LacksRoomForChange lacks_half (entries_of code.tables code.files)) run (S.history station.old) (S.state station.old)
+        RunsOnVolume HoldsHalf (LacksRoomForChange lacks_half (entries_of code.tables code.files))
+        run (S.history station.old) (S.state station.old)
         result (S.history station.new) (S.state station.new) }
     ensures halves { S.is_honest station.old → (run : Files → Run) →
-        ((files : Files) → Runs code (given_over files (S.state station.old) day budget) (run files)) →
-        RunsOnHalves (entries_of code.tables code.files) run (S.history station.old) (S.state station.old)
+        ((files : Files)
+        → Runs code (given_over files (S.state station.old) day budget) (run files)) →
+        RunsOnHalves (entries_of code.tables code.files) run (S.history station.old)
+        (S.state station.old)
         result (S.history station.new) (S.state station.new) }
     ensures sound { S.is_honest station.old →
         (files : Files) → HoldsHalf (S.state station.old).disk.present files →
         result ≢ Ended.Refused Refusal.Damaged }
-    ensures unwritten { S.is_honest station.old → result ≡ Ended.Refused Refusal.Damaged → IsUnwritten (S.state station.old) (S.state station.new) }
+    ensures unwritten { S.is_honest station.old → result ≡ Ended.Refused Refusal.Damaged
+        → IsUnwritten (S.state station.old) (S.state station.new) }
 {
     one_list_of_files();
     match HalfStore::open(alloc, station) {
@@ -108,17 +112,21 @@ pub(crate) fn run_on_volume<S: Station>(
     ensures volume { S.is_honest station.old →
         (files : Files) → HoldsFiles (S.state station.old).disk.present files →
         (run : Run) → Runs code (given_over files (S.state station.old) day budget) run →
-        RunsOnVolume HoldsFiles (LacksRoomForChange lacks_either (entries_of code.tables code.files)) run (S.history station.old) (S.state station.old)
+        RunsOnVolume HoldsFiles (LacksRoomForChange lacks_either
+        (entries_of code.tables code.files)) run (S.history station.old) (S.state station.old)
         result (S.history station.new) (S.state station.new) }
     ensures halves { S.is_honest station.old → IsOfHalves (S.state station.old).disk.present →
         (run : Files → Run) →
-        ((files : Files) → Runs code (given_over files (S.state station.old) day budget) (run files)) →
-        RunsOnHalves (entries_of code.tables code.files) run (S.history station.old) (S.state station.old)
+        ((files : Files)
+        → Runs code (given_over files (S.state station.old) day budget) (run files)) →
+        RunsOnHalves (entries_of code.tables code.files) run (S.history station.old)
+        (S.state station.old)
         result (S.history station.new) (S.state station.new) }
     ensures sound { S.is_honest station.old →
         (files : Files) → HoldsFiles (S.state station.old).disk.present files →
         result ≢ Ended.Refused Refusal.Damaged }
-    ensures unwritten { S.is_honest station.old → result ≡ Ended.Refused Refusal.Damaged → IsDamageFound (S.state station.old) (S.state station.new) }
+    ensures unwritten { S.is_honest station.old → result ≡ Ended.Refused Refusal.Damaged
+        → IsDamageFound (S.state station.old) (S.state station.new) }
 {
     match PagedStore::open(alloc, station, CACHED_PAGES) {
         Ok(store) => run_over(alloc, code, station, store, day, budget),

@@ -18,16 +18,28 @@ unfoldable use Rattle.source_tree.proofs.Computing.{computing}
 abbrev items : List LocatedItem
 items =
     items_of
-    (entries (signed Leading true (item (codes "77") (codes "N") (codes "S9")) ∷ item (codes "77") (codes "D") (codes "9V9") ∷ item (codes "77") (codes "X") (codes "X") ∷ []))
+    (entries (signed Leading true (item (codes "77") (codes "N") (codes "S9"))
+    ∷ item (codes "77") (codes "D") (codes "9V9") ∷ item (codes "77") (codes "X") (codes "X") ∷ []))
 
 -- so much of the budget left, what used it last, the bytes of N, and those that are shown
 abbrev after : ℕ → ℕ → String → String → State
 after budget line bytes shown =
-    record { budget = budget; line = line; day = []; lines = []; storage = codes bytes ∷ codes "00" ∷ codes " " ∷ []; files = []; connectors = []; earlier = []; events = map Shown (codes shown) }
+    record {
+      budget = budget;
+      line = line;
+      day = [];
+      lines = [];
+      storage = codes bytes ∷ codes "00" ∷ codes " " ∷ [];
+      files = [];
+      connectors = [];
+      earlier = [];
+      events = map Shown (codes shown);
+    }
 
 -- shows a P, and has +9 in N
 abbrev show_and_change : State → Outcome
-show_and_change s = Done (state_after_output (codes "P") (record s { storage = codes "+9" ∷ codes "00" ∷ codes " " ∷ [] }))
+show_and_change s =
+    Done (state_after_output (codes "P") (record s { storage = codes "+9" ∷ codes "00" ∷ codes " " ∷ [] }))
 
 -- PERFORM .. N TIMES at line 9
 abbrev perform : State → Outcome

@@ -15,7 +15,8 @@ use Rattle.source_tree.specs.declared.program.Program.{Program}
 use Rattle.source_tree.specs.Evaluated as fault
 use Rattle.source_tree.specs.State.{Stopped, Faulted}
 use Rattle.source_tree.specs.Meaning.{Run, meaning}
-use Rattle.source_tree.proofs.Samples.{at, item, occurring, valued, group, entries, number, plain, reference, counted, the_item, the_literal, name}
+use Rattle.source_tree.proofs.Samples.{at, item, occurring, valued, group, entries, number, plain, reference, counted}
+use Rattle.source_tree.proofs.Samples.{the_item, the_literal, name}
 unfoldable use Rattle.source_tree.proofs.Computing.{computing}
 
 abbrev statement : ℕ → Verb Statement → Statement

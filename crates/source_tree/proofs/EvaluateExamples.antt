@@ -1,5 +1,5 @@
--- EVALUATE: which statements are done, how subjects are taken, what isn't asked, and the rules of its objects. Expected is what the manual
--- says of it.
+-- EVALUATE: which statements are done, how subjects are taken, what isn't asked, and the rules of its objects. Expected
+-- is what the manual says of it.
 use Prim.Native.String.{String}
 use Rattle.std.proofs.Common.{◌≡◌, ℕ, Bool, true, false, List, [], ◌∷◌, ◌++◌}
 use Rattle.std.specs.Prelude.{codes, map, Option, Some, None}
@@ -36,7 +36,8 @@ items = items_of declared
     declared =
         entries (item (codes "77") (codes "A") (codes "9") ∷ [])
         ++ condition (codes "SMALL") (one_value (number (codes "1")) ∷ one_value (number (codes "2")) ∷ [])
-        ∷ entries (item (codes "77") (codes "B") (codes "9") ∷ item (codes "77") (codes "N") (codes "9V9") ∷ item (codes "77") (codes "X") (codes "X") ∷ [])
+        ∷ entries (item (codes "77") (codes "B") (codes "9") ∷ item (codes "77") (codes "N") (codes "9V9")
+        ∷ item (codes "77") (codes "X") (codes "X") ∷ [])
 
 -- ---- subjects and objects
 
@@ -83,7 +84,17 @@ whens each shown = record { whens = map when each; statements = codes shown }
 -- these bytes in A and B, and these shown; EVALUATE stands at line 9
 abbrev after : String → String → String → State
 after a b shown =
-    record { budget = 5; line = 9; day = []; lines = []; storage = codes a ∷ codes b ∷ codes "00" ∷ codes " " ∷ []; files = []; connectors = []; earlier = []; events = map Shown (codes shown) }
+    record {
+      budget = 5;
+      line = 9;
+      day = [];
+      lines = [];
+      storage = codes a ∷ codes b ∷ codes "00" ∷ codes " " ∷ [];
+      files = [];
+      connectors = [];
+      earlier = [];
+      events = map Shown (codes shown);
+    }
 
 abbrev show : ℕ → State → Outcome
 show byte s = Done (state_after_output (byte ∷ []) s)
@@ -101,7 +112,8 @@ Shows (row ∷ more) = (row.0 row.1 row.2 ≡ Done (after row.1 row.2 row.3)) ×
 abbrev of_manual : String → String → Outcome
 of_manual =
     evaluate (of "A" ∷ subject.Truth true ∷ [])
-    (whens ((one_to_three false ∷ choice.Condition (is_zero "B") ∷ []) ∷ []) "P" ∷ whens ((is_not (counted "5") ∷ choice.Any ∷ []) ∷ []) "Q" ∷ []) (Some (codes "R"))
+    (whens ((one_to_three false ∷ choice.Condition (is_zero "B") ∷ []) ∷ []) "P"
+    ∷ whens ((is_not (counted "5") ∷ choice.Any ∷ []) ∷ []) "Q" ∷ []) (Some (codes "R"))
 
 as_in_manual : Shows ((of_manual, "2", "0", "P") ∷ (of_manual, "2", "1", "Q") ∷ (of_manual, "5", "0", "R") ∷ [])
 unfolding computing
@@ -109,9 +121,11 @@ as_in_manual = (simp told_by_form, (simp told_by_form, (simp told_by_form, tt)))
 
 -- EVALUATE A WHEN 1 THRU 3 WHEN B "PQ" WHEN 3 "R"
 abbrev two_groups : String → String → Outcome
-two_groups = evaluate (of "A" ∷ []) (whens ((one_to_three false ∷ []) ∷ (is (named "B") ∷ []) ∷ []) "PQ" ∷ whens ((is (counted "3") ∷ []) ∷ []) "R" ∷ []) None
+two_groups = evaluate (of "A" ∷ []) (whens ((one_to_three false ∷ []) ∷ (is (named "B") ∷ []) ∷ []) "PQ"
+    ∷ whens ((is (counted "3") ∷ []) ∷ []) "R" ∷ []) None
 
--- Of two groups that fit the first is taken; either of its WHENs will do; where nothing fits and OTHER is absent, nothing is shown.
+-- Of two groups that fit the first is taken; either of its WHENs will do; where nothing fits and OTHER is absent,
+-- nothing is shown.
 in_order : Shows ((two_groups, "3", "0", "PQ") ∷ (two_groups, "7", "7", "PQ") ∷ (two_groups, "7", "0", "") ∷ [])
 unfolding computing
 in_order = (simp told_by_form, (simp told_by_form, (simp told_by_form, tt)))
@@ -120,7 +134,8 @@ in_order = (simp told_by_form, (simp told_by_form, (simp told_by_form, tt)))
 abbrev one_when : Subject → Choice → String → String → Outcome
 one_when one object = evaluate (one ∷ []) (whens ((object ∷ []) ∷ []) "P" ∷ []) None
 
--- A WHEN NOT 1 THRU 3: both ends belong to the range. Then TRUE WHEN SMALL, TRUE WHEN NOT SMALL, SMALL WHEN FALSE, and FALSE WHEN B = 0.
+-- A WHEN NOT 1 THRU 3: both ends belong to the range. Then TRUE WHEN SMALL, TRUE WHEN NOT SMALL, SMALL WHEN FALSE, and
+-- FALSE WHEN B = 0.
 one_subject : Shows ((one_when (of "A") (one_to_three true), "0", "0", "P")
     ∷ (one_when (of "A") (one_to_three true), "1", "0", "")
     ∷ (one_when (of "A") (one_to_three true), "3", "0", "")
@@ -133,13 +148,29 @@ one_subject : Shows ((one_when (of "A") (one_to_three true), "0", "0", "P")
     ∷ (one_when (subject.Truth false) (choice.Condition (is_zero "B")), "2", "1", "P")
     ∷ [])
 unfolding computing
-one_subject = (simp told_by_form, (simp told_by_form, (simp told_by_form, (simp told_by_form, (simp told_by_form, (simp told_by_form, (simp told_by_form, (simp told_by_form, (simp told_by_form, (simp told_by_form, tt))))))))))
+one_subject = (
+  simp told_by_form,
+  (
+    simp told_by_form,
+    (
+      simp told_by_form,
+      (
+        simp told_by_form,
+        (
+          simp told_by_form,
+          (simp told_by_form, (simp told_by_form, (simp told_by_form, (simp told_by_form, (simp told_by_form, tt))))),
+        ),
+      ),
+    ),
+  ),
+)
 
 -- SMALL WHEN B = 0: both are true, or neither is
 abbrev alike : String → String → Outcome
 alike = one_when (of "SMALL") (choice.Condition (is_zero "B"))
 
-both_or_neither : Shows ((alike, "2", "0", "P") ∷ (alike, "2", "1", "") ∷ (alike, "3", "0", "") ∷ (alike, "3", "1", "P") ∷ [])
+both_or_neither :
+    Shows ((alike, "2", "0", "P") ∷ (alike, "2", "1", "") ∷ (alike, "3", "0", "") ∷ (alike, "3", "1", "P") ∷ [])
 unfolding computing
 both_or_neither = (simp told_by_form, (simp told_by_form, (simp told_by_form, (simp told_by_form, tt))))
 
@@ -147,19 +178,22 @@ both_or_neither = (simp told_by_form, (simp told_by_form, (simp told_by_form, (s
 
 -- EVALUATE A ALSO B WHEN 2 ALSO this object "P" WHEN OTHER "R"
 abbrev beside_two : Choice → String → String → Outcome
-beside_two object = evaluate (of "A" ∷ of "B" ∷ []) (whens ((is (counted "2") ∷ object ∷ []) ∷ []) "P" ∷ []) (Some (codes "R"))
+beside_two object =
+    evaluate (of "A" ∷ of "B" ∷ []) (whens ((is (counted "2") ∷ object ∷ []) ∷ []) "P" ∷ []) (Some (codes "R"))
 
 -- B = 0 ALSO FALSE
 abbrev zero_also_false : String → String → Outcome
 zero_also_false =
-    evaluate (subject.Condition (is_zero "B") ∷ subject.Truth false ∷ []) (whens ((choice.Any ∷ choice.Truth true ∷ []) ∷ []) "P" ∷ []) (Some (codes "R"))
+    evaluate (subject.Condition (is_zero "B") ∷ subject.Truth false ∷ [])
+    (whens ((choice.Any ∷ choice.Truth true ∷ []) ∷ []) "P" ∷ []) (Some (codes "R"))
 
 -- rows of an EVALUATE and what A and B hold: a fault at the line of EVALUATE
 abbrev Faults : List ((String → String → Outcome) × String × String) → Type 0
 Faults [] = Unit {0}
 Faults (row ∷ more) = (row.0 row.1 row.2 ≡ Over (Faulted fault.Data 9) (after row.1 row.2 "")) × Faults more
 
--- A subject is taken beside ANY, behind an object that isn't met, where another one decides, and alone; and so is a condition.
+-- A subject is taken beside ANY, behind an object that isn't met, where another one decides, and alone; and so is a
+-- condition.
 taken : Faults ((beside_two choice.Any, "2", "x")
     ∷ (beside_two (is (counted "1")), "3", "x")
     ∷ (beside_two (is (counted "1")), "2", "x")
@@ -204,19 +238,24 @@ no_fit : Breaks ((subject.Truth true ∷ [], is (counted "5") ∷ [], one_broken
     ∷ (of "A" ∷ [], choice.Truth true ∷ [], one_broken 53 at_object)
     ∷ [])
 unfolding computing
-no_fit = (simp ruled_by_form, (simp ruled_by_form, (simp ruled_by_form, (simp ruled_by_form, (simp ruled_by_form, (simp ruled_by_form, tt))))))
+no_fit = (
+  simp ruled_by_form,
+  (simp ruled_by_form, (simp ruled_by_form, (simp ruled_by_form, (simp ruled_by_form, (simp ruled_by_form, tt))))),
+)
 
 abbrev one_of_each : List Subject
 one_of_each = of "A" ∷ subject.Truth true ∷ subject.Condition (is_zero "B") ∷ of "SMALL" ∷ []
 
--- A ALSO TRUE ALSO B = 0 ALSO SMALL WHEN ANY ALSO ANY ALSO ANY ALSO ANY, and WHEN 1 THRU 3 ALSO SMALL ALSO NOT SMALL ALSO TRUE
+-- A ALSO TRUE ALSO B = 0 ALSO SMALL WHEN ANY ALSO ANY ALSO ANY ALSO ANY, and WHEN 1 THRU 3 ALSO SMALL ALSO NOT SMALL
+-- ALSO TRUE
 fit : Breaks ((one_of_each, choice.Any ∷ choice.Any ∷ choice.Any ∷ choice.Any ∷ [], [])
     ∷ (one_of_each, one_to_three false ∷ is (named "SMALL") ∷ is_not (named "SMALL") ∷ choice.Truth true ∷ [], [])
     ∷ [])
 unfolding computing
 fit = (simp ruled_by_form, (simp ruled_by_form, tt))
 
--- 52, at the object: N WHEN X, of which one has decimals and the other is of characters; 5 WHEN 5, two literals. A WHEN X may be compared.
+-- 52, at the object: N WHEN X, of which one has decimals and the other is of characters; 5 WHEN 5, two literals. A WHEN
+-- X may be compared.
 not_compared : Breaks ((of "N" ∷ [], is (named "X") ∷ [], one_broken 52 at_object)
     ∷ (subject.Value (counted "5") ∷ [], is (counted "5") ∷ [], one_broken 52 at_object)
     ∷ (of "A" ∷ [], is (named "X") ∷ [], [])

@@ -33,23 +33,30 @@ abbrev pub text : List ℕ → Literal
 text bytes = record { value = Nonnumeric bytes; place = at 5 20 }
 
 abbrev pub number : List ℕ → List ℕ → Literal
-number whole decimals = record { value = Numeric (record { sign = sign.Unsigned; whole = whole; decimals = decimals }); place = at 5 24 }
+number whole decimals =
+    record { value = Numeric (record { sign = sign.Unsigned; whole = whole; decimals = decimals }); place = at 5 24 }
 
 -- DISPLAY with these literals
 abbrev pub display : Place → List Literal → Bool → Statement
-display place literals advancing = roll-Statement (record { place = place; verb = verb.TextStatement (text_as.Display (map operand.Literal literals) advancing) })
+display place literals advancing = roll-Statement
+    (record { place = place; verb = verb.TextStatement (text_as.Display (map operand.Literal literals) advancing) })
 
 abbrev pub stop_run : Place → Statement
 stop_run place = roll-Statement (record { place = place; verb = verb.ControlStatement ending.StopRun })
 
 -- PERFORM with these statements
 abbrev pub perform : Place → List Statement → Statement
-perform place inside = roll-Statement (record { place = place; verb = verb.PerformStatement (record { performed = Statements inside; turns = Once }) })
+perform place inside = roll-Statement
+    (record { place = place; verb = verb.PerformStatement (record { performed = Statements inside; turns = Once }) })
 
 -- PERFORM these statements so many TIMES
 abbrev pub perform_times : Place → List ℕ → List Statement → Statement
 perform_times place digits inside =
-    roll-Statement (record { place = place; verb = verb.PerformStatement (record { performed = Statements inside; turns = Times (record { digits = digits; place = place }) }) })
+    roll-Statement (record {
+      place = place;
+      verb = verb.PerformStatement
+          (record { performed = Statements inside; turns = Times (record { digits = digits; place = place }) });
+    })
 
 -- with this budget, on 30 July 1926
 abbrev with : ℕ → RunInput
@@ -64,7 +71,13 @@ nothing_declared = record { scope = record { items = []; files = []; procedures 
 
 -- of a program without items
 abbrev empty : Program
-empty = record { name = record { characters = 80 ∷ []; place = at 2 20 }; selects = []; files = []; storage = []; sections = [] }
+empty = record {
+  name = record { characters = 80 ∷ []; place = at 2 20 };
+  selects = [];
+  files = [];
+  storage = [];
+  sections = [];
+}
 
 abbrev start : ℕ → State
 start budget = given.start empty (with budget)
@@ -115,7 +128,13 @@ hello_with_none = refl
 
 -- paragraphs without names and STOP RUN, one statement each
 abbrev pub plain : List (List Statement) → Program
-plain all = record { name = record { characters = 80 ∷ []; place = at 2 20 }; selects = []; files = []; storage = []; sections = record { name = None; paragraphs = each all } ∷ [] }
+plain all = record {
+  name = record { characters = 80 ∷ []; place = at 2 20 };
+  selects = [];
+  files = [];
+  storage = [];
+  sections = record { name = None; paragraphs = each all } ∷ [];
+}
   where
     each : List (List Statement) → List Paragraph
     each [] = []
@@ -127,59 +146,86 @@ unfolding out-Statement roll-Statement denote.Hole.Carrier.out denote.Hole.Carri
 end_stops = refl
 
 -- nothing runs after STOP RUN
-stop_is_last : meaning (plain ((stop ∷ show_hello ∷ []) ∷ (show_hello ∷ []) ∷ [])) 9 ≡ record { events = []; end = Stopped; lines = []; files = [] ∷ [] }
+stop_is_last : meaning (plain ((stop ∷ show_hello ∷ []) ∷ (show_hello ∷ []) ∷ [])) 9
+    ≡ record { events = []; end = Stopped; lines = []; files = [] ∷ [] }
 unfolding out-Statement roll-Statement denote.Hole.Carrier.out denote.Hole.Carrier.roll
 stop_is_last = refl
 
 -- paragraphs follow one another, and one without sentences uses none of the budget
-in_order : meaning (plain ((display (at 1 12) (text (65 ∷ []) ∷ []) false ∷ []) ∷ [] ∷ (display (at 3 12) (text (66 ∷ []) ∷ []) false ∷ []) ∷ [])) 2
+in_order : meaning (plain ((display (at 1 12) (text (65 ∷ []) ∷ []) false ∷ []) ∷ []
+    ∷ (display (at 3 12) (text (66 ∷ []) ∷ []) false ∷ []) ∷ [])) 2
     ≡ record { events = map Shown (65 ∷ 66 ∷ []); end = Stopped; lines = []; files = [] ∷ [] }
 unfolding out-Statement roll-Statement denote.Hole.Carrier.out denote.Hole.Carrier.roll
 in_order = refl
 
 -- PERFORM DISPLAY "A" PERFORM DISPLAY "B" END-PERFORM END-PERFORM: each of the four uses one of the budget
 abbrev pub nested : Program
-nested = plain ((perform (at 1 12) (display (at 1 20) (text (65 ∷ []) ∷ []) false ∷ perform (at 2 12) (display (at 2 20) (text (66 ∷ []) ∷ []) false ∷ []) ∷ []) ∷ []) ∷ [])
+nested = plain ((perform (at 1 12) (display (at 1 20) (text (65 ∷ []) ∷ []) false
+    ∷ perform (at 2 12) (display (at 2 20) (text (66 ∷ []) ∷ []) false ∷ []) ∷ []) ∷ []) ∷ [])
 
-nested_with_four : meaning nested 4 ≡ record { events = map Shown (65 ∷ 66 ∷ []); end = Stopped; lines = []; files = [] ∷ [] }
-unfolding out-Statement roll-Statement denote.Hole.Carrier.out denote.Hole.Carrier.roll Rattle.source_tree.specs.declared.statement.Statement.TheBlock.shown-the_row-Statement-0 denote.Hole.Carrier.shown denote.Hole.Carrier.hidden
+nested_with_four : meaning nested 4
+    ≡ record { events = map Shown (65 ∷ 66 ∷ []); end = Stopped; lines = []; files = [] ∷ [] }
+unfolding out-Statement roll-Statement denote.Hole.Carrier.out denote.Hole.Carrier.roll
+    Rattle.source_tree.specs.declared.statement.Statement.TheBlock.shown-the_row-Statement-0 denote.Hole.Carrier.shown
+    denote.Hole.Carrier.hidden
 nested_with_four = refl
 
 -- the inner PERFORM has used the third, and none is left for what stands in it
-nested_with_three : meaning nested 3 ≡ record { events = map Shown (65 ∷ []); end = Budget; lines = []; files = [] ∷ [] }
-unfolding out-Statement roll-Statement denote.Hole.Carrier.out denote.Hole.Carrier.roll Rattle.source_tree.specs.declared.statement.Statement.TheBlock.shown-the_row-Statement-0 denote.Hole.Carrier.shown denote.Hole.Carrier.hidden
+nested_with_three : meaning nested 3
+    ≡ record { events = map Shown (65 ∷ []); end = Budget; lines = []; files = [] ∷ [] }
+unfolding out-Statement roll-Statement denote.Hole.Carrier.out denote.Hole.Carrier.roll
+    Rattle.source_tree.specs.declared.statement.Statement.TheBlock.shown-the_row-Statement-0 denote.Hole.Carrier.shown
+    denote.Hole.Carrier.hidden
 nested_with_three = refl
 
--- PERFORM 2 TIMES PERFORM 3 TIMES DISPLAY "A" END-PERFORM END-PERFORM STOP RUN: the outer PERFORM uses one of the budget, each
--- of its two turns one, the inner PERFORM in each one, its three turns and their DISPLAY two each; and STOP RUN one. That is 18.
+-- PERFORM 2 TIMES PERFORM 3 TIMES DISPLAY "A" END-PERFORM END-PERFORM STOP RUN: the outer PERFORM uses one of the
+-- budget, each of its two turns one, the inner PERFORM in each one, its three turns and their DISPLAY two each; and
+-- STOP RUN one. That is 18.
 abbrev pub two_by_three : Program
-two_by_three = plain ((perform_times (at 1 12) (50 ∷ []) (perform_times (at 2 12) (51 ∷ []) (display (at 3 12) (text (65 ∷ []) ∷ []) false ∷ []) ∷ []) ∷ stop ∷ []) ∷ [])
+two_by_three = plain ((perform_times (at 1 12) (50 ∷ [])
+    (perform_times (at 2 12) (51 ∷ []) (display (at 3 12) (text (65 ∷ []) ∷ []) false ∷ []) ∷ []) ∷ stop ∷ []) ∷ [])
 
-two_by_three_with_18 : meaning two_by_three 18 ≡ record { events = map Shown (65 ∷ 65 ∷ 65 ∷ 65 ∷ 65 ∷ 65 ∷ []); end = Stopped; lines = []; files = [] ∷ [] }
-unfolding out-Statement roll-Statement denote.Hole.Carrier.out denote.Hole.Carrier.roll Rattle.source_tree.specs.declared.statement.Statement.TheBlock.shown-the_row-Statement-0 denote.Hole.Carrier.shown denote.Hole.Carrier.hidden
+two_by_three_with_18 : meaning two_by_three 18
+    ≡ record { events = map Shown (65 ∷ 65 ∷ 65 ∷ 65 ∷ 65 ∷ 65 ∷ []); end = Stopped; lines = []; files = [] ∷ [] }
+unfolding out-Statement roll-Statement denote.Hole.Carrier.out denote.Hole.Carrier.roll
+    Rattle.source_tree.specs.declared.statement.Statement.TheBlock.shown-the_row-Statement-0 denote.Hole.Carrier.shown
+    denote.Hole.Carrier.hidden
 two_by_three_with_18 = refl
 
 -- none is left for STOP RUN
-two_by_three_with_17 : meaning two_by_three 17 ≡ record { events = map Shown (65 ∷ 65 ∷ 65 ∷ 65 ∷ 65 ∷ 65 ∷ []); end = Budget; lines = []; files = [] ∷ [] }
-unfolding out-Statement roll-Statement denote.Hole.Carrier.out denote.Hole.Carrier.roll Rattle.source_tree.specs.declared.statement.Statement.TheBlock.shown-the_row-Statement-0 denote.Hole.Carrier.shown denote.Hole.Carrier.hidden
+two_by_three_with_17 : meaning two_by_three 17
+    ≡ record { events = map Shown (65 ∷ 65 ∷ 65 ∷ 65 ∷ 65 ∷ 65 ∷ []); end = Budget; lines = []; files = [] ∷ [] }
+unfolding out-Statement roll-Statement denote.Hole.Carrier.out denote.Hole.Carrier.roll
+    Rattle.source_tree.specs.declared.statement.Statement.TheBlock.shown-the_row-Statement-0 denote.Hole.Carrier.shown
+    denote.Hole.Carrier.hidden
 two_by_three_with_17 = refl
 
--- the last turn of the inner PERFORM has used the sixteenth, at the line of that PERFORM, and none is left for what stands in it
-last_turn : exec nothing_declared 4 (perform_times (at 2 12) (51 ∷ []) (display (at 3 12) (text (65 ∷ []) ∷ []) false ∷ [])) (start 6)
+-- the last turn of the inner PERFORM has used the sixteenth, at the line of that PERFORM, and none is left for what
+-- stands in it
+last_turn : exec nothing_declared 4
+    (perform_times (at 2 12) (51 ∷ []) (display (at 3 12) (text (65 ∷ []) ∷ []) false ∷ [])) (start 6)
     ≡ Over Budget (record (start 0) { line = 2; events = map Shown (65 ∷ 65 ∷ []) })
-unfolding out-Statement roll-Statement denote.Hole.Carrier.out denote.Hole.Carrier.roll Rattle.source_tree.specs.declared.statement.Statement.TheBlock.shown-the_row-Statement-0 denote.Hole.Carrier.shown denote.Hole.Carrier.hidden
+unfolding out-Statement roll-Statement denote.Hole.Carrier.out denote.Hole.Carrier.roll
+    Rattle.source_tree.specs.declared.statement.Statement.TheBlock.shown-the_row-Statement-0 denote.Hole.Carrier.shown
+    denote.Hole.Carrier.hidden
 last_turn = refl
 
 -- PERFORM 0 TIMES uses one of the budget, and nothing that stands in it runs
-no_turns : exec nothing_declared 1 (perform_times (at 1 12) (48 ∷ []) (stop ∷ [])) (start 1) ≡ Done (record (start 0) { line = 1 })
-unfolding out-Statement roll-Statement denote.Hole.Carrier.out denote.Hole.Carrier.roll Rattle.source_tree.specs.declared.statement.Statement.TheBlock.shown-the_row-Statement-0 denote.Hole.Carrier.shown denote.Hole.Carrier.hidden
+no_turns : exec nothing_declared 1 (perform_times (at 1 12) (48 ∷ []) (stop ∷ [])) (start 1)
+    ≡ Done (record (start 0) { line = 1 })
+unfolding out-Statement roll-Statement denote.Hole.Carrier.out denote.Hole.Carrier.roll
+    Rattle.source_tree.specs.declared.statement.Statement.TheBlock.shown-the_row-Statement-0 denote.Hole.Carrier.shown
+    denote.Hole.Carrier.hidden
 no_turns = refl
 
 -- 007 says seven turns, and 18 nines as many as they say
 leading_zeros_say_nothing : turns_of (record { digits = 48 ∷ 48 ∷ 55 ∷ []; place = at 1 20 }) ≡ 7
 leading_zeros_say_nothing = refl
 
-eighteen_digits : turns_of (record { digits = 57 ∷ 57 ∷ 57 ∷ 57 ∷ 57 ∷ 57 ∷ 57 ∷ 57 ∷ 57 ∷ 57 ∷ 57 ∷ 57 ∷ 57 ∷ 57 ∷ 57 ∷ 57 ∷ 57 ∷ 57 ∷ []; place = at 1 20 }) ≡ 999999999999999999
+eighteen_digits : turns_of (record {
+  digits = 57 ∷ 57 ∷ 57 ∷ 57 ∷ 57 ∷ 57 ∷ 57 ∷ 57 ∷ 57 ∷ 57 ∷ 57 ∷ 57 ∷ 57 ∷ 57 ∷ 57 ∷ 57 ∷ 57 ∷ 57 ∷ [];
+  place = at 1 20;
+}) ≡ 999999999999999999
 eighteen_digits = refl
 
 -- a program without paragraphs has stopped
@@ -187,7 +233,8 @@ nothing_to_do : meaning (plain []) 0 ≡ record { events = []; end = Stopped; li
 nothing_to_do = refl
 
 -- DISPLAY "A" 12.50 'it''s' WITH NO ADVANCING
-three_operands : displayed_bytes [] (map operand.Literal (text (65 ∷ []) ∷ number (49 ∷ 50 ∷ []) (53 ∷ 48 ∷ []) ∷ text (105 ∷ 116 ∷ 39 ∷ 115 ∷ []) ∷ [])) false []
+three_operands : displayed_bytes [] (map operand.Literal
+    (text (65 ∷ []) ∷ number (49 ∷ 50 ∷ []) (53 ∷ 48 ∷ []) ∷ text (105 ∷ 116 ∷ 39 ∷ 115 ∷ []) ∷ [])) false []
     ≡ Ok (65 ∷ 49 ∷ 50 ∷ 46 ∷ 53 ∷ 48 ∷ 105 ∷ 116 ∷ 39 ∷ 115 ∷ [])
 three_operands = refl
 
@@ -196,18 +243,23 @@ line_ended : displayed_bytes [] (map operand.Literal (text (65 ∷ []) ∷ [])) 
 line_ended = refl
 
 -- -.50, +007 and 5 are shown as they were written
-negative_fraction : shown_literal (Numeric (record { sign = sign.Minus; whole = []; decimals = 53 ∷ 48 ∷ [] })) ≡ 45 ∷ 46 ∷ 53 ∷ 48 ∷ []
+negative_fraction : shown_literal (Numeric (record { sign = sign.Minus; whole = []; decimals = 53 ∷ 48 ∷ [] }))
+    ≡ 45 ∷ 46 ∷ 53 ∷ 48 ∷ []
 negative_fraction = refl
 
-leading_zeros : shown_literal (Numeric (record { sign = sign.Plus; whole = 48 ∷ 48 ∷ 55 ∷ []; decimals = [] })) ≡ 43 ∷ 48 ∷ 48 ∷ 55 ∷ []
+leading_zeros : shown_literal (Numeric (record { sign = sign.Plus; whole = 48 ∷ 48 ∷ 55 ∷ []; decimals = [] }))
+    ≡ 43 ∷ 48 ∷ 48 ∷ 55 ∷ []
 leading_zeros = refl
 
 -- the line of the statement that last used one of the budget
-last_line : exec nothing_declared 1 show_hello (start 3) ≡ Done (record (start 2) { line = 5; events = map Shown (hello_bytes ++ line_feed ∷ []) })
+last_line : exec nothing_declared 1 show_hello (start 3)
+    ≡ Done (record (start 2) { line = 5; events = map Shown (hello_bytes ++ line_feed ∷ []) })
 unfolding out-Statement roll-Statement denote.Hole.Carrier.out denote.Hole.Carrier.roll
 last_line = refl
 
 -- DISPLAY SPACE ALL "AB" QUOTE
-figurative_constants : displayed_bytes [] (map operand.Literal (record { value = Figurative Space; place = at 5 20 } ∷ record { value = All (65 ∷ 66 ∷ []); place = at 5 26 } ∷ record { value = Figurative Quote; place = at 5 35 } ∷ [])) false []
+figurative_constants : displayed_bytes [] (map operand.Literal
+    (record { value = Figurative Space; place = at 5 20 } ∷ record { value = All (65 ∷ 66 ∷ []); place = at 5 26 }
+    ∷ record { value = Figurative Quote; place = at 5 35 } ∷ [])) false []
     ≡ Ok (32 ∷ 65 ∷ 66 ∷ 34 ∷ [])
 figurative_constants = refl

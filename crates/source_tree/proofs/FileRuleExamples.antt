@@ -19,8 +19,11 @@ use Rattle.source_tree.specs.Records.{program_items}
 use Rattle.source_tree.specs.ProgramFiles.{files_of}
 use Rattle.source_tree.specs.FileRules.{file_name_rules, program_file_rules}
 use Rattle.source_tree.specs.FilingRules.{filing_rules}
-use Rattle.source_tree.proofs.Samples.{name, here, item, group, redefining, occurring, valued, entries, condition, one_value, text}
-use Rattle.source_tree.proofs.FileSamples.{select, with_status, relative, indexed, alternate, described, opening, close, read_next, read_by, reading, read_into, write, writing, write_from, delete, start, start_at, starting, program}
+use Rattle.source_tree.proofs.Samples.{name, here, item, group, redefining, occurring, valued, entries, condition}
+use Rattle.source_tree.proofs.Samples.{one_value, text}
+use Rattle.source_tree.proofs.FileSamples.{select, with_status, relative, indexed, alternate, described, opening, close}
+use Rattle.source_tree.proofs.FileSamples.{read_next, read_by, reading, read_into, write, writing, write_from, delete}
+use Rattle.source_tree.proofs.FileSamples.{start, start_at, starting, program}
 unfoldable use Rattle.source_tree.proofs.Computing.{computing}
 
 abbrev rules : List RuleBreach → List ℕ
@@ -29,15 +32,19 @@ rules = map (λ one. one.rule)
 -- ---- files: the record R of F, and working storage
 
 abbrev records : List Entry
-records = entries (group (codes "01") (codes "R") ∷ item (codes "05") (codes "K") (codes "XX") ∷ item (codes "05") (codes "V") (codes "XX") ∷ item (codes "05") (codes "M") (codes "99")
-    ∷ item (codes "05") (codes "Q") (codes "S99") ∷ item (codes "05") (codes "A") (codes "AA") ∷ occurring (codes "2") (item (codes "05") (codes "W") (codes "XX")) ∷ [])
+records = entries (group (codes "01") (codes "R") ∷ item (codes "05") (codes "K") (codes "XX")
+    ∷ item (codes "05") (codes "V") (codes "XX") ∷ item (codes "05") (codes "M") (codes "99")
+    ∷ item (codes "05") (codes "Q") (codes "S99") ∷ item (codes "05") (codes "A") (codes "AA")
+    ∷ occurring (codes "2") (item (codes "05") (codes "W") (codes "XX")) ∷ [])
 
 abbrev storage : List Entry
-storage = entries (item (codes "77") (codes "S") (codes "XX") ∷ item (codes "77") (codes "S3") (codes "XXX") ∷ item (codes "77") (codes "N") (codes "99") ∷ item (codes "77") (codes "SN") (codes "S99")
+storage = entries (item (codes "77") (codes "S") (codes "XX") ∷ item (codes "77") (codes "S3") (codes "XXX")
+    ∷ item (codes "77") (codes "N") (codes "99") ∷ item (codes "77") (codes "SN") (codes "S99")
     ∷ item (codes "77") (codes "D") (codes "9V9") ∷ [])
 
 abbrev of_files : List Select → List FileDescription → List ℕ
-of_files selects files = rules (program_file_rules (program_items (program selects files storage [])) (program selects files storage []))
+of_files selects files =
+    rules (program_file_rules (program_items (program selects files storage [])) (program selects files storage []))
 
 abbrev Breaks : List (Select × List ℕ) → Type 0
 Breaks [] = Unit {0}
@@ -67,7 +74,11 @@ described_twice = refl
 clauses : Breaks ((f, [])
     ∷ (indexed Random "K" [] f, [])
     ∷ (record (indexed Dynamic "K" [] f) { record_key = None }, 58 ∷ [])
-    ∷ (record (relative Sequential (Some "N") f) { organization = (indexed Random "K" [] f).organization; record_key = (indexed Random "K" [] f).record_key }, 58 ∷ [])
+    ∷ (
+      record (relative Sequential (Some "N") f)
+          { organization = (indexed Random "K" [] f).organization; record_key = (indexed Random "K" [] f).record_key },
+      58 ∷ [],
+    )
     ∷ (record f { access = Random }, 58 ∷ [])
     ∷ (record f { relative_key = (relative Random (Some "N") f).relative_key }, 58 ∷ [])
     ∷ (record (relative Sequential None f) { record_key = (indexed Random "K" [] f).record_key }, 58 ∷ [])
@@ -76,8 +87,8 @@ clauses : Breaks ((f, [])
 unfolding computing
 clauses = (refl, (refl, (refl, (refl, (refl, (refl, (refl, (refl, tt))))))))
 
--- 58: an unsigned number in DISPLAY usage may be a key; a number with S, an alphabetic item, one of a table, one of working storage may
--- not; nor may two keys begin at one place
+-- 58: an unsigned number in DISPLAY usage may be a key; a number with S, an alphabetic item, one of a table, one of
+-- working storage may not; nor may two keys begin at one place
 keys : Breaks ((indexed Random "M" (alternate "K" false ∷ alternate "V" true ∷ []) f, [])
     ∷ (indexed Random "Q" [] f, 58 ∷ [])
     ∷ (indexed Random "A" [] f, 58 ∷ [])
@@ -124,7 +135,8 @@ assigned = (refl, (refl, (refl, tt)))
 
 -- 69: a record of more than 1,000 bytes, a key of more than 100, more than 7 alternate keys, more than 15 files
 abbrev of_length : String → List ℕ
-of_length picture = of_files (indexed Random "K" [] f ∷ []) (described "F" (entries (item (codes "01") (codes "K") (codes picture) ∷ [])) ∷ [])
+of_length picture = of_files (indexed Random "K" [] f ∷ [])
+    (described "F" (entries (item (codes "01") (codes "K") (codes picture) ∷ [])) ∷ [])
 
 longest_key : of_length "X(100)" ≡ []
 unfolding computing
@@ -134,27 +146,35 @@ too_long_key : of_length "X(101)" ≡ 69 ∷ []
 unfolding computing
 too_long_key = refl
 
-longest_record : of_files (f ∷ []) (described "F" (entries (item (codes "01") (codes "R") (codes "X(1000)") ∷ [])) ∷ []) ≡ []
+longest_record : of_files (f ∷ []) (described "F" (entries (item (codes "01") (codes "R") (codes "X(1000)") ∷ [])) ∷ [])
+    ≡ []
 unfolding computing
 longest_record = refl
 
-too_long_record : of_files (f ∷ []) (described "F" (entries (item (codes "01") (codes "R") (codes "X") ∷ item (codes "01") (codes "T") (codes "X(1001)") ∷ [])) ∷ []) ≡ 69 ∷ []
+too_long_record : of_files (f ∷ []) (described "F" (entries
+    (item (codes "01") (codes "R") (codes "X") ∷ item (codes "01") (codes "T") (codes "X(1001)") ∷ [])) ∷ []) ≡ 69 ∷ []
 unfolding computing
 too_long_record = refl
 
 abbrev letters : List Entry
-letters = entries (group (codes "01") (codes "R") ∷ map (λ letter. item (codes "05") (letter ∷ []) (codes "X")) (codes "KABCEFGHI"))
+letters = entries
+    (group (codes "01") (codes "R") ∷ map (λ letter. item (codes "05") (letter ∷ []) (codes "X")) (codes "KABCEFGHI"))
 
-seven_keys : of_files (indexed Random "K" (alternate "A" true ∷ alternate "B" true ∷ alternate "C" true ∷ alternate "E" true ∷ alternate "F" true ∷ alternate "G" true ∷ alternate "H" true ∷ []) (select "X") ∷ []) (described "X" letters ∷ []) ≡ []
+seven_keys : of_files (indexed Random "K" (alternate "A" true ∷ alternate "B" true ∷ alternate "C" true
+    ∷ alternate "E" true ∷ alternate "F" true ∷ alternate "G" true ∷ alternate "H" true ∷ []) (select "X") ∷ [])
+    (described "X" letters ∷ []) ≡ []
 unfolding computing
 seven_keys = refl
 
-eight_keys : of_files (indexed Random "K" (alternate "A" true ∷ alternate "B" true ∷ alternate "C" true ∷ alternate "E" true ∷ alternate "F" true ∷ alternate "G" true ∷ alternate "H" true ∷ alternate "I" true ∷ []) (select "X") ∷ []) (described "X" letters ∷ []) ≡ 69 ∷ []
+eight_keys : of_files (indexed Random "K" (alternate "A" true ∷ alternate "B" true ∷ alternate "C" true ∷ alternate "E"
+    true ∷ alternate "F" true ∷ alternate "G" true ∷ alternate "H" true ∷ alternate "I" true ∷ []) (select "X") ∷ [])
+    (described "X" letters ∷ []) ≡ 69 ∷ []
 unfolding computing
 eight_keys = refl
 
 abbrev named_by : List ℕ → List ℕ
-named_by letters = rules (file_name_rules (map (λ letter. name (letter ∷ [])) letters) (map (λ letter. name (letter ∷ [])) letters))
+named_by letters =
+    rules (file_name_rules (map (λ letter. name (letter ∷ [])) letters) (map (λ letter. name (letter ∷ [])) letters))
 
 fifteen_files : named_by (codes "ABCDEFGHIJKLMNO") ≡ []
 fifteen_files = refl
@@ -167,10 +187,22 @@ abbrev Holds : List (List Entry × List ℕ) → Type 0
 Holds [] = Unit {0}
 Holds (row ∷ more) = (of_files (f ∷ []) (described "F" row.0 ∷ []) ≡ row.1) × Holds more
 
-record_entries : Holds ((entries (item (codes "01") (codes "R") (codes "XX") ∷ redefining (codes "R") (item (codes "01") (codes "T") (codes "XX")) ∷ []), 46 ∷ [])
-    ∷ (entries (group (codes "01") (codes "R") ∷ item (codes "05") (codes "B") (codes "X") ∷ redefining (codes "B") (item (codes "05") (codes "C") (codes "X")) ∷ []), [])
+record_entries : Holds ((
+  entries (item (codes "01") (codes "R") (codes "XX")
+      ∷ redefining (codes "R") (item (codes "01") (codes "T") (codes "XX")) ∷ []),
+  46 ∷ [],
+)
+    ∷ (
+      entries (group (codes "01") (codes "R") ∷ item (codes "05") (codes "B") (codes "X")
+          ∷ redefining (codes "B") (item (codes "05") (codes "C") (codes "X")) ∷ []),
+      [],
+    )
     ∷ (entries (valued (text (codes "A")) (item (codes "01") (codes "R") (codes "X")) ∷ []), 47 ∷ [])
-    ∷ (entries (item (codes "01") (codes "R") (codes "X") ∷ []) ++ condition (codes "C") (one_value (text (codes "A")) ∷ []) ∷ [], [])
+    ∷ (
+      entries (item (codes "01") (codes "R") (codes "X") ∷ [])
+          ++ condition (codes "C") (one_value (text (codes "A")) ∷ []) ∷ [],
+      [],
+    )
     ∷ (entries (item (codes "05") (codes "R") (codes "X") ∷ []), 43 ∷ [])
     ∷ (entries (item (codes "77") (codes "R") (codes "X") ∷ []), 43 ∷ [])
     ∷ ([], 69 ∷ [])
@@ -178,30 +210,38 @@ record_entries : Holds ((entries (item (codes "01") (codes "R") (codes "XX") ∷
 unfolding computing
 record_entries = (refl, (refl, (refl, (refl, (refl, (refl, (refl, tt)))))))
 
--- ---- file statements: F is sequential, G relative with dynamic access and H with sequential, I indexed with random access and J with
--- dynamic, L sequential with a number as its only record
+-- ---- file statements: F is sequential, G relative with dynamic access and H with sequential, I indexed with random
+-- access and J with dynamic, L sequential with a number as its only record
 
 abbrev some_files : List Select
-some_files = f ∷ relative Dynamic (Some "N") (select "G") ∷ relative Sequential None (select "H") ∷ indexed Random "IK" (alternate "IV" true ∷ []) (select "I")
+some_files = f ∷ relative Dynamic (Some "N") (select "G") ∷ relative Sequential None (select "H")
+    ∷ indexed Random "IK" (alternate "IV" true ∷ []) (select "I")
     ∷ indexed Dynamic "JK" (alternate "JV" true ∷ []) (select "J") ∷ select "L" ∷ []
 
 abbrev some_records : List FileDescription
-some_records = described "F" (entries (item (codes "01") (codes "FR") (codes "XXXX") ∷ [])) ∷ described "G" (entries (item (codes "01") (codes "GR") (codes "XXXX") ∷ []))
+some_records = described "F" (entries (item (codes "01") (codes "FR") (codes "XXXX") ∷ []))
+    ∷ described "G" (entries (item (codes "01") (codes "GR") (codes "XXXX") ∷ []))
     ∷ described "H" (entries (item (codes "01") (codes "HR") (codes "XXXX") ∷ []))
-    ∷ described "I" (entries (group (codes "01") (codes "IR") ∷ item (codes "05") (codes "IK") (codes "XX") ∷ item (codes "05") (codes "IV") (codes "99")
+    ∷ described "I" (entries (group (codes "01") (codes "IR") ∷ item (codes "05") (codes "IK") (codes "XX")
+    ∷ item (codes "05") (codes "IV") (codes "99")
     ∷ redefining (codes "IV") (item (codes "05") (codes "I2") (codes "99")) ∷ []))
-    ∷ described "J" (entries (group (codes "01") (codes "JR") ∷ group (codes "05") (codes "JK") ∷ item (codes "10") (codes "J1") (codes "X") ∷ item (codes "10") (codes "J2") (codes "X") ∷ item (codes "05") (codes "JV") (codes "99")
-    ∷ redefining (codes "JV") (item (codes "05") (codes "J3") (codes "99")) ∷ redefining (codes "JV") (item (codes "05") (codes "J4") (codes "XX")) ∷ []))
+    ∷ described "J" (entries (group (codes "01") (codes "JR") ∷ group (codes "05") (codes "JK") ∷ item (codes "10")
+    (codes "J1") (codes "X") ∷ item (codes "10") (codes "J2") (codes "X") ∷ item (codes "05") (codes "JV") (codes "99")
+    ∷ redefining (codes "JV") (item (codes "05") (codes "J3") (codes "99"))
+    ∷ redefining (codes "JV") (item (codes "05") (codes "J4") (codes "XX")) ∷ []))
     ∷ described "L" (entries (item (codes "01") (codes "LR") (codes "9(4)") ∷ [])) ∷ []
 
 abbrev some_storage : List Entry
-some_storage = entries (item (codes "01") (codes "N") (codes "99") ∷ redefining (codes "N") (item (codes "01") (codes "N2") (codes "99")) ∷ item (codes "77") (codes "X") (codes "XX") ∷ item (codes "77") (codes "A") (codes "AA") ∷ [])
+some_storage = entries
+    (item (codes "01") (codes "N") (codes "99") ∷ redefining (codes "N") (item (codes "01") (codes "N2") (codes "99"))
+    ∷ item (codes "77") (codes "X") (codes "XX") ∷ item (codes "77") (codes "A") (codes "AA") ∷ [])
 
 abbrev some_program : Program
 some_program = program some_files some_records some_storage []
 
 abbrev of_filing : Verb Statement → List RuleBreach
-of_filing (verb.FileStatement one) = filing_rules (program_items some_program) (files_of (program_items some_program) some_program) one
+of_filing (verb.FileStatement one) =
+    filing_rules (program_items some_program) (files_of (program_items some_program) some_program) one
 of_filing _ = []
 
 abbrev Broke : List (Verb Statement × List ℕ) → Type 0
@@ -219,7 +259,8 @@ no_file_broken : rules (program_file_rules (program_items some_program) some_pro
 unfolding computing
 no_file_broken = refl
 
-opened : Broke ((opening Extend "F", []) ∷ (opening Extend "G", 61 ∷ []) ∷ (opening Extend "J", 61 ∷ []) ∷ (opening Input "Z", 40 ∷ []) ∷ (close "F", []) ∷ (close "FR", 40 ∷ []) ∷ [])
+opened : Broke ((opening Extend "F", []) ∷ (opening Extend "G", 61 ∷ []) ∷ (opening Extend "J", 61 ∷ [])
+    ∷ (opening Input "Z", 40 ∷ []) ∷ (close "F", []) ∷ (close "FR", 40 ∷ []) ∷ [])
 unfolding computing
 opened = (refl, (refl, (refl, (refl, (refl, (refl, tt))))))
 
@@ -246,7 +287,34 @@ reads : Broke ((read_next "F", [])
     ∷ (read_into "Z" Absent "F", 40 ∷ [])
     ∷ [])
 unfolding computing
-reads = (refl, (refl, (refl, (refl, (refl, (refl, (refl, (refl, (refl, (refl, (refl, (refl, (refl, (refl, (refl, (refl, (refl, (refl, (refl, (refl, (refl, tt)))))))))))))))))))))
+reads = (
+  refl,
+  (
+    refl,
+    (
+      refl,
+      (
+        refl,
+        (
+          refl,
+          (
+            refl,
+            (
+              refl,
+              (
+                refl,
+                (
+                  refl,
+                  (refl, (refl, (refl, (refl, (refl, (refl, (refl, (refl, (refl, (refl, (refl, (refl, tt)))))))))))),
+                ),
+              ),
+            ),
+          ),
+        ),
+      ),
+    ),
+  ),
+)
 
 changes : Broke ((write "FR", [])
     ∷ (write "IK", 40 ∷ [])
@@ -286,4 +354,34 @@ starts : Broke ((start "F", 61 ∷ [])
     ∷ (start_at Equal "Z" "J", 40 ∷ [])
     ∷ [])
 unfolding computing
-starts = (refl, (refl, (refl, (refl, (refl, (refl, (refl, (refl, (refl, (refl, (refl, (refl, (refl, (refl, (refl, (refl, (refl, (refl, (refl, (refl, (refl, (refl, tt))))))))))))))))))))))
+starts = (
+  refl,
+  (
+    refl,
+    (
+      refl,
+      (
+        refl,
+        (
+          refl,
+          (
+            refl,
+            (
+              refl,
+              (
+                refl,
+                (
+                  refl,
+                  (
+                    refl,
+                    (refl, (refl, (refl, (refl, (refl, (refl, (refl, (refl, (refl, (refl, (refl, (refl, tt)))))))))))),
+                  ),
+                ),
+              ),
+            ),
+          ),
+        ),
+      ),
+    ),
+  ),
+)

@@ -48,10 +48,16 @@ with_status item one = record one { status = Some (plain (codes item)) }
 
 abbrev pub relative : Access → Option String → Select → Select
 relative access None one = record one { organization = organization.Relative; access = access }
-relative access (Some key) one = record one { organization = organization.Relative; access = access; relative_key = Some (plain (codes key)) }
+relative access (Some key) one =
+    record one { organization = organization.Relative; access = access; relative_key = Some (plain (codes key)) }
 
 abbrev pub indexed : Access → String → List AlternateKeyClause → Select → Select
-indexed access key alternates one = record one { organization = organization.Indexed; access = access; record_key = Some (plain (codes key)); alternate_keys = alternates }
+indexed access key alternates one = record one {
+  organization = organization.Indexed;
+  access = access;
+  record_key = Some (plain (codes key));
+  alternate_keys = alternates;
+}
 
 abbrev pub alternate : String → Bool → AlternateKeyClause
 alternate key duplicates = record { key = plain (codes key); duplicates = duplicates }
@@ -69,7 +75,8 @@ close file = verb.FileStatement (filing.Close (name (codes file) ∷ []))
 
 abbrev pub reading : Bool → Option String → FilePhrases Statement → String → Verb Statement
 reading next None phrases file = verb.FileStatement (filing.Read (name (codes file)) next None None phrases)
-reading next (Some key) phrases file = verb.FileStatement (filing.Read (name (codes file)) next None (Some (plain (codes key))) phrases)
+reading next (Some key) phrases file =
+    verb.FileStatement (filing.Read (name (codes file)) next None (Some (plain (codes key))) phrases)
 
 abbrev pub read : String → Verb Statement
 read file = reading false None Absent file
@@ -81,7 +88,8 @@ abbrev pub read_by : String → String → Verb Statement
 read_by key file = reading false (Some key) Absent file
 
 abbrev pub read_into : String → FilePhrases Statement → String → Verb Statement
-read_into item phrases file = verb.FileStatement (filing.Read (name (codes file)) false (Some (plain (codes item))) None phrases)
+read_into item phrases file =
+    verb.FileStatement (filing.Read (name (codes file)) false (Some (plain (codes item))) None phrases)
 
 abbrev pub writing : FilePhrases Statement → String → Verb Statement
 writing phrases called = verb.FileStatement (filing.Write (plain (codes called)) None phrases)
@@ -107,7 +115,8 @@ start file = verb.FileStatement (filing.Start (name (codes file)) None Absent)
 -- with NOT or without
 abbrev pub starting : Bool → Relation → String → String → Verb Statement
 starting negated relation key file =
-    verb.FileStatement (filing.Start (name (codes file)) (Some (record { operator = record { negated = negated; relation = relation }; key = plain (codes key) })) Absent)
+    verb.FileStatement (filing.Start (name (codes file))
+    (Some (record { operator = record { negated = negated; relation = relation }; key = plain (codes key) })) Absent)
 
 abbrev pub start_at : Relation → String → String → Verb Statement
 start_at relation key file = starting false relation key file

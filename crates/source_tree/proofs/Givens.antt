@@ -12,18 +12,22 @@ pub given_day : (station : State) (day : List ℕ) (budget : ℕ) → (given_on 
 unfolding given_on
 given_day station day budget = refl
 
-pub budget_over : (files : Files) (station : State) (day : List ℕ) (budget : ℕ) → (given_over files station day budget).budget ≡ budget
+pub budget_over : (files : Files) (station : State) (day : List ℕ) (budget : ℕ)
+    → (given_over files station day budget).budget ≡ budget
 unfolding given_over
 budget_over files station day budget = refl
 
-pub day_over : (files : Files) (station : State) (day : List ℕ) (budget : ℕ) → (given_over files station day budget).day ≡ day
+pub day_over : (files : Files) (station : State) (day : List ℕ) (budget : ℕ)
+    → (given_over files station day budget).day ≡ day
 unfolding given_over
 day_over files station day budget = refl
 
-pub files_over : (files : Files) (station : State) (day : List ℕ) (budget : ℕ) → (given_over files station day budget).files ≡ files
+pub files_over : (files : Files) (station : State) (day : List ℕ) (budget : ℕ)
+    → (given_over files station day budget).files ≡ files
 unfolding given_over
 files_over files station day budget = refl
 
-pub over_no_files : (station : State) (day : List ℕ) (budget : ℕ) → given_over [] station day budget ≡ given_on station day budget
+pub over_no_files : (station : State) (day : List ℕ) (budget : ℕ)
+    → given_over [] station day budget ≡ given_on station day budget
 unfolding given_over given_on
 over_no_files station day budget = refl

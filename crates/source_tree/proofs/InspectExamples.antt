@@ -21,7 +21,8 @@ use Rattle.source_tree.specs.Evaluated as fault
 use Rattle.source_tree.specs.Evaluated.{Evaluation}
 use Rattle.source_tree.specs.Inspecting.{inspect}
 use Rattle.source_tree.specs.InspectRules.{inspect_rules}
-use Rattle.source_tree.proofs.Samples.{group, item, occurring, binary, packed, entries, number, text, constant, reference, plain, by_item, the_item, the_literal}
+use Rattle.source_tree.proofs.Samples.{group, item, occurring, binary, packed, entries, number, text, constant}
+use Rattle.source_tree.proofs.Samples.{reference, plain, by_item, the_item, the_literal}
 unfoldable use Rattle.source_tree.proofs.Computing.{computing}
 use Rattle.decimal18.specs.Arithmetic as arithmetic
 use Rattle.decimal18.specs.Receiver as receivers
@@ -40,10 +41,12 @@ abbrev after_text : List ℕ → Limits
 after_text one = record anywhere { after = Some (the_literal (text one)) }
 
 abbrev counting : Occurrences → List ℕ → Limits → Tallied
-counting occurrences one limits = tallied.Texts occurrences (record { text = the_literal (text one); limits = limits } ∷ [])
+counting occurrences one limits =
+    tallied.Texts occurrences (record { text = the_literal (text one); limits = limits } ∷ [])
 
 abbrev replacing_by : Occurrences → Operand → Operand → Limits → Replacing
-replacing_by occurrences one by limits = replacing.Texts occurrences (record { text = one; by = by; limits = limits } ∷ [])
+replacing_by occurrences one by limits =
+    replacing.Texts occurrences (record { text = one; by = by; limits = limits } ∷ [])
 
 abbrev by_text : Occurrences → List ℕ → List ℕ → Limits → Replacing
 by_text occurrences one by limits = replacing_by occurrences (the_literal (text one)) (the_literal (text by)) limits
@@ -57,10 +60,12 @@ inspection subject tallying replacing = record { subject = plain subject; tallyi
 -- ---- T of six characters, N of one digit, and M of one with a decimal
 
 abbrev six : List Entry
-six = entries (item (codes "77") (codes "T") (codes "X(6)") ∷ item (codes "77") (codes "N") (codes "9") ∷ item (codes "77") (codes "M") (codes "9V9") ∷ [])
+six = entries (item (codes "77") (codes "T") (codes "X(6)") ∷ item (codes "77") (codes "N") (codes "9")
+    ∷ item (codes "77") (codes "M") (codes "9V9") ∷ [])
 
 abbrev inspected : List ℕ → List ℕ → List Tallying → List Replacing → Evaluation Storage
-inspected subject n tallying replacing = inspect (items_of six) (inspection (codes "T") tallying replacing) (subject ∷ n ∷ codes "98" ∷ [])
+inspected subject n tallying replacing =
+    inspect (items_of six) (inspection (codes "T") tallying replacing) (subject ∷ n ∷ codes "98" ∷ [])
 
 -- the subject, the counter, what is tallied and replaced, and what subject and counter become
 abbrev Inspects : List (List ℕ × List ℕ × List Tallying × List Replacing × List ℕ × List ℕ) → Type 0
@@ -70,28 +75,88 @@ Inspects (row ∷ more) = (inspected row.0 row.1 row.2 row.3 ≡ Ok (row.4 ∷ r
 abbrev for_n : List Tallied → List Tallying
 for_n entries = counter (codes "N") entries ∷ []
 
-worked_rows : Inspects ((codes "000120", codes "0", for_n (counting how.Leading (codes "0") anywhere ∷ []), [], codes "000120", codes "3")
-    ∷ (codes "000120", codes "0", [], replacing_by how.Leading (the_literal (text (codes "0"))) (the_literal (constant figurative.Space)) anywhere ∷ [], codes "   120", codes "0")
+worked_rows : Inspects
+    ((codes "000120", codes "0", for_n (counting how.Leading (codes "0") anywhere ∷ []), [], codes "000120", codes "3")
+    ∷ (
+      codes "000120",
+      codes "0",
+      [],
+      replacing_by how.Leading (the_literal (text (codes "0"))) (the_literal (constant figurative.Space)) anywhere ∷ [],
+      codes "   120",
+      codes "0",
+    )
     ∷ (codes "AAAAA ", codes "0", for_n (counting how.All (codes "AA") anywhere ∷ []), [], codes "AAAAA ", codes "2")
-    ∷ (codes "ABCABC", codes "0", [], by_text how.All (codes "A") (codes "X") (after_text (codes "B")) ∷ [], codes "ABCXBC", codes "0")
-    ∷ (codes "ABCABC", codes "0", [], by_text how.First (codes "C") (codes "-") anywhere ∷ [], codes "AB-ABC", codes "0")
-    ∷ (codes "ABCABC", codes "0", [], replacing.Characters (the_literal (text (codes "*"))) (before_text (codes "C")) ∷ [], codes "**CABC", codes "0")
-    ∷ (codes "ABCABC", codes "0", for_n (counting how.All (codes "B") anywhere ∷ counting how.All (codes "C") anywhere ∷ []), [], codes "ABCABC", codes "4")
+    ∷ (
+      codes "ABCABC",
+      codes "0",
+      [],
+      by_text how.All (codes "A") (codes "X") (after_text (codes "B")) ∷ [],
+      codes "ABCXBC",
+      codes "0",
+    )
+    ∷ (
+      codes "ABCABC",
+      codes "0",
+      [],
+      by_text how.First (codes "C") (codes "-") anywhere ∷ [],
+      codes "AB-ABC",
+      codes "0",
+    )
+    ∷ (
+      codes "ABCABC",
+      codes "0",
+      [],
+      replacing.Characters (the_literal (text (codes "*"))) (before_text (codes "C")) ∷ [],
+      codes "**CABC",
+      codes "0",
+    )
+    ∷ (
+      codes "ABCABC",
+      codes "0",
+      for_n (counting how.All (codes "B") anywhere ∷ counting how.All (codes "C") anywhere ∷ []),
+      [],
+      codes "ABCABC",
+      codes "4",
+    )
     ∷ [])
 unfolding computing arithmetic.sum tallies replaced_subject walk receivers.fitted_decimal
 worked_rows = (refl, (refl, (refl, (refl, (refl, (refl, (refl, tt)))))))
 
--- The tens are cut; both phrases look at the text as it was; ALL "AB" BY ZERO takes two zeros; the last "BC" before "CA" doesn't end before
--- it, so that its C is for the second entry.
-more_rows : Inspects ((codes "ABABAB", codes "8", for_n (counting how.All (codes "A") anywhere ∷ []), [], codes "ABABAB", codes "1")
-    ∷ (codes "ABCABC", codes "0", for_n (counting how.All (codes "A") anywhere ∷ []), by_text how.All (codes "A") (codes "B") anywhere ∷ [], codes "BBCBBC", codes "2")
-    ∷ (codes "ABCABC", codes "0", [], replacing_by how.All (the_literal (text (codes "AB"))) (the_literal (constant figurative.Zero)) anywhere ∷ [], codes "00C00C", codes "0")
-    ∷ (codes "ABCABC", codes "0", for_n (counting how.All (codes "B") anywhere ∷ []), by_text how.All (codes "BC") (codes "XY") (before_text (codes "CA")) ∷ by_text how.All (codes "C") (codes "Z") anywhere ∷ [], codes "ABZABZ", codes "2") ∷ [])
+-- The tens are cut; both phrases look at the text as it was; ALL "AB" BY ZERO takes two zeros; the last "BC" before
+-- "CA" doesn't end before it, so that its C is for the second entry.
+more_rows : Inspects
+    ((codes "ABABAB", codes "8", for_n (counting how.All (codes "A") anywhere ∷ []), [], codes "ABABAB", codes "1")
+    ∷ (
+      codes "ABCABC",
+      codes "0",
+      for_n (counting how.All (codes "A") anywhere ∷ []),
+      by_text how.All (codes "A") (codes "B") anywhere ∷ [],
+      codes "BBCBBC",
+      codes "2",
+    )
+    ∷ (
+      codes "ABCABC",
+      codes "0",
+      [],
+      replacing_by how.All (the_literal (text (codes "AB"))) (the_literal (constant figurative.Zero)) anywhere ∷ [],
+      codes "00C00C",
+      codes "0",
+    )
+    ∷ (
+      codes "ABCABC",
+      codes "0",
+      for_n (counting how.All (codes "B") anywhere ∷ []),
+      by_text how.All (codes "BC") (codes "XY") (before_text (codes "CA"))
+          ∷ by_text how.All (codes "C") (codes "Z") anywhere ∷ [],
+      codes "ABZABZ",
+      codes "2",
+    ) ∷ [])
 unfolding computing arithmetic.sum tallies replaced_subject walk receivers.fitted_decimal
 more_rows = (refl, (refl, (refl, (refl, tt))))
 
 -- One walk for both: what fits for M's entry isn't N's. M holds 9.8, and its tens are cut.
-two_counters : inspected (codes "ABCABC") (codes "0") (counter (codes "M") (counting how.All (codes "AB") anywhere ∷ []) ∷ counter (codes "N") (tallied.Characters anywhere ∷ []) ∷ []) []
+two_counters : inspected (codes "ABCABC") (codes "0") (counter (codes "M") (counting how.All (codes "AB") anywhere ∷ [])
+    ∷ counter (codes "N") (tallied.Characters anywhere ∷ []) ∷ []) []
     ≡ Ok (codes "ABCABC" ∷ codes "2" ∷ codes "18" ∷ [])
 unfolding computing arithmetic.sum tallies walk receivers.fitted_decimal
 two_counters = refl
@@ -100,8 +165,9 @@ no_number : inspected (codes "ABCABC") (codes "x") (for_n (tallied.Characters an
 unfolding computing arithmetic.sum tallies walk
 no_number = refl
 
--- ---- The walk alone: at each place the entries in order; a LEADING whose first place another entry took never fits, and one that had its
--- place goes on right after it; FIRST once; BEFORE without an occurrence means all places, AFTER none.
+-- ---- The walk alone: at each place the entries in order; a LEADING whose first place another entry took never fits,
+-- and one that had its place goes on right after it; FIRST once; BEFORE without an occurrence means all places, AFTER
+-- none.
 
 abbrev sought : Pattern → TextEntry
 sought pattern = record { pattern = pattern; by = []; before = None; after = None }
@@ -126,19 +192,24 @@ tallies_alone : (tallies (all_of (codes "BA") ∷ all_of (codes "AB") ∷ []) (c
 unfolding tallies walk
 tallies_alone = (refl, refl, refl, refl, refl, refl, refl, refl)
 
-replaced_alone : (replaced_subject (record (all_of (codes "AA")) { by = codes "XY" } ∷ []) (codes "AAAAA") ≡ codes "XYXYA")
-    × (replaced_subject (record (all_of (codes "A")) { by = codes "B" } ∷ record (all_of (codes "B")) { by = codes "A" } ∷ []) (codes "ABBA") ≡ codes "BAAB")
+replaced_alone :
+    (replaced_subject (record (all_of (codes "AA")) { by = codes "XY" } ∷ []) (codes "AAAAA") ≡ codes "XYXYA")
+    × (replaced_subject (record (all_of (codes "A")) { by = codes "B" } ∷ record (all_of (codes "B")) { by = codes "A" }
+    ∷ []) (codes "ABBA") ≡ codes "BAAB")
     × (replaced_subject (record (first_of (codes "C")) { by = codes "-" } ∷ []) (codes "ABCABC") ≡ codes "AB-ABC")
 unfolding replaced_subject walk
 replaced_alone = (refl, refl, refl)
 
--- ---- C is a counter in T: what is replaced is T as it was, and the store comes last; without REPLACING nothing is stored behind C.
+-- ---- C is a counter in T: what is replaced is T as it was, and the store comes last; without REPLACING nothing is
+-- stored behind C.
 
 abbrev overlapping : List Entry
-overlapping = entries (group (codes "01") (codes "T") ∷ item (codes "05") (codes "C") (codes "9") ∷ item (codes "05") (codes "R") (codes "XX") ∷ [])
+overlapping = entries (group (codes "01") (codes "T") ∷ item (codes "05") (codes "C") (codes "9")
+    ∷ item (codes "05") (codes "R") (codes "XX") ∷ [])
 
 abbrev inspects : List Replacing → Evaluation Storage
-inspects replacing = inspect (items_of overlapping) (inspection (codes "T") (counter (codes "C") (tallied.Characters anywhere ∷ []) ∷ []) replacing) (codes "0AB" ∷ [])
+inspects replacing = inspect (items_of overlapping)
+    (inspection (codes "T") (counter (codes "C") (tallied.Characters anywhere ∷ []) ∷ []) replacing) (codes "0AB" ∷ [])
 
 counter_in_subject : (inspects [] ≡ Ok (codes "3AB" ∷ []))
     × (inspects (by_text how.All (codes "A") (codes "X") anywhere ∷ []) ≡ Ok (codes "0XB" ∷ []))
@@ -156,7 +227,8 @@ element called = Some (operand.Item (reference (codes "E") (by_item called ∷ [
 
 abbrev by_two : Bool → Evaluation Storage
 by_two after_first = inspect (items_of of_table)
-    (inspection (codes "G") [] (replacing.Characters (the_literal (text (codes "X"))) (record { before = element (codes "I"); after = element (codes "J"); after_first = after_first }) ∷ []))
+    (inspection (codes "G") [] (replacing.Characters (the_literal (text (codes "X")))
+    (record { before = element (codes "I"); after = element (codes "J"); after_first = after_first }) ∷ []))
     (codes "ABC" ∷ codes "x" ∷ codes "5" ∷ [])
 
 order_of_limits : (by_two false ≡ Err fault.Data) × (by_two true ≡ Err fault.Subscript)
@@ -166,10 +238,15 @@ order_of_limits = (refl, refl)
 -- BEFORE C and AFTER A of ABC, in either order
 abbrev between : Bool → Evaluation Storage
 between after_first = inspect (items_of of_table)
-    (inspection (codes "G") [] (replacing.Characters (the_literal (text (codes "X"))) (record { before = Some (the_literal (text (codes "C"))); after = Some (the_literal (text (codes "A"))); after_first = after_first }) ∷ []))
+    (inspection (codes "G") [] (replacing.Characters (the_literal (text (codes "X"))) (record {
+      before = Some (the_literal (text (codes "C")));
+      after = Some (the_literal (text (codes "A")));
+      after_first = after_first;
+    }) ∷ []))
     (codes "ABC" ∷ codes "1" ∷ codes "1" ∷ [])
 
-either_order : (between false ≡ Ok (codes "AXC" ∷ codes "1" ∷ codes "1" ∷ [])) × (between true ≡ Ok (codes "AXC" ∷ codes "1" ∷ codes "1" ∷ []))
+either_order : (between false ≡ Ok (codes "AXC" ∷ codes "1" ∷ codes "1" ∷ []))
+    × (between true ≡ Ok (codes "AXC" ∷ codes "1" ∷ codes "1" ∷ []))
 unfolding computing replaced_subject walk
 either_order = (refl, refl)
 
@@ -192,7 +269,8 @@ operands = entries (
 -- subject, counter, what is tallied and what replaces it
 abbrev the_rules : List ℕ → List ℕ → Operand → Operand → List ℕ
 the_rules subject called one by = rules (inspect_rules (items_of operands)
-    (inspection subject (counter called (tallied.Characters anywhere ∷ []) ∷ []) (replacing_by how.All one by anywhere ∷ [])))
+    (inspection subject (counter called (tallied.Characters anywhere ∷ []) ∷ [])
+    (replacing_by how.All one by anywhere ∷ [])))
 
 abbrev Broke : List (List ℕ × List ℕ × Operand × Operand × List ℕ) → Type 0
 Broke [] = Unit {0}
@@ -217,18 +295,35 @@ rules_broken : Broke ((codes "X", codes "N", the_item (codes "Y"), the_item (cod
     ∷ (codes "Q", codes "Q", the_item (codes "Q"), the_item (codes "X"), 40 ∷ 40 ∷ 40 ∷ [])
     ∷ [])
 unfolding computing
-rules_broken = (refl, (refl, (refl, (refl, (refl, (refl, (refl, (refl, (refl, (refl, (refl, (refl, (refl, (refl, (refl, (refl, (refl, tt)))))))))))))))))
+rules_broken = (
+  refl,
+  (
+    refl,
+    (
+      refl,
+      (
+        refl,
+        (refl, (refl, (refl, (refl, (refl, (refl, (refl, (refl, (refl, (refl, (refl, (refl, (refl, tt))))))))))))),
+      ),
+    ),
+  ),
+)
 
 -- CHARACTERS BY one character, a figurative constant or two; BEFORE and AFTER a number
 abbrev one_for_each : Operand → Limits → List ℕ
-one_for_each by limits = rules (inspect_rules (items_of operands) (inspection (codes "X") [] (replacing.Characters by limits ∷ [])))
+one_for_each by limits =
+    rules (inspect_rules (items_of operands) (inspection (codes "X") [] (replacing.Characters by limits ∷ [])))
 
 characters_broken : (one_for_each (the_literal (text (codes "A"))) anywhere ≡ [])
     × (one_for_each (the_literal (constant figurative.Quote)) anywhere ≡ [])
     × (one_for_each (the_literal (text (codes "AB"))) anywhere ≡ 64 ∷ [])
     × (one_for_each (the_item (codes "Y")) anywhere ≡ 64 ∷ [])
-    × (one_for_each (the_literal (text (codes "A"))) (record anywhere { before = Some (the_literal (number (codes "1"))) }) ≡ 64 ∷ [])
-    × (one_for_each (the_literal (text (codes "A"))) (record anywhere { before = Some (the_item (codes "S")); after = Some (the_item (codes "Q")) }) ≡ 64 ∷ 40 ∷ [])
-    × (one_for_each (the_literal (text (codes "A"))) (record { before = Some (the_item (codes "S")); after = Some (the_item (codes "Q")); after_first = true }) ≡ 40 ∷ 64 ∷ [])
+    × (one_for_each (the_literal (text (codes "A")))
+    (record anywhere { before = Some (the_literal (number (codes "1"))) }) ≡ 64 ∷ [])
+    × (one_for_each (the_literal (text (codes "A")))
+    (record anywhere { before = Some (the_item (codes "S")); after = Some (the_item (codes "Q")) }) ≡ 64 ∷ 40 ∷ [])
+    × (one_for_each (the_literal (text (codes "A")))
+    (record { before = Some (the_item (codes "S")); after = Some (the_item (codes "Q")); after_first = true })
+    ≡ 40 ∷ 64 ∷ [])
 unfolding computing
 characters_broken = (refl, refl, refl, refl, refl, refl, refl)

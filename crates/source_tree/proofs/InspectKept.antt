@@ -1,6 +1,7 @@
 -- Where INSPECT keeps its rules, its texts have some characters, and what replaces has the size of what it replaces.
 -- So each entry has its texts within those that are taken.
-use Rattle.std.proofs.Common.{◌≡◌, ℕ, suc, ◌+◌, ◌≤◌, Bool, true, false, cond, List, [], ◌∷◌, ◌++◌, length, Option, Some, None, refl, sym, ap, subst, ◌∙◌, arith}
+use Rattle.std.proofs.Common.{◌≡◌, ℕ, suc, ◌+◌, ◌≤◌, Bool, true, false, cond, List, [], ◌∷◌, ◌++◌, length, Option, Some}
+use Rattle.std.proofs.Common.{None, refl, sym, ap, subst, ◌∙◌, arith}
 use Rattle.std.specs.Prelude.{◌==◌, not, filter, slice_get, nat_le, ◌&&◌}
 use Rattle.std.specs.List.{AllByRecursion}
 use Rattle.std.proofs.lemmas.Bool.Decides.{nat_tests}
@@ -34,9 +35,18 @@ use Rattle.source_tree.specs.Places.{LocatedItem}
 use Rattle.source_tree.specs.Storage.{Storage}
 use Rattle.source_tree.specs.ValueRules.{has_form, most_literal_characters}
 use Rattle.source_tree.specs.ConditionRules.{operand_place}
-use Rattle.source_tree.specs.InspectRules.{counter_item, inspected_item, inspected_literal, inspected_rules, only_size, size_of, literal_size, replacing_size, same_size, by_rules, limit_rules, limits_rules, ordered_limits, tallied_text_rules, tallied_rules, tallying_rules, replaced_text_rules, replacing_rules, inspect_rules}
+use Rattle.source_tree.specs.InspectRules.{counter_item, inspected_item, inspected_literal, inspected_rules, only_size}
+use Rattle.source_tree.specs.InspectRules.{size_of, literal_size, replacing_size, same_size, by_rules, limit_rules}
+use Rattle.source_tree.specs.InspectRules.{limits_rules, ordered_limits, tallied_text_rules, tallied_rules}
+use Rattle.source_tree.specs.InspectRules.{tallying_rules, replaced_text_rules, replacing_rules, inspect_rules}
 use Rattle.source_tree.specs.Inspecting.{inspect}
-use Rattle.source_tree.specs.InspectLayout.{Source, Bytes, source, found_size, text_size, text_sizes, replacing_literal, replacing_text, EntryPattern, Any, Occurs, InspectEntry, tallied_text, replaced_text, all_inspected, tallied_entries, counter_entries, replacing_entries, what_texts, by_texts, limit_text, limit_texts, entry_texts, entries_texts, fit_of, span_at, what_fit, by_span, limit_span, before_at, after_at, by_at, limits_at, entry_at, entries_at, all_tallied, all_replaced, tallied_size, inspected_size, inspection, inspect_by_spans}
+use Rattle.source_tree.specs.InspectLayout.{Source, Bytes, source, found_size, text_size, text_sizes, replacing_literal}
+use Rattle.source_tree.specs.InspectLayout.{replacing_text, EntryPattern, Any, Occurs, InspectEntry, tallied_text}
+use Rattle.source_tree.specs.InspectLayout.{replaced_text, all_inspected, tallied_entries, counter_entries}
+use Rattle.source_tree.specs.InspectLayout.{replacing_entries, what_texts, by_texts, limit_text, limit_texts}
+use Rattle.source_tree.specs.InspectLayout.{entry_texts, entries_texts, fit_of, span_at, what_fit, by_span, limit_span}
+use Rattle.source_tree.specs.InspectLayout.{before_at, after_at, by_at, limits_at, entry_at, entries_at, all_tallied}
+use Rattle.source_tree.specs.InspectLayout.{all_replaced, tallied_size, inspected_size, inspection, inspect_by_spans}
 use Rattle.source_tree.proofs.SoundFiles.{left_none, right_none, kept}
 use Rattle.source_tree.proofs.InspectTaking.{sizes_append}
 use Rattle.source_tree.proofs.InspectMeaning.{whole_size, spans_mean}
@@ -61,7 +71,8 @@ filtered : {A : Type 0} (P : A → Type 0) (test : A → Bool) (xs : List A) →
 filtered P test [] h = tt
 filtered P test (x ∷ xs) h = kept_or_not P (test x) x (filter test xs) h.0 (filtered P test xs h.1)
 
-only_named : (place : Place) (rules : LocatedItem → List RuleBreach) (found : List LocatedItem) → unique_name_rules place rules found ≡ []
+only_named : (place : Place) (rules : LocatedItem → List RuleBreach) (found : List LocatedItem)
+    → unique_name_rules place rules found ≡ []
     → (one : LocatedItem) × (found ≡ one ∷ []) × (rules one ≡ [])
 only_named place rules [] e = absurd cc
 only_named place rules (one ∷ []) e = (one, refl, e)
@@ -386,7 +397,8 @@ module _ (items : List LocatedItem) where
 abbrev pub AreSomeBytes : List LocatedItem → Type 0
 AreSomeBytes items = (n : ℕ) (item : LocatedItem) → slice_get items n ≡ Some item → 1 ≤ item.item.length
 
-pub inspection_within : (items : List LocatedItem) → AreSomeBytes items → (one : InspectStatement) → inspect_rules items one ≡ []
+pub inspection_within : (items : List LocatedItem) → AreSomeBytes items → (one : InspectStatement)
+    → inspect_rules items one ≡ []
     → EntriesWithin items one
 inspection_within items sized one e = kept_within items (by_number (λ item. 1 ≤ item.item.length) items sized) one e
 

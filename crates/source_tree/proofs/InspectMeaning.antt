@@ -1,5 +1,6 @@
 -- INSPECT over texts does what INSPECT over spans does.
-use Rattle.std.proofs.Common.{◌≡◌, ◌≢◌, ℕ, zero, suc, ◌+◌, ◌-◌, ◌≤◌, List, [], ◌∷◌, ◌++◌, map, length, take, drop, Option, Some, None, refl, ap, sym, subst, ◌∙◌, arith, append_assoc, length-append}
+use Rattle.std.proofs.Common.{◌≡◌, ◌≢◌, ℕ, zero, suc, ◌+◌, ◌-◌, ◌≤◌, List, [], ◌∷◌, ◌++◌, map, length, take, drop}
+use Rattle.std.proofs.Common.{Option, Some, None, refl, ap, sym, subst, ◌∙◌, arith, append_assoc, length-append}
 use Rattle.std.specs.Prelude.{Ok, Err}
 use Rattle.std.specs.List.{AllByRecursion, sum}
 use Rattle.std.proofs.lemmas.List.{length-map, append-nil}
@@ -19,10 +20,18 @@ use Rattle.source_tree.specs.Evaluated.{Evaluation, ◌>>=◌}
 use Rattle.source_tree.specs.References.{ItemPlace, part_of, storage_with, place_of}
 use Rattle.source_tree.specs.InspectWalk.{TextEntry, tallies, replaced_subject}
 use Rattle.source_tree.specs.Inspecting as meaning
-use Rattle.source_tree.specs.Inspecting.{text_at, take_all, take_tallied, take_counter, take_replacing, counter_fits, add_each, store_text, count_and_replace, inspect}
-use Rattle.source_tree.specs.InspectLayout.{Source, Bytes, Characters, InspectArgument, Counter, Text, text_sizes, taken_size, InspectEntry, replaced_text, all_inspected, counter_entries, replacing_entries, entry_texts, entries_texts, tallying_takings, by_span, by_at, entries_at, entry_counts, all_replaced, tallied_size, inspected_size, inspection, InspectTaken, with_counter, with_text, take_each, fits_together, counted_fits, store_replaced, inspect_at, inspect_by_spans}
+use Rattle.source_tree.specs.Inspecting.{text_at, take_all, take_tallied, take_counter, take_replacing, counter_fits}
+use Rattle.source_tree.specs.Inspecting.{add_each, store_text, count_and_replace, inspect}
+use Rattle.source_tree.specs.InspectLayout.{Source, Bytes, Characters, InspectArgument, Counter, Text, text_sizes}
+use Rattle.source_tree.specs.InspectLayout.{taken_size, InspectEntry, replaced_text, all_inspected, counter_entries}
+use Rattle.source_tree.specs.InspectLayout.{replacing_entries, entry_texts, entries_texts, tallying_takings, by_span}
+use Rattle.source_tree.specs.InspectLayout.{by_at, entries_at, entry_counts, all_replaced, tallied_size, inspected_size}
+use Rattle.source_tree.specs.InspectLayout.{inspection, InspectTaken, with_counter, with_text, take_each, fits_together}
+use Rattle.source_tree.specs.InspectLayout.{counted_fits, store_replaced, inspect_at, inspect_by_spans}
 use Rattle.source_tree.proofs.InspectWalks.{entry_of, of_each, HasBy, tallied_same, replaced_same}
-use Rattle.source_tree.proofs.InspectTaking.{Alike, okay, bind_same, bind_ok, sizes_append, texts_append, Reads, reads_then, read_all, entries_in, entries_append, takes_counter, takes_all_replaced}
+use Rattle.source_tree.proofs.InspectTaking.{Alike, okay, bind_same, bind_ok, sizes_append, texts_append, Reads}
+use Rattle.source_tree.proofs.InspectTaking.{reads_then, read_all, entries_in, entries_append, takes_counter}
+use Rattle.source_tree.proofs.InspectTaking.{takes_all_replaced}
 
 -- ---- the count of each counter
 
@@ -215,7 +224,8 @@ module _ (items : List LocatedItem) (storage : Storage) where
 -- ---- sizes
 
 module _ (items : List LocatedItem) where
-  taken_append : (xs ys : List InspectArgument) → taken_size items (xs ++ ys) ≡ taken_size items xs + taken_size items ys
+  taken_append : (xs ys : List InspectArgument)
+      → taken_size items (xs ++ ys) ≡ taken_size items xs + taken_size items ys
   taken_append [] ys = omega arith
   taken_append (Counter x ∷ xs) ys = taken_append xs ys
   taken_append (Text x ∷ xs) ys = omega (arith, taken_append xs ys)

@@ -1,5 +1,7 @@
 -- What INSPECT takes, text by text, is what its spans cut from the texts joined.
-use Rattle.std.proofs.Common.{◌≡◌, ℕ, ◌+◌, ◌-◌, Bool, true, false, List, [], ◌∷◌, ◌++◌, map, length, take, drop, Option, Some, None, refl, ap, sym, subst, ◌∙◌, arith, append_assoc, length-append, take_at, drop_at}
+use Rattle.std.proofs.Common.{◌≡◌, ℕ, ◌+◌, ◌-◌, Bool, true, false, List, [], ◌∷◌, ◌++◌, map, length, take, drop, Option}
+use Rattle.std.proofs.Common.{Some, None, refl, ap, sym, subst, ◌∙◌, arith, append_assoc, length-append, take_at}
+use Rattle.std.proofs.Common.{drop_at}
 use Rattle.std.specs.Prelude.{Ok, Err, slice_range, replicate}
 use Rattle.std.proofs.lemmas.List.{length-take, length-replicate, append-nil}
 use Rattle.items.specs.Texts.{padded_text, space}
@@ -27,9 +29,17 @@ use Rattle.source_tree.specs.Storage.{Storage}
 use Rattle.source_tree.specs.Evaluated.{Evaluation, ◌>>=◌, evaluation_of}
 use Rattle.source_tree.specs.References.{ItemPlace, part_of, place_after, bytes_before, occurrence, place_of}
 use Rattle.source_tree.specs.InspectWalk.{Pattern, AnyCharacter, Occurrence, TextEntry}
-use Rattle.source_tree.specs.Inspecting.{text_at, replacing_characters, LimitTexts, text_entry, take_all, take_text, take_by, take_limit, take_limits, take_tallied_text, take_tallied, take_replaced_text, take_replacing}
+use Rattle.source_tree.specs.Inspecting.{text_at, replacing_characters, LimitTexts, text_entry, take_all, take_text}
+use Rattle.source_tree.specs.Inspecting.{take_by, take_limit, take_limits, take_tallied_text, take_tallied}
+use Rattle.source_tree.specs.Inspecting.{take_replaced_text, take_replacing}
 use Rattle.source_tree.specs.InspectLayout as layout
-use Rattle.source_tree.specs.InspectLayout.{Source, Bytes, Characters, source, InspectArgument, Counter, Text, found_size, text_size, text_sizes, replacing_literal, replacing_text, InspectEntry, tallied_text, replaced_text, all_inspected, tallied_entries, counter_entries, replacing_entries, limit_text, limit_texts, entry_texts, entries_texts, tallying_takings, fit_of, span_at, limit_span, before_at, after_at, entry_at, entries_at, entry_counts, InspectTaken, with_counter, with_text, take_each}
+use Rattle.source_tree.specs.InspectLayout.{Source, Bytes, Characters, source, InspectArgument, Counter, Text}
+use Rattle.source_tree.specs.InspectLayout.{found_size, text_size, text_sizes, replacing_literal, replacing_text}
+use Rattle.source_tree.specs.InspectLayout.{InspectEntry, tallied_text, replaced_text, all_inspected, tallied_entries}
+use Rattle.source_tree.specs.InspectLayout.{counter_entries, replacing_entries, limit_text, limit_texts, entry_texts}
+use Rattle.source_tree.specs.InspectLayout.{entries_texts, tallying_takings, fit_of, span_at, limit_span, before_at}
+use Rattle.source_tree.specs.InspectLayout.{after_at, entry_at, entries_at, entry_counts, InspectTaken, with_counter}
+use Rattle.source_tree.specs.InspectLayout.{with_text, take_each}
 use Rattle.source_tree.proofs.InspectWalks.{pattern_of, text_of, entry_of}
 
 -- ---- what is found out in two ways

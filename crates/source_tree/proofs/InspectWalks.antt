@@ -1,6 +1,8 @@
 -- INSPECT's walk over texts does what its walk over spans of joined texts does. An entry over spans has a counter for
 -- LEADING and a limit for FIRST; an entry over texts knows where its fits so far end.
-use Rattle.std.proofs.Common.{◌≡◌, ◌≢◌, ◌&&◌, leb, eqb, ℕ, zero, suc, ◌+◌, ◌-◌, ◌≤◌, Bool, true, false, cond, List, [], ◌∷◌, ◌++◌, map, length, drop, Option, Some, None, refl, ap, sym, subst, ◌∙◌, arith, append_assoc, length-append, length-drop, drop-drop, take_at, drop_at, add-one}
+use Rattle.std.proofs.Common.{◌≡◌, ◌≢◌, ◌&&◌, leb, eqb, ℕ, zero, suc, ◌+◌, ◌-◌, ◌≤◌, Bool, true, false, cond, List, []}
+use Rattle.std.proofs.Common.{◌∷◌, ◌++◌, map, length, drop, Option, Some, None, refl, ap, sym, subst, ◌∙◌, arith}
+use Rattle.std.proofs.Common.{append_assoc, length-append, length-drop, drop-drop, take_at, drop_at, add-one}
 use Rattle.std.specs.Prelude.{slice_set, nat_eq}
 use Rattle.std.specs.Option.{option_map, unwrap_or}
 use Rattle.std.specs.List.{AllByRecursion, starts_with}
@@ -18,9 +20,13 @@ use Rattle.text_ops.specs.Places.{first_place}
 use Rattle.text_ops.specs.Entries.{bytes_in, fit_length, IsSpan, IsFit, IfSpan, IsBy, IsEntry}
 use Rattle.text_ops.specs.Walk as spans
 use Rattle.text_ops.specs.Walk.{fits_at, progress_after, later, walk_after, size_of, walk as walk_spans}
-use Rattle.text_ops.specs.Inspect.{count_of, replacement, text_written_at, with_each, tally, replaced_subject as replaced_spans}
+use Rattle.text_ops.specs.Inspect.{count_of, replacement, text_written_at, with_each, tally}
+use Rattle.text_ops.specs.Inspect.{replaced_subject as replaced_spans}
 use Rattle.source_tree.specs.declared.inspect_statement.Occurrences.TheVariants as how
-use Rattle.source_tree.specs.InspectWalk.{Pattern, AnyCharacter, Occurrence, TextEntry, ActiveEntry, pattern_size, first_place_after, end_before, entry_at_start, may_fit, is_met, fits, after_fit, FirstFit, with_active_entry, first_fit, WalkResult, after_text, walk_on, walk, tallies, replaced_subject}
+use Rattle.source_tree.specs.InspectWalk.{Pattern, AnyCharacter, Occurrence, TextEntry, ActiveEntry, pattern_size}
+use Rattle.source_tree.specs.InspectWalk.{first_place_after, end_before, entry_at_start, may_fit, is_met, fits}
+use Rattle.source_tree.specs.InspectWalk.{after_fit, FirstFit, with_active_entry, first_fit, WalkResult, after_text}
+use Rattle.source_tree.specs.InspectWalk.{walk_on, walk, tallies, replaced_subject}
 
 -- ---- plain facts
 
@@ -350,7 +356,8 @@ module _ (texts : List ℕ) (K : Entry → Type 0) (is_entry : (one : Entry) →
       → fits one at rest ≡ b → Follows p one → Follow ps all → AreFound ps all at o q
       → AreFound (p ∷ ps) (one ∷ all) at (cond b (Some (record { number = 0; progress = p; at = at }))
       (option_map later o))
-      (cond b (Some (record { entry = one.entry; active = after_fit one at ∷ all })) (option_map (with_active_entry one) q))
+      (cond b (Some (record { entry = one.entry; active = after_fit one at ∷ all }))
+      (option_map (with_active_entry one) q))
   found_first true p ps one all at rest o q e h others found =
       record {
         keeps = h.keeps;
@@ -502,7 +509,8 @@ module _ (texts : List ℕ) (K : Entry → Type 0) (is_entry : (one : Entry) →
   }
 
   follow_begun : (all : List Entry) (subject : List ℕ) → AllByRecursion K all
-      → Follow (map (spans.initial_progress texts subject) all) (map (entry_at_start subject) (map (entry_of texts) all))
+      → Follow (map (spans.initial_progress texts subject) all)
+      (map (entry_at_start subject) (map (entry_of texts) all))
   follow_begun [] subject h = tt
   follow_begun (one ∷ more) subject h = (follows_begun one subject h.0, follow_begun more subject h.1)
 

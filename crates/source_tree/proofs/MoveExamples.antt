@@ -22,13 +22,17 @@ use Rattle.source_tree.specs.TextRules.{display_rules, accept_line_rules, accept
 use Rattle.source_tree.specs.Moving.{move}
 use Rattle.source_tree.specs.Showing.{displayed_bytes}
 use Rattle.source_tree.specs.Accepting.{next_line, accept_line, accept_date}
-use Rattle.source_tree.proofs.Samples.{group, item, unnamed, redefining, occurring, valued, binary, packed, signed, justified, blank, entries, one_value, condition, number, minus, decimal, signed_number, text, constant, all, qualified, reference, plain, counted, by_item, the_item, the_literal}
+use Rattle.source_tree.proofs.Samples.{group, item, unnamed, redefining, occurring, valued, binary, packed, signed}
+use Rattle.source_tree.proofs.Samples.{justified, blank, entries, one_value, condition, number, minus, decimal}
+use Rattle.source_tree.proofs.Samples.{signed_number, text, constant, all, qualified, reference, plain, counted}
+use Rattle.source_tree.proofs.Samples.{by_item, the_item, the_literal}
 unfoldable use Rattle.source_tree.proofs.Computing.{computing}
 
 abbrev rules : List RuleBreach → List ℕ
 rules = map (λ one. one.rule)
 
--- ---- names: G of A and of T OCCURS 3 with the condition name FULL, H of U of A, N PIC 9V9, M PIC 9, and L of C OCCURS 2 with FULL
+-- ---- names: G of A and of T OCCURS 3 with the condition name FULL, H of U of A, N PIC 9V9, M PIC 9, and L of C OCCURS
+-- 2 with FULL
 
 abbrev some_entries : List Entry
 some_entries = entries (
@@ -47,7 +51,8 @@ some_entries = entries (
 abbrev Broke : List (List ℕ × List (List ℕ) × List Subscript × List ℕ) → Type 0
 Broke [] = Unit {0}
 Broke (row ∷ more) =
-    (rules (reference_rules (items_of some_entries) any_item (record { item = qualified row.0 row.1; subscripts = row.2 })) ≡ row.3) × Broke more
+    (rules (reference_rules (items_of some_entries) any_item
+    (record { item = qualified row.0 row.1; subscripts = row.2 })) ≡ row.3) × Broke more
 
 -- 40 unknown, or a condition name; 41 ambiguous; 50 number of subscripts; 51 decimals in a subscript
 names : Broke ((codes "Z", [], [], 40 ∷ [])
@@ -70,11 +75,27 @@ names : Broke ((codes "Z", [], [], 40 ∷ [])
     ∷ (codes "T", [], by_item (codes "T") ∷ [], 50 ∷ [])
     ∷ [])
 unfolding computing
-names = (refl, (refl, (refl, (refl, (refl, (refl, (refl, (refl, (refl, (refl, (refl, (refl, (refl, (refl, (refl, (refl, (refl, (refl, tt))))))))))))))))))
+names = (
+  refl,
+  (
+    refl,
+    (
+      refl,
+      (
+        refl,
+        (
+          refl,
+          (refl, (refl, (refl, (refl, (refl, (refl, (refl, (refl, (refl, (refl, (refl, (refl, (refl, tt))))))))))))),
+        ),
+      ),
+    ),
+  ),
+)
 
 -- a condition name is qualified by its item and that item's groups
 abbrev condition_counts : List (List ℕ) → List ℕ
-condition_counts groups = map (λ one. one.item.offset) (conditions_named (items_of some_entries) (qualified (codes "FULL") groups))
+condition_counts groups =
+    map (λ one. one.item.offset) (conditions_named (items_of some_entries) (qualified (codes "FULL") groups))
 
 of_item_and_group : condition_counts (codes "T" ∷ codes "G" ∷ []) ≡ 2 ∷ []
 unfolding computing
@@ -91,8 +112,10 @@ Refused [] = Unit {0}
 Refused (row ∷ more) = (rules (move_rules (items_of senders) row.0 (plain row.1 ∷ [])) ≡ row.2) × Refused more
   where
     senders : List Entry
-    senders = entries (item (codes "77") (codes "X") (codes "X(20)") ∷ item (codes "77") (codes "Y") (codes "X(18)") ∷ item (codes "77") (codes "A") (codes "A(3)")
-        ∷ item (codes "77") (codes "N") (codes "9V9") ∷ item (codes "77") (codes "I") (codes "S9(3)") ∷ item (codes "77") (codes "E") (codes "Z9.9") ∷ item (codes "77") (codes "B") (codes "XBX")
+    senders = entries (item (codes "77") (codes "X") (codes "X(20)") ∷ item (codes "77") (codes "Y") (codes "X(18)")
+        ∷ item (codes "77") (codes "A") (codes "A(3)")
+        ∷ item (codes "77") (codes "N") (codes "9V9") ∷ item (codes "77") (codes "I") (codes "S9(3)")
+        ∷ item (codes "77") (codes "E") (codes "Z9.9") ∷ item (codes "77") (codes "B") (codes "XBX")
         ∷ group (codes "01") (codes "G") ∷ item (codes "05") (codes "C") (codes "X(40)") ∷ [])
 
 permitted : Refused ((the_item (codes "A"), codes "X", [])
@@ -120,7 +143,43 @@ permitted : Refused ((the_item (codes "A"), codes "X", [])
     ∷ (the_item (codes "I"), codes "Q", 40 ∷ [])
     ∷ [])
 unfolding computing
-permitted = (refl, (refl, (refl, (refl, (refl, (refl, (refl, (refl, (refl, (refl, (refl, (refl, (refl, (refl, (refl, (refl, (refl, (refl, (refl, (refl, (refl, (refl, (refl, tt)))))))))))))))))))))))
+permitted = (
+  refl,
+  (
+    refl,
+    (
+      refl,
+      (
+        refl,
+        (
+          refl,
+          (
+            refl,
+            (
+              refl,
+              (
+                refl,
+                (
+                  refl,
+                  (
+                    refl,
+                    (
+                      refl,
+                      (
+                        refl,
+                        (refl, (refl, (refl, (refl, (refl, (refl, (refl, (refl, (refl, (refl, (refl, tt))))))))))),
+                      ),
+                    ),
+                  ),
+                ),
+              ),
+            ),
+          ),
+        ),
+      ),
+    ),
+  ),
+)
 
 -- ---- MOVE: one item, a sender, and the item's bytes
 
@@ -131,8 +190,10 @@ abbrev Moves : List (ItemEntry × Operand × List ℕ) → Type 0
 Moves [] = Unit {0}
 Moves (row ∷ more) = (after (entries (row.0 ∷ [])) row.1 (plain (codes "A") ∷ []) ≡ Ok (row.2 ∷ [])) × Moves more
 
--- the worked rows: 123.45 to 99V9 gives 23.4; "ABCDE" to X(3) ABC, JUSTIFIED CDE; -7 to X(3) 7 and two spaces; bytes of numbers
-moves : Moves ((item (codes "77") (codes "A") (codes "99V9"), the_literal (decimal (codes "123") (codes "45")), codes "234")
+-- the worked rows: 123.45 to 99V9 gives 23.4; "ABCDE" to X(3) ABC, JUSTIFIED CDE; -7 to X(3) 7 and two spaces; bytes of
+-- numbers
+moves :
+    Moves ((item (codes "77") (codes "A") (codes "99V9"), the_literal (decimal (codes "123") (codes "45")), codes "234")
     ∷ (item (codes "77") (codes "A") (codes "X(3)"), the_literal (text (codes "ABCDE")), codes "ABC")
     ∷ (justified (item (codes "77") (codes "A") (codes "X(3)")), the_literal (text (codes "ABCDE")), codes "CDE")
     ∷ (item (codes "77") (codes "A") (codes "X(3)"), the_literal (minus (codes "7")), codes "7  ")
@@ -141,8 +202,16 @@ moves : Moves ((item (codes "77") (codes "A") (codes "99V9"), the_literal (decim
     ∷ (binary (item (codes "77") (codes "A") (codes "9(4)")), the_literal (number (codes "1234")), 4 ∷ 210 ∷ [])
     ∷ (packed (item (codes "77") (codes "A") (codes "S9(3)")), the_literal (minus (codes "12")), 1 ∷ 45 ∷ [])
     ∷ (packed (item (codes "77") (codes "A") (codes "9(4)")), the_literal (number (codes "1234")), 1 ∷ 35 ∷ 79 ∷ [])
-    ∷ (signed position.Leading true (item (codes "77") (codes "A") (codes "S99")), the_literal (number (codes "5")), codes "+05")
-    ∷ (item (codes "77") (codes "A") (codes "$$,$$9.99"), the_literal (decimal (codes "1234") (codes "5")), codes "$1,234.50")
+    ∷ (
+      signed position.Leading true (item (codes "77") (codes "A") (codes "S99")),
+      the_literal (number (codes "5")),
+      codes "+05",
+    )
+    ∷ (
+      item (codes "77") (codes "A") (codes "$$,$$9.99"),
+      the_literal (decimal (codes "1234") (codes "5")),
+      codes "$1,234.50",
+    )
     ∷ (item (codes "77") (codes "A") (codes "XXBX/X"), the_literal (text (codes "ABCD")), codes "AB C/D")
     ∷ (blank (item (codes "77") (codes "A") (codes "99")), the_literal (number (codes "0")), codes "  ")
     ∷ (blank (item (codes "77") (codes "A") (codes "99")), the_literal (number (codes "5")), codes "05")
@@ -150,7 +219,13 @@ moves : Moves ((item (codes "77") (codes "A") (codes "99V9"), the_literal (decim
     ∷ (item (codes "77") (codes "A") (codes "X(5)"), the_literal (all (codes "AB")), codes "ABABA")
     ∷ [])
 unfolding computing
-moves = (refl, (refl, (refl, (refl, (refl, (refl, (refl, (refl, (refl, (refl, (refl, (refl, (refl, (refl, (refl, (refl, tt))))))))))))))))
+moves = (
+  refl,
+  (
+    refl,
+    (refl, (refl, (refl, (refl, (refl, (refl, (refl, (refl, (refl, (refl, (refl, (refl, (refl, (refl, tt)))))))))))))),
+  ),
+)
 
 -- G holds ABCD, Y is its last three bytes: MOVE G TO Y Z makes G AABC and Z ABCD.
 taken_whole : after (entries (
@@ -169,19 +244,22 @@ of_table = entries (
     ∷ occurring (codes "3") (item (codes "05") (codes "T") (codes "9"))
     ∷ valued (number (codes "1")) (item (codes "77") (codes "I") (codes "9")) ∷ [])
 
-late_subscript : after of_table (the_literal (number (codes "2"))) (plain (codes "I") ∷ reference (codes "T") (by_item (codes "I") ∷ []) ∷ []) ≡ Ok (codes "020" ∷ codes "2" ∷ [])
+late_subscript : after of_table (the_literal (number (codes "2")))
+    (plain (codes "I") ∷ reference (codes "T") (by_item (codes "I") ∷ []) ∷ []) ≡ Ok (codes "020" ∷ codes "2" ∷ [])
 unfolding computing
 late_subscript = refl
 
 -- MOVE 4 TO I T (I) is fault 91
-past_the_table : after of_table (the_literal (number (codes "4"))) (plain (codes "I") ∷ reference (codes "T") (by_item (codes "I") ∷ []) ∷ []) ≡ Err fault.Subscript
+past_the_table : after of_table (the_literal (number (codes "4")))
+    (plain (codes "I") ∷ reference (codes "T") (by_item (codes "I") ∷ []) ∷ []) ≡ Err fault.Subscript
 unfolding computing
 past_the_table = refl
 
 -- ---- DISPLAY: A PIC 99 and B REDEFINES A PIC XX holding xy; B shows xy, A is fault 90, and then nothing is shown
 
 abbrev under_redefines : List Entry
-under_redefines = entries (item (codes "01") (codes "A") (codes "99") ∷ redefining (codes "A") (item (codes "01") (codes "B") (codes "XX")) ∷ [])
+under_redefines = entries (item (codes "01") (codes "A") (codes "99")
+    ∷ redefining (codes "A") (item (codes "01") (codes "B") (codes "XX")) ∷ [])
 
 abbrev shows : List Operand → Evaluation (List ℕ)
 shows operands = displayed_bytes (items_of under_redefines) operands true (codes "xy" ∷ [])
@@ -201,13 +279,36 @@ bad_second = refl
 -- S9(3)V99 with -1.5, V99 with .5, 9(4) COMP with 7, a group of them as its bytes, and literals as written
 abbrev Shows : List (List Entry × Operand × List ℕ) → Type 0
 Shows [] = Unit {0}
-Shows (row ∷ more) = (displayed_bytes (items_of row.0) (row.1 ∷ []) false (areas_at_start row.0) ≡ Ok row.2) × Shows more
+Shows (row ∷ more) =
+    (displayed_bytes (items_of row.0) (row.1 ∷ []) false (areas_at_start row.0) ≡ Ok row.2) × Shows more
 
-shown_items : Shows ((entries (valued (signed_number sign.Minus (codes "1") (codes "5")) (item (codes "77") (codes "A") (codes "S9(3)V99")) ∷ []), the_item (codes "A"), codes "-001.50")
-    ∷ (entries (valued (decimal [] (codes "5")) (item (codes "77") (codes "A") (codes "V99")) ∷ []), the_item (codes "A"), codes ".50")
-    ∷ (entries (valued (number (codes "7")) (binary (item (codes "77") (codes "A") (codes "9(4)"))) ∷ []), the_item (codes "A"), codes "0007")
-    ∷ (entries (group (codes "01") (codes "G") ∷ valued (minus (codes "1")) (item (codes "05") (codes "A") (codes "S9")) ∷ item (codes "05") (codes "B") (codes "X") ∷ []), the_item (codes "G"), 113 ∷ 32 ∷ [])
-    ∷ (entries (valued (text (codes "1.50")) (item (codes "77") (codes "A") (codes "ZZ9.99")) ∷ []), the_item (codes "A"), codes "1.50  ")
+shown_items : Shows ((
+  entries (valued (signed_number sign.Minus (codes "1") (codes "5")) (item (codes "77") (codes "A") (codes "S9(3)V99"))
+      ∷ []),
+  the_item (codes "A"),
+  codes "-001.50",
+)
+    ∷ (
+      entries (valued (decimal [] (codes "5")) (item (codes "77") (codes "A") (codes "V99")) ∷ []),
+      the_item (codes "A"),
+      codes ".50",
+    )
+    ∷ (
+      entries (valued (number (codes "7")) (binary (item (codes "77") (codes "A") (codes "9(4)"))) ∷ []),
+      the_item (codes "A"),
+      codes "0007",
+    )
+    ∷ (
+      entries (group (codes "01") (codes "G") ∷ valued (minus (codes "1")) (item (codes "05") (codes "A") (codes "S9"))
+          ∷ item (codes "05") (codes "B") (codes "X") ∷ []),
+      the_item (codes "G"),
+      113 ∷ 32 ∷ [],
+    )
+    ∷ (
+      entries (valued (text (codes "1.50")) (item (codes "77") (codes "A") (codes "ZZ9.99")) ∷ []),
+      the_item (codes "A"),
+      codes "1.50  ",
+    )
     ∷ ([], the_literal (minus (codes "0")), codes "-0")
     ∷ ([], the_literal (decimal (codes "007") (codes "50")), codes "007.50")
     ∷ [])
@@ -220,7 +321,8 @@ abbrev one_item : List ℕ → List Entry
 one_item picture = entries (item (codes "77") (codes "A") picture ∷ [])
 
 abbrev accepts : List (List ℕ) → Evaluation Storage
-accepts lines = accept_line (items_of (one_item (codes "X(4)"))) (next_line lines) (plain (codes "A")) (codes "QQQQ" ∷ [])
+accepts lines =
+    accept_line (items_of (one_item (codes "X(4)"))) (next_line lines) (plain (codes "A")) (codes "QQQQ" ∷ [])
 
 shorter_line : accepts (codes "AB" ∷ codes "ABCDEF" ∷ []) ≡ Ok (codes "AB  " ∷ [])
 unfolding computing
@@ -235,12 +337,14 @@ unfolding computing
 no_line = refl
 
 -- as bytes, whatever the item is
-line_as_bytes : accept_line (items_of (one_item (codes "9(3)"))) (codes "7") (plain (codes "A")) (codes "000" ∷ []) ≡ Ok (codes "7  " ∷ [])
+line_as_bytes : accept_line (items_of (one_item (codes "9(3)"))) (codes "7") (plain (codes "A")) (codes "000" ∷ [])
+    ≡ Ok (codes "7  " ∷ [])
 unfolding computing
 line_as_bytes = refl
 
 abbrev dated : List ℕ → Evaluation Storage
-dated picture = accept_date (items_of (one_item picture)) (codes "850917") (plain (codes "A")) (areas_at_start (one_item picture))
+dated picture =
+    accept_date (items_of (one_item picture)) (codes "850917") (plain (codes "A")) (areas_at_start (one_item picture))
 
 whole_date : dated (codes "9(6)") ≡ Ok (codes "850917" ∷ [])
 unfolding computing
@@ -273,10 +377,12 @@ unfolding computing
 shown_operands_rules = (refl, (refl, (refl, tt)))
 
 -- the date is an integer, which goes to no alphabetic item; a line goes to any
-line_into_any_item : rules (accept_line_rules (items_of (entries (item (codes "77") (codes "A") (codes "A(6)") ∷ []))) (plain (codes "A"))) ≡ []
+line_into_any_item : rules (accept_line_rules (items_of (entries (item (codes "77") (codes "A") (codes "A(6)") ∷ [])))
+    (plain (codes "A"))) ≡ []
 unfolding computing
 line_into_any_item = refl
 
-date_into_letters : rules (accept_date_rules (items_of (entries (item (codes "77") (codes "A") (codes "A(6)") ∷ []))) (plain (codes "A"))) ≡ 49 ∷ []
+date_into_letters : rules (accept_date_rules (items_of (entries (item (codes "77") (codes "A") (codes "A(6)") ∷ [])))
+    (plain (codes "A"))) ≡ 49 ∷ []
 unfolding computing
 date_into_letters = refl

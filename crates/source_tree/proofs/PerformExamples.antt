@@ -42,7 +42,8 @@ last called = record { characters = called; place = at 9 30 }
 
 -- a paragraph of one sentence
 abbrev paragraph : ℕ → List ℕ → List Statement → Paragraph
-paragraph line called statements = record { name = Some (given line called); sentences = record { statements = statements } ∷ [] }
+paragraph line called statements =
+    record { name = Some (given line called); sentences = record { statements = statements } ∷ [] }
 
 abbrev section : ℕ → List ℕ → List Paragraph → Section
 section line called paragraphs = record { name = Some (given line called); paragraphs = paragraphs }
@@ -67,9 +68,11 @@ abbrev procedure : Option Name → Range → Procedure
 procedure name range = record { name = name; range = range }
 
 -- Each section stands before its paragraphs. S has paragraph 1, without a name.
-some_procedures : procedures_of some_sections ≡ procedure None (range 0 0) ∷ procedure (Some (given 1 (codes "MAIN"))) (range 0 0)
+some_procedures : procedures_of some_sections
+    ≡ procedure None (range 0 0) ∷ procedure (Some (given 1 (codes "MAIN"))) (range 0 0)
     ∷ procedure (Some (given 2 (codes "S"))) (range 1 1) ∷ procedure None (range 1 1)
-    ∷ procedure (Some (given 3 (codes "T"))) (range 2 3) ∷ procedure (Some (given 4 (codes "A"))) (range 2 2) ∷ procedure (Some (given 5 (codes "B"))) (range 3 3)
+    ∷ procedure (Some (given 3 (codes "T"))) (range 2 3) ∷ procedure (Some (given 4 (codes "A"))) (range 2 2)
+    ∷ procedure (Some (given 5 (codes "B"))) (range 3 3)
     ∷ []
 some_procedures = refl
 
@@ -125,12 +128,14 @@ backwards : rules some_sections (codes "A") (Some (last (codes "S"))) ≡ broken
 backwards = refl
 
 -- 54: a range that may not be performed where the PERFORM stands; told at the first name
-not_permitted : range_rules (λ range. false) (procedures_of some_sections) (first (codes "A")) None ≡ broken 54 (at 9 20) ∷ []
+not_permitted : range_rules (λ range. false) (procedures_of some_sections) (first (codes "A")) None
+    ≡ broken 54 (at 9 20) ∷ []
 not_permitted = refl
 
 -- section S, and P in it and in T
 abbrev twice : List Section
-twice = section 2 (codes "S") (paragraph 3 (codes "P") [] ∷ []) ∷ section 4 (codes "T") (paragraph 5 (codes "P") [] ∷ []) ∷ []
+twice = section 2 (codes "S") (paragraph 3 (codes "P") [] ∷ [])
+    ∷ section 4 (codes "T") (paragraph 5 (codes "P") [] ∷ []) ∷ []
 
 -- 42: P is given again in line 5; and 41: PERFORM P names two
 given_twice : procedure_name_rules twice ≡ broken 42 (at 5 8) ∷ []
@@ -143,7 +148,10 @@ ambiguous = refl
 
 abbrev perform : ℕ → List ℕ → Option Name → Repetition → Statement
 perform line called to often =
-    roll-Statement (record { place = at line 12; verb = verb.PerformStatement (record { performed = Procedures (first called) to; turns = often }) })
+    roll-Statement (record {
+      place = at line 12;
+      verb = verb.PerformStatement (record { performed = Procedures (first called) to; turns = often });
+    })
 
 -- DISPLAY of a text with NO ADVANCING
 abbrev show : ℕ → List ℕ → Statement
@@ -153,7 +161,13 @@ abbrev exit : ℕ → Statement
 exit line = roll-Statement (record { place = at line 12; verb = verb.ControlStatement ending.Exit })
 
 abbrev of_paragraphs : List Paragraph → Program
-of_paragraphs paragraphs = record { name = given 0 (codes "CALLS"); selects = []; files = []; storage = []; sections = outside paragraphs ∷ [] }
+of_paragraphs paragraphs = record {
+  name = given 0 (codes "CALLS");
+  selects = [];
+  files = [];
+  storage = [];
+  sections = outside paragraphs ∷ [];
+}
 
 -- MAIN performs A THRU C and stops; A shows A; B shows B and performs C; C shows C
 abbrev calls : Program
@@ -165,35 +179,49 @@ calls = of_paragraphs (
     ∷ [])
 
 -- two PERFORMs, four DISPLAYs and STOP RUN
-calls_with_seven : meaning calls 7 ≡ record { events = map Shown (codes "ABCC"); end = Stopped; lines = []; files = [] ∷ [] }
-unfolding out-Statement roll-Statement denote.Hole.Carrier.out denote.Hole.Carrier.roll Rattle.source_tree.specs.declared.statement.Statement.TheBlock.shown-the_row-Statement-0 denote.Hole.Carrier.shown denote.Hole.Carrier.hidden
+calls_with_seven : meaning calls 7
+    ≡ record { events = map Shown (codes "ABCC"); end = Stopped; lines = []; files = [] ∷ [] }
+unfolding out-Statement roll-Statement denote.Hole.Carrier.out denote.Hole.Carrier.roll
+    Rattle.source_tree.specs.declared.statement.Statement.TheBlock.shown-the_row-Statement-0 denote.Hole.Carrier.shown
+    denote.Hole.Carrier.hidden
 calls_with_seven = refl
 
 -- the inner PERFORM has used the fourth, and none is left for what it performs
-calls_with_four : meaning calls 4 ≡ record { events = map Shown (codes "AB"); end = Budget; lines = []; files = [] ∷ [] }
-unfolding out-Statement roll-Statement denote.Hole.Carrier.out denote.Hole.Carrier.roll Rattle.source_tree.specs.declared.statement.Statement.TheBlock.shown-the_row-Statement-0 denote.Hole.Carrier.shown denote.Hole.Carrier.hidden
+calls_with_four : meaning calls 4
+    ≡ record { events = map Shown (codes "AB"); end = Budget; lines = []; files = [] ∷ [] }
+unfolding out-Statement roll-Statement denote.Hole.Carrier.out denote.Hole.Carrier.roll
+    Rattle.source_tree.specs.declared.statement.Statement.TheBlock.shown-the_row-Statement-0 denote.Hole.Carrier.shown
+    denote.Hole.Carrier.hidden
 calls_with_four = refl
 
--- PERFORM A 2 TIMES, and then control comes to A, which ends with EXIT: the PERFORM and each of its turns use one of the budget, and
--- each time A two
+-- PERFORM A 2 TIMES, and then control comes to A, which ends with EXIT: the PERFORM and each of its turns use one of
+-- the budget, and each time A two
 abbrev three_times : Program
 three_times = of_paragraphs (
-    paragraph 1 (codes "MAIN") (perform 2 (codes "A") None (Times (record { digits = codes "2"; place = at 2 22 })) ∷ [])
+    paragraph 1 (codes "MAIN")
+    (perform 2 (codes "A") None (Times (record { digits = codes "2"; place = at 2 22 })) ∷ [])
     ∷ paragraph 3 (codes "A") (show 4 (codes "A") ∷ exit 5 ∷ [])
     ∷ [])
 
-three_times_with_nine : meaning three_times 9 ≡ record { events = map Shown (codes "AAA"); end = Stopped; lines = []; files = [] ∷ [] }
-unfolding out-Statement roll-Statement denote.Hole.Carrier.out denote.Hole.Carrier.roll Rattle.source_tree.specs.declared.statement.Statement.TheBlock.shown-the_row-Statement-0 denote.Hole.Carrier.shown denote.Hole.Carrier.hidden
+three_times_with_nine : meaning three_times 9
+    ≡ record { events = map Shown (codes "AAA"); end = Stopped; lines = []; files = [] ∷ [] }
+unfolding out-Statement roll-Statement denote.Hole.Carrier.out denote.Hole.Carrier.roll
+    Rattle.source_tree.specs.declared.statement.Statement.TheBlock.shown-the_row-Statement-0 denote.Hole.Carrier.shown
+    denote.Hole.Carrier.hidden
 three_times_with_nine = refl
 
-three_times_with_eight : meaning three_times 8 ≡ record { events = map Shown (codes "AAA"); end = Budget; lines = []; files = [] ∷ [] }
-unfolding out-Statement roll-Statement denote.Hole.Carrier.out denote.Hole.Carrier.roll Rattle.source_tree.specs.declared.statement.Statement.TheBlock.shown-the_row-Statement-0 denote.Hole.Carrier.shown denote.Hole.Carrier.hidden
+three_times_with_eight : meaning three_times 8
+    ≡ record { events = map Shown (codes "AAA"); end = Budget; lines = []; files = [] ∷ [] }
+unfolding out-Statement roll-Statement denote.Hole.Carrier.out denote.Hole.Carrier.roll
+    Rattle.source_tree.specs.declared.statement.Statement.TheBlock.shown-the_row-Statement-0 denote.Hole.Carrier.shown
+    denote.Hole.Carrier.hidden
 three_times_with_eight = refl
 
 -- ---- who performs whom
 
 performs_is : (procedures : List Procedure) (one : Statement-F Statement)
-    → statement_performs procedures (roll-Statement one) ≡ performs_layer procedures (map-Statement Statement (List Performance) (statement_performs procedures) one)
+    → statement_performs procedures (roll-Statement one)
+    ≡ performs_layer procedures (map-Statement Statement (List Performance) (statement_performs procedures) one)
 unfolding statement_performs
 performs_is procedures one = fold-roll-Statement (List Performance) (performs_layer procedures) one
 
@@ -203,19 +231,30 @@ performance place range = record { place = place; range = range }
 abbrev here : List Procedure
 here = procedures_of calls.sections
 
-main_performs : statement_performs here (perform 2 (codes "A") (Some (last (codes "C"))) Once) ≡ performance (at 9 20) (range 1 3) ∷ []
+main_performs : statement_performs here (perform 2 (codes "A") (Some (last (codes "C"))) Once)
+    ≡ performance (at 9 20) (range 1 3) ∷ []
 main_performs =
-    performs_is here (record { place = at 2 12; verb = verb.PerformStatement (record { performed = Procedures (first (codes "A")) (Some (last (codes "C"))); turns = Once }) })
+    performs_is here (record {
+      place = at 2 12;
+      verb = verb.PerformStatement
+          (record { performed = Procedures (first (codes "A")) (Some (last (codes "C"))); turns = Once });
+    })
 
 b_performs : statement_performs here (perform 8 (codes "C") None Once) ≡ performance (at 9 20) (range 3 3) ∷ []
-b_performs = performs_is here (record { place = at 8 12; verb = verb.PerformStatement (record { performed = Procedures (first (codes "C")) None; turns = Once }) })
+b_performs = performs_is here (record {
+  place = at 8 12;
+  verb = verb.PerformStatement (record { performed = Procedures (first (codes "C")) None; turns = Once });
+})
 
 stop_performs : statement_performs here (stop_run (at 3 12)) ≡ []
 stop_performs = performs_is here (record { place = at 3 12; verb = verb.ControlStatement ending.StopRun })
 
 show_performs : (line : ℕ) (bytes : List ℕ) → statement_performs here (show line bytes) ≡ []
 show_performs line bytes =
-    performs_is here (record { place = at line 12; verb = verb.TextStatement (text_as.Display (map operand.Literal (text bytes ∷ [])) false) })
+    performs_is here (record {
+      place = at line 12;
+      verb = verb.TextStatement (text_as.Display (map operand.Literal (text bytes ∷ [])) false);
+    })
 
 abbrev performed_range : ℕ → ℕ → ℕ → PerformedRange
 performed_range performer from to = record { performer = performer; first = from; last = to }
@@ -255,5 +294,11 @@ lower (suc zero) other within (suc (suc (suc (suc more)))) is = omega arith
 lower (suc (suc more)) other within paragraph is = absurd (omega arith)
 
 calls_have_an_order : HasOrder calls
-calls_have_an_order =
-    (steps, record { one_each = refl; below = low; fall = subst (AllDecrease (rank_in steps)) (sym (ap (map (λ one. one.1)) calls_perform)) lower })
+calls_have_an_order = (
+  steps,
+  record {
+    one_each = refl;
+    below = low;
+    fall = subst (AllDecrease (rank_in steps)) (sym (ap (map (λ one. one.1)) calls_perform)) lower;
+  },
+)

@@ -10,7 +10,9 @@ use Rattle.source_tree.specs.Evaluated as fault
 use Rattle.source_tree.specs.Evaluated.{Evaluation, ◌>>=◌}
 use Rattle.source_tree.specs.References.{place_of}
 use Rattle.source_tree.specs.Starts.{areas_at_start}
-use Rattle.source_tree.proofs.Samples.{group, item, unnamed, redefining, occurring, valued, binary, packed, signed, justified, blank, entries, number, minus, decimal, text, constant, all, reference, counted, by_item, by_item_less, by_item_more}
+use Rattle.source_tree.proofs.Samples.{group, item, unnamed, redefining, occurring, valued, binary, packed, signed}
+use Rattle.source_tree.proofs.Samples.{justified, blank, entries, number, minus, decimal, text, constant, all}
+use Rattle.source_tree.proofs.Samples.{reference, counted, by_item, by_item_less, by_item_more}
 unfoldable use Rattle.source_tree.proofs.Computing.{computing}
 
 -- its area, its offset, its length
@@ -91,7 +93,8 @@ table_dimensions = refl
 
 abbrev offset_of : List ℕ → List Subscript → Evaluation (ℕ × ℕ)
 offset_of called subscripts =
-    place_of (items_of table) (reference called subscripts) (areas_at_start table) >>= (λ place. Ok (place.offset, place.item.length))
+    place_of (items_of table) (reference called subscripts) (areas_at_start table) >>=
+    (λ place. Ok (place.offset, place.item.length))
 
 -- C (2 3) is at 12, R (3) at 16; C (4 1), C (1 5) and C (0 1) are fault 91
 two_three : offset_of (codes "C") (counted (codes "2") ∷ counted (codes "3") ∷ []) ≡ Ok (12, 2)
@@ -123,24 +126,30 @@ last_row : offset_of (codes "C") (by_item_more (codes "I") (codes "1") ∷ by_it
 unfolding computing
 last_row = refl
 
-before_first : offset_of (codes "C") (by_item_less (codes "I") (codes "2") ∷ by_item (codes "I") ∷ []) ≡ Err fault.Subscript
+before_first : offset_of (codes "C") (by_item_less (codes "I") (codes "2") ∷ by_item (codes "I") ∷ [])
+    ≡ Err fault.Subscript
 unfolding computing
 before_first = refl
 
-below_zero : offset_of (codes "C") (by_item_less (codes "I") (codes "3") ∷ by_item (codes "I") ∷ []) ≡ Err fault.Subscript
+below_zero : offset_of (codes "C") (by_item_less (codes "I") (codes "3") ∷ by_item (codes "I") ∷ [])
+    ≡ Err fault.Subscript
 unfolding computing
 below_zero = refl
 
 -- a subscript whose bytes are no number is fault 90, where an earlier one isn't out of range
-bad_subscript : (place_of (items_of table) (reference (codes "C") (counted (codes "1") ∷ by_item (codes "I") ∷ [])) (codes "" ∷ codes "x" ∷ []) >>= (λ place. Ok place.offset)) ≡ Err fault.Data
+bad_subscript : (place_of (items_of table) (reference (codes "C") (counted (codes "1") ∷ by_item (codes "I") ∷ []))
+    (codes "" ∷ codes "x" ∷ []) >>= (λ place. Ok place.offset)) ≡ Err fault.Data
 unfolding computing
 bad_subscript = refl
 
-bad_second_subscript : (place_of (items_of table) (reference (codes "C") (counted (codes "9") ∷ by_item (codes "I") ∷ [])) (codes "" ∷ codes "x" ∷ []) >>= (λ place. Ok place.offset)) ≡ Err fault.Subscript
+bad_second_subscript :
+    (place_of (items_of table) (reference (codes "C") (counted (codes "9") ∷ by_item (codes "I") ∷ []))
+    (codes "" ∷ codes "x" ∷ []) >>= (λ place. Ok place.offset)) ≡ Err fault.Subscript
 unfolding computing
 bad_second_subscript = refl
 
--- ---- REDEFINES: A PIC 99, B REDEFINES A PIC XX, D REDEFINES A of two items, C PIC X(5) in one group, and a 01 that redefines it
+-- ---- REDEFINES: A PIC 99, B REDEFINES A PIC XX, D REDEFINES A of two items, C PIC X(5) in one group, and a 01 that
+-- redefines it
 
 abbrev redefined : List Entry
 redefined = entries (
@@ -155,7 +164,8 @@ redefined = entries (
     ∷ item (codes "77") (codes "K") (codes "X")
     ∷ [])
 
-redefined_places : places redefined ≡ (0, 0, 7) ∷ (0, 0, 2) ∷ (0, 0, 2) ∷ (0, 0, 2) ∷ (0, 0, 1) ∷ (0, 1, 1) ∷ (0, 2, 5) ∷ (0, 0, 9) ∷ (1, 0, 1) ∷ []
+redefined_places : places redefined
+    ≡ (0, 0, 7) ∷ (0, 0, 2) ∷ (0, 0, 2) ∷ (0, 0, 2) ∷ (0, 0, 1) ∷ (0, 1, 1) ∷ (0, 2, 5) ∷ (0, 0, 9) ∷ (1, 0, 1) ∷ []
 unfolding computing
 redefined_places = refl
 
@@ -176,20 +186,42 @@ abbrev Starts : List (List Entry × List ℕ) → Type 0
 Starts [] = Unit {0}
 Starts (row ∷ more) = (areas_at_start row.0 ≡ row.1 ∷ []) × Starts more
 
-starts : Starts ((entries (valued (minus (codes "12")) (item (codes "77") (codes "A") (codes "S9(3)")) ∷ []), 48 ∷ 49 ∷ 114 ∷ [])
-    ∷ (entries (valued (decimal (codes "1") (codes "5")) (item (codes "77") (codes "A") (codes "99V99")) ∷ []), codes "0150")
-    ∷ (entries (valued (number (codes "1234")) (binary (item (codes "77") (codes "A") (codes "9(4)"))) ∷ []), 4 ∷ 210 ∷ [])
+starts : Starts
+    ((entries (valued (minus (codes "12")) (item (codes "77") (codes "A") (codes "S9(3)")) ∷ []), 48 ∷ 49 ∷ 114 ∷ [])
+    ∷ (
+      entries (valued (decimal (codes "1") (codes "5")) (item (codes "77") (codes "A") (codes "99V99")) ∷ []),
+      codes "0150",
+    )
+    ∷ (
+      entries (valued (number (codes "1234")) (binary (item (codes "77") (codes "A") (codes "9(4)"))) ∷ []),
+      4 ∷ 210 ∷ [],
+    )
     ∷ (entries (packed (item (codes "77") (codes "A") (codes "9(4)")) ∷ []), 0 ∷ 0 ∷ 15 ∷ [])
-    ∷ (entries (valued (text (codes "AB")) (justified (item (codes "77") (codes "A") (codes "X(4)"))) ∷ []), codes "AB  ")
+    ∷ (
+      entries (valued (text (codes "AB")) (justified (item (codes "77") (codes "A") (codes "X(4)"))) ∷ []),
+      codes "AB  ",
+    )
     ∷ (entries (valued (text (codes "1.5")) (item (codes "77") (codes "A") (codes "ZZ9.99")) ∷ []), codes "1.5   ")
     ∷ (entries (item (codes "77") (codes "A") (codes "ZZ9.99") ∷ []), codes "      ")
     ∷ (entries (valued (all (codes "AB")) (item (codes "77") (codes "A") (codes "X(5)")) ∷ []), codes "ABABA")
-    ∷ (entries (valued (constant figurative.HighValue) (item (codes "77") (codes "A") (codes "XX")) ∷ []), 255 ∷ 255 ∷ [])
+    ∷ (
+      entries (valued (constant figurative.HighValue) (item (codes "77") (codes "A") (codes "XX")) ∷ []),
+      255 ∷ 255 ∷ [],
+    )
     ∷ (entries (valued (constant figurative.Zero) (item (codes "77") (codes "A") (codes "S9V9")) ∷ []), codes "00")
     -- the value of a group; its items set nothing
-    ∷ (entries (valued (text (codes "A1")) (group (codes "01") (codes "G")) ∷ item (codes "05") (codes "A") (codes "X") ∷ item (codes "05") (codes "B") (codes "9(3)") ∷ []), codes "A1  ")
+    ∷ (
+      entries (valued (text (codes "A1")) (group (codes "01") (codes "G")) ∷ item (codes "05") (codes "A") (codes "X")
+          ∷ item (codes "05") (codes "B") (codes "9(3)") ∷ []),
+      codes "A1  ",
+    )
     -- each occurrence has the value
-    ∷ (entries (group (codes "01") (codes "G") ∷ occurring (codes "2") (group (codes "05") (codes "R")) ∷ valued (text (codes "Q")) (item (codes "10") (codes "A") (codes "X")) ∷ occurring (codes "2") (item (codes "10") (codes "B") (codes "9")) ∷ []), codes "Q00Q00")
+    ∷ (
+      entries (group (codes "01") (codes "G") ∷ occurring (codes "2") (group (codes "05") (codes "R"))
+          ∷ valued (text (codes "Q")) (item (codes "10") (codes "A") (codes "X"))
+          ∷ occurring (codes "2") (item (codes "10") (codes "B") (codes "9")) ∷ []),
+      codes "Q00Q00",
+    )
     ∷ [])
 unfolding computing
 starts = (refl, (refl, (refl, (refl, (refl, (refl, (refl, (refl, (refl, (refl, (refl, (refl, tt))))))))))))

@@ -11,7 +11,8 @@ use Rattle.source_tree.specs.declared.perform_statement.Performed.TheVariants.{P
 use Rattle.source_tree.specs.Storage.{Storage}
 use Rattle.source_tree.specs.Places.{LocatedItem}
 use Rattle.source_tree.specs.Evaluated.{Evaluation}
-use Rattle.source_tree.specs.State.{State, Stopped, Budget, Faulted, Outcome, Done, Over, state_after_output, then_do, in_turn, spend_from, spend, with_value, change_outcome, outcome_state}
+use Rattle.source_tree.specs.State.{State, Stopped, Budget, Faulted, Outcome, Done, Over, state_after_output, then_do}
+use Rattle.source_tree.specs.State.{in_turn, spend_from, spend, with_value, change_outcome, outcome_state}
 use Rattle.source_tree.specs.Showing.{displayed_bytes}
 use Rattle.source_tree.specs.Procedures.{Range, Procedure, range_of}
 use Rattle.source_tree.specs.Texts.{texts}
@@ -57,11 +58,13 @@ then_within : (n : ℕ) (o : Outcome) (go : State → Outcome) → IsRun go → 
 then_within n (Done s) go r w = wider s.budget n (go s) w (r.falls s)
 then_within n (Over end s) go r w = tt
 
-then_grows : (from : State) (o : Outcome) (go : State → Outcome) → IsRun go → Onward from (outcome_state o) → Onward from (outcome_state (then_do o go))
+then_grows : (from : State) (o : Outcome) (go : State → Outcome) → IsRun go → Onward from (outcome_state o)
+    → Onward from (outcome_state (then_do o go))
 then_grows from (Done s) go r b = onward from s (outcome_state (go s)) b (r.grows s)
 then_grows from (Over end s) go r b = b
 
-then_alike : (k : ℕ) (o other : Outcome) (go : State → Outcome) → IsRun go → Alike k o other → Alike k (then_do o go) (then_do other go)
+then_alike : (k : ℕ) (o other : Outcome) (go : State → Outcome) → IsRun go → Alike k o other
+    → Alike k (then_do o go) (then_do other go)
 then_alike k (Done s) other go r a = subst (λ x. Alike k (go s) (then_do x go)) (sym a) (r.alike k s)
 then_alike k (Over Stopped s) other go r a = ap (λ x. then_do x go) a
 then_alike k (Over (Faulted fault line) s) other go r a = ap (λ x. then_do x go) a
@@ -76,9 +79,11 @@ then_runs first go f r = record {
 
 spend_within : (b line : ℕ) (s : State) (go : State → Outcome) → IsRun go → Within b (spend_from b line s go)
 spend_within zero line s go r = tt
-spend_within (suc n) line s go r = wider n (suc n) (go (record s { budget = n; line = line })) (omega arith) (r.falls (record s { budget = n; line = line }))
+spend_within (suc n) line s go r = wider n (suc n) (go (record s { budget = n; line = line })) (omega arith)
+    (r.falls (record s { budget = n; line = line }))
 
-spend_grows : (b line : ℕ) (s : State) (go : State → Outcome) → IsRun go → Onward s (outcome_state (spend_from b line s go))
+spend_grows : (b line : ℕ) (s : State) (go : State → Outcome) → IsRun go
+    → Onward s (outcome_state (spend_from b line s go))
 spend_grows zero line s go r = itself s
 spend_grows (suc n) line s go r = r.grows (record s { budget = n; line = line })
 
@@ -88,7 +93,8 @@ spend_alike k zero total line s go r e = spend_grows total line (richer k s) go 
 spend_alike k (suc n) zero line s go r e = absurd (omega arith)
 spend_alike k (suc n) (suc total) line s go r e =
     let e : total ≡ n + k = omega arith in
-    subst (λ m. Alike k (go (record s { budget = n; line = line })) (go (record s { budget = m; line = line }))) (sym e) (r.alike k (record s { budget = n; line = line }))
+    subst (λ m. Alike k (go (record s { budget = n; line = line })) (go (record s { budget = m; line = line }))) (sym e)
+    (r.alike k (record s { budget = n; line = line }))
 
 pub spend_runs : (line : ℕ) (go : State → Outcome) → IsRun go → IsRun (λ s. spend line s go)
 spend_runs line go r = record {
@@ -106,7 +112,8 @@ stop_runs = record { falls = λ s. tt; grows = λ s. itself s; alike = λ k s. r
 pub show_runs : (bytes : List ℕ) → IsRun (λ s. Done (state_after_output bytes s))
 show_runs bytes = record { falls = λ s. omega arith; grows = λ s. shown_more bytes s; alike = λ k s. refl }
 
-pub in_turn_runs : {A : Type 0} (run : A → State → Outcome) → ((one : A) → IsRun (run one)) → (all : List A) → IsRun (in_turn run all)
+pub in_turn_runs : {A : Type 0} (run : A → State → Outcome) → ((one : A) → IsRun (run one)) → (all : List A)
+    → IsRun (in_turn run all)
 in_turn_runs run r [] = done_runs
 in_turn_runs run r (one ∷ more) = then_runs (run one) (in_turn run more) (r one) (in_turn_runs run r more)
 
@@ -120,7 +127,8 @@ module _ {A : Type 0} (go : A → State → Outcome) (r : (x : A) → IsRun (go 
   value_grows (Ok x) s = (r x).grows s
   value_grows (Err fault) s = itself s
 
-  value_alike : (e : Evaluation A) (k : ℕ) (s : State) → Alike k (with_value e s (λ x. go x s)) (with_value e (richer k s) (λ x. go x (richer k s)))
+  value_alike : (e : Evaluation A) (k : ℕ) (s : State)
+      → Alike k (with_value e s (λ x. go x s)) (with_value e (richer k s) (λ x. go x (richer k s)))
   value_alike (Ok x) k s = (r x).alike k s
   value_alike (Err fault) k s = refl
 
@@ -138,7 +146,8 @@ pub changing_runs : (change : Storage → Evaluation Storage) → IsRun (change_
 changing_runs change = value_runs (λ after s. Done (record s { storage = after })) storing_runs change
 
 -- ACCEPT leaves fewer lines, whatever the budget.
-accepting_runs : (lines : List (List ℕ) → List (List ℕ)) (after : Storage) → IsRun (λ s. Done (record s { storage = after; lines = lines s.lines }))
+accepting_runs : (lines : List (List ℕ) → List (List ℕ)) (after : Storage)
+    → IsRun (λ s. Done (record s { storage = after; lines = lines s.lines }))
 accepting_runs lines after = record { falls = λ s. omega arith; grows = λ s. itself s; alike = λ k s. refl }
 
 accept_runs : (items : List LocatedItem) (receiver : Reference) → IsRun (texts items (text.Accept receiver))
@@ -162,7 +171,8 @@ accept_date_runs items receiver =
     }
 
 pub texts_runs : (items : List LocatedItem) (one : TextStatement) → IsRun (texts items one)
-texts_runs items (text.Display operands advancing) = value_runs (λ bytes s. Done (state_after_output bytes s)) show_runs (displayed_bytes items operands advancing)
+texts_runs items (text.Display operands advancing) =
+    value_runs (λ bytes s. Done (state_after_output bytes s)) show_runs (displayed_bytes items operands advancing)
 texts_runs items (text.Accept receiver) = accept_runs items receiver
 texts_runs items (text.AcceptDate receiver) = accept_date_runs items receiver
 texts_runs items (text.Inspect one) = changing_runs (inspect items one)
@@ -174,9 +184,11 @@ finish_runs ending.Exit = done_runs
 
 pub turns_runs : (line count : ℕ) (go : State → Outcome) → IsRun go → IsRun (turns line count go)
 turns_runs line zero go r = done_runs
-turns_runs line (suc more) go r = spend_runs line (λ s. then_do (go s) (turns line more go)) (then_runs go (turns line more go) r (turns_runs line more go r))
+turns_runs line (suc more) go r = spend_runs line (λ s. then_do (go s) (turns line more go))
+    (then_runs go (turns line more go) r (turns_runs line more go r))
 
-module _ {S : Type 0} (run : S → State → Outcome) (range : Range → State → Outcome) (r : (one : S) → IsRun (run one)) (ranges : (one : Range) → IsRun (range one)) where
+module _ {S : Type 0} (run : S → State → Outcome) (range : Range → State → Outcome) (r : (one : S) → IsRun (run one))
+    (ranges : (one : Range) → IsRun (range one)) where
   performed_runs : (found : Option Range) → IsRun (performed_range range found)
   performed_runs None = done_runs
   performed_runs (Some one) = ranges one
@@ -198,11 +210,13 @@ module _ {S : Type 0} (run : S → State → Outcome) (r : (one : S) → IsRun (
   pub calculating_runs : (items : List LocatedItem) (one : Arithmetic S) → IsRun (arithmetic_outcome items run one)
   calculating_runs items one =
       value_runs (λ after s. phrase_for run one.phrases after.size_error (record s { storage = after.storage }))
-      (λ (after : StoreResult). then_runs (λ s. Done (record s { storage = after.storage })) (phrase_for run one.phrases after.size_error) (storing_runs after.storage) (phrase_runs one.phrases after.size_error))
+      (λ (after : StoreResult). then_runs (λ s. Done (record s { storage = after.storage })) (phrase_for run one.phrases
+      after.size_error) (storing_runs after.storage) (phrase_runs one.phrases after.size_error))
       (operation items (is_there one.phrases.arose) one.operation)
 
   pub stringing_runs : (items : List LocatedItem) (one : StringStatement S) → IsRun (string_outcome items run one)
   stringing_runs items one =
       value_runs (λ after s. phrase_for run one.phrases after.overflow (record s { storage = after.storage }))
-      (λ (after : Strings). then_runs (λ s. Done (record s { storage = after.storage })) (phrase_for run one.phrases after.overflow) (storing_runs after.storage) (phrase_runs one.phrases after.overflow))
+      (λ (after : Strings). then_runs (λ s. Done (record s { storage = after.storage })) (phrase_for run one.phrases
+      after.overflow) (storing_runs after.storage) (phrase_runs one.phrases after.overflow))
       (string_stores items one)

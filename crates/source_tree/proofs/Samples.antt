@@ -52,7 +52,8 @@ group level called = record {
 }
 
 abbrev pub item : List ℕ → List ℕ → List ℕ → ItemEntry
-item level called picture = record (group level called) { picture = Some (record { characters = picture; place = here }) }
+item level called picture =
+    record (group level called) { picture = Some (record { characters = picture; place = here }) }
 
 abbrev pub unnamed : ItemEntry → ItemEntry
 unnamed one = record one { name = None }
@@ -99,7 +100,8 @@ condition called values = entry.Condition (record { name = name called; values =
 -- ---- literals
 
 abbrev pub signed_number : Sign → List ℕ → List ℕ → Literal
-signed_number sign whole decimals = record { value = literal.Numeric (record { sign = sign; whole = whole; decimals = decimals }); place = here }
+signed_number sign whole decimals =
+    record { value = literal.Numeric (record { sign = sign; whole = whole; decimals = decimals }); place = here }
 
 abbrev pub number : List ℕ → Literal
 number whole = signed_number sign.Unsigned whole []

@@ -17,7 +17,9 @@ use Rattle.source_tree.specs.Initializing.{initialize, storage_after_set}
 use Rattle.source_tree.specs.Stringing.{Strings, string_stores}
 use Rattle.source_tree.specs.SettingRules.{initialize_rules, set_rules}
 use Rattle.source_tree.specs.StringRules.{string_rules}
-use Rattle.source_tree.proofs.Samples.{group, item, unnamed, redefining, occurring, binary, justified, entries, one_value, condition, number, text, constant, all, reference, plain, counted, by_item, the_item, the_literal}
+use Rattle.source_tree.proofs.Samples.{group, item, unnamed, redefining, occurring, binary, justified, entries}
+use Rattle.source_tree.proofs.Samples.{one_value, condition, number, text, constant, all, reference, plain, counted}
+use Rattle.source_tree.proofs.Samples.{by_item, the_item, the_literal}
 unfoldable use Rattle.source_tree.proofs.Computing.{computing}
 use Rattle.decimal18.specs.Receiver as receivers
 unfoldable use Rattle.text_ops.specs.Strings.{delimited_characters, string_of_senders}
@@ -63,15 +65,18 @@ abbrev of_table : List Entry
 of_table = entries (group (codes "01") (codes "G") ∷ occurring (codes "3") (item (codes "05") (codes "T") (codes "X"))
     ∷ item (codes "77") (codes "I") (codes "9") ∷ [])
 
-late_subscript : initialize (items_of of_table) (plain (codes "I") ∷ reference (codes "T") (by_item (codes "I") ∷ []) ∷ []) (codes "abc" ∷ codes "2" ∷ []) ≡ Err fault.Subscript
+late_subscript : initialize (items_of of_table) (plain (codes "I") ∷ reference (codes "T") (by_item (codes "I") ∷ [])
+    ∷ []) (codes "abc" ∷ codes "2" ∷ []) ≡ Err fault.Subscript
 unfolding computing
 late_subscript = refl
 
 -- ---- SET: J is JUSTIFIED, and takes its value from the left; N a number
 
 abbrev with_conditions : List Entry
-with_conditions = entries (justified (item (codes "77") (codes "J") (codes "X(3)")) ∷ []) ++ condition (codes "SHORT") (one_value (text (codes "X")) ∷ one_value (text (codes "Y")) ∷ [])
-    ∷ entries (item (codes "77") (codes "N") (codes "9(3)") ∷ []) ++ condition (codes "SEVEN") (one_value (number (codes "7")) ∷ [])
+with_conditions = entries (justified (item (codes "77") (codes "J") (codes "X(3)")) ∷ [])
+    ++ condition (codes "SHORT") (one_value (text (codes "X")) ∷ one_value (text (codes "Y")) ∷ [])
+    ∷ entries (item (codes "77") (codes "N") (codes "9(3)") ∷ [])
+    ++ condition (codes "SEVEN") (one_value (number (codes "7")) ∷ [])
     ∷ condition (codes "STARS") (one_value (constant figurative.Zero) ∷ []) ∷ []
 
 abbrev set_to : List Reference → Evaluation Storage
@@ -86,11 +91,13 @@ unfolding computing
 set_figurative = refl
 
 -- 68 an item, 40 nothing of that name, 50 a subscript too many; INITIALIZE of a condition name is 40
-set_broken : rules (set_rules (items_of with_conditions) (plain (codes "SHORT") ∷ plain (codes "N") ∷ plain (codes "Z") ∷ reference (codes "SEVEN") (counted (codes "1") ∷ []) ∷ [])) ≡ 68 ∷ 40 ∷ 50 ∷ []
+set_broken : rules (set_rules (items_of with_conditions) (plain (codes "SHORT") ∷ plain (codes "N") ∷ plain (codes "Z")
+    ∷ reference (codes "SEVEN") (counted (codes "1") ∷ []) ∷ [])) ≡ 68 ∷ 40 ∷ 50 ∷ []
 unfolding computing
 set_broken = refl
 
-initialize_broken : rules (initialize_rules (items_of with_conditions) (plain (codes "J") ∷ plain (codes "SHORT") ∷ [])) ≡ 40 ∷ []
+initialize_broken : rules (initialize_rules (items_of with_conditions) (plain (codes "J") ∷ plain (codes "SHORT") ∷ []))
+    ≡ 40 ∷ []
 unfolding computing
 initialize_broken = refl
 
@@ -107,10 +114,16 @@ abbrev sending : List Operand → Option Operand → Sending
 sending senders delimiter = record { senders = senders; delimiter = delimiter }
 
 abbrev into : List Sending → Option Reference → StringStatement Statement
-into sendings pointer = record { sendings = sendings; receiver = plain (codes "T"); pointer = pointer; phrases = record { arose = None; did_not = None } }
+into sendings pointer = record {
+  sendings = sendings;
+  receiver = plain (codes "T");
+  pointer = pointer;
+  phrases = record { arose = None; did_not = None };
+}
 
 abbrev strings : List ℕ → List Sending → Option Reference → Evaluation Strings
-strings pointer sendings to = string_stores (items_of texts) (into sendings to) (codes "...." ∷ pointer ∷ codes " " ∷ codes "A*B" ∷ [])
+strings pointer sendings to =
+    string_stores (items_of texts) (into sendings to) (codes "...." ∷ pointer ∷ codes " " ∷ codes "A*B" ∷ [])
 
 abbrev left : List ℕ → List ℕ → Evaluation Strings
 left text pointer = Ok (record { storage = text ∷ pointer ∷ codes " " ∷ codes "A*B" ∷ []; overflow = false })
@@ -124,25 +137,30 @@ by_space senders = sending senders (Some (the_literal (constant figurative.Space
 abbrev pointer : Option Reference
 pointer = Some (plain (codes "P"))
 
-worked_row : strings (codes "2") (by_space (the_literal (text (codes "AB")) ∷ the_literal (text (codes "C D")) ∷ []) ∷ []) pointer ≡ left (codes ".ABC") (codes "5")
+worked_row : strings (codes "2") (by_space (the_literal (text (codes "AB")) ∷ the_literal (text (codes "C D")) ∷ [])
+    ∷ []) pointer ≡ left (codes ".ABC") (codes "5")
 unfolding computing delimited_characters string_of_senders receivers.fitted_decimal
 worked_row = refl
 
-with_a_third : strings (codes "2") (by_space (the_literal (text (codes "AB")) ∷ the_literal (text (codes "C D")) ∷ the_literal (text (codes "E")) ∷ []) ∷ []) pointer ≡ overflowed (codes ".ABC") (codes "5")
+with_a_third : strings (codes "2") (by_space (the_literal (text (codes "AB")) ∷ the_literal (text (codes "C D"))
+    ∷ the_literal (text (codes "E")) ∷ []) ∷ []) pointer ≡ overflowed (codes ".ABC") (codes "5")
 unfolding computing delimited_characters string_of_senders receivers.fitted_decimal
 with_a_third = refl
 
 -- an item as delimiter; SIZE
-two_sendings : strings (codes "2") (sending (the_literal (text (codes "X Y")) ∷ the_item (codes "W") ∷ []) (Some (the_item (codes "D"))) ∷ []) None ≡ left (codes "XA*B") (codes "2")
+two_sendings : strings (codes "2") (sending (the_literal (text (codes "X Y")) ∷ the_item (codes "W") ∷ [])
+    (Some (the_item (codes "D"))) ∷ []) None ≡ left (codes "XA*B") (codes "2")
 unfolding computing delimited_characters string_of_senders
 two_sendings = refl
 
 -- outside of the receiver nothing is stored
-before_the_receiver : strings (codes "0") (sending (the_item (codes "W") ∷ []) None ∷ []) pointer ≡ overflowed (codes "....") (codes "0")
+before_the_receiver : strings (codes "0") (sending (the_item (codes "W") ∷ []) None ∷ []) pointer
+    ≡ overflowed (codes "....") (codes "0")
 unfolding computing delimited_characters string_of_senders
 before_the_receiver = refl
 
-behind_the_receiver : strings (codes "5") (sending (the_item (codes "W") ∷ []) None ∷ []) pointer ≡ overflowed (codes "....") (codes "5")
+behind_the_receiver : strings (codes "5") (sending (the_item (codes "W") ∷ []) None ∷ []) pointer
+    ≡ overflowed (codes "....") (codes "5")
 unfolding computing delimited_characters string_of_senders
 behind_the_receiver = refl
 
@@ -164,11 +182,13 @@ operands = entries (
     ∷ item (codes "77") (codes "E") (codes "Z9") ∷ [])
 
 abbrev the_string : Operand → Option Operand → List ℕ → Option Reference → StringStatement Statement
-the_string sender delimiter receiver to = record (into (sending (sender ∷ []) delimiter ∷ []) to) { receiver = plain receiver }
+the_string sender delimiter receiver to =
+    record (into (sending (sender ∷ []) delimiter ∷ []) to) { receiver = plain receiver }
 
 abbrev Broke : List (Operand × Option Operand × List ℕ × Option Reference × List ℕ) → Type 0
 Broke [] = Unit {0}
-Broke (row ∷ more) = (rules (string_rules (items_of operands) (the_string row.0 row.1 row.2 row.3)) ≡ row.4) × Broke more
+Broke (row ∷ more) =
+    (rules (string_rules (items_of operands) (the_string row.0 row.1 row.2 row.3)) ≡ row.4) × Broke more
 
 strings_broken : Broke ((the_item (codes "N"), None, codes "X", None, [])
     ∷ (the_item (codes "E"), None, codes "X", None, [])
@@ -189,4 +209,16 @@ strings_broken : Broke ((the_item (codes "N"), None, codes "X", None, [])
     ∷ (the_item (codes "Q"), Some (the_item (codes "Q")), codes "X", None, 40 ∷ 40 ∷ [])
     ∷ [])
 unfolding computing
-strings_broken = (refl, (refl, (refl, (refl, (refl, (refl, (refl, (refl, (refl, (refl, (refl, (refl, (refl, (refl, (refl, (refl, (refl, tt)))))))))))))))))
+strings_broken = (
+  refl,
+  (
+    refl,
+    (
+      refl,
+      (
+        refl,
+        (refl, (refl, (refl, (refl, (refl, (refl, (refl, (refl, (refl, (refl, (refl, (refl, (refl, tt))))))))))))),
+      ),
+    ),
+  ),
+)

@@ -20,15 +20,18 @@ one_added a b c e = omega arith
 pub notes_append : (es fs : List Event) → note_count (es ++ fs) ≡ note_count es + note_count fs
 notes_append [] fs = none_added (note_count fs)
 notes_append (Shown byte ∷ es) fs = notes_append es fs
-notes_append (Noted note ∷ es) fs = one_added (note_count (es ++ fs)) (note_count es) (note_count fs) (notes_append es fs)
+notes_append (Noted note ∷ es) fs =
+    one_added (note_count (es ++ fs)) (note_count es) (note_count fs) (notes_append es fs)
 
 pub nothing_more : (es : List Event) (fs : List Files) → Further es fs es fs
-nothing_more es fs = record { told = []; events_are = sym (append-nil es); left = []; files_are = sym (append-nil fs); one_each = refl }
+nothing_more es fs =
+    record { told = []; events_are = sym (append-nil es); left = []; files_are = sym (append-nil fs); one_each = refl }
 
 counts_add : (a b c d ab cd : ℕ) → ab ≡ a + b → cd ≡ c + d → a ≡ c → b ≡ d → ab ≡ cd
 counts_add a b c d ab cd x y p q = omega arith
 
-pub and_further : (es : List Event) (fs : List Files) (gs : List Event) (hs : List Files) (is : List Event) (js : List Files)
+pub and_further :
+    (es : List Event) (fs : List Files) (gs : List Event) (hs : List Files) (is : List Event) (js : List Files)
     → Further es fs gs hs → Further gs hs is js → Further es fs is js
 and_further es fs gs hs is js a b = record {
   told = a.told ++ b.told;
@@ -36,7 +39,8 @@ and_further es fs gs hs is js a b = record {
   left = a.left ++ b.left;
   files_are = b.files_are ∙ ap (λ files. files ++ b.left) a.files_are ∙ append_assoc fs a.left b.left;
   one_each =
-      counts_add (length a.left) (length b.left) (note_count a.told) (note_count b.told) (length (a.left ++ b.left)) (note_count (a.told ++ b.told))
+      counts_add (length a.left) (length b.left) (note_count a.told) (note_count b.told) (length (a.left ++ b.left))
+      (note_count (a.told ++ b.told))
       (length-append a.left b.left) (notes_append a.told b.told) a.one_each b.one_each;
 }
 
@@ -52,7 +56,13 @@ no_notes [] = refl
 no_notes (byte ∷ bytes) = no_notes bytes
 
 pub shown_more : (bytes : List ℕ) (s : State) → Onward s (state_after_output bytes s)
-shown_more bytes s = record { told = map Shown bytes; events_are = refl; left = []; files_are = sym (append-nil (all_files s)); one_each = sym (no_notes bytes) }
+shown_more bytes s = record {
+  told = map Shown bytes;
+  events_are = refl;
+  left = [];
+  files_are = sym (append-nil (all_files s));
+  one_each = sym (no_notes bytes);
+}
 
 -- A file statement has one note, and leaves files.
 pub noted_more : (file : FilePlaces) (step : Step) (s : State) → Onward s (state_after_status file step s)

@@ -16,7 +16,17 @@ held _ = 0
 
 -- so much of the budget left, this in the item, and these bytes shown, after a turn of the PERFORM at line 9
 abbrev after_turns : ℕ → ℕ → List ℕ → State
-after_turns budget byte shown = record { budget = budget; line = 9; day = []; lines = []; storage = (byte ∷ []) ∷ []; files = []; connectors = []; earlier = []; events = map Shown shown }
+after_turns budget byte shown = record {
+  budget = budget;
+  line = 9;
+  day = [];
+  lines = [];
+  storage = (byte ∷ []) ∷ [];
+  files = [];
+  connectors = [];
+  earlier = [];
+  events = map Shown shown;
+}
 
 abbrev is_four : ConditionValue
 is_four storage = Ok (held storage == 4)
@@ -28,11 +38,13 @@ abbrev add_one : State → Outcome
 add_one s = Done (record s { storage = ((held s.storage + 1) ∷ []) ∷ [] })
 
 -- VARYING from 1 by 1: 1, 2 and 3 are shown, 4 is left, and each turn has used one
-three_turns : until_from Before 9 20 is_four add_one show_item (after_turns 10 1 []) ≡ Done (after_turns 7 4 (1 ∷ 2 ∷ 3 ∷ []))
+three_turns : until_from Before 9 20 is_four add_one show_item (after_turns 10 1 [])
+    ≡ Done (after_turns 7 4 (1 ∷ 2 ∷ 3 ∷ []))
 three_turns = refl
 
 -- with the test behind each turn 4 is shown too, and nothing is added behind the last one
-four_turns : until_from After 9 20 is_four add_one show_item (after_turns 10 1 []) ≡ Done (after_turns 6 4 (1 ∷ 2 ∷ 3 ∷ 4 ∷ []))
+four_turns : until_from After 9 20 is_four add_one show_item (after_turns 10 1 [])
+    ≡ Done (after_turns 6 4 (1 ∷ 2 ∷ 3 ∷ 4 ∷ []))
 four_turns = refl
 
 -- true at first: no turn, or one
@@ -43,7 +55,8 @@ one_turn : until_from After 9 20 is_four add_one show_item (after_turns 10 4 [])
 one_turn = refl
 
 -- the budget ends before the third turn, whose test was made
-two_turns : until_from Before 9 20 is_four add_one show_item (after_turns 2 1 []) ≡ Over Budget (after_turns 0 3 (1 ∷ 2 ∷ []))
+two_turns : until_from Before 9 20 is_four add_one show_item (after_turns 2 1 [])
+    ≡ Over Budget (after_turns 0 3 (1 ∷ 2 ∷ []))
 two_turns = refl
 
 -- a statement that shows a byte

@@ -39,60 +39,81 @@ ghost use Rattle.source_tree.specs.Told.{Further, Onward};
 
 /// Two depths above the budget are the same, of a statement and of a program.
 pub fn depth_law()
-    ensures statement { (around : ProgramContext) (one : Statement) (s : State) (depth other : ℕ) → s.budget < depth → s.budget < other → exec around depth one s ≡ exec around other one s }
-    ensures program { (program : Program) (given : RunInput) (depth : ℕ) → given.budget < depth → run_of (run_from depth program (start program given)) ≡ meaning program given }
+    ensures statement { (around : ProgramContext) (one : Statement) (s : State) (depth other : ℕ)
+        → s.budget < depth → s.budget < other → exec around depth one s ≡ exec around other one s }
+    ensures program { (program : Program) (given : RunInput) (depth : ℕ) → given.budget < depth
+        → run_of (run_from depth program (start program given)) ≡ meaning program given }
 {}
 
 /// A program that doesn't end for want of budget does the same with more.
 pub fn budget_law()
-    ensures enough { (program : Program) (given : RunInput) (more : ℕ) → given.budget ≤ more → (meaning program given).end ≢ Budget → meaning program (with_budget more given) ≡ meaning program given }
+    ensures enough { (program : Program) (given : RunInput) (more : ℕ)
+        → given.budget ≤ more → (meaning program given).end ≢ Budget
+        → meaning program (with_budget more given) ≡ meaning program given }
 {}
 
 /// What was told, events and files, is never taken back, and more budget only tells more; there is one note a file statement.
 pub fn output_law()
-    ensures statement { (around : ProgramContext) (one : Statement) (s : State) (depth : ℕ) → Onward s (outcome_state (exec around depth one s)) }
+    ensures statement { (around : ProgramContext) (one : Statement) (s : State) (depth : ℕ)
+        → Onward s (outcome_state (exec around depth one s)) }
     ensures program { (program : Program) (given : RunInput) (more : ℕ) → given.budget ≤ more →
-        Further (meaning program given).events (meaning program given).files (meaning program (with_budget more given)).events (meaning program (with_budget more given)).files }
-    ensures whole { (program : Program) (given : RunInput) → Further [] (given.files ∷ []) (meaning program given).events (meaning program given).files }
+        Further (meaning program given).events (meaning program given).files (meaning program
+        (with_budget more given)).events (meaning program (with_budget more given)).files }
+    ensures whole { (program : Program) (given : RunInput) → Further [] (given.files ∷ [])
+        (meaning program given).events (meaning program given).files }
 {}
 
 /// The verbs of READ and START suit their file: they name a key of it, and no more bytes than the key has.
 pub fn file_verb_law()
-    ensures read { (items : List LocatedItem) (file : ProgramFile) (next : Bool) (key : Option Reference) → Suits file.entry (read_verb items file next key) }
-    ensures start { (items : List LocatedItem) (file : ProgramFile) (key : Option StartKey) → Suits file.entry (start_verb items file key) }
+    ensures read { (items : List LocatedItem) (file : ProgramFile) (next : Bool)
+        (key : Option Reference) → Suits file.entry (read_verb items file next key) }
+    ensures start { (items : List LocatedItem) (file : ProgramFile) (key : Option StartKey)
+        → Suits file.entry (start_verb items file key) }
 {}
 
 /// Where the rules of files are kept, each file of a program is one: its name and keys are those of a file, and its RELATIVE KEY
 /// and FILE STATUS can be stored.
 pub fn sound_files_law()
-    ensures files { (items : List LocatedItem) (program : Program) → program_file_rules items program ≡ [] → AllByRecursion (IsSound (storage_areas program.storage)) (files_of items program) }
+    ensures files { (items : List LocatedItem) (program : Program)
+        → program_file_rules items program ≡ []
+        → AllByRecursion (IsSound (storage_areas program.storage)) (files_of items program) }
 {}
 
 /// Where the rules of files are kept, each file has a record area at the start, behind those of working storage, as long as its
 /// longest record.
 pub fn record_areas_law()
-    ensures files { (items : List LocatedItem) (program : Program) → program_file_rules items program ≡ [] →
-        AllByRecursion (HasRecordArea (storage_areas program.storage) (program_areas program)) (files_of items program) }
+    ensures files { (items : List LocatedItem) (program : Program)
+        → program_file_rules items program ≡ [] →
+        AllByRecursion (HasRecordArea (storage_areas program.storage) (program_areas program))
+        (files_of items program) }
 {}
 
 /// EVALUATE takes a value as a relation takes its left side: it has a fault where a comparison with ZERO has it, and the same one. Each
 /// value but a literal may be compared with ZERO, which has none.
 pub fn subject_law()
-    ensures value { (items : List LocatedItem) (value : Side) (place : Place) (storage : Storage) → is_literal_alone (alone_side value) ≡ false →
-        without_value (holds items (Relation value Equal (side.Literal (record { value = literal.Figurative figurative.Zero; place = place }))) storage) ≡ take_resolved items (Value value) storage }
+    ensures value { (items : List LocatedItem) (value : Side) (place : Place) (storage : Storage)
+        → is_literal_alone (alone_side value) ≡ false →
+        without_value (holds items (Relation value Equal (side.Literal
+        (record { value = literal.Figurative figurative.Zero; place = place }))) storage)
+        ≡ take_resolved items (Value value) storage }
 {}
 
 /// Of an integer of 18 digits no turn is cut. A run with less budget than a loop has turns can't tell whether some were cut: it
 /// ends for want of budget.
 pub fn turns_law()
-    ensures digits { (count : Integer) → AllByRecursion IsDigit count.digits → length count.digits ≤ 18 → turns_of count ≡ number_of count }
-    ensures cut { (around : ProgramContext) (count : Integer) (line depth : ℕ) (statements : List Statement) (s : State) → s.budget < most_turns →
-        turns line (turns_of count) (in_turn (exec around depth) statements) s ≡ turns line (number_of count) (in_turn (exec around depth) statements) s }
+    ensures digits { (count : Integer) → AllByRecursion IsDigit count.digits
+        → length count.digits ≤ 18 → turns_of count ≡ number_of count }
+    ensures cut { (around : ProgramContext) (count : Integer) (line depth : ℕ)
+        (statements : List Statement) (s : State) → s.budget < most_turns →
+        turns line (turns_of count) (in_turn (exec around depth) statements) s
+        ≡ turns line (number_of count) (in_turn (exec around depth) statements) s }
 {}
 
 /// Where INSPECT keeps its rules, and each item has a byte or more, it does what entries do that are spans of all its texts
 /// joined, whatever is in storage.
 pub fn inspect_law()
-    ensures spans { (items : List LocatedItem) → ((n : ℕ) (item : LocatedItem) → slice_get items n ≡ Some item → 1 ≤ item.item.length) →
-        (one : InspectStatement) (storage : Storage) → inspect_rules items one ≡ [] → inspect items one storage ≡ inspect_by_spans items one storage }
+    ensures spans { (items : List LocatedItem)
+        → ((n : ℕ) (item : LocatedItem) → slice_get items n ≡ Some item → 1 ≤ item.item.length) →
+        (one : InspectStatement) (storage : Storage) → inspect_rules items one ≡ []
+        → inspect items one storage ≡ inspect_by_spans items one storage }
 {}

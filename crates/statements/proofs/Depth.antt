@@ -28,7 +28,8 @@ statement_starts (suc depth) x i rest s = line_starts depth (g.statement depth) 
 statement_sound : (depth : ℕ) → Sound (g.statement depth) (r.statement depth)
 unfolding r.statement
 statement_sound zero x i rest e = cc
-statement_sound (suc depth) x i rest e = line_sound depth (g.statement depth) (r.statement depth) (statement_sound depth) x i rest e
+statement_sound (suc depth) x i rest e =
+    line_sound depth (g.statement depth) (r.statement depth) (statement_sound depth) x i rest e
 
 -- Reading to a depth answers what is spelled to a greater one, or that it nests too deep.
 statement_complete : (depth depth' : ℕ) → Complete (Deeper depth depth') (g.statement depth') (r.statement depth)
@@ -36,11 +37,14 @@ unfolding r.statement
 statement_complete depth zero x i rest s = absurd s
 statement_complete zero (suc n) x i rest s = Halts (TooDeep (length i)) (omega arith) refl
 statement_complete (suc depth) (suc n) x i rest s =
-    line_complete (Deeper (suc depth) (suc n)) depth n (λ y j after inner. allow (one_deeper depth n) (expression_complete depth n y j after inner))
+    line_complete (Deeper (suc depth) (suc n)) depth n
+    (λ y j after inner. allow (one_deeper depth n) (expression_complete depth n y j after inner))
     (λ y j after inner. allow (one_deeper depth n) (condition_complete depth n y j after inner))
     (λ y j after inner. allow (one_deeper depth n) (subject_complete depth n y j after inner))
-    (λ y j after inner. allow (one_deeper depth n) (object_complete depth n y j after inner)) (g.statement n) (r.statement depth)
-    (λ y j after inner. allow (one_deeper depth n) (statement_complete depth n y j after inner)) (statement_shrinks n) (statement_starts n) x i rest s
+    (λ y j after inner. allow (one_deeper depth n) (object_complete depth n y j after inner)) (g.statement n)
+    (r.statement depth)
+    (λ y j after inner. allow (one_deeper depth n) (statement_complete depth n y j after inner)) (statement_shrinks n)
+    (statement_starts n) x i rest s
 
 -- ---- sentences
 
@@ -49,16 +53,25 @@ unfolding r.sentence
 sentence_sound depth x i rest e =
     unstep (r.statements (r.statement depth) i) _ e (λ found i1 is1 e1.
     unstep (read.period i1) _ e1 (λ u i2 is2 e2.
-    subst (λ y. g.sentence depth y i rest) (value e2) (i1, statements_sound (g.statement depth) (r.statement depth) (statement_sound depth) found i i1 is1, period_sound u i1 rest (last is2 e2))))
+    subst (λ y. g.sentence depth y i rest) (value e2) (
+      i1,
+      statements_sound (g.statement depth) (r.statement depth) (statement_sound depth) found i i1 is1,
+      period_sound u i1 rest (last is2 e2),
+    )))
 
 pub sentence_complete : (depth depth' : ℕ) → Complete (Deeper depth depth') (g.sentence depth') (r.sentence depth)
 unfolding r.sentence
 sentence_complete depth depth' x i rest s =
-    step (r.statements (r.statement depth) i) _ (statements_complete (Deeper depth depth') (g.statement depth') (r.statement depth) (statement_complete depth depth') (statement_shrinks depth') (statement_starts depth') x.statements i s.0 s.1)
+    step (r.statements (r.statement depth) i)
+    _ (statements_complete (Deeper depth depth') (g.statement depth') (r.statement depth)
+    (statement_complete depth depth') (statement_shrinks depth') (statement_starts depth') x.statements i s.0 s.1)
     (step (read.period s.0) _ (period_complete tt s.0 rest s.2) (Reached refl))
 
 pub sentence_shrinks : (depth : ℕ) → Shrinks (g.sentence depth)
-sentence_shrinks depth x i rest s = let a = statements_shrink (g.statement depth) (statement_shrinks depth) x.statements i s.0 s.1 in let b = period_shrinks s.0 rest s.2 in omega arith
+sentence_shrinks depth x i rest s =
+    let a = statements_shrink (g.statement depth) (statement_shrinks depth) x.statements i s.0 s.1 in let b =
+    period_shrinks s.0 rest s.2 in omega arith
 
 pub sentence_starts : (depth : ℕ) → Starts begins_statement (g.sentence depth)
-sentence_starts depth x i rest s = Lists.several_starts (g.statement depth) (lookahead begins_statement) begins_statement (statement_starts depth) x.statements i s.0 s.1
+sentence_starts depth x i rest s = Lists.several_starts (g.statement depth) (lookahead begins_statement)
+    begins_statement (statement_starts depth) x.statements i s.0 s.1

@@ -19,13 +19,18 @@ use Rattle.expressions.specs.References.{reference_reader}
 use Rattle.expressions.specs.Operands.{number_operand, number_operand_reader}
 use Rattle.expressions.specs.Looking.{reference_before, after_reference_before}
 use Rattle.expressions.proofs.Exact.Marks.{begins_not}
-use Rattle.expressions.proofs.Exact.References.{reference_sound, reference_complete, reference_shrinks, reference_starts}
-use Rattle.expressions.proofs.Exact.Operands.{number_name, number_operand_sound, number_operand_complete, number_operand_shrinks, number_operands_sound, number_operands_complete, number_operands_shrink}
+use Rattle.expressions.proofs.Exact.References.{reference_sound, reference_complete, reference_shrinks}
+use Rattle.expressions.proofs.Exact.References.{reference_starts}
+use Rattle.expressions.proofs.Exact.Operands.{number_name, number_operand_sound, number_operand_complete}
+use Rattle.expressions.proofs.Exact.Operands.{number_operand_shrinks, number_operands_sound, number_operands_complete}
+use Rattle.expressions.proofs.Exact.Operands.{number_operands_shrink}
 use Rattle.expressions.proofs.Exact.Leads.{reference_before_found}
 use Rattle.statements.specs.declared.receivers.Target.{Target}
 use Rattle.statements.specs.declared.receivers.Target.TheVariants.{Receivers, Giving}
 use Rattle.statements.proofs.Except.{not_second, both, no_first, second}
-use Rattle.statements.specs.Receivers.{numbers, receiver, receivers, target, numbers_reader, receiver_reader, receivers_reader, begins_receivers, receivers_alone_reader, giving_reader, target_reader}
+use Rattle.statements.specs.Receivers.{numbers, receiver, receivers, target, numbers_reader, receiver_reader}
+use Rattle.statements.specs.Receivers.{receivers_reader, begins_receivers, receivers_alone_reader, giving_reader}
+use Rattle.statements.specs.Receivers.{target_reader}
 
 -- ---- operands
 
@@ -54,7 +59,8 @@ pub receiver_complete : {Allowed : Halt → Type 0} → Complete Allowed receive
 unfolding receiver_reader
 receiver_complete x i rest (i1, item, rounded) =
     step (reference_reader i) _ (reference_complete x.item i i1 item)
-    (step (read.presence_reader (after_word w.Rounded) i1) _ (stands_complete (finds_word w.Rounded) x.rounded i1 rest rounded) (Reached refl))
+    (step (read.presence_reader (after_word w.Rounded) i1) _
+    (stands_complete (finds_word w.Rounded) x.rounded i1 rest rounded) (Reached refl))
 
 rounded_shrinks : (i rest : List Token) → word w.Rounded i rest → length rest ≤ length i
 rounded_shrinks i rest s = let a = word_shrinks w.Rounded i rest s in omega arith
@@ -69,12 +75,14 @@ receiver_starts x i rest s = reference_starts x.item i s.0 s.1
 
 pub receivers_sound : Sound receivers receivers_reader
 unfolding receivers_reader
-receivers_sound = lists.several_sound receiver receiver_reader (lookahead begins_name) begins_name (tests_tested begins_name) receiver_sound
+receivers_sound = lists.several_sound receiver receiver_reader (lookahead begins_name) begins_name
+    (tests_tested begins_name) receiver_sound
 
 pub receivers_complete : {Allowed : Halt → Type 0} → Complete Allowed receivers receivers_reader
 unfolding receivers_reader
 receivers_complete {Allowed = Allowed} =
-    lists.several_complete receiver receiver_reader (lookahead begins_name) begins_name (tests_tested begins_name) Allowed (receiver_complete {Allowed = Allowed}) receiver_shrinks receiver_starts
+    lists.several_complete receiver receiver_reader (lookahead begins_name) begins_name (tests_tested begins_name)
+    Allowed (receiver_complete {Allowed = Allowed}) receiver_shrinks receiver_starts
 
 pub receivers_shrink : Shrinks receivers
 receivers_shrink = lists.several_shrinks receiver (lookahead begins_name) receiver_shrinks
@@ -91,10 +99,12 @@ target_shrinks (Giving operand all) i rest (i1, num, (i2, giving, into)) =
     let b = word_shrinks w.Giving i1 i2 giving in
     let c = receivers_shrink all i2 rest into in omega arith
 
-alone_sound : (x : Target) (i rest : List Token) → ((after : List Token) → reference_before w.Giving i after → ⊥) → receivers_alone_reader i ≡ Ok (x, rest) → target x i rest
+alone_sound : (x : Target) (i rest : List Token) → ((after : List Token) → reference_before w.Giving i after → ⊥)
+    → receivers_alone_reader i ≡ Ok (x, rest) → target x i rest
 unfolding receivers_alone_reader
 alone_sound x i rest absent e =
-    unstep (receivers_reader i) _ e (λ all i1 is1 e1. subst (λ y. target y i rest) (value e1) (receivers_sound all i rest (last is1 e1), absent))
+    unstep (receivers_reader i) _ e
+    (λ all i1 is1 e1. subst (λ y. target y i rest) (value e1) (receivers_sound all i rest (last is1 e1), absent))
 
 giving_sound : Sound target giving_reader
 unfolding giving_reader
@@ -102,28 +112,37 @@ giving_sound x i rest e =
     unstep (number_operand_reader i) _ e (λ operand i1 is1 e1.
     unstep (read.expect w.Giving i1) _ e1 (λ u i2 is2 e2.
     unstep (receivers_reader i2) _ e2 (λ all i3 is3 e3.
-    subst (λ y. target y i rest) (value e3)
-    (i1, number_operand_sound operand i i1 is1, (i2, word_sound w.Giving u i1 i2 is2, receivers_sound all i2 rest (last is3 e3))))))
+    subst (λ y. target y i rest) (value e3) (
+      i1,
+      number_operand_sound operand i i1 is1,
+      (i2, word_sound w.Giving u i1 i2 is2, receivers_sound all i2 rest (last is3 e3)),
+    ))))
 
 pub target_sound : Sound target target_reader
 unfolding target_reader
 target_sound x i rest e = go (begins_receivers i) refl e
   where
-    go : (b : Bool) → begins_receivers i ≡ b → (if b then receivers_alone_reader i else giving_reader i) ≡ Ok (x, rest) → target x i rest
-    go true is e = alone_sound x i rest ((tests_words (reference_before_found w.Giving)).fails i (not_second (begins_name i) (is_some (after_reference_before w.Giving i)) is)) e
+    go : (b : Bool) → begins_receivers i ≡ b → (if b then receivers_alone_reader i else giving_reader i) ≡ Ok (x, rest)
+        → target x i rest
+    go true is e = alone_sound x i rest ((tests_words (reference_before_found w.Giving)).fails i
+        (not_second (begins_name i) (is_some (after_reference_before w.Giving i)) is)) e
     go false is e = giving_sound x i rest e
 
 -- an operand before GIVING is no receiver
-operand_before : (operand : Operand) (i i1 i2 : List Token) → number_operand operand i i1 → word w.Giving i1 i2 → begins_receivers i ≡ false
+operand_before : (operand : Operand) (i i1 i2 : List Token) → number_operand operand i i1 → word w.Giving i1 i2
+    → begins_receivers i ≡ false
 operand_before (Item one) i i1 i2 num giving =
-    second (begins_name i) (is_some (after_reference_before w.Giving i)) (ap is_some ((reference_before_found w.Giving).stands i i2 (i1, (one, num), giving)))
+    second (begins_name i) (is_some (after_reference_before w.Giving i))
+    (ap is_some ((reference_before_found w.Giving).stands i i2 (i1, (one, num), giving)))
 operand_before (Literal one) i i1 i2 num giving =
-    no_first (begins_name i) (is_some (after_reference_before w.Giving i)) (begins_not number_literal_in name_in number_name one i i1 num)
+    no_first (begins_name i) (is_some (after_reference_before w.Giving i))
+    (begins_not number_literal_in name_in number_name one i i1 num)
 
 pub target_complete : {Allowed : Halt → Type 0} → Complete Allowed target target_reader
 unfolding target_reader receivers_alone_reader giving_reader
 target_complete (Receivers all) i rest s =
-    rw (both (begins_name i) (is_some (after_reference_before w.Giving i)) (receivers_start all i rest s.0) ((tests_words (reference_before_found w.Giving)).refuses i s.1))
+    rw (both (begins_name i) (is_some (after_reference_before w.Giving i)) (receivers_start all i rest s.0)
+    ((tests_words (reference_before_found w.Giving)).refuses i s.1))
     (step (receivers_reader i) _ (receivers_complete all i rest s.0) (Reached refl))
 target_complete (Giving operand all) i rest (i1, num, (i2, giving, into)) =
     rw (operand_before operand i i1 i2 num giving)

@@ -16,12 +16,16 @@ statements_shrink p fewer = Lists.several_shrinks p (lookahead begins_statement)
 pub statements_start : (p : Statement → Part) → Starts begins_statement p → Starts begins_statement (g.statements p)
 statements_start p begins = Lists.several_starts p (lookahead begins_statement) begins_statement begins
 
-pub statements_sound : (p : Statement → Part) (nested : Parser Statement) → Sound p nested → Sound (g.statements p) (r.statements nested)
+pub statements_sound : (p : Statement → Part) (nested : Parser Statement) → Sound p nested
+    → Sound (g.statements p) (r.statements nested)
 unfolding r.statements
-statements_sound p nested each = Lists.several_sound p nested (lookahead begins_statement) begins_statement (tests_tested begins_statement) each
+statements_sound p nested each =
+    Lists.several_sound p nested (lookahead begins_statement) begins_statement (tests_tested begins_statement) each
 
-pub statements_complete : (Allowed : Halt → Type 0) (p : Statement → Part) (nested : Parser Statement) → Complete Allowed p nested → Shrinks p → Starts begins_statement p
+pub statements_complete : (Allowed : Halt → Type 0) (p : Statement → Part) (nested : Parser Statement)
+    → Complete Allowed p nested → Shrinks p → Starts begins_statement p
     → Complete Allowed (g.statements p) (r.statements nested)
 unfolding r.statements
 statements_complete Allowed p nested each fewer begins =
-    Lists.several_complete p nested (lookahead begins_statement) begins_statement (tests_tested begins_statement) Allowed each fewer begins
+    Lists.several_complete p nested (lookahead begins_statement) begins_statement (tests_tested begins_statement)
+    Allowed each fewer begins

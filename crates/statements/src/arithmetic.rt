@@ -27,7 +27,8 @@ impl<F: Fn(Global, &mut Tokens<'_>, usize) -> Result<Statement, ReadFault>> Nest
         tokens: &mut Tokens<'_>,
     ) -> Result<Verb<Statement>, ReadFault>
         requires { Nests self.now.depth (F.pre self.now.statement) (F.post self.now.statement) }
-        ensures { Reads (rule.arithmetic_reader self.now.depth (spec.statements (spec.statement self.now.depth)) verb tokens.old) result tokens.new }
+        ensures { Reads (rule.arithmetic_reader self.now.depth
+            (spec.statements (spec.statement self.now.depth)) verb tokens.old) result tokens.new }
     {
         let operation = operation(self.alloc, self.depth, verb, tokens)?;
         let phrases = two_sided(Phrase::SizeError, self, self.alloc, tokens);

@@ -19,7 +19,8 @@ impl<F: Fn(Global, &mut Tokens<'_>, usize) -> Result<Statement, ReadFault>> Nest
     #[tactic(auto, unfolding(crate::specs::Branching::otherwise_reader, crate::specs::Reading::statements, grammar::specs::Phrases::phrase_reader))]
     fn otherwise(&self, tokens: &mut Tokens<'_>) -> Result<Option<Items<Statement>>, ReadFault>
         requires { Nests self.now.depth (F.pre self.now.statement) (F.post self.now.statement) }
-        ensures { Reads (rule.otherwise_reader (spec.statements (spec.statement self.now.depth)) tokens.old) result tokens.new }
+        ensures { Reads (rule.otherwise_reader (spec.statements (spec.statement self.now.depth))
+            tokens.old) result tokens.new }
     {
         let after = after_word(tokens.rest(), Reserved::Else);
         phrase_at(self, self.alloc, tokens, after)
@@ -29,7 +30,8 @@ impl<F: Fn(Global, &mut Tokens<'_>, usize) -> Result<Statement, ReadFault>> Nest
     #[tactic(auto, unfolding(crate::specs::Branching::conditional_reader))]
     pub fn read_if(&self, tokens: &mut Tokens<'_>) -> Result<Verb<Statement>, ReadFault>
         requires { Nests self.now.depth (F.pre self.now.statement) (F.post self.now.statement) }
-        ensures { Reads (rule.conditional_reader self.now.depth (spec.statements (spec.statement self.now.depth)) tokens.old) result tokens.new }
+        ensures { Reads (rule.conditional_reader self.now.depth
+            (spec.statements (spec.statement self.now.depth)) tokens.old) result tokens.new }
     {
         tokens.expect(Reserved::If)?;
         let condition = condition(self.alloc, tokens, self.depth)?;

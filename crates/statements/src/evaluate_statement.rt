@@ -23,7 +23,8 @@ impl<F: Fn(Global, &mut Tokens<'_>, usize) -> Result<Statement, ReadFault>> Nest
     #[tactic(auto, unfolding(crate::specs::Evaluate::other_reader, crate::specs::Reading::statements, grammar::specs::Phrases::phrase_reader))]
     fn other(&self, tokens: &mut Tokens<'_>) -> Result<Option<Items<Statement>>, ReadFault>
         requires { Nests self.now.depth (F.pre self.now.statement) (F.post self.now.statement) }
-        ensures { Reads (rule.other_reader (spec.statements (spec.statement self.now.depth)) tokens.old) result tokens.new }
+        ensures { Reads (rule.other_reader (spec.statements (spec.statement self.now.depth))
+            tokens.old) result tokens.new }
     {
         let after = after_when_other(tokens.rest());
         phrase_at(self, self.alloc, tokens, after)
@@ -33,7 +34,8 @@ impl<F: Fn(Global, &mut Tokens<'_>, usize) -> Result<Statement, ReadFault>> Nest
     #[tactic(auto, unfolding(crate::specs::Evaluate::evaluate_reader))]
     pub fn read_evaluate(&self, tokens: &mut Tokens<'_>) -> Result<Verb<Statement>, ReadFault>
         requires { Nests self.now.depth (F.pre self.now.statement) (F.post self.now.statement) }
-        ensures { Reads (rule.evaluate_reader self.now.depth (spec.statements (spec.statement self.now.depth)) tokens.old) result tokens.new }
+        ensures { Reads (rule.evaluate_reader self.now.depth
+            (spec.statements (spec.statement self.now.depth)) tokens.old) result tokens.new }
     {
         tokens.expect(Reserved::Evaluate)?;
         let subjects = subjects(self.alloc, self.depth, tokens)?;
@@ -201,9 +203,11 @@ impl<F: Fn(Global, &mut Tokens<'_>, usize) -> Result<Statement, ReadFault>> Part
     ghost use Rattle.statements.specs.Nests.{Nests};
     ghost use Rattle.statements.specs.Reading as spec;
 
-    ghost ready = { λ n. Nests n.nesting.now.depth (F.pre n.nesting.now.statement) (F.post n.nesting.now.statement) };
+    ghost ready = { λ n. Nests n.nesting.now.depth (F.pre n.nesting.now.statement)
+        (F.post n.nesting.now.statement) };
 
-    ghost reading = { λ n. rule.selected_reader n.nesting.now.depth (spec.statements (spec.statement n.nesting.now.depth)) };
+    ghost reading = { λ n. rule.selected_reader n.nesting.now.depth
+        (spec.statements (spec.statement n.nesting.now.depth)) };
 
     ghost beginning = { λ _. rule.begins_when };
 

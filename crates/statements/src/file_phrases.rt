@@ -16,7 +16,8 @@ impl<F: Fn(Global, &mut Tokens<'_>, usize) -> Result<Statement, ReadFault>> Nest
     #[tactic(auto, unfolding(crate::specs::FilePhrases::key_phrases_reader, crate::specs::Reading::statements))]
     pub fn key_phrases(&self, tokens: &mut Tokens<'_>) -> Result<FilePhrases<Statement>, ReadFault>
         requires { Nests self.now.depth (F.pre self.now.statement) (F.post self.now.statement) }
-        ensures { Reads (rule.key_phrases_reader (spec.statements (spec.statement self.now.depth)) tokens.old) result tokens.new }
+        ensures { Reads (rule.key_phrases_reader (spec.statements (spec.statement self.now.depth))
+            tokens.old) result tokens.new }
     {
         let both = two_sided(Phrase::InvalidKey, self, self.alloc, tokens)?;
         Ok(if has_phrase(&both) {
@@ -30,7 +31,8 @@ impl<F: Fn(Global, &mut Tokens<'_>, usize) -> Result<Statement, ReadFault>> Nest
     #[tactic(auto, unfolding(crate::specs::FilePhrases::read_phrases_reader, crate::specs::Reading::statements))]
     pub fn read_phrases(&self, tokens: &mut Tokens<'_>) -> Result<FilePhrases<Statement>, ReadFault>
         requires { Nests self.now.depth (F.pre self.now.statement) (F.post self.now.statement) }
-        ensures { Reads (rule.read_phrases_reader (spec.statements (spec.statement self.now.depth)) tokens.old) result tokens.new }
+        ensures { Reads (rule.read_phrases_reader (spec.statements (spec.statement self.now.depth))
+            tokens.old) result tokens.new }
     {
         let both = two_sided(Phrase::AtEnd, self, self.alloc, tokens)?;
         if has_phrase(&both) {

@@ -23,7 +23,8 @@ impl<F: Fn(Global, &mut Tokens<'_>, usize) -> Result<Statement, ReadFault>> Nest
     #[tactic(auto, unfolding(crate::specs::Filing::read_reader))]
     fn reading(&self, tokens: &mut Tokens<'_>) -> Result<FileStatement<Statement>, ReadFault>
         requires { Nests self.now.depth (F.pre self.now.statement) (F.post self.now.statement) }
-        ensures { Reads (rule.read_reader (spec.statements (spec.statement self.now.depth)) tokens.old) result tokens.new }
+        ensures { Reads (rule.read_reader (spec.statements (spec.statement self.now.depth))
+            tokens.old) result tokens.new }
     {
         tokens.expect(Reserved::Read)?;
         let file = name(self.alloc, tokens)?;
@@ -50,7 +51,8 @@ impl<F: Fn(Global, &mut Tokens<'_>, usize) -> Result<Statement, ReadFault>> Nest
         tokens: &mut Tokens<'_>,
     ) -> Result<(Reference, (Option<Reference>, FilePhrases<Statement>)), ReadFault>
         requires { Nests self.now.depth (F.pre self.now.statement) (F.post self.now.statement) }
-        ensures { Reads (rule.stored_reader (spec.statements (spec.statement self.now.depth)) tokens.old) result tokens.new }
+        ensures { Reads (rule.stored_reader (spec.statements (spec.statement self.now.depth))
+            tokens.old) result tokens.new }
     {
         let record = reference(self.alloc, tokens)?;
         let from = item_after(self.alloc, Reserved::From, tokens);
@@ -63,7 +65,8 @@ impl<F: Fn(Global, &mut Tokens<'_>, usize) -> Result<Statement, ReadFault>> Nest
     #[tactic(auto, unfolding(crate::specs::Filing::write_reader))]
     fn writing(&self, tokens: &mut Tokens<'_>) -> Result<FileStatement<Statement>, ReadFault>
         requires { Nests self.now.depth (F.pre self.now.statement) (F.post self.now.statement) }
-        ensures { Reads (rule.write_reader (spec.statements (spec.statement self.now.depth)) tokens.old) result tokens.new }
+        ensures { Reads (rule.write_reader (spec.statements (spec.statement self.now.depth))
+            tokens.old) result tokens.new }
     {
         tokens.expect(Reserved::Write)?;
         let (record, (from, phrases)) = self.stored(tokens)?;
@@ -79,7 +82,8 @@ impl<F: Fn(Global, &mut Tokens<'_>, usize) -> Result<Statement, ReadFault>> Nest
     #[tactic(auto, unfolding(crate::specs::Filing::rewrite_reader))]
     fn rewriting(&self, tokens: &mut Tokens<'_>) -> Result<FileStatement<Statement>, ReadFault>
         requires { Nests self.now.depth (F.pre self.now.statement) (F.post self.now.statement) }
-        ensures { Reads (rule.rewrite_reader (spec.statements (spec.statement self.now.depth)) tokens.old) result tokens.new }
+        ensures { Reads (rule.rewrite_reader (spec.statements (spec.statement self.now.depth))
+            tokens.old) result tokens.new }
     {
         tokens.expect(Reserved::Rewrite)?;
         let (record, (from, phrases)) = self.stored(tokens)?;
@@ -95,7 +99,8 @@ impl<F: Fn(Global, &mut Tokens<'_>, usize) -> Result<Statement, ReadFault>> Nest
     #[tactic(auto, unfolding(crate::specs::Filing::delete_reader))]
     fn deleting(&self, tokens: &mut Tokens<'_>) -> Result<FileStatement<Statement>, ReadFault>
         requires { Nests self.now.depth (F.pre self.now.statement) (F.post self.now.statement) }
-        ensures { Reads (rule.delete_reader (spec.statements (spec.statement self.now.depth)) tokens.old) result tokens.new }
+        ensures { Reads (rule.delete_reader (spec.statements (spec.statement self.now.depth))
+            tokens.old) result tokens.new }
     {
         tokens.expect(Reserved::Delete)?;
         let file = name(self.alloc, tokens)?;
@@ -109,7 +114,8 @@ impl<F: Fn(Global, &mut Tokens<'_>, usize) -> Result<Statement, ReadFault>> Nest
     #[tactic(auto, unfolding(crate::specs::Filing::start_reader))]
     fn starting(&self, tokens: &mut Tokens<'_>) -> Result<FileStatement<Statement>, ReadFault>
         requires { Nests self.now.depth (F.pre self.now.statement) (F.post self.now.statement) }
-        ensures { Reads (rule.start_reader (spec.statements (spec.statement self.now.depth)) tokens.old) result tokens.new }
+        ensures { Reads (rule.start_reader (spec.statements (spec.statement self.now.depth))
+            tokens.old) result tokens.new }
     {
         tokens.expect(Reserved::Start)?;
         let file = name(self.alloc, tokens)?;
@@ -126,7 +132,8 @@ impl<F: Fn(Global, &mut Tokens<'_>, usize) -> Result<Statement, ReadFault>> Nest
         tokens: &mut Tokens<'_>,
     ) -> Result<FileStatement<Statement>, ReadFault>
         requires { Nests self.now.depth (F.pre self.now.statement) (F.post self.now.statement) }
-        ensures { Reads (rule.by_file_verb (spec.statements (spec.statement self.now.depth)) verb tokens.old) result tokens.new }
+        ensures { Reads (rule.by_file_verb (spec.statements (spec.statement self.now.depth)) verb
+            tokens.old) result tokens.new }
     {
         match verb {
             FileVerb::Open => read_open(self.alloc, tokens),
@@ -147,7 +154,8 @@ impl<F: Fn(Global, &mut Tokens<'_>, usize) -> Result<Statement, ReadFault>> Nest
         tokens: &mut Tokens<'_>,
     ) -> Result<Verb<Statement>, ReadFault>
         requires { Nests self.now.depth (F.pre self.now.statement) (F.post self.now.statement) }
-        ensures { Reads (rule.file_reader (spec.statements (spec.statement self.now.depth)) verb tokens.old) result tokens.new }
+        ensures { Reads (rule.file_reader (spec.statements (spec.statement self.now.depth)) verb
+            tokens.old) result tokens.new }
     {
         let found = self.by_file_verb(verb, tokens)?;
         Ok(Verb::FileStatement(found))

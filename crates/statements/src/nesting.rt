@@ -56,7 +56,8 @@ impl<F: Fn(Global, &mut Tokens<'_>, usize) -> Result<Statement, ReadFault>> Nest
     #[tactic(auto, unfolding(crate::specs::Reading::statements))]
     pub fn statements(&self, tokens: &mut Tokens<'_>) -> Result<Items<Statement>, ReadFault>
         requires { Nests self.now.depth (F.pre self.now.statement) (F.post self.now.statement) }
-        ensures { Reads (spec.statements (spec.statement self.now.depth) tokens.old) result tokens.new }
+        ensures { Reads (spec.statements (spec.statement self.now.depth) tokens.old) result
+            tokens.new }
     {
         several(self, self.alloc, tokens)
     }
@@ -65,7 +66,8 @@ impl<F: Fn(Global, &mut Tokens<'_>, usize) -> Result<Statement, ReadFault>> Nest
     #[tactic(auto, unfolding(crate::specs::Reading::verb))]
     fn verb(&self, tokens: &mut Tokens<'_>) -> Result<Verb<Statement>, ReadFault>
         requires { Nests self.now.depth (F.pre self.now.statement) (F.post self.now.statement) }
-        ensures { Reads (spec.verb self.now.depth (spec.statement self.now.depth) tokens.old) result tokens.new }
+        ensures { Reads (spec.verb self.now.depth (spec.statement self.now.depth) tokens.old) result
+            tokens.new }
     {
         match verb_at(tokens) {
             Some(VerbWord::Accept) => read_accept(self.alloc, tokens),
@@ -91,7 +93,8 @@ impl<F: Fn(Global, &mut Tokens<'_>, usize) -> Result<Statement, ReadFault>> Nest
     #[tactic(auto, unfolding(crate::specs::Reading::line))]
     fn line(&self, tokens: &mut Tokens<'_>) -> Result<Statement, ReadFault>
         requires { Nests self.now.depth (F.pre self.now.statement) (F.post self.now.statement) }
-        ensures { Reads (spec.line self.now.depth (spec.statement self.now.depth) tokens.old) result tokens.new }
+        ensures { Reads (spec.line self.now.depth (spec.statement self.now.depth) tokens.old) result
+            tokens.new }
     {
         let place = tokens.here()?;
         let verb = self.verb(tokens)?;

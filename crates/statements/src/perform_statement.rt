@@ -19,7 +19,8 @@ impl<F: Fn(Global, &mut Tokens<'_>, usize) -> Result<Statement, ReadFault>> Nest
     #[tactic(auto, unfolding(crate::specs::Performing::in_line_reader))]
     fn in_line(&self, tokens: &mut Tokens<'_>) -> Result<Verb<Statement>, ReadFault>
         requires { Nests self.now.depth (F.pre self.now.statement) (F.post self.now.statement) }
-        ensures { Reads (rule.in_line_reader self.now.depth (spec.statements (spec.statement self.now.depth)) tokens.old) result tokens.new }
+        ensures { Reads (rule.in_line_reader self.now.depth
+            (spec.statements (spec.statement self.now.depth)) tokens.old) result tokens.new }
     {
         let turns = turns(self.alloc, self.depth, tokens)?;
         let line = beside(turns, self.statements(tokens))?;
@@ -34,7 +35,8 @@ impl<F: Fn(Global, &mut Tokens<'_>, usize) -> Result<Statement, ReadFault>> Nest
     #[tactic(auto, unfolding(crate::specs::Performing::perform_reader))]
     pub fn read_perform(&self, tokens: &mut Tokens<'_>) -> Result<Verb<Statement>, ReadFault>
         requires { Nests self.now.depth (F.pre self.now.statement) (F.post self.now.statement) }
-        ensures { Reads (rule.perform_reader self.now.depth (spec.statements (spec.statement self.now.depth)) tokens.old) result tokens.new }
+        ensures { Reads (rule.perform_reader self.now.depth
+            (spec.statements (spec.statement self.now.depth)) tokens.old) result tokens.new }
     {
         tokens.expect(Reserved::Perform)?;
         if begins_procedures(tokens) {

@@ -20,7 +20,8 @@ impl<F: Fn(Global, &mut Tokens<'_>, usize) -> Result<Statement, ReadFault>> Nest
     #[tactic(auto, unfolding(crate::specs::Stringing::string_reader, crate::specs::Reading::statements))]
     pub fn read_string(&self, tokens: &mut Tokens<'_>) -> Result<Verb<Statement>, ReadFault>
         requires { Nests self.now.depth (F.pre self.now.statement) (F.post self.now.statement) }
-        ensures { Reads (rule.string_reader (spec.statements (spec.statement self.now.depth)) tokens.old) result tokens.new }
+        ensures { Reads (rule.string_reader (spec.statements (spec.statement self.now.depth))
+            tokens.old) result tokens.new }
     {
         tokens.expect(Reserved::String)?;
         let strung = strung(self.alloc, tokens)?;

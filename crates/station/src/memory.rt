@@ -228,7 +228,8 @@ impl Device for MemoryStation {
         ensures moves { Moves (memory self.old).history (memory self.old).state
             (memory self.new).history (memory self.new).state }
         ensures memory { let m = memory self.old in let begun = memory_after_write m in
-            Follows (fate_of m.plan) begun (with_state begun (wrote m.state sector bytes.now)) (with_state begun
+            Follows (fate_of m.plan) begun (with_state begun (wrote m.state sector bytes.now))
+            (with_state begun
             (state_after_failed_write m.state sector bytes.now)) result (memory self.new) }
     {
         let fate = self.plan.step();
@@ -257,7 +258,8 @@ impl Device for MemoryStation {
         ensures moves { Moves (memory self.old).history (memory self.old).state
             (memory self.new).history (memory self.new).state }
         ensures memory { let m = memory self.old in let begun = memory_after_sync m in
-            Follows (fate_of m.plan) begun (with_state begun (state_after_sync m.state)) begun result
+            Follows (fate_of m.plan) begun (with_state begun (state_after_sync m.state)) begun
+            result
             (memory self.new) }
     {
         let fate = self.plan.step();
@@ -325,7 +327,8 @@ impl Station for MemoryStation {
         ensures moves { Moves (memory self.old).history (memory self.old).state
             (memory self.new).history (memory self.new).state }
         ensures memory { let m = memory self.old in let begun = memory_after_call m in
-            Follows (fate_of m.plan) begun (with_state begun (state_after_note m.state note)) begun result
+            Follows (fate_of m.plan) begun (with_state begun (state_after_note m.state note)) begun
+            result
             (memory self.new) }
     {
         let hears = self.plan.step() == Fate::Works;

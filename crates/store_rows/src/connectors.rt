@@ -158,7 +158,8 @@ fn perform_over<T: Store + Drop>(
     record: &mut [u8],
     number: &mut u64,
 ) -> Result<Answer, Fault>
-    requires { ⟦<Connectors<T> as Keeps>⟧.needs all.old ≤ ⟦<MemoryStation as Device>⟧.sectors station.old }
+    requires { ⟦<Connectors<T> as Keeps>⟧.needs all.old
+        ≤ ⟦<MemoryStation as Device>⟧.sectors station.old }
     ensures { ⟦<Connectors<T> as Keeps>⟧.needs all.new ≡ ⟦<Connectors<T> as Keeps>⟧.needs all.old }
 {
     if !all.accepts(statement.select, statement.verb, record.len()) {

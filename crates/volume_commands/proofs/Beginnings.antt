@@ -1,5 +1,6 @@
 -- Beginnings of a text that a writer was given.
-use Rattle.std.proofs.Common.{◌≡◌, ℕ, List, [], ◌++◌, length, take, drop, Option, Result, Ok, Err, OnOk, OnErr, sym, ap, subst, ◌∙◌, refl, append_assoc, append-nil, take-append-drop}
+use Rattle.std.proofs.Common.{◌≡◌, ℕ, List, [], ◌++◌, length, take, drop, Option, Result, Ok, Err, OnOk, OnErr, sym, ap}
+use Rattle.std.proofs.Common.{subst, ◌∙◌, refl, append_assoc, append-nil, take-append-drop}
 use Rattle.std.proofs.lemmas.List.{take_at}
 use Rattle.std.proofs.KnownBytes.{Appends-trans, Appends-nil, Appends-kept}
 use Rattle.std.specs.Io.KnownBytes.{Keeps, Appends}

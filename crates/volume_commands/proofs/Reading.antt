@@ -41,7 +41,8 @@ not_damage B fault (inr same) e =
     let k : refused B VolumeError (error_of store.Memory) ≡ refused B VolumeError Damaged =
     ap (λ (f : StoreFault). refused B VolumeError (error_of f)) (sym same) ∙ e in cc
 
-is_refusal : (image : List Sector) (fault : StoreFault) → IsRecoveryRefusal image fault → IsVolumeRefusal image (error_of fault)
+is_refusal : (image : List Sector) (fault : StoreFault) → IsRecoveryRefusal image fault
+    → IsVolumeRefusal image (error_of fault)
 is_refusal image store.Device so = tt
 is_refusal image store.Full so = absurd so
 is_refusal image store.Damaged so = so

@@ -27,7 +27,8 @@ empty_holds sectors = record {
   keeps = record {
     catalog = [];
     forest = record {
-      grow = All-cons (IsTreeIn (empty_map sectors).pages) (catalog_tree (empty_map sectors) []) [] (inl (refl, refl)) (All-nil (IsTreeIn (empty_map sectors).pages));
+      grow = All-cons (IsTreeIn (empty_map sectors).pages) (catalog_tree (empty_map sectors) []) [] (inl (refl, refl))
+          (All-nil (IsTreeIn (empty_map sectors).pages));
       once = tt;
       covered = λ page some. absurd (some (none_there (1024 * map_count sectors) page));
     };
@@ -39,7 +40,13 @@ empty_holds sectors = record {
 }
 
 next_kept : (m : Map) (kept : FileTrees) → IsKept m.generation kept → IsKept (next_generation m).generation kept
-next_kept m kept is = record { layout = is.layout; rows = is.rows; count = is.count; indexes = is.indexes; arrivals = let low = is.arrivals in omega arith }
+next_kept m kept is = record {
+  layout = is.layout;
+  rows = is.rows;
+  count = is.count;
+  indexes = is.indexes;
+  arrivals = let low = is.arrivals in omega arith;
+}
 
 pub next_holds : (m : Map) (files : Files) → MapHolds m files → MapHolds (next_generation m) files
 next_holds m files holds = record {
@@ -48,7 +55,8 @@ next_holds m files holds = record {
     catalog = holds.keeps.catalog;
     forest = holds.keeps.forest;
     listed = holds.keeps.listed;
-    each = All-weaker (IsKept m.generation) (IsKept (next_generation m).generation) (next_kept m) holds.kept holds.keeps.each;
+    each = All-weaker (IsKept m.generation) (IsKept (next_generation m).generation) (next_kept m) holds.kept
+        holds.keeps.each;
   };
   named = holds.named;
   are = holds.are;

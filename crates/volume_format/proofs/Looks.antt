@@ -8,7 +8,8 @@ use Rattle.pages.specs.declared.page_map.PageMap.{PageMap}
 use Rattle.btree.proofs.Frames.{unchanged_still, unchanged_on}
 use Rattle.volume_format.specs.Calls.{LooksAt}
 
-pub reads_blamed : {D : Type 0} (d : Devices D) (A B : Type 0) (a b : D) → (B → A) → OnlyReads d A a b → OnlyReads d B a b
+pub reads_blamed : {D : Type 0} (d : Devices D) (A B : Type 0) (a b : D) → (B → A) → OnlyReads d A a b
+    → OnlyReads d B a b
 reads_blamed d A B a b from only = record {
   honest = only.honest;
   sectors = only.sectors;
@@ -19,12 +20,19 @@ reads_blamed d A B a b from only = record {
 
 module _ {D : Type 0} (d : Devices D) where
   pub looks_nowhere : (p : PageMap) (a : D) → IsOpen p → LooksAt d ⊥ p a p a
-  looks_nowhere p a is = record { only = reads_nothing d a; unchanged = unchanged_still p; agrees = λ honest agrees. agrees; is_open = is }
+  looks_nowhere p a is =
+      record { only = reads_nothing d a; unchanged = unchanged_still p; agrees = λ honest agrees. agrees; is_open = is }
 
   pub looks_blamed : (A B : Type 0) (p q : PageMap) (a b : D) → (B → A) → LooksAt d A p a q b → LooksAt d B p a q b
-  looks_blamed A B p q a b from looks = record { only = reads_blamed d A B a b from looks.only; unchanged = looks.unchanged; agrees = looks.agrees; is_open = looks.is_open }
+  looks_blamed A B p q a b from looks = record {
+    only = reads_blamed d A B a b from looks.only;
+    unchanged = looks.unchanged;
+    agrees = looks.agrees;
+    is_open = looks.is_open;
+  }
 
-  pub looks_then : (A B C : Type 0) (p q r : PageMap) (a b c : D) → (C → A ⊎ B) → LooksAt d A p a q b → LooksAt d B q b r c → LooksAt d C p a r c
+  pub looks_then : (A B C : Type 0) (p q r : PageMap) (a b c : D) → (C → A ⊎ B) → LooksAt d A p a q b
+      → LooksAt d B q b r c → LooksAt d C p a r c
   looks_then A B C p q r a b c which first second = record {
     only = reads_then d A B C a b c which first.only second.only;
     unchanged = unchanged_on p q r first.unchanged second.unchanged;

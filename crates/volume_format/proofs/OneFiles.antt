@@ -30,21 +30,27 @@ use Rattle.volume_format.proofs.Once.{one_rows_most}
 named_with : List ℕ → Spec → List Row → ℕ → NamedFile
 named_with name spec rows next = record { name = name; file = record { spec = spec; rows = rows; next_arrival = next } }
 
-counted : (kept : FileTrees) → length kept.alternates ≡ length kept.named.file.spec.alternates → length (listing_of kept).alternates ≡ length kept.named.file.spec.alternates
+counted : (kept : FileTrees) → length kept.alternates ≡ length kept.named.file.spec.alternates
+    → length (listing_of kept).alternates ≡ length kept.named.file.spec.alternates
 counted kept count = length-map kept.alternates (λ (tree : TreeLevels). tree.tree.root) ∙ count
 
 -- two files that one map keeps under one entry of the catalog
-same_named : (m : Map) (one two : FileTrees) → m.generation ≤ 2 ^ 63 → length m.pages ≤ 2 ^ 20 → IsKept m.generation one → IsKept m.generation two → IsTreeIn m.pages one.prime → IsTreeIn m.pages two.prime → IsNamed one.named → IsNamed two.named →
+same_named : (m : Map) (one two : FileTrees) → m.generation ≤ 2 ^ 63 → length m.pages ≤ 2 ^ 20 → IsKept m.generation one
+    → IsKept m.generation two → IsTreeIn m.pages one.prime → IsTreeIn m.pages two.prime → IsNamed one.named
+    → IsNamed two.named →
     catalog_entry one ≡ catalog_entry two → one.named ≡ two.named
 unfolding named_with
 same_named m one two few small is is_too grows grows_too named named_too same =
-    let name : one.named.name ≡ two.named.name = one_name one.named.name two.named.name named.name named_too.name (ap (λ (e : Entry). e.key) same) in
+    let name : one.named.name ≡ two.named.name =
+    one_name one.named.name two.named.name named.name named_too.name (ap (λ (e : Entry). e.key) same) in
     let bytes : listing_bytes (listing_of one) ≡ listing_bytes (listing_of two) = ap (λ (e : Entry). e.value) same in
     let low = is.arrivals in
     let low_too = is_too.arrivals in
     let s : Spec = one.named.file.spec in
     let t : Spec = two.named.file.spec in
-    let spec : s ≡ t = one_spec s t named.file.spec named_too.file.spec (sym (spec_read (listing_of one) named.file.spec) ∙ ap (take 43) bytes ∙ spec_read (listing_of two) named_too.file.spec) in
+    let spec : s ≡ t =
+    one_spec s t named.file.spec named_too.file.spec (sym (spec_read (listing_of one) named.file.spec)
+    ∙ ap (take 43) bytes ∙ spec_read (listing_of two) named_too.file.spec) in
     let root : one.prime.tree.root ≡ two.prime.tree.root =
     sym (prime_read (listing_of one) named.file.spec (root_small m.pages one.prime small grows))
     ∙ ap (λ (b : List ℕ). big_number 4 (drop 43 b)) bytes
@@ -53,48 +59,64 @@ same_named m one two few small is is_too grows grows_too named named_too same =
     sym (next_read_most (listing_of one) named.file.spec (counted one is.count) (omega arith))
     ∙ ap (λ (b : List ℕ). big_number 8 (drop 75 b)) bytes
     ∙ next_read_most (listing_of two) named_too.file.spec (counted two is_too.count) (omega arith) in
-    let layout : two.prime.tree.layout ≡ one.prime.tree.layout = is_too.layout ∙ ap (λ (x : Spec). layout_under x Prime) (sym spec) ∙ sym is.layout in
+    let layout : two.prime.tree.layout ≡ one.prime.tree.layout =
+    is_too.layout ∙ ap (λ (x : Spec). layout_under x Prime) (sym spec) ∙ sym is.layout in
     let there : HoldsTree one.prime.tree.layout m.pages one.prime.tree.root two.prime.levels =
     subst (λ (l : RowLayout). HoldsTree l m.pages one.prime.tree.root two.prime.levels) layout
     (subst (λ (r : ℕ). HoldsTree two.prime.tree.layout m.pages r two.prime.levels) (sym root) grows_too) in
-    let levels : one.prime.levels ≡ two.prime.levels = one_tree one.prime.tree.layout m.pages one.prime.tree.root one.prime.levels two.prime.levels small grows there in
+    let levels : one.prime.levels ≡ two.prime.levels =
+    one_tree one.prime.tree.layout m.pages one.prime.tree.root one.prime.levels two.prime.levels small grows there in
     let listed : map (entry_under s Prime) one.named.file.rows ≡ map (entry_under s Prime) two.named.file.rows =
-    sym is.rows ∙ ap (entries_of one.prime.tree.layout) levels ∙ ap (λ (l : RowLayout). entries_of l two.prime.levels) (sym layout) ∙ is_too.rows ∙ ap (λ (x : Spec). map (entry_under x Prime) two.named.file.rows) (sym spec) in
-    let rows : one.named.file.rows ≡ two.named.file.rows = one_rows_most one.named.file two.named.file named.file named_too.file (sym spec) (omega arith) (omega arith) listed in
+    sym is.rows ∙ ap (entries_of one.prime.tree.layout) levels ∙ ap (λ (l : RowLayout). entries_of l two.prime.levels)
+    (sym layout) ∙ is_too.rows ∙ ap (λ (x : Spec). map (entry_under x Prime) two.named.file.rows) (sym spec) in
+    let rows : one.named.file.rows ≡ two.named.file.rows = one_rows_most one.named.file two.named.file named.file
+    named_too.file (sym spec) (omega arith) (omega arith) listed in
     ap (λ n. named_with n s one.named.file.rows one.named.file.next_arrival) name
     ∙ ap (λ x. named_with two.named.name x one.named.file.rows one.named.file.next_arrival) spec
     ∙ ap (λ r. named_with two.named.name t r one.named.file.next_arrival) rows
     ∙ ap (named_with two.named.name t two.named.file.rows) next
 
-same_list : (m : Map) (ones twos : List FileTrees) → m.generation ≤ 2 ^ 63 → length m.pages ≤ 2 ^ 20 → All (IsKept m.generation) ones → All (IsKept m.generation) twos →
-    All (IsTreeIn m.pages) (flat_map trees_of ones) → All (IsTreeIn m.pages) (flat_map trees_of twos) → AllByRecursion IsNamed (map (λ (k : FileTrees). k.named) ones) → AllByRecursion IsNamed (map (λ (k : FileTrees). k.named) twos) →
-    map catalog_entry ones ≡ map catalog_entry twos → map (λ (k : FileTrees). k.named) ones ≡ map (λ (k : FileTrees). k.named) twos
+same_list : (m : Map) (ones twos : List FileTrees) → m.generation ≤ 2 ^ 63 → length m.pages ≤ 2 ^ 20
+    → All (IsKept m.generation) ones → All (IsKept m.generation) twos →
+    All (IsTreeIn m.pages) (flat_map trees_of ones) → All (IsTreeIn m.pages) (flat_map trees_of twos)
+    → AllByRecursion IsNamed (map (λ (k : FileTrees). k.named) ones)
+    → AllByRecursion IsNamed (map (λ (k : FileTrees). k.named) twos) →
+    map catalog_entry ones ≡ map catalog_entry twos
+    → map (λ (k : FileTrees). k.named) ones ≡ map (λ (k : FileTrees). k.named) twos
 same_list m [] [] few small is is_too grow grow_too named named_too same = refl
 same_list m [] (two ∷ twos) few small is is_too grow grow_too named named_too same = cc
 same_list m (one ∷ ones) [] few small is is_too grow grow_too named named_too same = cc
 same_list m (one ∷ ones) (two ∷ twos) few small is is_too grow grow_too named named_too same =
     let head : catalog_entry one ≡ catalog_entry two = cc in
     let tail : map catalog_entry ones ≡ map catalog_entry twos = cc in
-    let first = same_named m one two few small (All-head (IsKept m.generation) one ones is) (All-head (IsKept m.generation) two twos is_too)
-    (All-head (IsTreeIn m.pages) one.prime (one.alternates ++ flat_map trees_of ones) grow) (All-head (IsTreeIn m.pages) two.prime (two.alternates ++ flat_map trees_of twos) grow_too) named.0 named_too.0 head in
-    let rest = same_list m ones twos few small (All-tail (IsKept m.generation) one ones is) (All-tail (IsKept m.generation) two twos is_too)
-    (all_right (IsTreeIn m.pages) (trees_of one) (flat_map trees_of ones) grow) (all_right (IsTreeIn m.pages) (trees_of two) (flat_map trees_of twos) grow_too) named.1 named_too.1 tail in
+    let first = same_named m one two few small (All-head (IsKept m.generation) one ones is)
+    (All-head (IsKept m.generation) two twos is_too)
+    (All-head (IsTreeIn m.pages) one.prime (one.alternates ++ flat_map trees_of ones) grow) (All-head (IsTreeIn m.pages)
+    two.prime (two.alternates ++ flat_map trees_of twos) grow_too) named.0 named_too.0 head in
+    let rest = same_list m ones twos few small (All-tail (IsKept m.generation) one ones is)
+    (All-tail (IsKept m.generation) two twos is_too)
+    (all_right (IsTreeIn m.pages) (trees_of one) (flat_map trees_of ones) grow)
+    (all_right (IsTreeIn m.pages) (trees_of two) (flat_map trees_of twos) grow_too) named.1 named_too.1 tail in
     ap (λ (n : NamedFile). n ∷ map (λ (k : FileTrees). k.named) ones) first ∙ ap (λ (l : Files). two.named ∷ l) rest
 
-pub one_in_map_most : (m : Map) (one two : Files) → m.generation ≤ 2 ^ 63 → length m.pages ≤ 2 ^ 20 → MapHolds m one → MapHolds m two → one ≡ two
+pub one_in_map_most : (m : Map) (one two : Files) → m.generation ≤ 2 ^ 63 → length m.pages ≤ 2 ^ 20 → MapHolds m one
+    → MapHolds m two → one ≡ two
 one_in_map_most m one two few small first second =
     let P : Files → Type 0 = λ files. AllByRecursion IsNamed files in
     let catalog = All-head (IsTreeIn m.pages) _ _ first.keeps.forest.grow in
     let catalog_too = All-head (IsTreeIn m.pages) _ _ second.keeps.forest.grow in
-    let levels = one_tree catalog_layout m.pages m.catalog first.keeps.catalog second.keeps.catalog small catalog catalog_too in
-    let entries : map catalog_entry first.kept ≡ map catalog_entry second.kept = sym first.keeps.listed ∙ ap (entries_of catalog_layout) levels ∙ second.keeps.listed in
+    let levels =
+    one_tree catalog_layout m.pages m.catalog first.keeps.catalog second.keeps.catalog small catalog catalog_too in
+    let entries : map catalog_entry first.kept ≡ map catalog_entry second.kept =
+    sym first.keeps.listed ∙ ap (entries_of catalog_layout) levels ∙ second.keeps.listed in
     sym first.named
     ∙ same_list m first.kept second.kept few small first.keeps.each second.keeps.each
     (All-tail (IsTreeIn m.pages) _ _ first.keeps.forest.grow) (All-tail (IsTreeIn m.pages) _ _ second.keeps.forest.grow)
     (subst P (sym first.named) first.are.each) (subst P (sym second.named) second.are.each) entries
     ∙ second.named
 
-pub one_in_map : (m : Map) (one two : Files) → m.generation < 2 ^ 63 → length m.pages ≤ 2 ^ 20 → MapHolds m one → MapHolds m two → one ≡ two
+pub one_in_map : (m : Map) (one two : Files) → m.generation < 2 ^ 63 → length m.pages ≤ 2 ^ 20 → MapHolds m one
+    → MapHolds m two → one ≡ two
 one_in_map m one two few small first second = one_in_map_most m one two (omega arith) small first second
 
 pub one_files : (image : List Sector) (one two : Files) → Holds image one → Holds image two → one ≡ two
@@ -102,4 +124,5 @@ one_files image one two first second =
     let same : second.0 ≡ first.0 = one_map image second.0 first.0 second.1 first.1 in
     let bounds = map_bounds image first.0 first.1 in
     let small = bounds.1 in
-    one_in_map first.0 one two bounds.0 (omega (arith, small)) first.2 (subst (λ (m : Map). MapHolds m two) same second.2)
+    one_in_map first.0 one two bounds.0 (omega (arith, small)) first.2
+    (subst (λ (m : Map). MapHolds m two) same second.2)

@@ -35,7 +35,12 @@ pub fn spell_listing(
     next_arrival: u64,
 ) -> Result<Vec<u8>, StoreFault>
     requires { length alternates.now ≡ length file.now.alternates.items }
-    ensures bytes { IfOk result (λ bytes. bytes.items ≡ listing_bytes (record { spec = spec_of file.now; prime = prime; alternates = alternates.now; next_arrival = next_arrival })) }
+    ensures bytes { IfOk result (λ bytes. bytes.items ≡ listing_bytes (record {
+      spec = spec_of file.now;
+      prime = prime;
+      alternates = alternates.now;
+      next_arrival = next_arrival;
+    })) }
     ensures memory { IsOkUnless result StoreFault.Memory }
 {
     let mut out = Vec::with_capacity(alloc, LISTING_BYTES)?;
@@ -49,7 +54,8 @@ pub fn spell_listing(
 
 /// Pages of roots.
 fn push_roots(out: &mut Vec<u8>, roots: &[u32]) -> Result<(), StoreFault>
-    ensures bytes { OnOk result (out.new.items ≡ out.old.items ++ flat_map (big_bytes 4) roots.now) }
+    ensures bytes { OnOk result
+        (out.new.items ≡ out.old.items ++ flat_map (big_bytes 4) roots.now) }
     ensures memory { IsOkUnless result StoreFault.Memory }
 {
     for root in roots {

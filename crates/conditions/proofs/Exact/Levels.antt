@@ -18,7 +18,8 @@ use Rattle.conditions.specs.Conditions as g
 
 module _ (between : Reserved) (node : List Condition → Condition) (lower : Condition → Part) where
   further_shrinks : Shrinks lower → Shrinks (g.further_condition between lower)
-  further_shrinks each x i rest (i1, first, one) = let a = word_shrinks between i i1 first in let b = each x i1 rest one in omega arith
+  further_shrinks each x i rest (i1, first, one) = let a = word_shrinks between i i1 first in let b =
+      each x i1 rest one in omega arith
 
   further_starts : Starts (begins_word between) (g.further_condition between lower)
   further_starts x i rest (i1, first, one) = word_begins between i i1 first
@@ -26,16 +27,20 @@ module _ (between : Reserved) (node : List Condition → Condition) (lower : Con
   level_shrinks : Shrinks lower → Shrinks (g.level between node lower)
   level_shrinks each x i rest (first, more, is, (i1, one, others)) =
       let a = each first i i1 one in
-      let b = lists.any_shrinks (g.further_condition between lower) (lookahead (begins_word between)) (further_shrinks each) more i1 rest others in omega arith
+      let b = lists.any_shrinks (g.further_condition between lower) (lookahead (begins_word between))
+      (further_shrinks each) more i1 rest others in omega arith
 
   level_even : ((x : Condition) → Even (lower x)) → (x : Condition) → Even (g.level between node lower x)
   level_even each x i rest (first, more, is, (i1, one, others)) n =
-      each first i i1 one n ∙ any_even (g.further_condition between lower) (lookahead (begins_word between)) (λ y j k s m. word_even between j s.0 s.1 m ∙ each y s.0 k s.2 m) more i1 rest others n
+      each first i i1 one n ∙ any_even (g.further_condition between lower) (lookahead (begins_word between))
+      (λ y j k s m. word_even between j s.0 s.1 m ∙ each y s.0 k s.2 m) more i1 rest others n
 
   module _ (reader : Parser Condition) where
-    further_sound : Sound lower reader → Sound (g.further_condition between lower) (g.further_condition_reader between reader)
+    further_sound : Sound lower reader
+        → Sound (g.further_condition between lower) (g.further_condition_reader between reader)
     unfolding g.further_condition_reader
-    further_sound each x i rest e = unstep (expect between i) _ e (λ u i1 is1 e1. (i1, word_sound between u i i1 is1, each x i1 rest e1))
+    further_sound each x i rest e =
+        unstep (expect between i) _ e (λ u i1 is1 e1. (i1, word_sound between u i i1 is1, each x i1 rest e1))
 
     level_sound : Sound lower reader → Sound (g.level between node lower) (g.level_reader between node reader)
     unfolding g.level_reader
@@ -48,14 +53,18 @@ module _ (between : Reserved) (node : List Condition → Condition) (lower : Con
           (
             i1,
             each first i i1 is1,
-            lists.any_sound (g.further_condition between lower) (g.further_condition_reader between reader) (lookahead (begins_word between)) (begins_word between) (tests_tested (begins_word between)) (further_sound each) more i1 rest (last is2 e2),
+            lists.any_sound (g.further_condition between lower) (g.further_condition_reader between reader)
+                (lookahead (begins_word between)) (begins_word between) (tests_tested (begins_word between))
+                (further_sound each) more i1 rest (last is2 e2),
           ),
         )))
 
     module _ (Allowed : Halt → Type 0) (each : Complete Allowed lower reader) (fewer : Shrinks lower) where
-      further_complete : Complete Allowed (g.further_condition between lower) (g.further_condition_reader between reader)
+      further_complete :
+          Complete Allowed (g.further_condition between lower) (g.further_condition_reader between reader)
       unfolding g.further_condition_reader
-      further_complete x i rest (i1, first, one) = step (expect between i) _ (word_complete between tt i i1 first) (each x i1 rest one)
+      further_complete x i rest (i1, first, one) =
+          step (expect between i) _ (word_complete between tt i i1 first) (each x i1 rest one)
 
       level_complete : Complete Allowed (g.level between node lower) (g.level_reader between node reader)
       unfolding g.level_reader
@@ -63,7 +72,9 @@ module _ (between : Reserved) (node : List Condition → Condition) (lower : Con
           subst (λ y. Answers Allowed (g.level_reader between node reader i) y rest) (sym is)
           (step (reader i) _ (each first i i1 one)
           (step (read.any (g.further_condition_reader between reader) (begins_word between) i1) _
-          (lists.any_complete (g.further_condition between lower) (g.further_condition_reader between reader) (lookahead (begins_word between)) (begins_word between) (tests_tested (begins_word between)) Allowed further_complete (further_shrinks fewer) further_starts more i1 rest others)
+          (lists.any_complete (g.further_condition between lower) (g.further_condition_reader between reader)
+          (lookahead (begins_word between)) (begins_word between) (tests_tested (begins_word between)) Allowed
+          further_complete (further_shrinks fewer) further_starts more i1 rest others)
           (Reached refl)))
 
 -- ---- OR between conditions with AND between
@@ -82,7 +93,8 @@ module _ (simple : Condition → Part) where
 
     pub disjunction_sound : Sound simple reader → Sound (g.disjunction simple) (g.disjunction_reader reader)
     unfolding g.disjunction_reader
-    disjunction_sound each = level_sound w.Or c.Any (g.conjunction simple) (g.conjunction_reader reader) (conjunction_sound each)
+    disjunction_sound each =
+        level_sound w.Or c.Any (g.conjunction simple) (g.conjunction_reader reader) (conjunction_sound each)
 
     module _ (Allowed : Halt → Type 0) (each : Complete Allowed simple reader) (fewer : Shrinks simple) where
       conjunction_complete : Complete Allowed (g.conjunction simple) (g.conjunction_reader reader)
@@ -91,4 +103,5 @@ module _ (simple : Condition → Part) where
 
       pub disjunction_complete : Complete Allowed (g.disjunction simple) (g.disjunction_reader reader)
       unfolding g.disjunction_reader
-      disjunction_complete = level_complete w.Or c.Any (g.conjunction simple) (g.conjunction_reader reader) Allowed conjunction_complete (level_shrinks w.And c.All simple fewer)
+      disjunction_complete = level_complete w.Or c.Any (g.conjunction simple) (g.conjunction_reader reader) Allowed
+          conjunction_complete (level_shrinks w.And c.All simple fewer)

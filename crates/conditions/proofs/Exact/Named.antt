@@ -25,8 +25,10 @@ use Rattle.conditions.proofs.Exact.Sides.{side_no_word, not_opens_none}
 use Rattle.conditions.proofs.Exact.Depths.{both_not, factor_alone}
 
 -- One condition, with no AND, or no OR, behind it.
-module _ (between : Reserved) (node : List Condition → Condition) (lower : Condition → Part) (x : Condition) (other : (all : List Condition) → x ≡ node all → ⊥) where
-  single : (i rest : List Token) → g.level between node lower x i rest → lower x i rest × (begins_word between rest ≡ false)
+module _ (between : Reserved) (node : List Condition → Condition) (lower : Condition → Part) (x : Condition)
+    (other : (all : List Condition) → x ≡ node all → ⊥) where
+  single : (i rest : List Token) → g.level between node lower x i rest
+      → lower x i rest × (begins_word between rest ≡ false)
   single i rest (first, [], is, (j, s, (same, nowhere))) = (
     subst (λ y. lower y i rest) (sym is) (subst (λ k. lower first i k) same s),
     sym (ap (begins_word between) same) ∙ (tests_tested (begins_word between)).refuses j nowhere,
@@ -48,9 +50,12 @@ module _ (one : Reference) where
   item_factor zero i rest s = (operand_as.Item one, refl, s)
   item_factor (suc depth) i rest s = inl (operand_as.Item one, refl, s)
 
-  plain_named : (depth : ℕ) (x : Condition) → x ≡ c.Name one → (i rest : List Token) → g.simple_condition depth x i rest → reference one i rest × (goes_on rest ≡ false)
-  plain_named depth x is i rest (inl (other, is', (j, s, (same, nowhere)))) =
-      (subst (λ k. reference one i k) same (subst (λ y. reference y i j) (same_name is is') s), sym (ap goes_on same) ∙ (tests_tested goes_on).refuses j nowhere)
+  plain_named : (depth : ℕ) (x : Condition) → x ≡ c.Name one → (i rest : List Token) → g.simple_condition depth x i rest
+      → reference one i rest × (goes_on rest ≡ false)
+  plain_named depth x is i rest (inl (other, is', (j, s, (same, nowhere)))) = (
+    subst (λ k. reference one i k) same (subst (λ y. reference y i j) (same_name is is') s),
+    sym (ap goes_on same) ∙ (tests_tested goes_on).refuses j nowhere,
+  )
     where
       same_name : {a b : Reference} → x ≡ c.Name a → x ≡ c.Name b → b ≡ a
       same_name e f = cc
@@ -61,19 +66,23 @@ module _ (one : Reference) where
   no_operator : (i : List Token) → goes_on i ≡ false → begins_operator i ≡ false
   no_operator i e = (both_not (begins_operator i) (begins_test i) e).0
 
-  simple_named : (depth : ℕ) (x : Condition) → x ≡ c.Name one → (i rest : List Token) → g.simple depth x i rest → arithmetic.factor depth item i rest × (goes_on rest ≡ false)
+  simple_named : (depth : ℕ) (x : Condition) → x ≡ c.Name one → (i rest : List Token) → g.simple depth x i rest
+      → arithmetic.factor depth item i rest × (goes_on rest ≡ false)
   simple_named zero x is i rest s = let p = plain_named zero x is i rest s in (item_factor zero i rest p.0, p.1)
-  simple_named (suc depth) x is i rest (inl s) = let p = plain_named (suc depth) x is i rest s in (item_factor (suc depth) i rest p.0, p.1)
+  simple_named (suc depth) x is i rest (inl s) = let p =
+      plain_named (suc depth) x is i rest s in (item_factor (suc depth) i rest p.0, p.1)
   simple_named (suc depth) x is i rest (inr (inl (inner, is', s))) = cc
   simple_named (suc depth) x is i rest (inr (inr (i3, (i1, opens, (i2, s, closes)), (same, nowhere)))) =
       let ors = single w.Or c.Any (g.conjunction (g.simple depth)) x (not_any x is) i1 i2 s in
       let ands = single w.And c.All (g.simple depth) x (not_all x is) i1 i2 ors.0 in
       let inner = simple_named depth x is i1 i2 ands.0 in (
-        subst (λ k. arithmetic.factor (suc depth) item i k) same (inr (inr (i1, opens, (i2, factor_alone depth item i1 i2 inner.0 (no_operator i2 inner.1), closes)))),
+        subst (λ k. arithmetic.factor (suc depth) item i k) same
+            (inr (inr (i1, opens, (i2, factor_alone depth item i1 i2 inner.0 (no_operator i2 inner.1), closes)))),
         sym (ap goes_on same) ∙ (tests_tested goes_on).refuses i3 nowhere,
       )
 
-  pub name_alone : (depth : ℕ) (i rest : List Token) → g.condition depth (c.Name one) i rest → e.alone depth (item_value one) i rest
+  pub name_alone : (depth : ℕ) (i rest : List Token) → g.condition depth (c.Name one) i rest
+      → e.alone depth (item_value one) i rest
   unfolding item
   name_alone depth i rest s =
       let ors = single w.Or c.Any (g.conjunction (g.simple depth)) (c.Name one) (not_any (c.Name one) refl) i rest s in
@@ -93,4 +102,5 @@ no_names depth one from rest (s, nowhere) = let value = name_alone one depth fro
   where
     no_not : e.alone depth (item_value one) from rest → (behind : List Token) → word w.Not from behind → ⊥
     no_not (j, t, stops) behind first =
-        true_not_false (begins_word w.Not from) (side_no_word w.Not not_opens_none depth (item_value one) from j t) (word_begins w.Not from behind first)
+        true_not_false (begins_word w.Not from) (side_no_word w.Not not_opens_none depth (item_value one) from j t)
+        (word_begins w.Not from behind first)

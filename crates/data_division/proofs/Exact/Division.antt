@@ -34,14 +34,19 @@ section_words = w.WorkingStorage ∷ w.Section ∷ []
 stored_sound : Sound g.working_storage_section g.stored_reader
 unfolding g.stored_reader
 stored_sound x i rest e =
-    unstep (read.heading_reader section_words i) _ e (λ u i1 is1 e1.
-    (i1, heading_sound section_words u i i1 is1, lists.any_sound entry entry_reader (lookahead begins_integer) begins_integer (tests_tested begins_integer) entry_sound x i1 rest e1))
+    unstep (read.heading_reader section_words i) _ e (λ u i1 is1 e1. (
+      i1,
+      heading_sound section_words u i i1 is1,
+      lists.any_sound entry entry_reader (lookahead begins_integer) begins_integer (tests_tested begins_integer)
+          entry_sound x i1 rest e1,
+    ))
 
 stored_complete : {Allowed : Halt → Type 0} → Complete Allowed g.working_storage_section g.stored_reader
 unfolding g.stored_reader
 stored_complete {Allowed = Allowed} x i rest (i1, words, all) =
     step (read.heading_reader section_words i) _ (heading_complete section_words tt i i1 words)
-    (lists.any_complete entry entry_reader (lookahead begins_integer) begins_integer (tests_tested begins_integer) Allowed
+    (lists.any_complete entry entry_reader (lookahead begins_integer) begins_integer (tests_tested begins_integer)
+    Allowed
     (entry_complete {Allowed = Allowed}) entry_shrinks entry_starts x i1 rest all)
 
 stored_begins : (x : List Entry) → BeginsWith w.WorkingStorage (g.working_storage_section x)
@@ -53,7 +58,8 @@ working_storage_sound = listed_sound w.WorkingStorage stored_sound
 
 working_storage_complete : {Allowed : Halt → Type 0} → Complete Allowed g.working_storage g.working_storage_reader
 unfolding g.working_storage_reader
-working_storage_complete {Allowed = Allowed} = listed_complete w.WorkingStorage stored_begins (stored_complete {Allowed = Allowed})
+working_storage_complete {Allowed = Allowed} =
+    listed_complete w.WorkingStorage stored_begins (stored_complete {Allowed = Allowed})
 
 -- ---- the division
 
@@ -66,8 +72,11 @@ sections_sound x i rest e =
     unstep (read.heading_reader division_words i) _ e (λ u i1 is1 e1.
     unstep (file_section_reader i1) _ e1 (λ files i2 is2 e2.
     unstep (g.working_storage_reader i2) _ e2 (λ storage i3 is3 e3.
-    subst (λ y. g.sections y i rest) (value e3)
-    (i1, heading_sound division_words u i i1 is1, (i2, file_section_sound files i1 i2 is2, working_storage_sound storage i2 rest (last is3 e3))))))
+    subst (λ y. g.sections y i rest) (value e3) (
+      i1,
+      heading_sound division_words u i i1 is1,
+      (i2, file_section_sound files i1 i2 is2, working_storage_sound storage i2 rest (last is3 e3)),
+    ))))
 
 sections_complete : {Allowed : Halt → Type 0} → Complete Allowed g.sections g.sections_reader
 unfolding g.sections_reader
@@ -83,9 +92,11 @@ pub data_division_sound : Sound g.data_division g.data_division_reader
 unfolding g.data_division_reader
 data_division_sound x i rest e = go (begins_word w.Data i) refl e
   where
-    go : (b : Bool) → begins_word w.Data i ≡ b → (if b then g.sections_reader i else Ok (described [] [], i)) ≡ Ok (x, rest) → g.data_division x i rest
+    go : (b : Bool) → begins_word w.Data i ≡ b
+        → (if b then g.sections_reader i else Ok (described [] [], i)) ≡ Ok (x, rest) → g.data_division x i rest
     go true is e = inl (sections_sound x i rest e)
-    go false is e = subst (λ y. g.data_division y i rest) (value e) (inr (refl, refl, (after e, (tests_word w.Data).fails i is)))
+    go false is e =
+        subst (λ y. g.data_division y i rest) (value e) (inr (refl, refl, (after e, (tests_word w.Data).fails i is)))
 
 pub data_division_complete : {Allowed : Halt → Type 0} → Complete Allowed g.data_division g.data_division_reader
 unfolding g.data_division_reader

@@ -1,5 +1,6 @@
 -- Entries: what is read is spelled, and what is spelled is read.
-use Rattle.std.proofs.Common.{◌≡◌, ◌≤◌, Bool, true, false, List, [], ◌∷◌, length, Option, None, Some, Ok, inl, inr, refl, sym, ap, ◌∙◌, subst, arith}
+use Rattle.std.proofs.Common.{◌≡◌, ◌≤◌, Bool, true, false, List, [], ◌∷◌, length, Option, None, Some, Ok, inl, inr}
+use Rattle.std.proofs.Common.{refl, sym, ap, ◌∙◌, subst, arith}
 use Rattle.std.specs.Prelude.{◌||◌, if◌then◌else◌}
 use Rattle.tokens.specs.declared.reserved.Reserved.{Reserved}
 use Rattle.tokens.specs.declared.reserved.Reserved.TheVariants as w
@@ -12,14 +13,17 @@ use Rattle.source_tree.specs.declared.entry.Entry.{Entry}
 use Rattle.source_tree.specs.declared.entry.Entry.TheVariants as entry_as
 use Rattle.grammar.specs.declared.fault.Halt.{Halt}
 use Rattle.grammar.specs.Parts as parts
-use Rattle.grammar.specs.Parts.{◌then◌, ◌or◌, optional, several, lookahead, token_with, begins_telling, is_told, word, begins_name}
+use Rattle.grammar.specs.Parts.{◌then◌, ◌or◌, optional, several, lookahead, token_with, begins_telling, is_told, word}
+use Rattle.grammar.specs.Parts.{begins_name}
 use Rattle.grammar.specs.Reading as read
 use Rattle.grammar.specs.Reading.{Outcome, Parser, begins_word}
 use Rattle.grammar.proofs.Outcomes.{Reached, step, unstep, value, after, last}
 use Rattle.grammar.proofs.Looking.{Tests, tests_tested, true_not_false, word_begins}
 use Rattle.grammar.proofs.Lists as lists
 use Rattle.grammar.proofs.Lists.{Sound, Complete, Shrinks, Starts}
-use Rattle.grammar.proofs.Parts.{name_sound, name_complete, name_shrinks, name_starts, word_shrinks, skip_sound, skip_complete, period_sound, period_complete, period_shrinks, one_token_sound, one_token_complete, telling_shrinks, telling_starts}
+use Rattle.grammar.proofs.Parts.{name_sound, name_complete, name_shrinks, name_starts, word_shrinks, skip_sound}
+use Rattle.grammar.proofs.Parts.{skip_complete, period_sound, period_complete, period_shrinks, one_token_sound}
+use Rattle.grammar.proofs.Parts.{one_token_complete, telling_shrinks, telling_starts}
 use Rattle.expressions.specs.Subscripts.{integer, integer_in, begins_integer, integer_reader}
 use Rattle.expressions.specs.Literals.{begins_literal, literal_reader}
 use Rattle.expressions.proofs.Exact.Marks.{either}
@@ -29,7 +33,8 @@ use Rattle.data_division.specs.Entries as g
 use Rattle.data_division.specs.Entries.{is_condition}
 use Rattle.data_division.specs.EntryReading as r
 use Rattle.data_division.specs.ClauseReading.{either_reader, skip_either}
-use Rattle.data_division.proofs.Exact.Optional.{tests_either, either_sound, either_complete, either_shrinks, skip_either_sound, skip_either_complete, skip_either_shrinks}
+use Rattle.data_division.proofs.Exact.Optional.{tests_either, either_sound, either_complete, either_shrinks}
+use Rattle.data_division.proofs.Exact.Optional.{skip_either_sound, skip_either_complete, skip_either_shrinks}
 use Rattle.data_division.proofs.Exact.Stated.{stated_sound, stated_complete, stated_shrinks}
 
 -- ---- names and FILLER
@@ -64,18 +69,24 @@ named_sound : Sound g.entry_name r.named_reader
 unfolding r.named_reader r.given_reader r.filler_reader
 named_sound x i rest e = go (begins_name i) refl e
   where
-    go : (b : Bool) → begins_name i ≡ b → (if b then r.given_reader i else r.filler_reader i) ≡ Ok (x, rest) → g.entry_name x i rest
-    go true is e = unstep (read.name i) _ e (λ given i1 is1 e1. subst (λ y. g.entry_name y i rest) (value e1) (name_sound given i rest (last is1 e1)))
-    go false is e = unstep (read.skip w.Filler i) _ e (λ u i1 is1 e1. subst (λ y. g.entry_name y i rest) (value e1) (unnamed i rest is (skip_sound w.Filler u i rest (last is1 e1))))
+    go : (b : Bool) → begins_name i ≡ b → (if b then r.given_reader i else r.filler_reader i) ≡ Ok (x, rest)
+        → g.entry_name x i rest
+    go true is e = unstep (read.name i) _ e
+        (λ given i1 is1 e1. subst (λ y. g.entry_name y i rest) (value e1) (name_sound given i rest (last is1 e1)))
+    go false is e = unstep (read.skip w.Filler i) _ e (λ u i1 is1 e1.
+        subst (λ y. g.entry_name y i rest) (value e1) (unnamed i rest is (skip_sound w.Filler u i rest (last is1 e1))))
 
 named_complete : {Allowed : Halt → Type 0} → Complete Allowed g.entry_name r.named_reader
 unfolding r.named_reader r.given_reader r.filler_reader
-named_complete (Some given) i rest s = rw (name_starts given i rest s) (step (read.name i) _ (name_complete given i rest s) (Reached refl))
+named_complete (Some given) i rest s =
+    rw (name_starts given i rest s) (step (read.name i) _ (name_complete given i rest s) (Reached refl))
 named_complete None i rest (inl s) =
-    rw (word_is_no_name w.Filler i rest s) (step (read.skip w.Filler i) _ (skip_complete w.Filler tt i rest (inl s)) (Reached refl))
+    rw (word_is_no_name w.Filler i rest s)
+    (step (read.skip w.Filler i) _ (skip_complete w.Filler tt i rest (inl s)) (Reached refl))
 named_complete None i rest (inr (same, absent)) =
     let none = no_name i (λ after s. absent after (inl s)) in
-    rw none (step (read.skip w.Filler i) _ (skip_complete w.Filler tt i rest (inr (same, λ after s. absent after (inr s)))) (Reached refl))
+    rw none (step (read.skip w.Filler i) _
+    (skip_complete w.Filler tt i rest (inr (same, λ after s. absent after (inr s)))) (Reached refl))
 
 named_shrinks : (x : Option Name) (i rest : List Token) → g.entry_name x i rest → length rest ≤ length i
 named_shrinks (Some given) i rest s = let l = name_shrinks given i rest s in omega arith
@@ -107,11 +118,13 @@ last_sound : Sound g.last_value r.last_value_reader
 unfolding r.last_value_reader r.through_literal_reader
 last_sound x i rest e = go (r.begins_through i) refl e
   where
-    go : (b : Bool) → r.begins_through i ≡ b → (if b then r.through_literal_reader i else Ok (None, i)) ≡ Ok (x, rest) → g.last_value x i rest
+    go : (b : Bool) → r.begins_through i ≡ b → (if b then r.through_literal_reader i else Ok (None, i)) ≡ Ok (x, rest)
+        → g.last_value x i rest
     go true is e =
         unstep (either_reader w.Thru w.Through i) _ e (λ u i1 is1 e1.
         unstep (literal_reader i1) _ e1 (λ one i2 is2 e2.
-        subst (λ y. g.last_value y i rest) (value e2) (i1, either_sound w.Thru w.Through u i i1 is1, literal_sound one i1 rest (last is2 e2))))
+        subst (λ y. g.last_value y i rest) (value e2)
+        (i1, either_sound w.Thru w.Through u i i1 is1, literal_sound one i1 rest (last is2 e2))))
     go false is e = subst (λ y. g.last_value y i rest) (value e) (after e, tests_through.fails i is)
 
 last_complete : {Allowed : Halt → Type 0} → Complete Allowed g.last_value r.last_value_reader
@@ -141,31 +154,45 @@ range_complete x i rest (i1, first, end) =
     (step (r.last_value_reader i1) _ (last_complete x.last i1 rest end) (Reached refl))
 
 range_shrinks : Shrinks g.range
-range_shrinks x i rest (i1, first, end) = let a = literal_shrinks x.first i i1 first in let b = last_shrinks x.last i1 rest end in omega arith
+range_shrinks x i rest (i1, first, end) = let a = literal_shrinks x.first i i1 first in let b =
+    last_shrinks x.last i1 rest end in omega arith
 
 range_starts : Starts begins_literal g.range
 range_starts x i rest (i1, first, end) = literal_starts x.first i i1 first
 
 ranges_sound : Sound (several g.range (lookahead begins_literal)) (read.several r.range_reader begins_literal)
-ranges_sound = lists.several_sound g.range r.range_reader (lookahead begins_literal) begins_literal (tests_tested begins_literal) range_sound
+ranges_sound = lists.several_sound g.range r.range_reader (lookahead begins_literal) begins_literal
+    (tests_tested begins_literal) range_sound
 
-ranges_complete : {Allowed : Halt → Type 0} → Complete Allowed (several g.range (lookahead begins_literal)) (read.several r.range_reader begins_literal)
+ranges_complete : {Allowed : Halt → Type 0}
+    → Complete Allowed (several g.range (lookahead begins_literal)) (read.several r.range_reader begins_literal)
 ranges_complete {Allowed = Allowed} =
-    lists.several_complete g.range r.range_reader (lookahead begins_literal) begins_literal (tests_tested begins_literal) Allowed (range_complete {Allowed = Allowed}) range_shrinks range_starts
+    lists.several_complete g.range r.range_reader (lookahead begins_literal) begins_literal
+    (tests_tested begins_literal) Allowed (range_complete {Allowed = Allowed}) range_shrinks range_starts
 
 -- ---- entries
 
-item_sound : (level : Integer) (from : List Token) → is_condition level ≡ false → (x : Entry) (i rest : List Token) → integer level from i
+item_sound : (level : Integer) (from : List Token) → is_condition level ≡ false → (x : Entry) (i rest : List Token)
+    → integer level from i
     → r.item_reader level i ≡ Ok (x, rest) → g.entry x from rest
 unfolding r.item_reader
 item_sound level from other x i rest told e =
     unstep (r.named_reader i) _ e (λ given i1 is1 e1.
     unstep (stated_reader i1) _ e1 (λ clauses i2 is2 e2.
     unstep (read.period i2) _ e2 (λ u i3 is3 e3.
-    subst (λ y. g.entry y from rest) (value e3)
-    (clauses, refl, other, (i, told, (i1, named_sound given i i1 is1, (i2, stated_sound clauses i1 i2 is2, period_sound u i2 rest (last is3 e3))))))))
+    subst (λ y. g.entry y from rest) (value e3) (
+      clauses,
+      refl,
+      other,
+      (
+        i,
+        told,
+        (i1, named_sound given i i1 is1, (i2, stated_sound clauses i1 i2 is2, period_sound u i2 rest (last is3 e3))),
+      ),
+    ))))
 
-condition_sound : (level : Integer) (from : List Token) → is_condition level ≡ true → (x : Entry) (i rest : List Token) → integer level from i
+condition_sound : (level : Integer) (from : List Token) → is_condition level ≡ true → (x : Entry) (i rest : List Token)
+    → integer level from i
     → r.condition_reader i ≡ Ok (x, rest) → g.entry x from rest
 unfolding r.condition_reader
 condition_sound level from is x i rest told e =
@@ -195,7 +222,8 @@ condition_sound level from is x i rest told e =
 pub entry_sound : Sound g.entry r.entry_reader
 unfolding r.entry_reader r.by_level integer_reader
 entry_sound x i rest e =
-    unstep (integer_reader i) _ e (λ level i1 is1 e1. go level i1 (one_token_sound integer_in level i i1 is1) (is_condition level) refl e1)
+    unstep (integer_reader i) _ e
+    (λ level i1 is1 e1. go level i1 (one_token_sound integer_in level i i1 is1) (is_condition level) refl e1)
   where
     go : (level : Integer) (i1 : List Token) → integer level i i1 → (b : Bool) → is_condition level ≡ b
         → (if b then r.condition_reader i1 else r.item_reader level i1) ≡ Ok (x, rest) → g.entry x i rest
@@ -209,8 +237,10 @@ entry_complete (entry_as.Item one) i rest (clauses, is, other, (i1, told, (i2, g
     (rw other
     (step (r.named_reader i1) _ (named_complete one.name i1 i2 given)
     (step (stated_reader i2) _ (stated_complete clauses i2 i3 all)
-    (step (read.period i3) _ (period_complete tt i3 rest end) (Reached (ap (λ y. Ok (entry_as.Item y, rest)) (sym is)))))))
-entry_complete (entry_as.Condition one) i rest (i1, (level, is, told), (i2, given, (i3, values, (i4, optional, (i5, ranges, end))))) =
+    (step (read.period i3) _ (period_complete tt i3 rest end)
+    (Reached (ap (λ y. Ok (entry_as.Item y, rest)) (sym is)))))))
+entry_complete (entry_as.Condition one) i rest
+    (i1, (level, is, told), (i2, given, (i3, values, (i4, optional, (i5, ranges, end))))) =
     step (integer_reader i) _ (one_token_complete integer_in level i i1 told)
     (rw is
     (step (read.name i1) _ (name_complete one.name i1 i2 given)
@@ -225,7 +255,8 @@ entry_shrinks (entry_as.Item one) i rest (clauses, is, other, (i1, told, (i2, gi
     let b = named_shrinks one.name i1 i2 given in
     let c = stated_shrinks clauses i2 i3 all in
     let d = period_shrinks i3 rest end in omega arith
-entry_shrinks (entry_as.Condition one) i rest (i1, (level, is, told), (i2, given, (i3, values, (i4, optional, (i5, ranges, end))))) =
+entry_shrinks (entry_as.Condition one) i rest
+    (i1, (level, is, told), (i2, given, (i3, values, (i4, optional, (i5, ranges, end))))) =
     let a = telling_shrinks integer_in level i i1 told in
     let b = name_shrinks one.name i1 i2 given in
     let c = either_shrinks w.Value w.Values i2 i3 values in
@@ -234,5 +265,6 @@ entry_shrinks (entry_as.Condition one) i rest (i1, (level, is, told), (i2, given
     let h = period_shrinks i5 rest end in omega arith
 
 pub entry_starts : Starts begins_integer g.entry
-entry_starts (entry_as.Item one) i rest (clauses, is, other, (i1, told, more)) = telling_starts integer_in one.level i i1 told
+entry_starts (entry_as.Item one) i rest (clauses, is, other, (i1, told, more)) =
+    telling_starts integer_in one.level i i1 told
 entry_starts (entry_as.Condition one) i rest (i1, (level, is, told), more) = telling_starts integer_in level i i1 told

@@ -13,7 +13,9 @@ use Rattle.grammar.proofs.Outcomes.{Answers, Reached, step, unstep, value, last}
 use Rattle.grammar.proofs.Looking.{word_begins, tests_tested}
 use Rattle.grammar.proofs.Lists as lists
 use Rattle.grammar.proofs.Lists.{Sound, Complete, Shrinks}
-use Rattle.grammar.proofs.Parts.{name_sound, name_complete, name_shrinks, name_starts, one_token_sound, one_token_complete, telling_shrinks, word_sound, word_complete, word_shrinks, skip_sound, skip_complete, skip_shrinks}
+use Rattle.grammar.proofs.Parts.{name_sound, name_complete, name_shrinks, name_starts, one_token_sound}
+use Rattle.grammar.proofs.Parts.{one_token_complete, telling_shrinks, word_sound, word_complete, word_shrinks}
+use Rattle.grammar.proofs.Parts.{skip_sound, skip_complete, skip_shrinks}
 use Rattle.expressions.specs.Subscripts.{integer, integer_in, integer_reader}
 use Rattle.data_division.specs.declared.file_clauses.FileClause.{FileClause}
 use Rattle.data_division.specs.declared.file_clauses.FileClause.TheVariants as clause_as
@@ -22,8 +24,10 @@ use Rattle.data_division.specs.Clauses.{either}
 use Rattle.data_division.specs.ClauseReading.{either_reader, skip_either}
 use Rattle.data_division.specs.Gathering.{clauses_from, gathering_reader}
 use Rattle.data_division.specs.FileClauses as g
-use Rattle.data_division.specs.FileClauses.{file_clause, file_clauses, file_clause_of, file_clause_in, file_clause_at, no_file_clauses, file_clause_reader}
-use Rattle.data_division.proofs.Exact.Optional.{either_sound, either_complete, either_shrinks, skip_either_sound, skip_either_complete, skip_either_shrinks}
+use Rattle.data_division.specs.FileClauses.{file_clause, file_clauses, file_clause_of, file_clause_in, file_clause_at}
+use Rattle.data_division.specs.FileClauses.{no_file_clauses, file_clause_reader}
+use Rattle.data_division.proofs.Exact.Optional.{either_sound, either_complete, either_shrinks, skip_either_sound}
+use Rattle.data_division.proofs.Exact.Optional.{skip_either_complete, skip_either_shrinks}
 use Rattle.data_division.proofs.Exact.Listed.{unless_sound, unless_complete, unless_shrinks}
 use Rattle.data_division.proofs.Exact.Gathering.{gathering_sound, gathering_complete, gathering_shrinks}
 
@@ -59,7 +63,8 @@ to_size_sound : Sound (λ u. g.to_size) g.to_size_reader
 unfolding g.to_size_reader
 to_size_sound u i rest e =
     unstep (read.expect w.To i) _ e (λ v i1 is1 e1.
-    unstep (integer_reader i1) _ e1 (λ size i2 is2 e2. (i1, word_sound w.To v i i1 is1, (size, size_sound size i1 rest (last is2 e2)))))
+    unstep (integer_reader i1) _ e1
+    (λ size i2 is2 e2. (i1, word_sound w.To v i i1 is1, (size, size_sound size i1 rest (last is2 e2)))))
 
 to_size_complete : {Allowed : Halt → Type 0} → Complete Allowed (λ u. g.to_size) g.to_size_reader
 unfolding g.to_size_reader
@@ -78,11 +83,13 @@ abbrev names : List Name → Part
 names = parts.several parts.name (lookahead begins_name)
 
 names_sound : Sound names (read.several read.name begins_name)
-names_sound = lists.several_sound parts.name read.name (lookahead begins_name) begins_name (tests_tested begins_name) name_sound
+names_sound =
+    lists.several_sound parts.name read.name (lookahead begins_name) begins_name (tests_tested begins_name) name_sound
 
 names_complete : {Allowed : Halt → Type 0} → Complete Allowed names (read.several read.name begins_name)
 names_complete {Allowed = Allowed} =
-    lists.several_complete parts.name read.name (lookahead begins_name) begins_name (tests_tested begins_name) Allowed (name_complete {Allowed = Allowed}) name_shrinks name_starts
+    lists.several_complete parts.name read.name (lookahead begins_name) begins_name (tests_tested begins_name) Allowed
+    (name_complete {Allowed = Allowed}) name_shrinks name_starts
 
 names_shrink : Shrinks names
 names_shrink = lists.several_shrinks parts.name (lookahead begins_name) name_shrinks
@@ -104,7 +111,11 @@ label_sound x i rest e =
       (
         i1,
         word_sound w.Label u i i1 is1,
-        (i2, either_sound w.Record w.Records v i1 i2 is2, (i3, skip_either_sound w.Is w.Are t i2 i3 is3, either_sound w.Standard w.Omitted z i3 rest (last is4 e4))),
+        (
+          i2,
+          either_sound w.Record w.Records v i1 i2 is2,
+          (i3, skip_either_sound w.Is w.Are t i2 i3 is3, either_sound w.Standard w.Omitted z i3 rest (last is4 e4)),
+        ),
       ),
       refl,
     )))))
@@ -122,7 +133,15 @@ block_sound x i rest e =
       (
         i1,
         word_sound w.Block u i i1 is1,
-        (i2, skip_sound w.Contains v i1 i2 is2, (i3, (size, size_sound size i2 i3 is3), (i4, to, skip_either_sound w.Records w.Characters z i4 rest (last is5 e5)))),
+        (
+          i2,
+          skip_sound w.Contains v i1 i2 is2,
+          (
+            i3,
+            (size, size_sound size i2 i3 is3),
+            (i4, to, skip_either_sound w.Records w.Characters z i4 rest (last is5 e5)),
+          ),
+        ),
       ),
       refl,
     ))))))
@@ -134,8 +153,18 @@ record_sound x i rest e =
     unstep (read.skip w.Contains i1) _ e1 (λ v i2 is2 e2.
     unstep (integer_reader i2) _ e2 (λ size i3 is3 e3.
     unstep (read.skip w.Characters i3) _ e3 (λ z i4 is4 e4.
-    subst (λ y. IsClause clause_as.RecordContains y i rest) (value e4)
-    ((i1, word_sound w.Record u i i1 is1, (i2, skip_sound w.Contains v i1 i2 is2, (i3, (size, size_sound size i2 i3 is3), skip_sound w.Characters z i3 rest (last is4 e4)))), refl)))))
+    subst (λ y. IsClause clause_as.RecordContains y i rest) (value e4) (
+      (
+        i1,
+        word_sound w.Record u i i1 is1,
+        (
+          i2,
+          skip_sound w.Contains v i1 i2 is2,
+          (i3, (size, size_sound size i2 i3 is3), skip_sound w.Characters z i3 rest (last is4 e4)),
+        ),
+      ),
+      refl,
+    )))))
 
 data_sound : Sound (IsClause clause_as.DataRecords) g.data_records_reader
 unfolding g.data_records_reader
@@ -148,7 +177,11 @@ data_sound x i rest e =
       (
         i1,
         word_sound w.Data u i i1 is1,
-        (i2, either_sound w.Record w.Records v i1 i2 is2, (i3, skip_either_sound w.Is w.Are t i2 i3 is3, (all, names_sound all i3 rest (last is4 e4)))),
+        (
+          i2,
+          either_sound w.Record w.Records v i1 i2 is2,
+          (i3, skip_either_sound w.Is w.Are t i2 i3 is3, (all, names_sound all i3 rest (last is4 e4))),
+        ),
       ),
       refl,
     )))))
@@ -162,19 +195,23 @@ clause_sound clause_as.DataRecords = data_sound
 
 -- ---- what is spelled is read
 
-clause_complete : {Allowed : Halt → Type 0} (x : FileClause) (i rest : List Token) → file_clause x i rest → Answers Allowed (g.file_clause_reader x i) x rest
-unfolding g.file_clause_reader g.label_records_reader g.block_contains_reader g.record_contains_reader g.data_records_reader
+clause_complete : {Allowed : Halt → Type 0} (x : FileClause) (i rest : List Token) → file_clause x i rest
+    → Answers Allowed (g.file_clause_reader x i) x rest
+unfolding g.file_clause_reader g.label_records_reader g.block_contains_reader g.record_contains_reader
+    g.data_records_reader
 clause_complete clause_as.LabelRecords i rest (i1, first, (i2, rows, (i3, is, label))) =
     step (read.expect w.Label i) _ (word_complete w.Label tt i i1 first)
     (step (either_reader w.Record w.Records i1) _ (either_complete w.Record w.Records record_words tt i1 i2 rows)
     (step (skip_either w.Is w.Are i2) _ (skip_either_complete w.Is w.Are is_words tt i2 i3 is)
-    (step (either_reader w.Standard w.Omitted i3) _ (either_complete w.Standard w.Omitted label_words tt i3 rest label) (Reached refl))))
+    (step (either_reader w.Standard w.Omitted i3) _ (either_complete w.Standard w.Omitted label_words tt i3 rest label)
+    (Reached refl))))
 clause_complete clause_as.BlockContains i rest (i1, first, (i2, contains, (i3, (size, told), (i4, to, unit)))) =
     step (read.expect w.Block i) _ (word_complete w.Block tt i i1 first)
     (step (read.skip w.Contains i1) _ (skip_complete w.Contains tt i1 i2 contains)
     (step (integer_reader i2) _ (size_complete size i2 i3 told)
     (step (g.unless_to_size i3) _ (unless_complete w.To to_size_begins to_size_complete tt i3 i4 to)
-    (step (skip_either w.Records w.Characters i4) _ (skip_either_complete w.Records w.Characters size_words tt i4 rest unit) (Reached refl)))))
+    (step (skip_either w.Records w.Characters i4) _
+    (skip_either_complete w.Records w.Characters size_words tt i4 rest unit) (Reached refl)))))
 clause_complete clause_as.RecordContains i rest (i1, first, (i2, contains, (i3, (size, told), unit))) =
     step (read.expect w.Record i) _ (word_complete w.Record tt i i1 first)
     (step (read.skip w.Contains i1) _ (skip_complete w.Contains tt i1 i2 contains)
@@ -224,11 +261,16 @@ clause_shrinks clause_as.DataRecords i rest (i1, first, (i2, rows, (i3, is, (all
 
 -- ---- all clauses
 
-pub clauses_sound : Sound (clauses_from file_clauses no_file_clauses) (gathering_reader file_clauses file_clause_reader no_file_clauses)
-clauses_sound = gathering_sound file_clauses file_clause_reader (λ kind x i rest begun e. clause_sound kind x i rest e) no_file_clauses
+pub clauses_sound :
+    Sound (clauses_from file_clauses no_file_clauses) (gathering_reader file_clauses file_clause_reader no_file_clauses)
+clauses_sound = gathering_sound file_clauses file_clause_reader (λ kind x i rest begun e. clause_sound kind x i rest e)
+    no_file_clauses
 
-pub clauses_complete : {Allowed : Halt → Type 0} → Complete Allowed (clauses_from file_clauses no_file_clauses) (gathering_reader file_clauses file_clause_reader no_file_clauses)
-clauses_complete {Allowed = Allowed} = gathering_complete file_clauses file_clause_reader Allowed clause_stands clause_shrinks (clause_complete {Allowed = Allowed}) no_file_clauses
+pub clauses_complete : {Allowed : Halt → Type 0} → Complete Allowed (clauses_from file_clauses no_file_clauses)
+    (gathering_reader file_clauses file_clause_reader no_file_clauses)
+clauses_complete {Allowed = Allowed} = gathering_complete file_clauses file_clause_reader Allowed clause_stands
+    clause_shrinks (clause_complete {Allowed = Allowed}) no_file_clauses
 
-pub clauses_shrink : (all : FileClauses) (i rest : List Token) → clauses_from file_clauses no_file_clauses all i rest → length rest ≤ length i
+pub clauses_shrink : (all : FileClauses) (i rest : List Token) → clauses_from file_clauses no_file_clauses all i rest
+    → length rest ≤ length i
 clauses_shrink = gathering_shrinks file_clauses file_clause_reader clause_shrinks no_file_clauses

@@ -1,5 +1,6 @@
 -- What is left out where its word does not stand: what is read is spelled, and what is spelled is read.
-use Rattle.std.proofs.Common.{◌≡◌, ◌<◌, ◌≤◌, Bool, true, false, List, [], ◌∷◌, length, Ok, inl, inr, refl, sym, ap, ◌∙◌, arith}
+use Rattle.std.proofs.Common.{◌≡◌, ◌<◌, ◌≤◌, Bool, true, false, List, [], ◌∷◌, length, Ok, inl, inr, refl, sym, ap, ◌∙◌}
+use Rattle.std.proofs.Common.{arith}
 use Rattle.std.specs.Prelude.{if◌then◌else◌}
 use Rattle.tokens.specs.declared.reserved.Reserved.{Reserved}
 use Rattle.tokens.specs.declared.token.Token.{Token}
@@ -24,15 +25,19 @@ module _ {p : Part} {reader : Parser (Unit {0})} (one : Reserved) where
   pub unless_sound : Sound (λ u. p) reader → Sound (λ u. p unless_no one) (unless_none one reader)
   unless_sound each u i rest e = go (begins_word one i) refl e
     where
-      go : (b : Bool) → begins_word one i ≡ b → (if b then reader i else Ok (tt, i)) ≡ Ok (u, rest) → (p unless_no one) i rest
+      go : (b : Bool) → begins_word one i ≡ b → (if b then reader i else Ok (tt, i)) ≡ Ok (u, rest)
+          → (p unless_no one) i rest
       go true is e = inl (each u i rest e)
       go false is e = inr (after e, (tests_word one).fails i is)
 
-  pub unless_complete : {Allowed : Halt → Type 0} → BeginsWith one p → Complete Allowed (λ u. p) reader → Complete Allowed (λ u. p unless_no one) (unless_none one reader)
+  pub unless_complete : {Allowed : Halt → Type 0} → BeginsWith one p → Complete Allowed (λ u. p) reader
+      → Complete Allowed (λ u. p unless_no one) (unless_none one reader)
   unless_complete starts each u i rest (inl s) = rw (starts i rest s) (each u i rest s)
-  unless_complete starts each u i rest (inr (same, absent)) = rw ((tests_word one).refuses i absent) (Reached (ap (λ j. Ok (tt, j)) same))
+  unless_complete starts each u i rest (inr (same, absent)) =
+      rw ((tests_word one).refuses i absent) (Reached (ap (λ j. Ok (tt, j)) same))
 
-pub unless_shrinks : (p : Part) (one : Reserved) → ((i rest : List Token) → p i rest → length rest < length i) → (i rest : List Token) → (p unless_no one) i rest → length rest ≤ length i
+pub unless_shrinks : (p : Part) (one : Reserved) → ((i rest : List Token) → p i rest → length rest < length i)
+    → (i rest : List Token) → (p unless_no one) i rest → length rest ≤ length i
 unless_shrinks p one fewer i rest (inl s) = let l = fewer i rest s in omega arith
 unless_shrinks p one fewer i rest (inr (same, absent)) = let l = ap length same in omega arith
 
@@ -40,11 +45,13 @@ module _ {A : Type 0} {p : List A → Part} {reader : Parser (List A)} (one : Re
   pub listed_sound : Sound p reader → Sound (listed_from one p) (list_from one reader)
   listed_sound each x i rest e = go (begins_word one i) refl e
     where
-      go : (b : Bool) → begins_word one i ≡ b → (if b then reader i else Ok ([], i)) ≡ Ok (x, rest) → listed_from one p x i rest
+      go : (b : Bool) → begins_word one i ≡ b → (if b then reader i else Ok ([], i)) ≡ Ok (x, rest)
+          → listed_from one p x i rest
       go true is e = inl (each x i rest e)
       go false is e = inr (sym (value e), (after e, (tests_word one).fails i is))
 
-  pub listed_complete : {Allowed : Halt → Type 0} → ((all : List A) → BeginsWith one (p all)) → Complete Allowed p reader → Complete Allowed (listed_from one p) (list_from one reader)
+  pub listed_complete : {Allowed : Halt → Type 0} → ((all : List A) → BeginsWith one (p all))
+      → Complete Allowed p reader → Complete Allowed (listed_from one p) (list_from one reader)
   listed_complete starts each x i rest (inl s) = rw (starts x i rest s) (each x i rest s)
   listed_complete starts each x i rest (inr (none, out)) =
       rw ((tests_word one).refuses i out.1) (Reached (ap (λ j. Ok ([], j)) out.0 ∙ ap (λ y. Ok (y, rest)) (sym none)))

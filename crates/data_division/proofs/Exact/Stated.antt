@@ -12,11 +12,13 @@ use Rattle.data_division.proofs.Exact.Clauses.{clause_sound, clause_complete, cl
 
 pub stated_sound : Sound g.stated_clauses g.stated_reader
 unfolding g.stated_reader
-stated_sound = gathering_sound entry_clauses clause_reader (λ kind x i rest begun e. clause_sound kind x i rest e) g.no_clauses
+stated_sound =
+    gathering_sound entry_clauses clause_reader (λ kind x i rest begun e. clause_sound kind x i rest e) g.no_clauses
 
 pub stated_complete : {Allowed : Halt → Type 0} → Complete Allowed g.stated_clauses g.stated_reader
 unfolding g.stated_reader
-stated_complete {Allowed = Allowed} = gathering_complete entry_clauses clause_reader Allowed clause_stands clause_shrinks (clause_complete {Allowed = Allowed}) g.no_clauses
+stated_complete {Allowed = Allowed} = gathering_complete entry_clauses clause_reader Allowed clause_stands
+    clause_shrinks (clause_complete {Allowed = Allowed}) g.no_clauses
 
 pub stated_shrinks : (all : Stated) (i rest : List Token) → g.stated_clauses all i rest → length rest ≤ length i
 stated_shrinks = gathering_shrinks entry_clauses clause_reader clause_shrinks g.no_clauses

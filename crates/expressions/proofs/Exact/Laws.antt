@@ -16,7 +16,8 @@ use Rattle.expressions.proofs.Exact.Expressions.{expression_complete}
 abbrev pub Never : Halt → Type 0
 Never halt = ⊥
 
-reached : {A : Type 0} {reading : Outcome A} {a : A} {rest : List Token} → Answers Never reading a rest → reading ≡ Ok (a, rest)
+reached : {A : Type 0} {reading : Outcome A} {a : A} {rest : List Token} → Answers Never reading a rest
+    → reading ≡ Ok (a, rest)
 reached (Reached e) = e
 reached (Halts halt never e) = absurd never
 
@@ -27,7 +28,8 @@ pub only_to_depth : OnlyToDepth
 only_to_depth depth depth' one from rest s = go (expression_complete depth depth' one from rest s)
   where
     go : Answers (Deeper depth depth') (expression_reader depth from) one rest
-        → (expression_reader depth from ≡ Ok (one, rest)) ⊎ ((depth < depth') × (left : ℕ) × (expression_reader depth from ≡ Err (TooDeep left)))
+        → (expression_reader depth from ≡ Ok (one, rest))
+        ⊎ ((depth < depth') × (left : ℕ) × (expression_reader depth from ≡ Err (TooDeep left)))
     go (Reached e) = inl e
     go (Halts (TooDeep left) deep e) = inr (deep, left, e)
     go (Halts (Unexpected left) none e) = absurd none

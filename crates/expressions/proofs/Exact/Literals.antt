@@ -1,5 +1,6 @@
 -- Literals: what is read is spelled, and what is spelled is read.
-use Rattle.std.proofs.Common.{◌≡◌, Bool, true, false, List, length, Option, Some, None, inl, inr, refl, sym, ap, ◌∙◌, subst, arith}
+use Rattle.std.proofs.Common.{◌≡◌, Bool, true, false, List, length, Option, Some, None, inl, inr, refl, sym, ap, ◌∙◌}
+use Rattle.std.proofs.Common.{subst, arith}
 use Rattle.std.specs.Prelude.{◌||◌, if◌then◌else◌, Ok}
 use Rattle.std.specs.Option.{option_map}
 use Rattle.tokens.specs.declared.reserved.Reserved.TheVariants as w
@@ -17,7 +18,8 @@ use Rattle.grammar.specs.Reading.{Outcome, Parser, begins_word, is_kind, one_tok
 use Rattle.grammar.proofs.Outcomes.{Answers, Reached, step, unstep, value, last}
 use Rattle.grammar.proofs.Looking.{none_not, kind_is, word_begins}
 use Rattle.grammar.proofs.Lists.{Sound, Complete, Shrinks, Starts}
-use Rattle.grammar.proofs.Parts.{here_sound, here_complete, word_sound, word_complete, word_shrinks, one_token_sound, one_token_complete, telling_shrinks, telling_starts}
+use Rattle.grammar.proofs.Parts.{here_sound, here_complete, word_sound, word_complete, word_shrinks, one_token_sound}
+use Rattle.grammar.proofs.Parts.{one_token_complete, telling_shrinks, telling_starts}
 use Rattle.expressions.specs.Literals as g
 use Rattle.expressions.specs.Literals.{plain_in, bytes_in, value_by, literal_at}
 use Rattle.expressions.proofs.Exact.Marks.{value_no_name, either}
@@ -30,8 +32,15 @@ all_sound x i rest e =
     unstep (read.here i) _ e (λ place i1 is1 e1.
     unstep (read.expect w.All i1) _ e1 (λ u i2 is2 e2.
     unstep (one_token bytes_in i2) _ e2 (λ bytes i3 is3 e3.
-    subst (λ y. g.all_literal y i rest) (value e3)
-    (bytes, refl, (i1, here_sound place i i1 is1, (i2, word_sound w.All u i1 i2 is2, one_token_sound bytes_in bytes i2 rest (last is3 e3)))))))
+    subst (λ y. g.all_literal y i rest) (value e3) (
+      bytes,
+      refl,
+      (
+        i1,
+        here_sound place i i1 is1,
+        (i2, word_sound w.All u i1 i2 is2, one_token_sound bytes_in bytes i2 rest (last is3 e3)),
+      ),
+    ))))
 
 all_complete : {Allowed : Halt → Type 0} → Complete Allowed g.all_literal g.all_literal_reader
 unfolding g.all_literal_reader
@@ -49,7 +58,8 @@ all_begins x i rest (bytes, is, (i1, at, (i2, all, told))) = ap (begins_word w.A
 no_value : (kind : Kind) → kind ≡ k.Reserved w.All → value_by kind ≡ None
 no_value kind e = ap value_by e
 
-value_is : (o : Option LiteralValue) (place : Place) (x : Literal) → option_map (literal_at place) o ≡ Some x → (v : LiteralValue) × (o ≡ Some v)
+value_is : (o : Option LiteralValue) (place : Place) (x : Literal) → option_map (literal_at place) o ≡ Some x
+    → (v : LiteralValue) × (o ≡ Some v)
 value_is None place x e = cc
 value_is (Some v) place x e = (v, refl)
 
@@ -58,7 +68,8 @@ plain_is_no_all x i rest (first, is, tell) = ap (begins_word w.All) is ∙ go (i
   where
     go : (b : Bool) → is_kind w.All first.kind ≡ b → is_kind w.All first.kind ≡ false
     go false e = e
-    go true e = let v = value_is (value_by first.kind) first.place x tell in absurd (none_not (sym (no_value first.kind (kind_is w.All first.kind e)) ∙ v.1))
+    go true e = let v = value_is (value_by first.kind) first.place x tell in
+        absurd (none_not (sym (no_value first.kind (kind_is w.All first.kind e)) ∙ v.1))
 
 pub literal_sound : Sound g.literal g.literal_reader
 unfolding g.literal_reader
@@ -81,7 +92,8 @@ literal_shrinks x i rest (inr (bytes, is, (i1, at, (i2, all, told)))) =
     let b = telling_shrinks bytes_in bytes i2 rest told in omega arith
 
 pub literal_starts : Starts g.begins_literal g.literal
-literal_starts x i rest (inl told) = either (begins_word w.All i) (begins_telling plain_in i) (telling_starts plain_in x i rest told)
+literal_starts x i rest (inl told) =
+    either (begins_word w.All i) (begins_telling plain_in i) (telling_starts plain_in x i rest told)
 literal_starts x i rest (inr all) = ap (λ b. b || begins_telling plain_in i) (all_begins x i rest all)
 
 -- ---- a literal begins with no name

@@ -23,7 +23,8 @@ begins_not one other apart a i rest (first, is, tell) = ap (begins_telling other
 
 -- ---- names
 
-name_no_integer : (kind : Kind) (place : Place) (given : Name) → named_by kind place ≡ Some given → integer_by kind place ≡ None
+name_no_integer : (kind : Kind) (place : Place) (given : Name) → named_by kind place ≡ Some given
+    → integer_by kind place ≡ None
 name_no_integer (k.Reserved _) place given e = cc
 name_no_integer (k.Word characters) place given e = refl
 name_no_integer (k.Numeric number) place given e = cc
@@ -83,7 +84,8 @@ sign_left first a e = sign_no_left first.kind a e
 
 -- ---- values of literals
 
-pub value_no_name : (kind : Kind) (place : Place) (value : LiteralValue) → value_by kind ≡ Some value → named_by kind place ≡ None
+pub value_no_name : (kind : Kind) (place : Place) (value : LiteralValue) → value_by kind ≡ Some value
+    → named_by kind place ≡ None
 value_no_name (k.Reserved _) place value e = refl
 value_no_name (k.Word characters) place value e = cc
 value_no_name (k.Numeric number) place value e = refl
@@ -94,7 +96,8 @@ value_no_name k.LeftParenthesis place value e = cc
 value_no_name k.RightParenthesis place value e = cc
 value_no_name (k.Operator operator) place value e = cc
 
-pub number_no_name : (kind : Kind) (place : Place) (value : LiteralValue) → number_value_by kind ≡ Some value → named_by kind place ≡ None
+pub number_no_name : (kind : Kind) (place : Place) (value : LiteralValue) → number_value_by kind ≡ Some value
+    → named_by kind place ≡ None
 number_no_name (k.Reserved _) place value e = refl
 number_no_name (k.Word characters) place value e = cc
 number_no_name (k.Numeric number) place value e = refl

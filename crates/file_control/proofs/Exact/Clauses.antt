@@ -12,7 +12,9 @@ use Rattle.grammar.specs.Reading.{after_word, one_token}
 use Rattle.grammar.proofs.Outcomes.{Answers, Reached, step, unstep, value, last}
 use Rattle.grammar.proofs.Looking.{Finds, finds_word, finds_past, tests_tested}
 use Rattle.grammar.proofs.Lists.{Sound, Complete, Shrinks}
-use Rattle.grammar.proofs.Parts.{word_sound, word_complete, word_shrinks, skip_sound, skip_complete, skip_shrinks, one_token_sound, one_token_complete, telling_shrinks, stands_sound, stands_complete, stands_shrinks}
+use Rattle.grammar.proofs.Parts.{word_sound, word_complete, word_shrinks, skip_sound, skip_complete, skip_shrinks}
+use Rattle.grammar.proofs.Parts.{one_token_sound, one_token_complete, telling_shrinks, stands_sound, stands_complete}
+use Rattle.grammar.proofs.Parts.{stands_shrinks}
 use Rattle.expressions.specs.References.{reference_reader}
 use Rattle.expressions.proofs.Exact.References.{reference_sound, reference_complete, reference_shrinks}
 use Rattle.data_division.specs.ClauseReading.{skip_led}
@@ -35,14 +37,16 @@ use Rattle.file_control.proofs.Exact.Words.{stands, organization_stands, no_key,
 abbrev IsClause : ClauseKind → Clause → Part
 IsClause kind one = λ from rest. g.clause one from rest × (kind_of one ≡ kind)
 
-organization_sound : (x : Clause) (i rest : List Token) → clause_at i ≡ Some kind.Organization → r.organization_reader i ≡ Ok (x, rest) → IsClause kind.Organization x i rest
+organization_sound : (x : Clause) (i rest : List Token) → clause_at i ≡ Some kind.Organization
+    → r.organization_reader i ≡ Ok (x, rest) → IsClause kind.Organization x i rest
 unfolding r.organization_reader
 organization_sound x i rest begun e =
     unstep (skip_led w.Organization i) _ e (λ u i1 is1 e1.
     unstep (one_token organization_in i1) _ e1 (λ one i2 is2 e2.
     let led = skip_led_sound w.Organization u i i1 is1 in
     let told = one_token_sound organization_in one i1 rest (last is2 e2) in
-    subst (λ y. IsClause kind.Organization y i rest) (value e2) (((i1, led, told), (tests_tested begins_relative_key).fails i (no_key i begun)), refl)))
+    subst (λ y. IsClause kind.Organization y i rest) (value e2)
+    (((i1, led, told), (tests_tested begins_relative_key).fails i (no_key i begun)), refl)))
 
 access_sound : Sound (IsClause kind.Access) r.access_reader
 unfolding r.access_reader
@@ -55,7 +59,11 @@ access_sound x i rest e =
       (
         i1,
         word_sound w.Access u i i1 is1,
-        (i2, skip_sound w.Mode v i1 i2 is2, (i3, skip_sound w.Is t i2 i3 is3, one_token_sound access_in one i3 rest (last is4 e4))),
+        (
+          i2,
+          skip_sound w.Mode v i1 i2 is2,
+          (i3, skip_sound w.Is t i2 i3 is3, one_token_sound access_in one i3 rest (last is4 e4)),
+        ),
       ),
       refl,
     )))))
@@ -72,14 +80,16 @@ unfolding r.relative_key_reader
 relative_key_sound x i rest e =
     unstep (read.expect w.Relative i) _ e (λ u i1 is1 e1.
     unstep (r.key_reader i1) _ e1 (λ one i2 is2 e2.
-    subst (λ y. IsClause kind.RelativeKey y i rest) (value e2) ((i1, word_sound w.Relative u i i1 is1, key_sound one i1 rest (last is2 e2)), refl)))
+    subst (λ y. IsClause kind.RelativeKey y i rest) (value e2)
+    ((i1, word_sound w.Relative u i i1 is1, key_sound one i1 rest (last is2 e2)), refl)))
 
 record_key_sound : Sound (IsClause kind.RecordKey) r.record_key_reader
 unfolding r.record_key_reader
 record_key_sound x i rest e =
     unstep (read.expect w.Record i) _ e (λ u i1 is1 e1.
     unstep (r.key_reader i1) _ e1 (λ one i2 is2 e2.
-    subst (λ y. IsClause kind.RecordKey y i rest) (value e2) ((i1, word_sound w.Record u i i1 is1, key_sound one i1 rest (last is2 e2)), refl)))
+    subst (λ y. IsClause kind.RecordKey y i rest) (value e2)
+    ((i1, word_sound w.Record u i i1 is1, key_sound one i1 rest (last is2 e2)), refl)))
 
 finds_with_duplicates : Finds g.with_duplicates r.after_with_duplicates
 unfolding r.after_with_duplicates
@@ -96,7 +106,11 @@ alternate_key_sound x i rest e =
       (
         i1,
         word_sound w.Alternate u i i1 is1,
-        (i2, skip_sound w.Record v i1 i2 is2, (i3, key_sound key i2 i3 is3, stands_sound finds_with_duplicates duplicates i3 rest (last is4 e4))),
+        (
+          i2,
+          skip_sound w.Record v i1 i2 is2,
+          (i3, key_sound key i2 i3 is3, stands_sound finds_with_duplicates duplicates i3 rest (last is4 e4)),
+        ),
       ),
       refl,
     )))))
@@ -112,7 +126,11 @@ status_sound x i rest e =
       (
         i1,
         skip_sound w.File u i i1 is1,
-        (i2, word_sound w.Status v i1 i2 is2, (i3, skip_sound w.Is t i2 i3 is3, reference_sound one i3 rest (last is4 e4))),
+        (
+          i2,
+          word_sound w.Status v i1 i2 is2,
+          (i3, skip_sound w.Is t i2 i3 is3, reference_sound one i3 rest (last is4 e4)),
+        ),
       ),
       refl,
     )))))
@@ -135,7 +153,8 @@ key_complete x i rest (i1, key, (i2, is, item)) =
     (step (read.skip w.Is i1) _ (skip_complete w.Is tt i1 i2 is) (reference_complete x i2 rest item))
 
 pub clause_complete : {Allowed : Halt → Type 0} → ClausesComplete select_clauses clause_reader Allowed
-unfolding r.clause_reader r.organization_reader r.access_reader r.relative_key_reader r.record_key_reader r.alternate_key_reader r.status_reader
+unfolding r.clause_reader r.organization_reader r.access_reader r.relative_key_reader r.record_key_reader
+    r.alternate_key_reader r.status_reader
 clause_complete (clause_as.Organization one) i rest ((i1, led, told), others) =
     step (skip_led w.Organization i) _ (skip_led_complete w.Organization tt i i1 led)
     (step (one_token organization_in i1) _ (one_token_complete organization_in one i1 rest told) (Reached refl))
@@ -145,14 +164,17 @@ clause_complete (clause_as.Access one) i rest (i1, first, (i2, mode, (i3, is, to
     (step (read.skip w.Is i2) _ (skip_complete w.Is tt i2 i3 is)
     (step (one_token access_in i3) _ (one_token_complete access_in one i3 rest told) (Reached refl))))
 clause_complete (clause_as.RelativeKey one) i rest (i1, first, key) =
-    step (read.expect w.Relative i) _ (word_complete w.Relative tt i i1 first) (step (r.key_reader i1) _ (key_complete one i1 rest key) (Reached refl))
+    step (read.expect w.Relative i) _ (word_complete w.Relative tt i i1 first)
+    (step (r.key_reader i1) _ (key_complete one i1 rest key) (Reached refl))
 clause_complete (clause_as.RecordKey one) i rest (i1, first, key) =
-    step (read.expect w.Record i) _ (word_complete w.Record tt i i1 first) (step (r.key_reader i1) _ (key_complete one i1 rest key) (Reached refl))
+    step (read.expect w.Record i) _ (word_complete w.Record tt i i1 first)
+    (step (r.key_reader i1) _ (key_complete one i1 rest key) (Reached refl))
 clause_complete (clause_as.AlternateKey one) i rest (i1, first, (i2, row, (i3, key, duplicates))) =
     step (read.expect w.Alternate i) _ (word_complete w.Alternate tt i i1 first)
     (step (read.skip w.Record i1) _ (skip_complete w.Record tt i1 i2 row)
     (step (r.key_reader i2) _ (key_complete one.key i2 i3 key)
-    (step (read.presence_reader r.after_with_duplicates i3) _ (stands_complete finds_with_duplicates one.duplicates i3 rest duplicates) (Reached refl))))
+    (step (read.presence_reader r.after_with_duplicates i3) _
+    (stands_complete finds_with_duplicates one.duplicates i3 rest duplicates) (Reached refl))))
 clause_complete (clause_as.Status one) i rest (i1, file, (i2, first, (i3, is, item))) =
     step (read.skip w.File i) _ (skip_complete w.File tt i i1 file)
     (step (read.expect w.Status i1) _ (word_complete w.Status tt i1 i2 first)
@@ -188,7 +210,8 @@ clause_stands (clause_as.RelativeKey one) i rest s = relative_stands one i s.0 r
 clause_stands (clause_as.RecordKey one) i rest s = stands w.Record record_word i s.0 s.1
 clause_stands (clause_as.AlternateKey one) i rest s = stands w.Alternate alternate_word i s.0 s.1
 clause_stands (clause_as.Status one) i rest (i1, inl file, more) = stands w.File file_word i i1 file
-clause_stands (clause_as.Status one) i rest (i1, inr (same, absent), (i2, first, more)) = ap clause_at same ∙ stands w.Status status_word i1 i2 first
+clause_stands (clause_as.Status one) i rest (i1, inr (same, absent), (i2, first, more)) =
+    ap clause_at same ∙ stands w.Status status_word i1 i2 first
 
 -- ---- a clause takes a token
 
@@ -204,7 +227,8 @@ with_duplicates_shrinks i rest (i1, with_word, duplicates) =
 
 pub clause_shrinks : Shrinks g.clause
 clause_shrinks (clause_as.Organization one) i rest ((i1, led, told), others) =
-    let a = led_shrinks w.Organization i i1 led in let b = telling_shrinks organization_in one i1 rest told in omega arith
+    let a = led_shrinks w.Organization i i1 led in let b =
+    telling_shrinks organization_in one i1 rest told in omega arith
 clause_shrinks (clause_as.Access one) i rest (i1, first, (i2, mode, (i3, is, told))) =
     let a = word_shrinks w.Access i i1 first in
     let b = skip_shrinks w.Mode i1 i2 mode in

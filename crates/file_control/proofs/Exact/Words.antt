@@ -17,9 +17,11 @@ use Rattle.expressions.proofs.Exact.References.{reference_starts}
 use Rattle.file_control.specs.declared.clause.ClauseKind.{ClauseKind}
 use Rattle.file_control.specs.declared.clause.ClauseKind.TheVariants as kind
 use Rattle.file_control.specs.Clauses as g
-use Rattle.file_control.specs.Clauses.{organization_of, organization_by, organization_in, begins_key, has_key_after, begins_relative_key, clause_of, clause_in, clause_by_word, clause_at}
+use Rattle.file_control.specs.Clauses.{organization_of, organization_by, organization_in, begins_key, has_key_after}
+use Rattle.file_control.specs.Clauses.{begins_relative_key, clause_of, clause_in, clause_by_word, clause_at}
 
-two_words : (one other : Reserved) → same_word one other ≡ false → (i a b : List Token) → word one i a → word other i b → ⊥
+two_words : (one other : Reserved) → same_word one other ≡ false → (i a b : List Token) → word one i a → word other i b
+    → ⊥
 two_words one other differ i a b s t =
     let no_other = begins_no_other one other differ i a s in
     let is_other = word_begins other i b t in cc
@@ -32,24 +34,28 @@ by_word : (one : Reserved) (i rest : List Token) → word one i rest → clause_
 by_word one i rest (first, is, kind) = ap clause_by_word is ∙ ap clause_in kind
 
 -- another word than RELATIVE
-pub stands : (one : Reserved) → same_word one w.Relative ≡ false → (i rest : List Token) → word one i rest → clause_at i ≡ clause_of one
+pub stands : (one : Reserved) → same_word one w.Relative ≡ false → (i rest : List Token) → word one i rest
+    → clause_at i ≡ clause_of one
 stands one differ i rest s =
     let none = is_missing (finds_word w.Relative) i (λ after t. two_words one w.Relative differ i rest after s t) in
     ap (λ o. chosen (has_key_after o) i) none ∙ by_word one i rest s
 
 -- ---- organizations
 
-organization_word : (one : Reserved) (organization : OrganizationClause) → organization_of one ≡ Some organization → clause_of one ≡ Some kind.Organization
+organization_word : (one : Reserved) (organization : OrganizationClause) → organization_of one ≡ Some organization
+    → clause_of one ≡ Some kind.Organization
 organization_word w.Sequential organization e = refl
 organization_word w.Relative organization e = refl
 organization_word w.Indexed organization e = refl
 organization_word _ organization e = cc
 
-organization_kind : (one : Kind) (organization : OrganizationClause) → organization_by one ≡ Some organization → clause_in one ≡ Some kind.Organization
+organization_kind : (one : Kind) (organization : OrganizationClause) → organization_by one ≡ Some organization
+    → clause_in one ≡ Some kind.Organization
 organization_kind (k.Reserved one) organization e = organization_word one organization e
 organization_kind _ organization e = cc
 
-pub organization_stands : (one : OrganizationClause) (i rest : List Token) → g.organization one i rest → clause_at i ≡ Some kind.Organization
+pub organization_stands : (one : OrganizationClause) (i rest : List Token) → g.organization one i rest
+    → clause_at i ≡ Some kind.Organization
 organization_stands one i rest ((i1, led, told), no_key) =
     ap (λ b. chosen b i) ((tests_tested begins_relative_key).refuses i no_key) ∙ go led told
   where
@@ -76,14 +82,18 @@ second_true true b e = refl
 second_true false b e = e
 
 pub key_begins : (one : Reference) (i rest : List Token) → g.key one i rest → begins_key i ≡ true
-key_begins one i rest (i1, inl key, more) = first_true (begins_word w.Key i) (begins_word w.Is i || begins_name i) (word_begins w.Key i i1 key)
+key_begins one i rest (i1, inl key, more) =
+    first_true (begins_word w.Key i) (begins_word w.Is i || begins_name i) (word_begins w.Key i i1 key)
 key_begins one i rest (i1, inr (same, absent), (i2, inl is, item)) =
     second_true (begins_word w.Key i) (begins_word w.Is i || begins_name i)
     (first_true (begins_word w.Is i) (begins_name i) (ap (begins_word w.Is) same ∙ word_begins w.Is i1 i2 is))
 key_begins one i rest (i1, inr (same, absent), (i2, inr (same', absent'), item)) =
     second_true (begins_word w.Key i) (begins_word w.Is i || begins_name i)
-    (second_true (begins_word w.Is i) (begins_name i) (ap begins_name (same ∙ same') ∙ reference_starts one i2 rest item))
+    (second_true (begins_word w.Is i) (begins_name i)
+    (ap begins_name (same ∙ same') ∙ reference_starts one i2 rest item))
 
-pub relative_stands : (one : Reference) (i i1 rest : List Token) → word w.Relative i i1 → g.key one i1 rest → clause_at i ≡ Some kind.RelativeKey
+pub relative_stands : (one : Reference) (i i1 rest : List Token) → word w.Relative i i1 → g.key one i1 rest
+    → clause_at i ≡ Some kind.RelativeKey
 relative_stands one i i1 rest first key =
-    ap (λ o. chosen (has_key_after o) i) (word_stands w.Relative i i1 first) ∙ ap (λ b. chosen b i) (key_begins one i1 rest key)
+    ap (λ o. chosen (has_key_after o) i) (word_stands w.Relative i i1 first)
+    ∙ ap (λ b. chosen b i) (key_begins one i1 rest key)

@@ -12,7 +12,8 @@ use Rattle.grammar.specs.Reading.{after_word}
 use Rattle.grammar.proofs.Outcomes.{Answers, Reached, step, unstep, value, last}
 use Rattle.grammar.proofs.Looking.{Finds, finds_word, finds_also}
 use Rattle.grammar.proofs.Lists.{Sound}
-use Rattle.grammar.proofs.Parts.{word_sound, word_complete, word_shrinks, left_out_sound, left_out_complete, left_out_shrinks}
+use Rattle.grammar.proofs.Parts.{word_sound, word_complete, word_shrinks, left_out_sound, left_out_complete}
+use Rattle.grammar.proofs.Parts.{left_out_shrinks}
 use Rattle.expressions.specs.References.{reference_reader}
 use Rattle.expressions.proofs.Exact.References.{reference_sound, reference_complete, reference_shrinks}
 use Rattle.statements.specs.declared.verb.VerbWord.TheVariants as v
@@ -46,10 +47,12 @@ module _ (receiver : Reference) (console : Bool) where
   accepting_complete i rest (i1, verb, (i2, into, out)) =
       step (read.expect w.Accept i) _ (word_complete w.Accept tt i i1 verb)
       (step (reference_reader i1) _ (reference_complete receiver i1 i2 into)
-      (step (read.left_out after_from_date i2) _ (left_out_complete finds_from_date console i2 rest out) (Reached refl)))
+      (step (read.left_out after_from_date i2) _ (left_out_complete finds_from_date console i2 rest out)
+      (Reached refl)))
 
 accepted_spelled : (depth : ℕ) (p : Statement → Part) (receiver : Reference) (console : Bool) (i rest : List Token)
-    → accept_statement receiver console i rest → g.verb_line depth p (verb.TextStatement (accept_tree receiver console)) i rest
+    → accept_statement receiver console i rest
+    → g.verb_line depth p (verb.TextStatement (accept_tree receiver console)) i rest
 accepted_spelled depth p receiver true i rest s = s
 accepted_spelled depth p receiver false i rest s = s
 
@@ -60,5 +63,8 @@ accepting_sound depth p x i rest e =
     unstep (reference_reader i1) _ e1 (λ receiver i2 is2 e2.
     unstep (read.left_out after_from_date i2) _ e2 (λ console i3 is3 e3.
     subst (λ y. g.verb_line depth p y i rest) (value e3)
-    (accepted_spelled depth p receiver console i rest
-    (i1, word_sound w.Accept u i i1 is1, (i2, reference_sound receiver i1 i2 is2, left_out_sound finds_from_date console i2 rest (last is3 e3)))))))
+    (accepted_spelled depth p receiver console i rest (
+      i1,
+      word_sound w.Accept u i i1 is1,
+      (i2, reference_sound receiver i1 i2 is2, left_out_sound finds_from_date console i2 rest (last is3 e3)),
+    )))))

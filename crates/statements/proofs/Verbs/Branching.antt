@@ -27,13 +27,16 @@ use Rattle.statements.proofs.Standing.{stands}
 use Rattle.statements.proofs.StatementLists.{statements_sound}
 
 module _ (statements : List Statement → Part) where
-  pub branching_stands : (depth : ℕ) (asked : Condition) (done : List Statement) (otherwise : Option (List Statement)) (i rest : List Token)
+  pub branching_stands : (depth : ℕ) (asked : Condition) (done : List Statement) (otherwise : Option (List Statement))
+      (i rest : List Token)
       → conditional_statement depth statements (If asked done otherwise) i rest → verb_at i ≡ Some v.If
   branching_stands depth asked done otherwise i rest s = stands w.If i s.0 s.1
 
-  pub branching_shrinks : (depth : ℕ) → Shrinks statements → (asked : Condition) (done : List Statement) (otherwise : Option (List Statement)) (i rest : List Token)
+  pub branching_shrinks : (depth : ℕ) → Shrinks statements
+      → (asked : Condition) (done : List Statement) (otherwise : Option (List Statement)) (i rest : List Token)
       → conditional_statement depth statements (If asked done otherwise) i rest → length rest < length i
-  branching_shrinks depth each asked done otherwise i rest (i1, verb, (i2, asks, (i3, then_word, (i4, inner, (i5, other, end))))) =
+  branching_shrinks depth each asked done otherwise i rest
+      (i1, verb, (i2, asks, (i3, then_word, (i4, inner, (i5, other, end))))) =
       let a = word_shrinks w.If i i1 verb in
       let b = condition_shrinks depth asked i1 i2 asks in
       let c = skip_shrinks w.Then i2 i3 then_word in
@@ -55,9 +58,11 @@ module _ (statements : List Statement → Part) where
       pub branching_complete : (depth depth' : ℕ) → Complete Allowed (condition depth') (condition_reader depth)
           → (asked : Condition) (done : List Statement) (otherwise : Option (List Statement)) (i rest : List Token)
           → conditional_statement depth' statements (If asked done otherwise) i rest
-          → Answers Allowed (conditional_reader depth reader i) (verb.ConditionalStatement (If asked done otherwise)) rest
+          → Answers Allowed (conditional_reader depth reader i) (verb.ConditionalStatement (If asked done otherwise))
+          rest
       unfolding conditional_reader
-      branching_complete depth depth' asks asked done otherwise i rest (i1, verb, (i2, is, (i3, then_word, (i4, inner, (i5, other, end))))) =
+      branching_complete depth depth' asks asked done otherwise i rest
+          (i1, verb, (i2, is, (i3, then_word, (i4, inner, (i5, other, end))))) =
           step (read.expect w.If i) _ (word_complete w.If tt i i1 verb)
           (step (condition_reader depth i1) _ (asks asked i1 i2 is)
           (step (read.skip w.Then i2) _ (skip_complete w.Then tt i2 i3 then_word)
@@ -65,7 +70,8 @@ module _ (statements : List Statement → Part) where
           (step (otherwise_reader reader i4) _ (otherwise_complete otherwise i4 i5 other)
           (step (read.skip w.EndIf i5) _ (skip_complete w.EndIf tt i5 rest end) (Reached refl))))))
 
-pub branching_sound : (depth : ℕ) (p : Statement → Part) (nested : Parser Statement) → Sound p nested → Sound (g.verb_line depth p) (conditional_reader depth (r.statements nested))
+pub branching_sound : (depth : ℕ) (p : Statement → Part) (nested : Parser Statement) → Sound p nested
+    → Sound (g.verb_line depth p) (conditional_reader depth (r.statements nested))
 unfolding conditional_reader
 branching_sound depth p nested each x i rest e =
     unstep (read.expect w.If i) _ e (λ u i1 is1 e1.
@@ -86,7 +92,12 @@ branching_sound depth p nested each x i rest e =
           (
             i4,
             statements_sound p nested each done i3 i4 is4,
-            (i5, otherwise_sound (g.statements p) (r.statements nested) (statements_sound p nested each) otherwise i4 i5 is5, skip_sound w.EndIf t i5 rest (last is6 e6)),
+            (
+              i5,
+              otherwise_sound (g.statements p) (r.statements nested) (statements_sound p nested each) otherwise i4 i5
+                  is5,
+              skip_sound w.EndIf t i5 rest (last is6 e6),
+            ),
           ),
         ),
       ),

@@ -10,7 +10,8 @@ use Rattle.grammar.specs.Reading as read
 use Rattle.grammar.specs.Reading.{one_token}
 use Rattle.grammar.proofs.Outcomes.{Answers, Reached, step, unstep, value, last}
 use Rattle.grammar.proofs.Lists.{Sound, Complete}
-use Rattle.grammar.proofs.Parts.{word_sound, word_complete, word_shrinks, one_token_sound, one_token_complete, telling_shrinks}
+use Rattle.grammar.proofs.Parts.{word_sound, word_complete, word_shrinks, one_token_sound, one_token_complete}
+use Rattle.grammar.proofs.Parts.{telling_shrinks}
 use Rattle.expressions.specs.Expressions.{expression, expression_reader}
 use Rattle.expressions.proofs.Exact.Expressions.{expression_sound, expression_shrinks}
 use Rattle.statements.specs.declared.verb.VerbWord.TheVariants as v
@@ -23,18 +24,22 @@ use Rattle.statements.proofs.Standing.{stands}
 use Rattle.statements.proofs.ReceiverLists.{receivers_sound, receivers_complete, receivers_shrink}
 
 module _ (all : List Receiver) (what : Expression) where
-  pub computing_shrinks : (depth : ℕ) (i rest : List Token) → compute_statement depth all what i rest → length rest < length i
+  pub computing_shrinks : (depth : ℕ) (i rest : List Token) → compute_statement depth all what i rest
+      → length rest < length i
   computing_shrinks depth i rest (i1, verb, (i2, into, (i3, equal, from))) =
       let a = word_shrinks w.Compute i i1 verb in
       let b = receivers_shrink all i1 i2 into in
       let c = telling_shrinks equal_in tt i2 i3 equal in
       let d = expression_shrinks depth what i3 rest from in omega arith
 
-  pub computing_stands : (depth : ℕ) (i rest : List Token) → compute_statement depth all what i rest → verb_at i ≡ Some (v.Arithmetic a.Compute)
+  pub computing_stands : (depth : ℕ) (i rest : List Token) → compute_statement depth all what i rest
+      → verb_at i ≡ Some (v.Arithmetic a.Compute)
   computing_stands depth i rest s = stands w.Compute i s.0 s.1
 
-  pub computing_complete : (Allowed : Halt → Type 0) (depth depth' : ℕ) → Complete Allowed (expression depth') (expression_reader depth)
-      → (i rest : List Token) → compute_statement depth' all what i rest → Answers Allowed (compute_reader depth i) (Compute all what) rest
+  pub computing_complete : (Allowed : Halt → Type 0) (depth depth' : ℕ)
+      → Complete Allowed (expression depth') (expression_reader depth)
+      → (i rest : List Token) → compute_statement depth' all what i rest
+      → Answers Allowed (compute_reader depth i) (Compute all what) rest
   unfolding compute_reader
   computing_complete Allowed depth depth' each i rest (i1, verb, (i2, into, (i3, equal, from))) =
       step (read.expect w.Compute i) _ (word_complete w.Compute tt i i1 verb)
@@ -49,5 +54,12 @@ computing_sound depth x i rest e =
     unstep (receivers_reader i1) _ e1 (λ all i2 is2 e2.
     unstep (one_token equal_in i2) _ e2 (λ t i3 is3 e3.
     unstep (expression_reader depth i3) _ e3 (λ what i4 is4 e4.
-    subst (λ y. operation depth y i rest) (value e4)
-    (i1, word_sound w.Compute u i i1 is1, (i2, receivers_sound all i1 i2 is2, (i3, one_token_sound equal_in t i2 i3 is3, expression_sound depth what i3 rest (last is4 e4))))))))
+    subst (λ y. operation depth y i rest) (value e4) (
+      i1,
+      word_sound w.Compute u i i1 is1,
+      (
+        i2,
+        receivers_sound all i1 i2 is2,
+        (i3, one_token_sound equal_in t i2 i3 is3, expression_sound depth what i3 rest (last is4 e4)),
+      ),
+    )))))

@@ -23,11 +23,13 @@ continuing_shrinks i rest s = word_shrinks w.Continue i rest s
 pub continuing_stands : (i rest : List Token) → continue_statement i rest → verb_at i ≡ Some v.Continue
 continuing_stands i rest s = stands w.Continue i rest s
 
-pub continuing_complete : {Allowed : Halt → Type 0} (i rest : List Token) → continue_statement i rest → Answers Allowed (continue_reader i) (verb.ControlStatement ending.Continue) rest
+pub continuing_complete : {Allowed : Halt → Type 0} (i rest : List Token) → continue_statement i rest
+    → Answers Allowed (continue_reader i) (verb.ControlStatement ending.Continue) rest
 unfolding continue_reader
 continuing_complete i rest s = step (read.expect w.Continue i) _ (word_complete w.Continue tt i rest s) (Reached refl)
 
 pub continuing_sound : (depth : ℕ) (p : Statement → Part) → Sound (g.verb_line depth p) continue_reader
 unfolding continue_reader
 continuing_sound depth p x i rest e =
-    unstep (read.expect w.Continue i) _ e (λ u i1 is1 e1. subst (λ y. g.verb_line depth p y i rest) (value e1) (word_sound w.Continue u i rest (last is1 e1)))
+    unstep (read.expect w.Continue i) _ e
+    (λ u i1 is1 e1. subst (λ y. g.verb_line depth p y i rest) (value e1) (word_sound w.Continue u i rest (last is1 e1)))

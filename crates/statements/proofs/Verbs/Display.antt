@@ -13,7 +13,8 @@ use Rattle.grammar.specs.Reading.{after_word, past_word, also_after}
 use Rattle.grammar.proofs.Outcomes.{Answers, Reached, step, unstep, value, last}
 use Rattle.grammar.proofs.Looking.{Finds, finds_word, finds_also, past_does, past_is}
 use Rattle.grammar.proofs.Lists.{Sound}
-use Rattle.grammar.proofs.Parts.{word_sound, word_complete, word_shrinks, skip_shrinks, left_out_sound, left_out_complete, left_out_shrinks}
+use Rattle.grammar.proofs.Parts.{word_sound, word_complete, word_shrinks, skip_shrinks, left_out_sound}
+use Rattle.grammar.proofs.Parts.{left_out_complete, left_out_shrinks}
 use Rattle.expressions.specs.Operands.{begins_operand, operand_reader}
 use Rattle.expressions.proofs.Exact.Operands.{operands_sound, operands_complete, operands_shrink}
 use Rattle.statements.specs.declared.verb.VerbWord.TheVariants as v
@@ -55,7 +56,8 @@ module _ (operands : List Operand) (advancing : Bool) where
   display_complete i rest (i1, verb, (i2, shown, out)) =
       step (read.expect w.Display i) _ (word_complete w.Display tt i i1 verb)
       (step (read.several operand_reader begins_operand i1) _ (operands_complete operands i1 i2 shown)
-      (step (read.left_out after_no_advancing i2) _ (left_out_complete finds_no_advancing advancing i2 rest out) (Reached refl)))
+      (step (read.left_out after_no_advancing i2) _ (left_out_complete finds_no_advancing advancing i2 rest out)
+      (Reached refl)))
 
 pub display_sound : (depth : ℕ) (p : Statement → Part) → Sound (g.verb_line depth p) display_reader
 unfolding display_reader
@@ -63,5 +65,8 @@ display_sound depth p x i rest e =
     unstep (read.expect w.Display i) _ e (λ u i1 is1 e1.
     unstep (read.several operand_reader begins_operand i1) _ e1 (λ shown i2 is2 e2.
     unstep (read.left_out after_no_advancing i2) _ e2 (λ advancing i3 is3 e3.
-    subst (λ y. g.verb_line depth p y i rest) (value e3)
-    (i1, word_sound w.Display u i i1 is1, (i2, operands_sound shown i1 i2 is2, left_out_sound finds_no_advancing advancing i2 rest (last is3 e3))))))
+    subst (λ y. g.verb_line depth p y i rest) (value e3) (
+      i1,
+      word_sound w.Display u i i1 is1,
+      (i2, operands_sound shown i1 i2 is2, left_out_sound finds_no_advancing advancing i2 rest (last is3 e3)),
+    ))))

@@ -23,11 +23,13 @@ exiting_shrinks i rest s = word_shrinks w.Exit i rest s
 pub exiting_stands : (i rest : List Token) → exit_statement i rest → verb_at i ≡ Some v.Exit
 exiting_stands i rest s = stands w.Exit i rest s
 
-pub exiting_complete : {Allowed : Halt → Type 0} (i rest : List Token) → exit_statement i rest → Answers Allowed (exit_reader i) (verb.ControlStatement ending.Exit) rest
+pub exiting_complete : {Allowed : Halt → Type 0} (i rest : List Token) → exit_statement i rest
+    → Answers Allowed (exit_reader i) (verb.ControlStatement ending.Exit) rest
 unfolding exit_reader
 exiting_complete i rest s = step (read.expect w.Exit i) _ (word_complete w.Exit tt i rest s) (Reached refl)
 
 pub exiting_sound : (depth : ℕ) (p : Statement → Part) → Sound (g.verb_line depth p) exit_reader
 unfolding exit_reader
 exiting_sound depth p x i rest e =
-    unstep (read.expect w.Exit i) _ e (λ u i1 is1 e1. subst (λ y. g.verb_line depth p y i rest) (value e1) (word_sound w.Exit u i rest (last is1 e1)))
+    unstep (read.expect w.Exit i) _ e
+    (λ u i1 is1 e1. subst (λ y. g.verb_line depth p y i rest) (value e1) (word_sound w.Exit u i rest (last is1 e1)))

@@ -26,7 +26,8 @@ module _ (receivers : List Reference) where
       let a = word_shrinks w.Initialize i i1 verb in
       let b = references_shrink receivers i1 rest into in omega arith
 
-  pub initializing_stands : (i rest : List Token) → initialize_statement receivers i rest → verb_at i ≡ Some v.Initialize
+  pub initializing_stands : (i rest : List Token) → initialize_statement receivers i rest
+      → verb_at i ≡ Some v.Initialize
   initializing_stands i rest s = stands w.Initialize i s.0 s.1
 
   pub initializing_complete : {Allowed : Halt → Type 0} (i rest : List Token) → initialize_statement receivers i rest
@@ -34,11 +35,13 @@ module _ (receivers : List Reference) where
   unfolding initialize_reader
   initializing_complete i rest (i1, verb, into) =
       step (read.expect w.Initialize i) _ (word_complete w.Initialize tt i i1 verb)
-      (step (read.several reference_reader begins_name i1) _ (references_complete receivers i1 rest into) (Reached refl))
+      (step (read.several reference_reader begins_name i1) _ (references_complete receivers i1 rest into)
+      (Reached refl))
 
 pub initializing_sound : (depth : ℕ) (p : Statement → Part) → Sound (g.verb_line depth p) initialize_reader
 unfolding initialize_reader
 initializing_sound depth p x i rest e =
     unstep (read.expect w.Initialize i) _ e (λ u i1 is1 e1.
     unstep (read.several reference_reader begins_name i1) _ e1 (λ receivers i2 is2 e2.
-    subst (λ y. g.verb_line depth p y i rest) (value e2) (i1, word_sound w.Initialize u i i1 is1, references_sound receivers i1 rest (last is2 e2))))
+    subst (λ y. g.verb_line depth p y i rest) (value e2)
+    (i1, word_sound w.Initialize u i i1 is1, references_sound receivers i1 rest (last is2 e2))))

@@ -1,5 +1,6 @@
 -- INSPECT: what is read is spelled, and what is spelled is read.
-use Rattle.std.proofs.Common.{◌≡◌, ◌<◌, ◌≤◌, ℕ, Bool, true, false, if◌then◌else◌, List, [], ◌∷◌, length, Option, Some, None, Ok, refl, ap, ◌∙◌, subst, arith}
+use Rattle.std.proofs.Common.{◌≡◌, ◌<◌, ◌≤◌, ℕ, Bool, true, false, if◌then◌else◌, List, [], ◌∷◌, length, Option, Some}
+use Rattle.std.proofs.Common.{None, Ok, refl, ap, ◌∙◌, subst, arith}
 use Rattle.std.specs.Prelude.{◌||◌, is_some}
 use Rattle.tokens.specs.declared.reserved.Reserved.TheVariants as w
 use Rattle.tokens.specs.declared.token.Token.{Token}
@@ -22,25 +23,35 @@ use Rattle.grammar.specs.Parts.{Part, is_told, token_with, begins_telling, looka
 use Rattle.grammar.specs.Reading as read
 use Rattle.grammar.specs.Reading.{begins_word, refuse, one_token}
 use Rattle.grammar.proofs.Outcomes.{Answers, Reached, step, unstep, value, after, last}
-use Rattle.grammar.proofs.Looking.{Tests, finds_word, tests_tested, tests_words, tests_but, true_not_false, word_begins, begins_no_other}
+use Rattle.grammar.proofs.Looking.{Tests, finds_word, tests_tested, tests_words, tests_but, true_not_false, word_begins}
+use Rattle.grammar.proofs.Looking.{begins_no_other}
 use Rattle.grammar.proofs.Lists as lists
 use Rattle.grammar.proofs.Lists.{Sound, Complete, Shrinks, Starts}
-use Rattle.grammar.proofs.Parts.{word_sound, word_complete, word_shrinks, one_token_sound, one_token_complete, telling_shrinks, telling_starts}
+use Rattle.grammar.proofs.Parts.{word_sound, word_complete, word_shrinks, one_token_sound, one_token_complete}
+use Rattle.grammar.proofs.Parts.{telling_shrinks, telling_starts}
 use Rattle.expressions.specs.References.{reference_reader}
 use Rattle.expressions.specs.Looking.{after_reference_before}
 use Rattle.expressions.proofs.Exact.Marks.{either}
-use Rattle.expressions.proofs.Exact.References.{reference_sound, reference_complete, reference_shrinks, reference_starts}
+use Rattle.expressions.proofs.Exact.References.{reference_sound, reference_complete, reference_shrinks}
+use Rattle.expressions.proofs.Exact.References.{reference_starts}
 use Rattle.expressions.proofs.Exact.Leads.{reference_before_found}
 use Rattle.conditions.proofs.Exact.Tests.{no_word}
 use Rattle.statements.specs.declared.verb.VerbWord.TheVariants as v
 use Rattle.statements.specs.Verbs.{verb_at}
 use Rattle.statements.specs.Limiting.{begins_text, text_reader, limits_reader}
 use Rattle.statements.specs.Inspecting as rule
-use Rattle.statements.specs.Inspecting.{tallied_in, tallied_by, replaced_in, replaced_by, begins_tallied_text, begins_tallied, begins_replaced, limited_text_reader, tallied_text_reader, tallied_texts_reader, tallied_characters_reader, tallied_reader, counting_reader, tallying_reader, replaced_text_reader, replaced_texts_reader, replaced_characters_reader, replaced_reader, replacing_reader, perhaps_replacing_reader, counted_reader, uncounted_reader, phrases_reader, inspect_reader}
+use Rattle.statements.specs.Inspecting.{tallied_in, tallied_by, replaced_in, replaced_by, begins_tallied_text}
+use Rattle.statements.specs.Inspecting.{begins_tallied, begins_replaced, limited_text_reader, tallied_text_reader}
+use Rattle.statements.specs.Inspecting.{tallied_texts_reader, tallied_characters_reader, tallied_reader}
+use Rattle.statements.specs.Inspecting.{counting_reader, tallying_reader, replaced_text_reader, replaced_texts_reader}
+use Rattle.statements.specs.Inspecting.{replaced_characters_reader, replaced_reader, replacing_reader}
+use Rattle.statements.specs.Inspecting.{perhaps_replacing_reader, counted_reader, uncounted_reader, phrases_reader}
+use Rattle.statements.specs.Inspecting.{inspect_reader}
 use Rattle.statements.specs.Spelling as g
 use Rattle.statements.proofs.Except.{both}
 use Rattle.statements.proofs.Standing.{stands}
-use Rattle.statements.proofs.Verbs.Limiting.{text_sound, text_complete, text_shrinks, text_starts, limits_sound, limits_complete, limits_shrink}
+use Rattle.statements.proofs.Verbs.Limiting.{text_sound, text_complete, text_shrinks, text_starts, limits_sound}
+use Rattle.statements.proofs.Verbs.Limiting.{limits_complete, limits_shrink}
 
 -- ---- CHARACTERS is none of the words before texts
 
@@ -55,19 +66,23 @@ no_replaced_texts i rest (first, is, kind) = ap (begins_telling replaced_in) is 
 begin_tests : Tests rule.begin_tallied_text begins_tallied_text
 begin_tests = tests_but (tests_tested begins_text) (tests_words (reference_before_found w.For))
 
-limited_text_sound : (x : TalliedText) (i rest : List Token) → is_some (after_reference_before w.For i) ≡ false → limited_text_reader i ≡ Ok (x, rest) → rule.tallied_text x i rest
+limited_text_sound : (x : TalliedText) (i rest : List Token) → is_some (after_reference_before w.For i) ≡ false
+    → limited_text_reader i ≡ Ok (x, rest) → rule.tallied_text x i rest
 unfolding limited_text_reader
 limited_text_sound x i rest absent e =
     unstep (text_reader i) _ e (λ one i1 is1 e1.
     unstep (limits_reader i1) _ e1 (λ limits i2 is2 e2.
-    subst (λ y. rule.tallied_text y i rest) (value e2)
-    ((i1, text_sound one i i1 is1, limits_sound limits i1 rest (last is2 e2)), (tests_words (reference_before_found w.For)).fails i absent)))
+    subst (λ y. rule.tallied_text y i rest) (value e2) (
+      (i1, text_sound one i i1 is1, limits_sound limits i1 rest (last is2 e2)),
+      (tests_words (reference_before_found w.For)).fails i absent,
+    )))
 
 tallied_text_sound : Sound rule.tallied_text tallied_text_reader
 unfolding tallied_text_reader
 tallied_text_sound x i rest e = go (is_some (after_reference_before w.For i)) refl e
   where
-    go : (b : Bool) → is_some (after_reference_before w.For i) ≡ b → (if b then refuse i else limited_text_reader i) ≡ Ok (x, rest) → rule.tallied_text x i rest
+    go : (b : Bool) → is_some (after_reference_before w.For i) ≡ b
+        → (if b then refuse i else limited_text_reader i) ≡ Ok (x, rest) → rule.tallied_text x i rest
     go true is e = cc
     go false is e = limited_text_sound x i rest is e
 
@@ -85,17 +100,21 @@ tallied_text_shrinks x i rest ((i1, one, limits), absent) =
 
 tallied_text_starts : Starts begins_tallied_text rule.tallied_text
 tallied_text_starts x i rest ((i1, one, limits), absent) =
-    both (begins_text i) (is_some (after_reference_before w.For i)) (text_starts x.text i i1 one) ((tests_words (reference_before_found w.For)).refuses i absent)
+    both (begins_text i) (is_some (after_reference_before w.For i)) (text_starts x.text i i1 one)
+    ((tests_words (reference_before_found w.For)).refuses i absent)
 
 abbrev some_tallied_texts : List TalliedText → Part
 some_tallied_texts = grammar.several rule.tallied_text rule.begin_tallied_text
 
 tallied_list_sound : Sound some_tallied_texts (read.several tallied_text_reader begins_tallied_text)
-tallied_list_sound = lists.several_sound rule.tallied_text tallied_text_reader rule.begin_tallied_text begins_tallied_text begin_tests tallied_text_sound
+tallied_list_sound = lists.several_sound rule.tallied_text tallied_text_reader rule.begin_tallied_text
+    begins_tallied_text begin_tests tallied_text_sound
 
-tallied_list_complete : {Allowed : Halt → Type 0} → Complete Allowed some_tallied_texts (read.several tallied_text_reader begins_tallied_text)
+tallied_list_complete : {Allowed : Halt → Type 0}
+    → Complete Allowed some_tallied_texts (read.several tallied_text_reader begins_tallied_text)
 tallied_list_complete {Allowed = Allowed} =
-    lists.several_complete rule.tallied_text tallied_text_reader rule.begin_tallied_text begins_tallied_text begin_tests Allowed (tallied_text_complete {Allowed = Allowed}) tallied_text_shrinks tallied_text_starts
+    lists.several_complete rule.tallied_text tallied_text_reader rule.begin_tallied_text begins_tallied_text begin_tests
+    Allowed (tallied_text_complete {Allowed = Allowed}) tallied_text_shrinks tallied_text_starts
 
 -- ---- what a counter counts
 
@@ -103,22 +122,26 @@ tallied_sound : Sound rule.tally_clause tallied_reader
 unfolding tallied_reader tallied_texts_reader tallied_characters_reader
 tallied_sound x i rest e = go (begins_telling tallied_in i) e
   where
-    go : (b : Bool) → (if b then tallied_texts_reader i else tallied_characters_reader i) ≡ Ok (x, rest) → rule.tally_clause x i rest
+    go : (b : Bool) → (if b then tallied_texts_reader i else tallied_characters_reader i) ≡ Ok (x, rest)
+        → rule.tally_clause x i rest
     go true e =
         unstep (one_token tallied_in i) _ e (λ how i1 is1 e1.
         unstep (read.several tallied_text_reader begins_tallied_text i1) _ e1 (λ texts i2 is2 e2.
-        subst (λ y. rule.tally_clause y i rest) (value e2) (i1, one_token_sound tallied_in how i i1 is1, tallied_list_sound texts i1 rest (last is2 e2))))
+        subst (λ y. rule.tally_clause y i rest) (value e2)
+        (i1, one_token_sound tallied_in how i i1 is1, tallied_list_sound texts i1 rest (last is2 e2))))
     go false e =
         unstep (read.expect w.Characters i) _ e (λ u i1 is1 e1.
         unstep (limits_reader i1) _ e1 (λ limits i2 is2 e2.
-        subst (λ y. rule.tally_clause y i rest) (value e2) (i1, word_sound w.Characters u i i1 is1, limits_sound limits i1 rest (last is2 e2))))
+        subst (λ y. rule.tally_clause y i rest) (value e2)
+        (i1, word_sound w.Characters u i i1 is1, limits_sound limits i1 rest (last is2 e2))))
 
 tallied_complete : {Allowed : Halt → Type 0} → Complete Allowed rule.tally_clause tallied_reader
 unfolding tallied_reader tallied_texts_reader tallied_characters_reader
 tallied_complete (tallied_as.Texts how texts) i rest (i1, told, list) =
     rw (telling_starts tallied_in how i i1 told)
     (step (one_token tallied_in i) _ (one_token_complete tallied_in how i i1 told)
-    (step (read.several tallied_text_reader begins_tallied_text i1) _ (tallied_list_complete texts i1 rest list) (Reached refl)))
+    (step (read.several tallied_text_reader begins_tallied_text i1) _ (tallied_list_complete texts i1 rest list)
+    (Reached refl)))
 tallied_complete (tallied_as.Characters limits) i rest (i1, characters, bounds) =
     rw (no_tallied_texts i i1 characters)
     (step (read.expect w.Characters i) _ (word_complete w.Characters tt i i1 characters)
@@ -127,7 +150,8 @@ tallied_complete (tallied_as.Characters limits) i rest (i1, characters, bounds) 
 tallied_shrinks : Shrinks rule.tally_clause
 tallied_shrinks (tallied_as.Texts how texts) i rest (i1, told, list) =
     let a = telling_shrinks tallied_in how i i1 told in
-    let b = lists.several_shrinks rule.tallied_text rule.begin_tallied_text tallied_text_shrinks texts i1 rest list in omega arith
+    let b = lists.several_shrinks rule.tallied_text rule.begin_tallied_text tallied_text_shrinks texts i1 rest list in
+    omega arith
 tallied_shrinks (tallied_as.Characters limits) i rest (i1, characters, bounds) =
     let a = word_shrinks w.Characters i i1 characters in
     let b = limits_shrink limits i1 rest bounds in omega arith
@@ -135,7 +159,8 @@ tallied_shrinks (tallied_as.Characters limits) i rest (i1, characters, bounds) =
 tallied_starts : Starts begins_tallied rule.tally_clause
 tallied_starts (tallied_as.Texts how texts) i rest (i1, told, list) =
     either (begins_word w.Characters i) (begins_telling tallied_in i) (telling_starts tallied_in how i i1 told)
-tallied_starts (tallied_as.Characters limits) i rest (i1, characters, bounds) = ap (λ b. b || begins_telling tallied_in i) (word_begins w.Characters i i1 characters)
+tallied_starts (tallied_as.Characters limits) i rest (i1, characters, bounds) =
+    ap (λ b. b || begins_telling tallied_in i) (word_begins w.Characters i i1 characters)
 
 -- ---- counters
 
@@ -151,7 +176,8 @@ counting_sound x i rest e =
       (
         i2,
         word_sound w.For u i1 i2 is2,
-        lists.several_sound rule.tally_clause tallied_reader (lookahead begins_tallied) begins_tallied (tests_tested begins_tallied) tallied_sound entries i2 rest (last is3 e3),
+        lists.several_sound rule.tally_clause tallied_reader (lookahead begins_tallied) begins_tallied
+            (tests_tested begins_tallied) tallied_sound entries i2 rest (last is3 e3),
       ),
     ))))
 
@@ -161,7 +187,8 @@ counting_complete {Allowed = Allowed} x i rest (i1, counter, (i2, for, entries))
     step (reference_reader i) _ (reference_complete x.counter i i1 counter)
     (step (read.expect w.For i1) _ (word_complete w.For tt i1 i2 for)
     (step (read.several tallied_reader begins_tallied i2) _
-    (lists.several_complete rule.tally_clause tallied_reader (lookahead begins_tallied) begins_tallied (tests_tested begins_tallied) Allowed (tallied_complete {Allowed = Allowed}) tallied_shrinks tallied_starts
+    (lists.several_complete rule.tally_clause tallied_reader (lookahead begins_tallied) begins_tallied
+    (tests_tested begins_tallied) Allowed (tallied_complete {Allowed = Allowed}) tallied_shrinks tallied_starts
     x.tallied i2 rest entries)
     (Reached refl)))
 
@@ -169,7 +196,9 @@ counting_shrinks : Shrinks rule.counter_clause
 counting_shrinks x i rest (i1, counter, (i2, for, entries)) =
     let a = reference_shrinks x.counter i i1 counter in
     let b = word_shrinks w.For i1 i2 for in
-    let c = lists.several_shrinks rule.tally_clause (lookahead begins_tallied) tallied_shrinks x.tallied i2 rest entries in omega arith
+    let c =
+    lists.several_shrinks rule.tally_clause (lookahead begins_tallied) tallied_shrinks x.tallied i2 rest entries in
+    omega arith
 
 counting_starts : Starts begins_name rule.counter_clause
 counting_starts x i rest s = reference_starts x.counter i s.0 s.1
@@ -182,20 +211,23 @@ tallying_sound x i rest e =
     unstep (read.expect w.Tallying i) _ e (λ u i1 is1 e1. (
       i1,
       word_sound w.Tallying u i i1 is1,
-      lists.several_sound rule.counter_clause counting_reader (lookahead begins_name) begins_name (tests_tested begins_name) counting_sound x i1 rest e1,
+      lists.several_sound rule.counter_clause counting_reader (lookahead begins_name) begins_name
+          (tests_tested begins_name) counting_sound x i1 rest e1,
     ))
 
 tallying_complete : {Allowed : Halt → Type 0} → Complete Allowed rule.tallying_phrase tallying_reader
 unfolding tallying_reader
 tallying_complete {Allowed = Allowed} x i rest (i1, verb, counters) =
     step (read.expect w.Tallying i) _ (word_complete w.Tallying tt i i1 verb)
-    (lists.several_complete rule.counter_clause counting_reader (lookahead begins_name) begins_name (tests_tested begins_name) Allowed (counting_complete {Allowed = Allowed}) counting_shrinks counting_starts
+    (lists.several_complete rule.counter_clause counting_reader (lookahead begins_name) begins_name
+    (tests_tested begins_name) Allowed (counting_complete {Allowed = Allowed}) counting_shrinks counting_starts
     x i1 rest counters)
 
 tallying_shrinks : Shrinks rule.tallying_phrase
 tallying_shrinks x i rest (i1, verb, counters) =
     let a = word_shrinks w.Tallying i i1 verb in
-    let b = lists.several_shrinks rule.counter_clause (lookahead begins_name) counting_shrinks x i1 rest counters in omega arith
+    let b =
+    lists.several_shrinks rule.counter_clause (lookahead begins_name) counting_shrinks x i1 rest counters in omega arith
 
 -- ---- texts that are replaced
 
@@ -206,8 +238,11 @@ replaced_text_sound x i rest e =
     unstep (read.expect w.By i1) _ e1 (λ u i2 is2 e2.
     unstep (text_reader i2) _ e2 (λ by i3 is3 e3.
     unstep (limits_reader i3) _ e3 (λ limits i4 is4 e4.
-    subst (λ y. rule.replaced_text y i rest) (value e4)
-    (i1, text_sound one i i1 is1, (i2, word_sound w.By u i1 i2 is2, (i3, text_sound by i2 i3 is3, limits_sound limits i3 rest (last is4 e4))))))))
+    subst (λ y. rule.replaced_text y i rest) (value e4) (
+      i1,
+      text_sound one i i1 is1,
+      (i2, word_sound w.By u i1 i2 is2, (i3, text_sound by i2 i3 is3, limits_sound limits i3 rest (last is4 e4))),
+    )))))
 
 replaced_text_complete : {Allowed : Halt → Type 0} → Complete Allowed rule.replaced_text replaced_text_reader
 unfolding replaced_text_reader
@@ -231,11 +266,14 @@ abbrev some_replaced_texts : List ReplacedText → Part
 some_replaced_texts = grammar.several rule.replaced_text (lookahead begins_text)
 
 replaced_list_sound : Sound some_replaced_texts (read.several replaced_text_reader begins_text)
-replaced_list_sound = lists.several_sound rule.replaced_text replaced_text_reader (lookahead begins_text) begins_text (tests_tested begins_text) replaced_text_sound
+replaced_list_sound = lists.several_sound rule.replaced_text replaced_text_reader (lookahead begins_text) begins_text
+    (tests_tested begins_text) replaced_text_sound
 
-replaced_list_complete : {Allowed : Halt → Type 0} → Complete Allowed some_replaced_texts (read.several replaced_text_reader begins_text)
+replaced_list_complete : {Allowed : Halt → Type 0}
+    → Complete Allowed some_replaced_texts (read.several replaced_text_reader begins_text)
 replaced_list_complete {Allowed = Allowed} =
-    lists.several_complete rule.replaced_text replaced_text_reader (lookahead begins_text) begins_text (tests_tested begins_text) Allowed (replaced_text_complete {Allowed = Allowed}) replaced_text_shrinks replaced_text_starts
+    lists.several_complete rule.replaced_text replaced_text_reader (lookahead begins_text) begins_text (tests_tested
+    begins_text) Allowed (replaced_text_complete {Allowed = Allowed}) replaced_text_shrinks replaced_text_starts
 
 -- ---- what is replaced
 
@@ -244,7 +282,8 @@ unfolding replaced_texts_reader
 replaced_texts_sound x i rest e =
     unstep (one_token replaced_in i) _ e (λ how i1 is1 e1.
     unstep (read.several replaced_text_reader begins_text i1) _ e1 (λ texts i2 is2 e2.
-    subst (λ y. rule.replacement_clause y i rest) (value e2) (i1, one_token_sound replaced_in how i i1 is1, replaced_list_sound texts i1 rest (last is2 e2))))
+    subst (λ y. rule.replacement_clause y i rest) (value e2)
+    (i1, one_token_sound replaced_in how i i1 is1, replaced_list_sound texts i1 rest (last is2 e2))))
 
 replaced_characters_sound : Sound rule.replacement_clause replaced_characters_reader
 unfolding replaced_characters_reader
@@ -253,14 +292,18 @@ replaced_characters_sound x i rest e =
     unstep (read.expect w.By i1) _ e1 (λ t i2 is2 e2.
     unstep (text_reader i2) _ e2 (λ by i3 is3 e3.
     unstep (limits_reader i3) _ e3 (λ limits i4 is4 e4.
-    subst (λ y. rule.replacement_clause y i rest) (value e4)
-    (i1, word_sound w.Characters u i i1 is1, (i2, word_sound w.By t i1 i2 is2, (i3, text_sound by i2 i3 is3, limits_sound limits i3 rest (last is4 e4))))))))
+    subst (λ y. rule.replacement_clause y i rest) (value e4) (
+      i1,
+      word_sound w.Characters u i i1 is1,
+      (i2, word_sound w.By t i1 i2 is2, (i3, text_sound by i2 i3 is3, limits_sound limits i3 rest (last is4 e4))),
+    )))))
 
 replaced_sound : Sound rule.replacement_clause replaced_reader
 unfolding replaced_reader
 replaced_sound x i rest e = go (begins_telling replaced_in i) e
   where
-    go : (b : Bool) → (if b then replaced_texts_reader i else replaced_characters_reader i) ≡ Ok (x, rest) → rule.replacement_clause x i rest
+    go : (b : Bool) → (if b then replaced_texts_reader i else replaced_characters_reader i) ≡ Ok (x, rest)
+        → rule.replacement_clause x i rest
     go true e = replaced_texts_sound x i rest e
     go false e = replaced_characters_sound x i rest e
 
@@ -269,7 +312,8 @@ unfolding replaced_reader replaced_texts_reader replaced_characters_reader
 replaced_complete (replacing_as.Texts how texts) i rest (i1, told, list) =
     rw (telling_starts replaced_in how i i1 told)
     (step (one_token replaced_in i) _ (one_token_complete replaced_in how i i1 told)
-    (step (read.several replaced_text_reader begins_text i1) _ (replaced_list_complete texts i1 rest list) (Reached refl)))
+    (step (read.several replaced_text_reader begins_text i1) _ (replaced_list_complete texts i1 rest list)
+    (Reached refl)))
 replaced_complete (replacing_as.Characters by limits) i rest (i1, characters, (i2, word, (i3, one, bounds))) =
     rw (no_replaced_texts i i1 characters)
     (step (read.expect w.Characters i) _ (word_complete w.Characters tt i i1 characters)
@@ -280,7 +324,8 @@ replaced_complete (replacing_as.Characters by limits) i rest (i1, characters, (i
 replaced_shrinks : Shrinks rule.replacement_clause
 replaced_shrinks (replacing_as.Texts how texts) i rest (i1, told, list) =
     let a = telling_shrinks replaced_in how i i1 told in
-    let b = lists.several_shrinks rule.replaced_text (lookahead begins_text) replaced_text_shrinks texts i1 rest list in omega arith
+    let b = lists.several_shrinks rule.replaced_text (lookahead begins_text) replaced_text_shrinks texts i1 rest list in
+    omega arith
 replaced_shrinks (replacing_as.Characters by limits) i rest (i1, characters, (i2, word, (i3, one, bounds))) =
     let a = word_shrinks w.Characters i i1 characters in
     let b = word_shrinks w.By i1 i2 word in
@@ -290,7 +335,8 @@ replaced_shrinks (replacing_as.Characters by limits) i rest (i1, characters, (i2
 replaced_starts : Starts begins_replaced rule.replacement_clause
 replaced_starts (replacing_as.Texts how texts) i rest (i1, told, list) =
     either (begins_word w.Characters i) (begins_telling replaced_in i) (telling_starts replaced_in how i i1 told)
-replaced_starts (replacing_as.Characters by limits) i rest s = ap (λ b. b || begins_telling replaced_in i) (word_begins w.Characters i s.0 s.1)
+replaced_starts (replacing_as.Characters by limits) i rest s =
+    ap (λ b. b || begins_telling replaced_in i) (word_begins w.Characters i s.0 s.1)
 
 -- ---- REPLACING
 
@@ -300,23 +346,28 @@ replacing_sound x i rest e =
     unstep (read.expect w.Replacing i) _ e (λ u i1 is1 e1. (
       i1,
       word_sound w.Replacing u i i1 is1,
-      lists.several_sound rule.replacement_clause replaced_reader (lookahead begins_replaced) begins_replaced (tests_tested begins_replaced) replaced_sound x i1 rest e1,
+      lists.several_sound rule.replacement_clause replaced_reader (lookahead begins_replaced) begins_replaced
+          (tests_tested begins_replaced) replaced_sound x i1 rest e1,
     ))
 
 replacing_complete : {Allowed : Halt → Type 0} → Complete Allowed rule.replacing_phrase replacing_reader
 unfolding replacing_reader
 replacing_complete {Allowed = Allowed} x i rest (i1, verb, entries) =
     step (read.expect w.Replacing i) _ (word_complete w.Replacing tt i i1 verb)
-    (lists.several_complete rule.replacement_clause replaced_reader (lookahead begins_replaced) begins_replaced (tests_tested begins_replaced) Allowed (replaced_complete {Allowed = Allowed}) replaced_shrinks replaced_starts
+    (lists.several_complete rule.replacement_clause replaced_reader (lookahead begins_replaced) begins_replaced
+    (tests_tested begins_replaced) Allowed (replaced_complete {Allowed = Allowed}) replaced_shrinks replaced_starts
     x i1 rest entries)
 
 replacing_shrinks : Shrinks rule.replacing_phrase
 replacing_shrinks x i rest (i1, verb, entries) =
     let a = word_shrinks w.Replacing i i1 verb in
-    let b = lists.several_shrinks rule.replacement_clause (lookahead begins_replaced) replaced_shrinks x i1 rest entries in omega arith
+    let b =
+    lists.several_shrinks rule.replacement_clause (lookahead begins_replaced) replaced_shrinks x i1 rest entries in
+    omega arith
 
 -- one phrase is no empty list
-as_perhaps : (all : List Replacing) (i rest : List Token) → rule.replacing_phrase all i rest → rule.perhaps_replacing all i rest
+as_perhaps : (all : List Replacing) (i rest : List Token) → rule.replacing_phrase all i rest
+    → rule.perhaps_replacing all i rest
 as_perhaps [] i rest (i1, verb, none) = absurd none
 as_perhaps (one ∷ more) i rest s = s
 
@@ -324,15 +375,18 @@ perhaps_sound : Sound rule.perhaps_replacing perhaps_replacing_reader
 unfolding perhaps_replacing_reader
 perhaps_sound x i rest e = go (begins_word w.Replacing i) refl e
   where
-    go : (b : Bool) → begins_word w.Replacing i ≡ b → (if b then replacing_reader i else Ok ([], i)) ≡ Ok (x, rest) → rule.perhaps_replacing x i rest
+    go : (b : Bool) → begins_word w.Replacing i ≡ b → (if b then replacing_reader i else Ok ([], i)) ≡ Ok (x, rest)
+        → rule.perhaps_replacing x i rest
     go true is e = as_perhaps x i rest (replacing_sound x i rest e)
     go false is e =
-        subst (λ y. rule.perhaps_replacing y i rest) (value e) (after e, λ j s. true_not_false (begins_word w.Replacing i) is (word_begins w.Replacing i j s))
+        subst (λ y. rule.perhaps_replacing y i rest) (value e)
+        (after e, λ j s. true_not_false (begins_word w.Replacing i) is (word_begins w.Replacing i j s))
 
 perhaps_complete : {Allowed : Halt → Type 0} → Complete Allowed rule.perhaps_replacing perhaps_replacing_reader
 unfolding perhaps_replacing_reader
 perhaps_complete [] i rest s = rw (no_word w.Replacing i s.1) (Reached (ap (λ j. Ok ([], j)) s.0))
-perhaps_complete (one ∷ more) i rest s = rw (word_begins w.Replacing i s.0 s.1) (replacing_complete (one ∷ more) i rest s)
+perhaps_complete (one ∷ more) i rest s =
+    rw (word_begins w.Replacing i s.0 s.1) (replacing_complete (one ∷ more) i rest s)
 
 perhaps_shrinks : (x : List Replacing) (i rest : List Token) → rule.perhaps_replacing x i rest → length rest ≤ length i
 perhaps_shrinks [] i rest s = let l = ap length s.0 in omega arith
@@ -343,7 +397,8 @@ perhaps_shrinks (one ∷ more) i rest s = let a = replacing_shrinks (one ∷ mor
 abbrev both_phrases : List Tallying × List Replacing → Part
 both_phrases x = rule.phrases x.0 x.1
 
-with_counters : (counters : List Tallying) (entries : List Replacing) (i i1 rest : List Token) → rule.tallying_phrase counters i i1 → rule.perhaps_replacing entries i1 rest
+with_counters : (counters : List Tallying) (entries : List Replacing) (i i1 rest : List Token)
+    → rule.tallying_phrase counters i i1 → rule.perhaps_replacing entries i1 rest
     → rule.phrases counters entries i rest
 with_counters [] entries i i1 rest (j, verb, none) s = absurd none
 with_counters (one ∷ more) entries i i1 rest counted s = (i1, counted, s)
@@ -357,7 +412,8 @@ phrases_sound x i rest e = go (begins_word w.Tallying i) e
         unstep (tallying_reader i) _ e (λ counters i1 is1 e1.
         unstep (perhaps_replacing_reader i1) _ e1 (λ entries i2 is2 e2.
         subst (λ y. both_phrases y i rest) (value e2)
-        (with_counters counters entries i i1 rest (tallying_sound counters i i1 is1) (perhaps_sound entries i1 rest (last is2 e2)))))
+        (with_counters counters entries i i1 rest (tallying_sound counters i i1 is1)
+        (perhaps_sound entries i1 rest (last is2 e2)))))
     go false e =
         unstep (replacing_reader i) _ e (λ entries i1 is1 e1.
         subst (λ y. both_phrases y i rest) (value e1) (replacing_sound entries i rest (last is1 e1)))
@@ -366,7 +422,8 @@ no_tallying : (i rest : List Token) → word w.Replacing i rest → begins_word 
 unfolding same_word
 no_tallying i rest s = begins_no_other w.Replacing w.Tallying refl i rest s
 
-phrases_complete : {Allowed : Halt → Type 0} → (counters : List Tallying) (entries : List Replacing) (i rest : List Token) → rule.phrases counters entries i rest
+phrases_complete : {Allowed : Halt → Type 0}
+    → (counters : List Tallying) (entries : List Replacing) (i rest : List Token) → rule.phrases counters entries i rest
     → Answers Allowed (phrases_reader i) (counters, entries) rest
 unfolding phrases_reader counted_reader uncounted_reader
 phrases_complete [] entries i rest s =
@@ -376,7 +433,8 @@ phrases_complete (one ∷ more) entries i rest (i1, counters, s) =
     (step (tallying_reader i) _ (tallying_complete (one ∷ more) i i1 counters)
     (step (perhaps_replacing_reader i1) _ (perhaps_complete entries i1 rest s) (Reached refl)))
 
-phrases_shrink : (counters : List Tallying) (entries : List Replacing) (i rest : List Token) → rule.phrases counters entries i rest → length rest < length i
+phrases_shrink : (counters : List Tallying) (entries : List Replacing) (i rest : List Token)
+    → rule.phrases counters entries i rest → length rest < length i
 phrases_shrink [] entries i rest s = replacing_shrinks entries i rest s
 phrases_shrink (one ∷ more) entries i rest (i1, counters, s) =
     let a = tallying_shrinks (one ∷ more) i i1 counters in
@@ -384,16 +442,19 @@ phrases_shrink (one ∷ more) entries i rest (i1, counters, s) =
 
 -- ---- the statement
 
-pub inspecting_shrinks : (one : InspectStatement) (i rest : List Token) → rule.inspect_statement one i rest → length rest < length i
+pub inspecting_shrinks : (one : InspectStatement) (i rest : List Token) → rule.inspect_statement one i rest
+    → length rest < length i
 inspecting_shrinks one i rest (i1, verb, (i2, subject, s)) =
     let a = word_shrinks w.Inspect i i1 verb in
     let b = reference_shrinks one.subject i1 i2 subject in
     let c = phrases_shrink one.tallying one.replacing i2 rest s in omega arith
 
-pub inspecting_stands : (one : InspectStatement) (i rest : List Token) → rule.inspect_statement one i rest → verb_at i ≡ Some v.Inspect
+pub inspecting_stands : (one : InspectStatement) (i rest : List Token) → rule.inspect_statement one i rest
+    → verb_at i ≡ Some v.Inspect
 inspecting_stands one i rest s = stands w.Inspect i s.0 s.1
 
-pub inspecting_complete : {Allowed : Halt → Type 0} (one : InspectStatement) (i rest : List Token) → rule.inspect_statement one i rest
+pub inspecting_complete : {Allowed : Halt → Type 0} (one : InspectStatement) (i rest : List Token)
+    → rule.inspect_statement one i rest
     → Answers Allowed (inspect_reader i) (verb.TextStatement (text_as.Inspect one)) rest
 unfolding inspect_reader
 inspecting_complete one i rest (i1, verb, (i2, subject, s)) =
@@ -407,5 +468,8 @@ inspecting_sound depth p x i rest e =
     unstep (read.expect w.Inspect i) _ e (λ u i1 is1 e1.
     unstep (reference_reader i1) _ e1 (λ subject i2 is2 e2.
     unstep (phrases_reader i2) _ e2 (λ phrases i3 is3 e3.
-    subst (λ y. g.verb_line depth p y i rest) (value e3)
-    (i1, word_sound w.Inspect u i i1 is1, (i2, reference_sound subject i1 i2 is2, phrases_sound phrases i2 rest (last is3 e3))))))
+    subst (λ y. g.verb_line depth p y i rest) (value e3) (
+      i1,
+      word_sound w.Inspect u i i1 is1,
+      (i2, reference_sound subject i1 i2 is2, phrases_sound phrases i2 rest (last is3 e3)),
+    ))))

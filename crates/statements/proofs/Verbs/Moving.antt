@@ -41,7 +41,8 @@ module _ (sender : Operand) (receivers : List Reference) where
       step (read.expect w.Move i) _ (word_complete w.Move tt i i1 verb)
       (step (operand_reader i1) _ (operand_complete sender i1 i2 taken)
       (step (read.expect w.To i2) _ (word_complete w.To tt i2 i3 to)
-      (step (read.several reference_reader begins_name i3) _ (references_complete receivers i3 rest into) (Reached refl))))
+      (step (read.several reference_reader begins_name i3) _ (references_complete receivers i3 rest into)
+      (Reached refl))))
 
 pub moving_sound : (depth : ℕ) (p : Statement → Part) → Sound (g.verb_line depth p) move_reader
 unfolding move_reader
@@ -50,5 +51,12 @@ moving_sound depth p x i rest e =
     unstep (operand_reader i1) _ e1 (λ sender i2 is2 e2.
     unstep (read.expect w.To i2) _ e2 (λ t i3 is3 e3.
     unstep (read.several reference_reader begins_name i3) _ e3 (λ receivers i4 is4 e4.
-    subst (λ y. g.verb_line depth p y i rest) (value e4)
-    (i1, word_sound w.Move u i i1 is1, (i2, operand_sound sender i1 i2 is2, (i3, word_sound w.To t i2 i3 is3, references_sound receivers i3 rest (last is4 e4))))))))
+    subst (λ y. g.verb_line depth p y i rest) (value e4) (
+      i1,
+      word_sound w.Move u i i1 is1,
+      (
+        i2,
+        operand_sound sender i1 i2 is2,
+        (i3, word_sound w.To t i2 i3 is3, references_sound receivers i3 rest (last is4 e4)),
+      ),
+    )))))

@@ -29,7 +29,8 @@ module _ (factor : Operand) (by : Target) where
       let c = word_shrinks w.By i2 i3 by_word in
       let d = target_shrinks by i3 rest into in omega arith
 
-  pub multiplying_stands : (i rest : List Token) → multiply_statement factor by i rest → verb_at i ≡ Some (v.Arithmetic a.Multiply)
+  pub multiplying_stands : (i rest : List Token) → multiply_statement factor by i rest
+      → verb_at i ≡ Some (v.Arithmetic a.Multiply)
   multiplying_stands i rest s = stands w.Multiply i s.0 s.1
 
   pub multiplying_complete : {Allowed : Halt → Type 0} (i rest : List Token) → multiply_statement factor by i rest
@@ -41,7 +42,8 @@ module _ (factor : Operand) (by : Target) where
       (step (read.expect w.By i2) _ (word_complete w.By tt i2 i3 by_word)
       (step (target_reader i3) _ (target_complete by i3 rest into) (Reached refl))))
 
-multiplied_spelled : (depth : ℕ) (factor : Operand) (by : Target) (i rest : List Token) → multiply_statement factor by i rest → operation depth (multiply_operation factor by) i rest
+multiplied_spelled : (depth : ℕ) (factor : Operand) (by : Target) (i rest : List Token)
+    → multiply_statement factor by i rest → operation depth (multiply_operation factor by) i rest
 multiplied_spelled depth factor (Receivers all) i rest s = s
 multiplied_spelled depth factor (Giving by all) i rest s = s
 
@@ -53,5 +55,12 @@ multiplying_sound depth x i rest e =
     unstep (read.expect w.By i2) _ e2 (λ t i3 is3 e3.
     unstep (target_reader i3) _ e3 (λ by i4 is4 e4.
     subst (λ y. operation depth y i rest) (value e4)
-    (multiplied_spelled depth factor by i rest
-    (i1, word_sound w.Multiply u i i1 is1, (i2, number_operand_sound factor i1 i2 is2, (i3, word_sound w.By t i2 i3 is3, target_sound by i3 rest (last is4 e4)))))))))
+    (multiplied_spelled depth factor by i rest (
+      i1,
+      word_sound w.Multiply u i i1 is1,
+      (
+        i2,
+        number_operand_sound factor i1 i2 is2,
+        (i3, word_sound w.By t i2 i3 is3, target_sound by i3 rest (last is4 e4)),
+      ),
+    ))))))

@@ -47,5 +47,12 @@ setting_sound depth p x i rest e =
     unstep (read.several reference_reader begins_name i1) _ e1 (λ conditions i2 is2 e2.
     unstep (read.expect w.To i2) _ e2 (λ t i3 is3 e3.
     unstep (read.expect w.True i3) _ e3 (λ z i4 is4 e4.
-    subst (λ y. g.verb_line depth p y i rest) (value e4)
-    (i1, word_sound w.Set u i i1 is1, (i2, references_sound conditions i1 i2 is2, (i3, word_sound w.To t i2 i3 is3, word_sound w.True z i3 rest (last is4 e4))))))))
+    subst (λ y. g.verb_line depth p y i rest) (value e4) (
+      i1,
+      word_sound w.Set u i i1 is1,
+      (
+        i2,
+        references_sound conditions i1 i2 is2,
+        (i3, word_sound w.To t i2 i3 is3, word_sound w.True z i3 rest (last is4 e4)),
+      ),
+    )))))

@@ -25,7 +25,8 @@ stop_run_shrinks i rest (i1, verb, run) =
 pub stop_run_stands : (i rest : List Token) → stop_run i rest → verb_at i ≡ Some v.Stop
 stop_run_stands i rest s = stands w.Stop i s.0 s.1
 
-pub stop_run_complete : {Allowed : Halt → Type 0} (i rest : List Token) → stop_run i rest → Answers Allowed (stop_run_reader i) (verb.ControlStatement ending.StopRun) rest
+pub stop_run_complete : {Allowed : Halt → Type 0} (i rest : List Token) → stop_run i rest
+    → Answers Allowed (stop_run_reader i) (verb.ControlStatement ending.StopRun) rest
 unfolding stop_run_reader
 stop_run_complete i rest (i1, verb, run) =
     step (read.expect w.Stop i) _ (word_complete w.Stop tt i i1 verb)
@@ -36,4 +37,5 @@ unfolding stop_run_reader
 stop_run_sound depth p x i rest e =
     unstep (read.expect w.Stop i) _ e (λ u i1 is1 e1.
     unstep (read.expect w.Run i1) _ e1 (λ v i2 is2 e2.
-    subst (λ y. g.verb_line depth p y i rest) (value e2) (i1, word_sound w.Stop u i i1 is1, word_sound w.Run v i1 rest (last is2 e2))))
+    subst (λ y. g.verb_line depth p y i rest) (value e2)
+    (i1, word_sound w.Stop u i i1 is1, word_sound w.Run v i1 rest (last is2 e2))))

@@ -17,7 +17,8 @@ use Rattle.statements.specs.Receivers.{numbers_reader, target_reader}
 use Rattle.statements.specs.Subtracting.{subtract_statement, subtract_operation, subtract_reader}
 use Rattle.statements.specs.Arithmetic.{operation}
 use Rattle.statements.proofs.Standing.{stands}
-use Rattle.statements.proofs.ReceiverLists.{numbers_sound, numbers_complete, numbers_shrink, target_sound, target_complete, target_shrinks}
+use Rattle.statements.proofs.ReceiverLists.{numbers_sound, numbers_complete, numbers_shrink, target_sound}
+use Rattle.statements.proofs.ReceiverLists.{target_complete, target_shrinks}
 
 module _ (operands : List Operand) (from : Target) where
   pub subtracting_shrinks : (i rest : List Token) → subtract_statement operands from i rest → length rest < length i
@@ -27,7 +28,8 @@ module _ (operands : List Operand) (from : Target) where
       let c = word_shrinks w.From i2 i3 from_word in
       let d = target_shrinks from i3 rest into in omega arith
 
-  pub subtracting_stands : (i rest : List Token) → subtract_statement operands from i rest → verb_at i ≡ Some (v.Arithmetic a.Subtract)
+  pub subtracting_stands : (i rest : List Token) → subtract_statement operands from i rest
+      → verb_at i ≡ Some (v.Arithmetic a.Subtract)
   subtracting_stands i rest s = stands w.Subtract i s.0 s.1
 
   pub subtracting_complete : {Allowed : Halt → Type 0} (i rest : List Token) → subtract_statement operands from i rest
@@ -39,7 +41,8 @@ module _ (operands : List Operand) (from : Target) where
       (step (read.expect w.From i2) _ (word_complete w.From tt i2 i3 from_word)
       (step (target_reader i3) _ (target_complete from i3 rest into) (Reached refl))))
 
-subtracted_spelled : (depth : ℕ) (operands : List Operand) (from : Target) (i rest : List Token) → subtract_statement operands from i rest → operation depth (subtract_operation operands from) i rest
+subtracted_spelled : (depth : ℕ) (operands : List Operand) (from : Target) (i rest : List Token)
+    → subtract_statement operands from i rest → operation depth (subtract_operation operands from) i rest
 subtracted_spelled depth operands (Receivers all) i rest s = s
 subtracted_spelled depth operands (Giving minuend all) i rest s = s
 
@@ -51,5 +54,12 @@ subtracting_sound depth x i rest e =
     unstep (read.expect w.From i2) _ e2 (λ t i3 is3 e3.
     unstep (target_reader i3) _ e3 (λ from i4 is4 e4.
     subst (λ y. operation depth y i rest) (value e4)
-    (subtracted_spelled depth operands from i rest
-    (i1, word_sound w.Subtract u i i1 is1, (i2, numbers_sound operands i1 i2 is2, (i3, word_sound w.From t i2 i3 is3, target_sound from i3 rest (last is4 e4)))))))))
+    (subtracted_spelled depth operands from i rest (
+      i1,
+      word_sound w.Subtract u i i1 is1,
+      (
+        i2,
+        numbers_sound operands i1 i2 is2,
+        (i3, word_sound w.From t i2 i3 is3, target_sound from i3 rest (last is4 e4)),
+      ),
+    ))))))

@@ -1,5 +1,6 @@
 -- How often PERFORM performs: what is read is spelled, and what is spelled is read.
-use Rattle.std.proofs.Common.{◌≡◌, ◌≤◌, ℕ, Bool, true, false, List, length, Option, Some, None, Ok, inl, inr, refl, sym, ap, ◌∙◌, subst, arith}
+use Rattle.std.proofs.Common.{◌≡◌, ◌≤◌, ℕ, Bool, true, false, List, length, Option, Some, None, Ok, inl, inr, refl, sym}
+use Rattle.std.proofs.Common.{ap, ◌∙◌, subst, arith}
 use Rattle.std.specs.Prelude.{◌||◌, is_some, if◌then◌else◌}
 use Rattle.tokens.specs.declared.reserved.Reserved.{Reserved}
 use Rattle.tokens.specs.declared.reserved.Reserved.TheVariants as w
@@ -8,7 +9,8 @@ use Rattle.source_tree.specs.declared.name.Name.{Name}
 use Rattle.source_tree.specs.declared.literal.Integer.{Integer}
 use Rattle.source_tree.specs.declared.reference.Reference.{Reference}
 use Rattle.source_tree.specs.declared.perform_statement.Repetition.{Repetition}
-use Rattle.source_tree.specs.declared.perform_statement.Repetition.TheVariants.{Once, Times, CountedBy, Until as Through}
+use Rattle.source_tree.specs.declared.perform_statement.Repetition.TheVariants.{Once, Times, CountedBy}
+use Rattle.source_tree.specs.declared.perform_statement.Repetition.TheVariants.{Until as Through}
 use Rattle.source_tree.specs.declared.until.TestTime.{TestTime}
 use Rattle.source_tree.specs.declared.until.Varying.{Varying}
 use Rattle.source_tree.specs.declared.until.Until.{Until}
@@ -17,15 +19,18 @@ use Rattle.grammar.specs.Parts.{is_told, word, name_in, begins_name}
 use Rattle.grammar.specs.Reading as read
 use Rattle.grammar.specs.Reading.{after_word, begins_word}
 use Rattle.grammar.proofs.Outcomes.{Answers, Reached, step, unstep, value, after, last}
-use Rattle.grammar.proofs.Looking.{Finds, none_not, is_absent, is_missing, finds_word, finds_past, tests_tested, true_not_false, word_begins}
+use Rattle.grammar.proofs.Looking.{Finds, none_not, is_absent, is_missing, finds_word, finds_past, tests_tested}
+use Rattle.grammar.proofs.Looking.{true_not_false, word_begins}
 use Rattle.grammar.proofs.Lists.{Sound, Complete, Shrinks}
-use Rattle.grammar.proofs.Parts.{word_sound, word_complete, word_shrinks, skip_shrinks, one_token_sound, one_token_complete, telling_shrinks}
+use Rattle.grammar.proofs.Parts.{word_sound, word_complete, word_shrinks, skip_shrinks, one_token_sound}
+use Rattle.grammar.proofs.Parts.{one_token_complete, telling_shrinks}
 use Rattle.expressions.specs.References.{reference, reference_reader}
 use Rattle.expressions.specs.Operands.{number_operand_reader}
 use Rattle.expressions.specs.Subscripts.{integer, integer_by, integer_in, begins_integer, integer_reader}
 use Rattle.expressions.specs.Looking.{reference_before, after_reference_before}
 use Rattle.expressions.proofs.Exact.Marks.{begins_not, name_integer, either, neither}
-use Rattle.expressions.proofs.Exact.References.{reference_sound, reference_complete, reference_shrinks, reference_starts}
+use Rattle.expressions.proofs.Exact.References.{reference_sound, reference_complete, reference_shrinks}
+use Rattle.expressions.proofs.Exact.References.{reference_starts}
 use Rattle.expressions.proofs.Exact.Operands.{number_operand_sound, number_operand_complete, number_operand_shrinks}
 use Rattle.expressions.proofs.Exact.Subscripts.{integer_sound, integer_complete, integer_shrinks, integer_starts}
 use Rattle.expressions.proofs.Exact.Leads.{reference_before_found}
@@ -33,7 +38,9 @@ use Rattle.conditions.specs.Conditions.{condition, condition_reader}
 use Rattle.conditions.proofs.Exact.Tests.{no_word}
 use Rattle.conditions.proofs.Exact.Conditions.{condition_sound, condition_shrinks}
 use Rattle.statements.specs.Turning as rule
-use Rattle.statements.specs.Turning.{time_in, after_with_test, time_at, test_reader, varied_reader, some_varied_reader, varying_reader, begins_until, begins_turns, until_reader, times_reader, counted_reader, turns_reader}
+use Rattle.statements.specs.Turning.{time_in, after_with_test, time_at, test_reader, varied_reader, some_varied_reader}
+use Rattle.statements.specs.Turning.{varying_reader, begins_until, begins_turns, until_reader, times_reader}
+use Rattle.statements.specs.Turning.{counted_reader, turns_reader}
 use Rattle.statements.specs.Performing.{begins_procedures}
 use Rattle.statements.proofs.Except.{no_first as first_fails, second as second_holds}
 use Rattle.statements.proofs.Standing.{word_no_name}
@@ -54,7 +61,8 @@ test_sound x i rest e = go (after_with_test i) refl e
 
 test_complete : {Allowed : Halt → Type 0} → Complete Allowed rule.test test_reader
 unfolding test_reader
-test_complete x i rest (inl (m, words, told)) = rw (finds_with_test.stands i m words) (one_token_complete time_in x m rest told)
+test_complete x i rest (inl (m, words, told)) =
+    rw (finds_with_test.stands i m words) (one_token_complete time_in x m rest told)
 test_complete x i rest (inr (is, out)) =
     rw (is_missing finds_with_test i out.1) (Reached (ap (λ y. Ok (y, i)) (sym is) ∙ ap (λ j. Ok (x, j)) out.0))
 
@@ -82,7 +90,15 @@ varied_sound x i rest e =
       (
         i2,
         reference_sound item i1 i2 is2,
-        (i3, word_sound w.From t i2 i3 is3, (i4, number_operand_sound from i3 i4 is4, (i5, word_sound w.By v i4 i5 is5, number_operand_sound by i5 rest (last is6 e6)))),
+        (
+          i3,
+          word_sound w.From t i2 i3 is3,
+          (
+            i4,
+            number_operand_sound from i3 i4 is4,
+            (i5, word_sound w.By v i4 i5 is5, number_operand_sound by i5 rest (last is6 e6)),
+          ),
+        ),
       ),
     )))))))
 
@@ -109,9 +125,11 @@ varying_sound : Sound rule.optional_varying varying_reader
 unfolding varying_reader some_varied_reader
 varying_sound x i rest e = go (begins_word w.Varying i) refl e
   where
-    go : (b : Bool) → begins_word w.Varying i ≡ b → (if b then some_varied_reader i else Ok (None, i)) ≡ Ok (x, rest) → rule.optional_varying x i rest
+    go : (b : Bool) → begins_word w.Varying i ≡ b → (if b then some_varied_reader i else Ok (None, i)) ≡ Ok (x, rest)
+        → rule.optional_varying x i rest
     go true is e =
-        unstep (varied_reader i) _ e (λ one i1 is1 e1. subst (λ y. rule.optional_varying y i rest) (value e1) (varied_sound one i rest (last is1 e1)))
+        unstep (varied_reader i) _ e (λ one i1 is1 e1.
+        subst (λ y. rule.optional_varying y i rest) (value e1) (varied_sound one i rest (last is1 e1)))
     go false is e =
         subst (λ y. rule.optional_varying y i rest) (value e)
         (after e, λ behind stands. true_not_false (begins_word w.Varying i) is (word_begins w.Varying i behind stands))
@@ -135,11 +153,20 @@ until_sound depth x i rest e =
     unstep (varying_reader i1) _ e1 (λ what i2 is2 e2.
     unstep (read.expect w.Until i2) _ e2 (λ u i3 is3 e3.
     unstep (condition_reader depth i3) _ e3 (λ asked i4 is4 e4.
-    subst (λ y. rule.turns depth y i rest) (value e4)
-    (i1, test_sound when i i1 is1, (i2, varying_sound what i1 i2 is2, (i3, word_sound w.Until u i2 i3 is3, condition_sound depth asked i3 rest (last is4 e4))))))))
+    subst (λ y. rule.turns depth y i rest) (value e4) (
+      i1,
+      test_sound when i i1 is1,
+      (
+        i2,
+        varying_sound what i1 i2 is2,
+        (i3, word_sound w.Until u i2 i3 is3, condition_sound depth asked i3 rest (last is4 e4)),
+      ),
+    )))))
 
-until_complete : (Allowed : Halt → Type 0) (depth depth' : ℕ) → Complete Allowed (condition depth') (condition_reader depth)
-    → (x : Until) (i rest : List Token) → rule.until depth' x i rest → Answers Allowed (until_reader depth i) (Through x) rest
+until_complete : (Allowed : Halt → Type 0) (depth depth' : ℕ)
+    → Complete Allowed (condition depth') (condition_reader depth)
+    → (x : Until) (i rest : List Token) → rule.until depth' x i rest
+    → Answers Allowed (until_reader depth i) (Through x) rest
 unfolding until_reader
 until_complete Allowed depth depth' asks x i rest (i1, when, (i2, what, (i3, until_word, asked))) =
     step (test_reader i) _ (test_complete x.test i i1 when)
@@ -179,23 +206,40 @@ with_opens i behind s = (w.With, behind, s, rw (word_begins w.With i behind s) r
 
 test_opens : (i behind : List Token) → word w.Test i behind → Opens i
 unfolding Opens
-test_opens i behind s =
-    (w.Test, behind, s, second (begins_word w.With i) (begins_word w.Test i) (begins_word w.Varying i) (begins_word w.Until i) (word_begins w.Test i behind s))
+test_opens i behind s = (
+  w.Test,
+  behind,
+  s,
+  second (begins_word w.With i) (begins_word w.Test i) (begins_word w.Varying i) (begins_word w.Until i)
+      (word_begins w.Test i behind s),
+)
 
 varying_opens : (i behind : List Token) → word w.Varying i behind → Opens i
 unfolding Opens
-varying_opens i behind s =
-    (w.Varying, behind, s, third (begins_word w.With i) (begins_word w.Test i) (begins_word w.Varying i) (begins_word w.Until i) (word_begins w.Varying i behind s))
+varying_opens i behind s = (
+  w.Varying,
+  behind,
+  s,
+  third (begins_word w.With i) (begins_word w.Test i) (begins_word w.Varying i) (begins_word w.Until i)
+      (word_begins w.Varying i behind s),
+)
 
 until_opens : (i behind : List Token) → word w.Until i behind → Opens i
 unfolding Opens
-until_opens i behind s =
-    (w.Until, behind, s, fourth (begins_word w.With i) (begins_word w.Test i) (begins_word w.Varying i) (begins_word w.Until i) (word_begins w.Until i behind s))
+until_opens i behind s = (
+  w.Until,
+  behind,
+  s,
+  fourth (begins_word w.With i) (begins_word w.Test i) (begins_word w.Varying i) (begins_word w.Until i)
+      (word_begins w.Until i behind s),
+)
 
 phrase_opens : (depth : ℕ) (x : Until) (i rest : List Token) → rule.until depth x i rest → Opens i
 phrase_opens depth x i rest (i1, inl (m, (j, inl with_word, test_word), told), more) = with_opens i j with_word
-phrase_opens depth x i rest (i1, inl (m, (j, inr out, test_word), told), more) = subst Opens (sym out.0) (test_opens j m test_word)
-phrase_opens depth x i rest (i1, inr (is, out), (i2, what, (i3, until_word, asked))) = subst Opens (sym out.0) (go x.varying what)
+phrase_opens depth x i rest (i1, inl (m, (j, inr out, test_word), told), more) =
+    subst Opens (sym out.0) (test_opens j m test_word)
+phrase_opens depth x i rest (i1, inr (is, out), (i2, what, (i3, until_word, asked))) =
+    subst Opens (sym out.0) (go x.varying what)
   where
     go : (one : Option Varying) → rule.optional_varying one i1 i2 → Opens i1
     go None s = subst Opens (sym s.0) (until_opens i2 i3 until_word)
@@ -207,7 +251,8 @@ opens_phrase i (one, behind, s, begins) = begins
 
 opens_no_integer : (i : List Token) → Opens i → begins_integer i ≡ false
 unfolding Opens
-opens_no_integer i (one, behind, (first, is, kind), begins) = ap begins_integer is ∙ ap (λ k. is_told (integer_by k first.place)) kind
+opens_no_integer i (one, behind, (first, is, kind), begins) =
+    ap begins_integer is ∙ ap (λ k. is_told (integer_by k first.place)) kind
 
 -- ---- no name begins the phrase
 
@@ -228,10 +273,12 @@ name_fails : (i : List Token) → begins_name i ≡ false → begins_procedures 
 name_fails i none = first_fails (begins_name i) (is_some (after_reference_before w.Times i)) none
 
 count_stands : (i rest : List Token) → reference_before w.Times i rest → begins_procedures i ≡ false
-count_stands i rest s = second_holds (begins_name i) (is_some (after_reference_before w.Times i)) (ap is_some ((reference_before_found w.Times).stands i rest s))
+count_stands i rest s = second_holds (begins_name i) (is_some (after_reference_before w.Times i))
+    (ap is_some ((reference_before_found w.Times).stands i rest s))
 
 -- where no name begins behind it
-pub turns_no_procedures : (depth : ℕ) (x : Repetition) (i rest : List Token) → rule.turns depth x i rest → begins_name rest ≡ false → begins_procedures i ≡ false
+pub turns_no_procedures : (depth : ℕ) (x : Repetition) (i rest : List Token) → rule.turns depth x i rest
+    → begins_name rest ≡ false → begins_procedures i ≡ false
 turns_no_procedures depth Once i rest s none = name_fails i (ap begins_name s.0 ∙ none)
 turns_no_procedures depth (Times count) i rest s none = name_fails i (integer_no_name count i s.0 s.1)
 turns_no_procedures depth (CountedBy one) i rest (i1, item, times) none = count_stands i rest (i1, (one, item), times)
@@ -244,30 +291,37 @@ unfolding times_reader
 times_sound depth x i rest e =
     unstep (integer_reader i) _ e (λ count i1 is1 e1.
     unstep (read.expect w.Times i1) _ e1 (λ u i2 is2 e2.
-    subst (λ y. rule.turns depth y i rest) (value e2) (i1, integer_sound count i i1 is1, word_sound w.Times u i1 rest (last is2 e2))))
+    subst (λ y. rule.turns depth y i rest) (value e2)
+    (i1, integer_sound count i i1 is1, word_sound w.Times u i1 rest (last is2 e2))))
 
 counted_sound : (depth : ℕ) → Sound (rule.turns depth) counted_reader
 unfolding counted_reader
 counted_sound depth x i rest e =
     unstep (reference_reader i) _ e (λ one i1 is1 e1.
     unstep (read.expect w.Times i1) _ e1 (λ u i2 is2 e2.
-    subst (λ y. rule.turns depth y i rest) (value e2) (i1, reference_sound one i i1 is1, word_sound w.Times u i1 rest (last is2 e2))))
+    subst (λ y. rule.turns depth y i rest) (value e2)
+    (i1, reference_sound one i i1 is1, word_sound w.Times u i1 rest (last is2 e2))))
 
 pub turns_sound : (depth : ℕ) → Sound (rule.turns depth) (turns_reader depth)
 unfolding turns_reader
 turns_sound depth x i rest e = go (begins_integer i) (begins_name i) (begins_until i) refl refl refl e
   where
     go : (a b c : Bool) → begins_integer i ≡ a → begins_name i ≡ b → begins_until i ≡ c
-        → (if a then times_reader i else if b then counted_reader i else if c then until_reader depth i else Ok (Once, i)) ≡ Ok (x, rest) → rule.turns depth x i rest
+        → (if a then times_reader i else if b then counted_reader i else if c then until_reader depth i
+        else Ok (Once, i)) ≡ Ok (x, rest) → rule.turns depth x i rest
     go true b c is is' is'' e = times_sound depth x i rest e
     go false true c is is' is'' e = counted_sound depth x i rest e
     go false false true is is' is'' e = until_sound depth x i rest e
     go false false false is is' is'' e =
-        subst (λ y. rule.turns depth y i rest) (value e)
-        (after e, (tests_tested begins_turns).fails i (neither (begins_integer i || begins_name i) (begins_until i) (neither (begins_integer i) (begins_name i) is is') is''))
+        subst (λ y. rule.turns depth y i rest) (value e) (
+          after e,
+          (tests_tested begins_turns).fails i (neither (begins_integer i || begins_name i) (begins_until i)
+              (neither (begins_integer i) (begins_name i) is is') is''),
+        )
 
 reference_no_integer : (one : Reference) (i rest : List Token) → reference one i rest → begins_integer i ≡ false
-reference_no_integer one i rest (i1, (i2, named, groups), found) = begins_not name_in integer_in name_integer one.item.name i i2 named
+reference_no_integer one i rest (i1, (i2, named, groups), found) =
+    begins_not name_in integer_in name_integer one.item.name i i2 named
 
 -- where neither of two tests holds
 no_first : (a b : Bool) → (a || b) ≡ false → a ≡ false
@@ -278,7 +332,8 @@ no_second : (a b : Bool) → (a || b) ≡ false → b ≡ false
 no_second true b e = cc
 no_second false b e = e
 
-pub turns_complete : (Allowed : Halt → Type 0) (depth depth' : ℕ) → Complete Allowed (condition depth') (condition_reader depth)
+pub turns_complete : (Allowed : Halt → Type 0) (depth depth' : ℕ)
+    → Complete Allowed (condition depth') (condition_reader depth)
     → Complete Allowed (rule.turns depth') (turns_reader depth)
 unfolding turns_reader times_reader counted_reader
 turns_complete Allowed depth depth' asks Once i rest e =
@@ -298,9 +353,11 @@ turns_complete Allowed depth depth' asks (CountedBy one) i rest (i1, item, times
     (step (read.expect w.Times i1) _ (word_complete w.Times tt i1 rest times) (Reached refl))))
 turns_complete Allowed depth depth' asks (Through one) i rest s =
     let opens = phrase_opens depth' one i rest s in
-    rw (opens_no_integer i opens) (rw (opens_no_name i opens) (rw (opens_phrase i opens) (until_complete Allowed depth depth' asks one i rest s)))
+    rw (opens_no_integer i opens)
+    (rw (opens_no_name i opens) (rw (opens_phrase i opens) (until_complete Allowed depth depth' asks one i rest s)))
 
-pub turns_shrink : (depth : ℕ) (x : Repetition) (i rest : List Token) → rule.turns depth x i rest → length rest ≤ length i
+pub turns_shrink : (depth : ℕ) (x : Repetition) (i rest : List Token) → rule.turns depth x i rest
+    → length rest ≤ length i
 turns_shrink depth Once i rest e = let l = ap length e.0 in omega arith
 turns_shrink depth (Times count) i rest (i1, digits, times) =
     let a = integer_shrinks count i i1 digits in

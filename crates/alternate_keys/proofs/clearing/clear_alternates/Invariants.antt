@@ -10,7 +10,9 @@ use Rattle.alternate_keys.proofs.clearing.clear_alternates.Given as goal
 abbrev pub invariant-loop-key : goal.invariant-loop-key
 invariant-loop-key g l = record {
   edits : Edits g.D.Device ⊥ l.fn.pages l.fn.device l.pages l.device;
-  cleared : g.D.Device.is_honest l.fn.device → Agrees l.fn.pages (g.D.Device.state l.fn.device).disk → (kept : FileTrees) (left right : List TreeLevels) → HasStored l.value kept →
-      IsForest (pages_on g.D.Device l.fn.pages l.fn.device) (left ++ (kept.alternates ++ right)) → IsForest (pages_on g.D.Device l.pages l.fn.device) (left ++ (drop l.key kept.alternates ++ right));
+  cleared : g.D.Device.is_honest l.fn.device → Agrees l.fn.pages (g.D.Device.state l.fn.device).disk
+      → (kept : FileTrees) (left right : List TreeLevels) → HasStored l.value kept →
+      IsForest (pages_on g.D.Device l.fn.pages l.fn.device) (left ++ (kept.alternates ++ right))
+      → IsForest (pages_on g.D.Device l.pages l.fn.device) (left ++ (drop l.key kept.alternates ++ right));
   filled : filled_of l.pages ≤ filled_of l.fn.pages;
 }

@@ -22,11 +22,13 @@ returns-in-Ok-clause-cleared g c = λ honest agrees left right levels forest.
     let none : RootedTree = record { layout = c.args.tree.now.layout; root = 0 } in
     let holds = All-head (IsTreeIn before) old right (all_right (IsTreeIn before) left (old ∷ right) forest.grow) in
     let moves = c.in-Ok.ensures.cleared honest agrees levels holds in
-    forest_without after left right (tree_levels none []) (forest_moves before after left right old (tree_levels none []) forest moves (inl (refl, refl))) refl
+    forest_without after left right (tree_levels none [])
+    (forest_moves before after left right old (tree_levels none []) forest moves (inl (refl, refl))) refl
 
 pub returns-in-Err-clause-damaged : goal.returns-in-Err-clause-damaged
 returns-in-Err-clause-damaged g c = λ honest agrees left right levels forest is.
-    let before : List (Option Sector) = (map_now c.args.pages.now (g.D.Device.state c.args.device.now).disk.present).pages in
+    let before : List (Option Sector) =
+    (map_now c.args.pages.now (g.D.Device.state c.args.device.now).disk.present).pages in
     let old : TreeLevels = tree_levels c.args.tree.now levels in
     let holds = All-head (IsTreeIn before) old right (all_right (IsTreeIn before) left (old ∷ right) forest.grow) in
     let told : c.to_fault.result ≡ Damaged = cc in

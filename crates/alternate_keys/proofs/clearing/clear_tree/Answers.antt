@@ -19,16 +19,22 @@ returns-in_err-tree-clause-damaged g c = λ honest agrees l tree left right spec
 
 pub returns-clause-cleared : goal.returns-clause-cleared
 returns-clause-cleared g c = λ honest agrees l tree left right spec says within is forest.
-    let before : List (Option Sector) = (map_now c.args.pages.now (g.D.Device.state c.args.device.now).disk.present).pages in
+    let before : List (Option Sector) =
+    (map_now c.args.pages.now (g.D.Device.state c.args.device.now).disk.present).pages in
     let told = c.in_ok-tree.ensures.tree l spec says within in
-    let own : RootedTree = record { layout = layout_under l.spec c.args.key; root = root_in c.args.key c.args.value.now } in
+    let own : RootedTree =
+    record { layout = layout_under l.spec c.args.key; root = root_in c.args.key c.args.value.now } in
     let same : tree.tree ≡ c.in_ok-tree.tree = is ∙ sym (same_tree c.in_ok-tree.tree own told.0 told.1) in
-    c.clear_among.ensures.cleared honest agrees left right tree.levels (subst (λ (t : RootedTree). IsForest before (left ++ tree_levels t tree.levels ∷ right)) same forest)
+    c.clear_among.ensures.cleared honest agrees left right tree.levels
+    (subst (λ (t : RootedTree). IsForest before (left ++ tree_levels t tree.levels ∷ right)) same forest)
 
 pub returns-clause-damaged : goal.returns-clause-damaged
 returns-clause-damaged g c = λ honest agrees l tree left right spec says within is forest refused.
-    let before : List (Option Sector) = (map_now c.args.pages.now (g.D.Device.state c.args.device.now).disk.present).pages in
+    let before : List (Option Sector) =
+    (map_now c.args.pages.now (g.D.Device.state c.args.device.now).disk.present).pages in
     let told = c.in_ok-tree.ensures.tree l spec says within in
-    let own : RootedTree = record { layout = layout_under l.spec c.args.key; root = root_in c.args.key c.args.value.now } in
+    let own : RootedTree =
+    record { layout = layout_under l.spec c.args.key; root = root_in c.args.key c.args.value.now } in
     let same : tree.tree ≡ c.in_ok-tree.tree = is ∙ sym (same_tree c.in_ok-tree.tree own told.0 told.1) in
-    c.clear_among.ensures.damaged honest agrees left right tree.levels (subst (λ (t : RootedTree). IsForest before (left ++ tree_levels t tree.levels ∷ right)) same forest) refused
+    c.clear_among.ensures.damaged honest agrees left right tree.levels
+    (subst (λ (t : RootedTree). IsForest before (left ++ tree_levels t tree.levels ∷ right)) same forest) refused

@@ -17,13 +17,18 @@ returns-in-Ok-clause-settles g c = λ before after changed.
     let n : Map = next_generation (map_now c.args.pages.now old.disk.present) in
     record {
       stands = ⊎_elim
-          (λ changes. stands_then c.commit.new.self new.disk n after (c.in-Ok.ensures.agrees changed.honest changed.agrees) c.in-Ok.ensures.committed c.in-Ok.ensures.changed_pages (c.in-Ok.ensures.advances changed.honest changed.agrees changes) changed.will)
+          (λ changes. stands_then c.commit.new.self new.disk n after (c.in-Ok.ensures.agrees
+          changed.honest changed.agrees) c.in-Ok.ensures.committed c.in-Ok.ensures.changed_pages
+          (c.in-Ok.ensures.advances changed.honest changed.agrees changes) changed.will)
           (λ none.
           let bounds = c.map_bounds.ensures.open c.args.pages.now old.disk.present c.requires.open c.requires.unspent in
-          rests_then c.args.pages.now c.commit.new.self old.disk new.disk before after (c.in-Ok.ensures.agrees changed.honest changed.agrees) c.in-Ok.ensures.committed c.in-Ok.ensures.changed_pages
-          (c.in-Ok.ensures.rests (λ changes. changes none) c.requires.unspent) (ap (λ (s : State). s.disk) (c.in-Ok.ensures.nothing none.0 none.1 changed.honest).0) bounds.0 bounds.1 changed.was changed.will)
+          rests_then c.args.pages.now c.commit.new.self old.disk new.disk before after
+          (c.in-Ok.ensures.agrees changed.honest changed.agrees) c.in-Ok.ensures.committed c.in-Ok.ensures.changed_pages
+          (c.in-Ok.ensures.rests (λ changes. changes none) c.requires.unspent) (ap (λ (s : State). s.disk)
+          (c.in-Ok.ensures.nothing none.0 none.1 changed.honest).0) bounds.0 bounds.1 changed.was changed.will)
           (changed_or_not c.args.pages.now);
-      moments = moments_hold (g.D.Device.history c.args.device.now) (g.D.Device.history c.commit.new.device) new old.events m n before after changed.was changed.will (c.in-Ok.ensures.moments changed.honest changed.agrees);
+      moments = moments_hold (g.D.Device.history c.args.device.now) (g.D.Device.history c.commit.new.device) new
+          old.events m n before after changed.was changed.will (c.in-Ok.ensures.moments changed.honest changed.agrees);
       sound = λ is. absurd cc;
       full = λ is. absurd cc;
     }
@@ -36,7 +41,8 @@ returns-in-Err-clause-settles g c = λ before after changed.
     let n : Map = next_generation (map_now c.args.pages.now old.disk.present) in
     record {
       stands = search rules;
-      moments = moments_hold (g.D.Device.history c.args.device.now) (g.D.Device.history c.commit.new.device) new old.events m n before after changed.was changed.will (c.in-Err.ensures.moments changed.honest changed.agrees);
+      moments = moments_hold (g.D.Device.history c.args.device.now) (g.D.Device.history c.commit.new.device) new
+          old.events m n before after changed.was changed.will (c.in-Err.ensures.moments changed.honest changed.agrees);
       sound = λ is.
           let told : c.to_fault.result ≡ Damaged = cc in
           commit_sound c.in-Err.error c.in-Err.ensures.cause (sym c.to_fault.ensures ∙ told);

@@ -13,7 +13,10 @@ returns-then-not-is_done-clause-settles g c = λ before after changed rested.
     let stands = rested none in
     record {
       stands = stands;
-      moments = stays (g.D.Device.history c.args.device.now) state _ (record { events = refl; images = λ image crash. inr (held_law c.args.pages.now state.disk image after stands crash) });
+      moments = stays (g.D.Device.history c.args.device.now) state _ (record {
+        events = refl;
+        images = λ image crash. inr (held_law c.args.pages.now state.disk image after stands crash);
+      });
       sound = λ is. absurd cc;
       full = λ is. absurd cc;
     }

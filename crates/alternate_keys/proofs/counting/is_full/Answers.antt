@@ -22,13 +22,18 @@ use Rattle.alternate_keys.proofs.counting.is_full.Goals as goal
 
 pub loop-turn-init : goal.loop-turn-init
 loop-turn-init g c = record {
-  looks = looks_blamed g.D.Device (c.first_in.result ≡ Err Device) ⊥ c.args.pages.now c.first_in.new.pages c.args.device.now c.first_in.new.device (λ is. absurd is) c.first_in.ensures.looks;
+  looks = looks_blamed g.D.Device (c.first_in.result ≡ Err Device) ⊥ c.args.pages.now c.first_in.new.pages
+      c.args.device.now c.first_in.new.device (λ is. absurd is) c.first_in.ensures.looks;
   next_is = λ honest agrees files holds.
       let m : Map = map_now c.args.pages.now (g.D.Device.state c.args.device.now).disk.present in
       let tree : RootedTree = c.catalog_tree-catalog.result in
-      let there = catalog_holds m files holds tree c.catalog_tree-catalog.ensures.layout (c.catalog_tree-catalog.ensures.root ∙ c.catalog.ensures) in
-      let listed : entries_of tree.layout holds.keeps.catalog ≡ map catalog_entry holds.kept = ap (λ (l : RowLayout). entries_of l holds.keeps.catalog) c.catalog_tree-catalog.ensures.layout ∙ holds.keeps.listed in
-      c.in_ok-next.ensures.entry honest agrees holds.keeps.catalog there ∙ ap first_entry listed ∙ first_at (map catalog_entry holds.kept);
+      let there = catalog_holds m files holds tree c.catalog_tree-catalog.ensures.layout
+      (c.catalog_tree-catalog.ensures.root ∙ c.catalog.ensures) in
+      let listed : entries_of tree.layout holds.keeps.catalog ≡ map catalog_entry holds.kept =
+      ap (λ (l : RowLayout). entries_of l holds.keeps.catalog) c.catalog_tree-catalog.ensures.layout
+      ∙ holds.keeps.listed in
+      c.in_ok-next.ensures.entry honest agrees holds.keeps.catalog there ∙ ap first_entry listed
+      ∙ first_at (map catalog_entry holds.kept);
   some = λ honest agrees files holds. omega arith;
 }
 
@@ -36,30 +41,43 @@ pub loop-turn-preserved : goal.loop-turn-preserved
 loop-turn-preserved g c = record {
   looks =
       let loop = c.loop-turn in
-      looks_then g.D.Device ⊥ (c.next_in.result ≡ Err Device) ⊥ c.args.pages.now loop.pages c.next_in.new.pages c.args.device.now loop.device c.next_in.new.device (λ is. absurd is) loop.invariant.looks c.next_in.ensures.looks;
+      looks_then g.D.Device ⊥ (c.next_in.result ≡ Err Device) ⊥ c.args.pages.now loop.pages c.next_in.new.pages
+      c.args.device.now loop.device c.next_in.new.device (λ is. absurd is) loop.invariant.looks c.next_in.ensures.looks;
   next_is = λ honest agrees files holds.
       let m : Map = map_now c.args.pages.now (g.D.Device.state c.args.device.now).disk.present in
       let tree : RootedTree = c.catalog_tree-catalog.result in
       let entries : List Entry = map catalog_entry holds.kept in
-      let count : length files ≡ length holds.kept = ap (λ (l : Files). length l) (sym holds.named) ∙ length-map holds.kept (λ (k : FileTrees). k.named) in
+      let count : length files ≡ length holds.kept =
+      ap (λ (l : Files). length l) (sym holds.named) ∙ length-map holds.kept (λ (k : FileTrees). k.named) in
       let many : length entries ≡ length holds.kept = length-map holds.kept catalog_entry in
       let loop = c.loop-turn in
       let looks = loop.invariant.looks in
-      let there = catalog_holds m files holds tree c.catalog_tree-catalog.ensures.layout (c.catalog_tree-catalog.ensures.root ∙ c.catalog.ensures) in
-      let listed : entries_of tree.layout holds.keeps.catalog ≡ entries = ap (λ (l : RowLayout). entries_of l holds.keeps.catalog) c.catalog_tree-catalog.ensures.layout ∙ holds.keeps.listed in
-      let same = same_pages c.args.pages.now loop.pages (g.D.Device.state c.args.device.now) (g.D.Device.state loop.device) looks.unchanged (looks.only.state honest) in
-      let there_now = subst (λ (p : List (Option Sector)). IsTreeOrEmpty tree.layout p tree.root holds.keeps.catalog) (sym same) there in
-      let is : entry_at loop.turn entries ≡ Some c.in-Some.entry = sym (loop.invariant.next_is honest agrees files holds) ∙ c.in-Some.is in
-      let ascend = subst (λ (es : List Entry). Ascend (keys_listed es)) listed (tree_ascends tree.layout m.pages tree.root holds.keeps.catalog there) in
-      c.in_ok-next-in-Some.ensures.entry (looks.only.honest.0 honest) (looks.agrees honest agrees) holds.keeps.catalog there_now ∙ ap (λ (es : List Entry). first_entry_after es c.in-Some.entry.key) listed
-      ∙ next_at entries loop.turn c.in-Some.entry ascend is ∙ ap (λ (n : ℕ). entry_at n entries) (let e : suc loop.turn ≡ loop.turn + 1 = omega arith in e);
+      let there = catalog_holds m files holds tree c.catalog_tree-catalog.ensures.layout
+      (c.catalog_tree-catalog.ensures.root ∙ c.catalog.ensures) in
+      let listed : entries_of tree.layout holds.keeps.catalog ≡ entries =
+      ap (λ (l : RowLayout). entries_of l holds.keeps.catalog) c.catalog_tree-catalog.ensures.layout
+      ∙ holds.keeps.listed in
+      let same = same_pages c.args.pages.now loop.pages (g.D.Device.state c.args.device.now)
+      (g.D.Device.state loop.device) looks.unchanged (looks.only.state honest) in
+      let there_now = subst (λ (p : List (Option Sector)). IsTreeOrEmpty tree.layout p tree.root holds.keeps.catalog)
+      (sym same) there in
+      let is : entry_at loop.turn entries ≡ Some c.in-Some.entry =
+      sym (loop.invariant.next_is honest agrees files holds) ∙ c.in-Some.is in
+      let ascend = subst (λ (es : List Entry). Ascend (keys_listed es)) listed
+      (tree_ascends tree.layout m.pages tree.root holds.keeps.catalog there) in
+      c.in_ok-next-in-Some.ensures.entry (looks.only.honest.0 honest) (looks.agrees honest agrees) holds.keeps.catalog
+      there_now ∙ ap (λ (es : List Entry). first_entry_after es c.in-Some.entry.key) listed
+      ∙ next_at entries loop.turn c.in-Some.entry ascend is
+      ∙ ap (λ (n : ℕ). entry_at n entries) (let e : suc loop.turn ≡ loop.turn + 1 = omega arith in e);
   some = λ honest agrees files holds.
       let m : Map = map_now c.args.pages.now (g.D.Device.state c.args.device.now).disk.present in
       let tree : RootedTree = c.catalog_tree-catalog.result in
       let entries : List Entry = map catalog_entry holds.kept in
-      let count : length files ≡ length holds.kept = ap (λ (l : Files). length l) (sym holds.named) ∙ length-map holds.kept (λ (k : FileTrees). k.named) in
+      let count : length files ≡ length holds.kept =
+      ap (λ (l : Files). length l) (sym holds.named) ∙ length-map holds.kept (λ (k : FileTrees). k.named) in
       let many : length entries ≡ length holds.kept = length-map holds.kept catalog_entry in
-      let is : entry_at c.loop-turn.turn entries ≡ Some c.in-Some.entry = sym (c.loop-turn.invariant.next_is honest agrees files holds) ∙ c.in-Some.is in
+      let is : entry_at c.loop-turn.turn entries ≡ Some c.in-Some.entry =
+      sym (c.loop-turn.invariant.next_is honest agrees files holds) ∙ c.in-Some.is in
       let more = some_at entries c.loop-turn.turn c.in-Some.entry is in
       omega (arith, more, many);
 }
@@ -69,9 +87,11 @@ returns-in-None-clause-room g c = λ honest agrees files holds none.
     let m : Map = map_now c.args.pages.now (g.D.Device.state c.args.device.now).disk.present in
     let tree : RootedTree = c.catalog_tree-catalog.result in
     let entries : List Entry = map catalog_entry holds.kept in
-    let count : length files ≡ length holds.kept = ap (λ (l : Files). length l) (sym holds.named) ∙ length-map holds.kept (λ (k : FileTrees). k.named) in
+    let count : length files ≡ length holds.kept =
+    ap (λ (l : Files). length l) (sym holds.named) ∙ length-map holds.kept (λ (k : FileTrees). k.named) in
     let many : length entries ≡ length holds.kept = length-map holds.kept catalog_entry in
-    let few = none_at entries c.loop-turn.turn (sym (c.loop-turn.invariant.next_is honest agrees files holds) ∙ c.in-None.is) in
+    let few =
+    none_at entries c.loop-turn.turn (sym (c.loop-turn.invariant.next_is honest agrees files holds) ∙ c.in-None.is) in
     let test = c.loop-turn-test.true in
     omega (arith, few, many, count, test)
 
@@ -80,7 +100,8 @@ returns-clause-full g c = λ honest agrees files holds yes.
     let m : Map = map_now c.args.pages.now (g.D.Device.state c.args.device.now).disk.present in
     let tree : RootedTree = c.catalog_tree-catalog.result in
     let entries : List Entry = map catalog_entry holds.kept in
-    let count : length files ≡ length holds.kept = ap (λ (l : Files). length l) (sym holds.named) ∙ length-map holds.kept (λ (k : FileTrees). k.named) in
+    let count : length files ≡ length holds.kept =
+    ap (λ (l : Files). length l) (sym holds.named) ∙ length-map holds.kept (λ (k : FileTrees). k.named) in
     let many : length entries ≡ length holds.kept = length-map holds.kept catalog_entry in
     let some = c.loop-turn.invariant.some honest agrees files holds in
     let test = c.loop-turn-test.false in
@@ -93,14 +114,18 @@ returns-in_err-next-clause-damaged g c = λ honest agrees files holds refused.
     let told : c.first_in.result ≡ Err Damaged = c.in_err-next.was ∙ ap Err fault in
     let m : Map = map_now c.args.pages.now (g.D.Device.state c.args.device.now).disk.present in
     let tree : RootedTree = c.catalog_tree-catalog.result in
-    let there = catalog_holds m files holds tree c.catalog_tree-catalog.ensures.layout (c.catalog_tree-catalog.ensures.root ∙ c.catalog.ensures) in
+    let there = catalog_holds m files holds tree c.catalog_tree-catalog.ensures.layout
+    (c.catalog_tree-catalog.ensures.root ∙ c.catalog.ensures) in
     c.first_in.ensures.damaged honest agrees holds.keeps.catalog there told
 
 pub returns-in_err-next-in-Some-clause-looks : goal.returns-in_err-next-in-Some-clause-looks
 returns-in_err-next-in-Some-clause-looks g c =
     let loop = c.loop-turn in
-    looks_then g.D.Device ⊥ (c.next_in.result ≡ Err Device) _ c.args.pages.now loop.pages c.next_in.new.pages c.args.device.now loop.device c.next_in.new.device
-    (λ is. let from = rw is at c.from_residual-in_err-next-in-Some.ensures.1 in let fault : c.in_err-next-in-Some.field-0.0 ≡ Device = sym from in let told : c.next_in.result ≡ Err Device = c.in_err-next-in-Some.was ∙ ap Err fault in inr told)
+    looks_then g.D.Device ⊥ (c.next_in.result ≡ Err Device) _ c.args.pages.now loop.pages c.next_in.new.pages
+    c.args.device.now loop.device c.next_in.new.device
+    (λ is. let from =
+    rw is at c.from_residual-in_err-next-in-Some.ensures.1 in let fault : c.in_err-next-in-Some.field-0.0 ≡ Device =
+    sym from in let told : c.next_in.result ≡ Err Device = c.in_err-next-in-Some.was ∙ ap Err fault in inr told)
     loop.invariant.looks c.next_in.ensures.looks
 
 pub returns-in_err-next-in-Some-clause-damaged : goal.returns-in_err-next-in-Some-clause-damaged
@@ -112,7 +137,11 @@ returns-in_err-next-in-Some-clause-damaged g c = λ honest agrees files holds re
     let tree : RootedTree = c.catalog_tree-catalog.result in
     let loop = c.loop-turn in
     let looks = loop.invariant.looks in
-    let there = catalog_holds m files holds tree c.catalog_tree-catalog.ensures.layout (c.catalog_tree-catalog.ensures.root ∙ c.catalog.ensures) in
-    let same = same_pages c.args.pages.now loop.pages (g.D.Device.state c.args.device.now) (g.D.Device.state loop.device) looks.unchanged (looks.only.state honest) in
-    let there_now = subst (λ (p : List (Option Sector)). IsTreeOrEmpty tree.layout p tree.root holds.keeps.catalog) (sym same) there in
-    c.next_in.ensures.damaged (looks.only.honest.0 honest) (looks.agrees honest agrees) holds.keeps.catalog there_now told
+    let there = catalog_holds m files holds tree c.catalog_tree-catalog.ensures.layout
+    (c.catalog_tree-catalog.ensures.root ∙ c.catalog.ensures) in
+    let same = same_pages c.args.pages.now loop.pages (g.D.Device.state c.args.device.now)
+    (g.D.Device.state loop.device) looks.unchanged (looks.only.state honest) in
+    let there_now =
+    subst (λ (p : List (Option Sector)). IsTreeOrEmpty tree.layout p tree.root holds.keeps.catalog) (sym same) there in
+    c.next_in.ensures.damaged (looks.only.honest.0 honest) (looks.agrees honest agrees) holds.keeps.catalog there_now
+    told

@@ -9,6 +9,7 @@ use Rattle.alternate_keys.proofs.counting.is_full.Given as goal
 abbrev pub invariant-loop-turn : goal.invariant-loop-turn
 invariant-loop-turn g l = record {
   looks : LooksAt g.D.Device ⊥ l.fn.pages l.fn.device l.pages l.device;
-  next_is : OnFiles g.D.Device l.fn.pages l.fn.device (λ files holds. l.next ≡ entry_at l.turn (map catalog_entry holds.kept));
+  next_is : OnFiles g.D.Device l.fn.pages l.fn.device
+      (λ files holds. l.next ≡ entry_at l.turn (map catalog_entry holds.kept));
   some : OnFiles g.D.Device l.fn.pages l.fn.device (λ files holds. l.turn ≤ length holds.kept);
 }

@@ -20,8 +20,10 @@ use Rattle.alternate_keys.proofs.creating.create_in.Goals as goal
 pub returns-in_err-prepare_file-clause-only : goal.returns-in_err-prepare_file-clause-only
 returns-in_err-prepare_file-clause-only g c =
     blamed_where g.D.Device (c.prepare_file.result ≡ Err Device) _ c.args.device.now c.prepare_file.new.device
-    (λ is. let from = err_from_is_err_and c.from_residual.result c.from_residual.ensures.1 in let told : c.prepare_file.result ≡ Err Device = cc in told)
-    (reads_writes g.D.Device (c.prepare_file.result ≡ Err Device) c.args.device.now c.prepare_file.new.device c.prepare_file.ensures.prepares.only)
+    (λ is. let from = err_from_is_err_and c.from_residual.result c.from_residual.ensures.1 in
+    let told : c.prepare_file.result ≡ Err Device = cc in told)
+    (reads_writes g.D.Device (c.prepare_file.result ≡ Err Device) c.args.device.now c.prepare_file.new.device
+    c.prepare_file.ensures.prepares.only)
 
 pub returns-in_err-prepare_file-clause-turned : goal.returns-in_err-prepare_file-clause-turned
 returns-in_err-prepare_file-clause-turned g c = λ honest files stands.
@@ -35,18 +37,29 @@ returns-in_err-prepare_file-clause-turned g c = λ honest files stands.
     record {
       stands = search rules;
       moments =
-          subst (λ (h : List State). Through (g.D.Device.history c.args.device.now) h new (CrashLeaves old.events (Either Holds files after))) (sym (only.history honest))
-          (subst (λ (s : State). Through (g.D.Device.history c.args.device.now) (g.D.Device.history c.args.device.now) s (CrashLeaves old.events (Either Holds files after))) (sym still)
-          (stays (g.D.Device.history c.args.device.now) old (CrashLeaves old.events (Either Holds files after)) (record { events = refl; images = λ image crash. inl (held_law c.args.pages.now old.disk image files stands crash) })));
-      sound = λ is. c.prepare_file.ensures.damaged honest stands.agrees files stands.holds (let told : c.prepare_file.result ≡ Err Damaged = cc in told);
+          subst (λ (h : List State). Through (g.D.Device.history c.args.device.now) h new
+          (CrashLeaves old.events (Either Holds files after))) (sym (only.history honest))
+          (subst (λ (s : State). Through (g.D.Device.history c.args.device.now) (g.D.Device.history c.args.device.now) s
+          (CrashLeaves old.events (Either Holds files after))) (sym still)
+          (stays (g.D.Device.history c.args.device.now) old (CrashLeaves old.events (Either Holds files after))
+          (record {
+            events = refl;
+            images = λ image crash. inl (held_law c.args.pages.now old.disk image files stands crash);
+          })));
+      sound = λ is. c.prepare_file.ensures.damaged honest stands.agrees files stands.holds
+          (let told : c.prepare_file.result ≡ Err Damaged = cc in told);
       room = λ is. lacks_room c.args.pages.now old.disk true name after stands.agrees
-          (c.prepare_file.ensures.room honest stands.agrees files stands.holds stands.rested (let told : c.prepare_file.result ≡ Err Full = cc in told));
+          (c.prepare_file.ensures.room honest stands.agrees files stands.holds stands.rested
+          (let told : c.prepare_file.result ≡ Err Full = cc in told));
     }
 
 pub returns-clause-only : goal.returns-clause-only
 returns-clause-only g c =
-    writes_then g.D.Device (c.prepare_file.result ≡ Err Device) (c.commit_pages.result ≡ Err Device) (c.commit_pages.result ≡ Err Device) c.args.device.now c.prepare_file.new.device c.commit_pages.new.device (λ is. inr is)
-    (reads_writes g.D.Device (c.prepare_file.result ≡ Err Device) c.args.device.now c.prepare_file.new.device c.prepare_file.ensures.prepares.only) c.commit_pages.ensures.only
+    writes_then g.D.Device (c.prepare_file.result ≡ Err Device) (c.commit_pages.result ≡ Err Device)
+    (c.commit_pages.result ≡ Err Device) c.args.device.now c.prepare_file.new.device c.commit_pages.new.device
+    (λ is. inr is)
+    (reads_writes g.D.Device (c.prepare_file.result ≡ Err Device) c.args.device.now c.prepare_file.new.device
+    c.prepare_file.ensures.prepares.only) c.commit_pages.ensures.only
 
 pub returns-clause-turned : goal.returns-clause-turned
 returns-clause-turned g c = λ honest files stands.
@@ -62,16 +75,23 @@ returns-clause-turned g c = λ honest files stands.
       honest = prepares.only.honest.0 honest;
       agrees = prepares.agrees honest stands.agrees;
       was = subst (λ (s : State). MapHolds (map_of s.disk.present (committed_of between)) files) (sym still)
-          (subst (λ (v : Volume). MapHolds (map_of old.disk.present v) files) (sym (same_volume before between prepares.committed)) (subst (λ (m : Map). MapHolds m files) stands.still stands.holds));
-      will = subst (λ (s : State). MapHolds (next_generation (map_now between s.disk.present)) after) (sym still) (c.in_ok-prepare_file.ensures.will honest stands.agrees files stands.holds);
+          (subst (λ (v : Volume). MapHolds (map_of old.disk.present v) files) (sym (same_volume before between
+          prepares.committed)) (subst (λ (m : Map). MapHolds m files) stands.still stands.holds));
+      will = subst (λ (s : State). MapHolds (next_generation (map_now between s.disk.present)) after) (sym still)
+          (c.in_ok-prepare_file.ensures.will honest stands.agrees files stands.holds);
     } in
     let settles = c.commit_pages.ensures.settles files after changed in
-    let moments_then = subst (λ (h : List State). Through h (g.D.Device.history c.commit_pages.new.device) (g.D.Device.state c.commit_pages.new.device) (CrashLeaves new.events (Either Holds files after))) (prepares.only.history honest) settles.moments in
+    let moments_then = subst (λ (h : List State). Through h (g.D.Device.history c.commit_pages.new.device)
+    (g.D.Device.state c.commit_pages.new.device) (CrashLeaves new.events (Either Holds files after)))
+    (prepares.only.history honest) settles.moments in
     record {
       stands = settles.stands;
-      moments = subst (λ (s : State). Through (g.D.Device.history c.args.device.now) (g.D.Device.history c.commit_pages.new.device) (g.D.Device.state c.commit_pages.new.device) (CrashLeaves s.events (Either Holds files after))) still moments_then;
+      moments = subst (λ (s : State). Through (g.D.Device.history c.args.device.now)
+          (g.D.Device.history c.commit_pages.new.device) (g.D.Device.state c.commit_pages.new.device)
+          (CrashLeaves s.events (Either Holds files after))) still moments_then;
       sound = settles.sound;
-      room = λ is. lacks_room before old.disk true name after stands.agrees (c.in_ok-prepare_file.ensures.full honest stands.agrees files stands.holds stands.rested (settles.full is));
+      room = λ is. lacks_room before old.disk true name after stands.agrees
+          (c.in_ok-prepare_file.ensures.full honest stands.agrees files stands.holds stands.rested (settles.full is));
     }
 
 pub returns-in_err-prepare_file-clause-unwritten : goal.returns-in_err-prepare_file-clause-unwritten

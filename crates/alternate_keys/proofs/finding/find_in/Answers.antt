@@ -23,25 +23,33 @@ pub returns-in-None-clause-presence : goal.returns-in-None-clause-presence
 returns-in-None-clause-presence g c = λ honest agrees files holds.
     let m : Map = map_now c.args.pages.now (g.D.Device.state c.args.device.now).disk.present in
     let listed = c.in_ok-entry.ensures.listed honest agrees files holds in
-    let here = subst (λ (n : List ℕ). IsListed m (file_at n files) c.in_ok-entry.field-0) c.deref.ensures.value listed in
-    absent m (file_at c.args.file.now.name.items files) c.in_ok-entry.field-0 (spec_of c.args.file.now) here c.in-None.is
+    let here =
+    subst (λ (n : List ℕ). IsListed m (file_at n files) c.in_ok-entry.field-0) c.deref.ensures.value listed in
+    absent m (file_at c.args.file.now.name.items files) c.in_ok-entry.field-0 (spec_of c.args.file.now) here
+    c.in-None.is
 
 pub returns-then-says-clause-presence : goal.returns-then-says-clause-presence
 returns-then-says-clause-presence g c = λ honest agrees files holds.
     let m : Map = map_now c.args.pages.now (g.D.Device.state c.args.device.now).disk.present in
     let spec : Spec = spec_of c.args.file.now in
-    let listed = subst (λ (n : List ℕ). IsListed m (file_at n files) c.in_ok-entry.field-0) c.deref.ensures.value (c.in_ok-entry.ensures.listed honest agrees files holds) in
-    present_by true m (file_at c.args.file.now.name.items files) c.in_ok-entry.field-0 c.in-Some.entry spec c.args.file.now.sound listed c.in-Some.is
+    let listed = subst (λ (n : List ℕ). IsListed m (file_at n files) c.in_ok-entry.field-0) c.deref.ensures.value
+    (c.in_ok-entry.ensures.listed honest agrees files holds) in
+    present_by true m (file_at c.args.file.now.name.items files) c.in_ok-entry.field-0 c.in-Some.entry spec
+    c.args.file.now.sound listed c.in-Some.is
     (ap (λ (v : List ℕ). same_bytes (take 43 v) (spec_bytes spec)) (sym c.value.ensures)
-    ∙ ap (λ (l : List ℕ). same_bytes (take 43 c.value.result.now) l) (sym (c.deref-2.ensures.value ∙ c.in_ok-spec.ensures.bytes))
+    ∙ ap (λ (l : List ℕ). same_bytes (take 43 c.value.result.now) l)
+    (sym (c.deref-2.ensures.value ∙ c.in_ok-spec.ensures.bytes))
     ∙ sym c.says.ensures ∙ c.if-says.true)
 
 pub returns-clause-presence : goal.returns-clause-presence
 returns-clause-presence g c = λ honest agrees files holds.
     let m : Map = map_now c.args.pages.now (g.D.Device.state c.args.device.now).disk.present in
     let spec : Spec = spec_of c.args.file.now in
-    let listed = subst (λ (n : List ℕ). IsListed m (file_at n files) c.in_ok-entry.field-0) c.deref.ensures.value (c.in_ok-entry.ensures.listed honest agrees files holds) in
-    present_by false m (file_at c.args.file.now.name.items files) c.in_ok-entry.field-0 c.in-Some.entry spec c.args.file.now.sound listed c.in-Some.is
+    let listed = subst (λ (n : List ℕ). IsListed m (file_at n files) c.in_ok-entry.field-0) c.deref.ensures.value
+    (c.in_ok-entry.ensures.listed honest agrees files holds) in
+    present_by false m (file_at c.args.file.now.name.items files) c.in_ok-entry.field-0 c.in-Some.entry spec
+    c.args.file.now.sound listed c.in-Some.is
     (ap (λ (v : List ℕ). same_bytes (take 43 v) (spec_bytes spec)) (sym c.value.ensures)
-    ∙ ap (λ (l : List ℕ). same_bytes (take 43 c.value.result.now) l) (sym (c.deref-2.ensures.value ∙ c.in_ok-spec.ensures.bytes))
+    ∙ ap (λ (l : List ℕ). same_bytes (take 43 c.value.result.now) l)
+    (sym (c.deref-2.ensures.value ∙ c.in_ok-spec.ensures.bytes))
     ∙ sym c.says.ensures ∙ c.if-says.false)

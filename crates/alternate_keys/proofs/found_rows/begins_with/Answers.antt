@@ -11,5 +11,8 @@ pub returns-in-Some : goal.returns-in-Some
 returns-in-Some c =
     let value = c.args.value.now in
     let key : List ℕ = c.key-key.result.now in
-    let cut : take c.min-count.result key ≡ take (length value) key = ap (λ n. take n key) c.min-count.ensures ∙ take_min (length value) key in
-    c.eq.ensures ∙ ap (λ k. bytes_eq k value) cut ∙ sym (is_eq-slice_cmp (take (length value) key) value) ∙ ap (λ k. same_bytes (take (length value) k) value) c.key-key.ensures ∙ ap (begins_with_value value) (sym c.in-Some.is)
+    let cut : take c.min-count.result key ≡ take (length value) key =
+    ap (λ n. take n key) c.min-count.ensures ∙ take_min (length value) key in
+    c.eq.ensures ∙ ap (λ k. bytes_eq k value) cut ∙ sym (is_eq-slice_cmp (take (length value) key) value)
+    ∙ ap (λ k. same_bytes (take (length value) k) value) c.key-key.ensures
+    ∙ ap (begins_with_value value) (sym c.in-Some.is)

@@ -24,34 +24,47 @@ use Rattle.alternate_keys.proofs.Tells.{repeated_is, row_there, alternate_number
 use Rattle.alternate_keys.proofs.found_rows.read_alternate_row.Goals as goal
 
 pub returns-in_err-row-clause-unchanged : goal.returns-in_err-row-clause-unchanged
-returns-in_err-row-clause-unchanged g c = unchanged_on c.args.pages.now c.is_repeated.new.pages c.get.new.pages c.is_repeated.ensures.unchanged c.get.ensures.unchanged
+returns-in_err-row-clause-unchanged g c = unchanged_on c.args.pages.now c.is_repeated.new.pages c.get.new.pages
+    c.is_repeated.ensures.unchanged c.get.ensures.unchanged
 
 pub returns-in-None-clause-unchanged : goal.returns-in-None-clause-unchanged
-returns-in-None-clause-unchanged g c = unchanged_on c.args.pages.now c.is_repeated.new.pages c.get.new.pages c.is_repeated.ensures.unchanged c.get.ensures.unchanged
+returns-in-None-clause-unchanged g c = unchanged_on c.args.pages.now c.is_repeated.new.pages c.get.new.pages
+    c.is_repeated.ensures.unchanged c.get.ensures.unchanged
 
 pub returns-in_err-copy_record-clause-unchanged : goal.returns-in_err-copy_record-clause-unchanged
-returns-in_err-copy_record-clause-unchanged g c = unchanged_on c.args.pages.now c.is_repeated.new.pages c.get.new.pages c.is_repeated.ensures.unchanged c.get.ensures.unchanged
+returns-in_err-copy_record-clause-unchanged g c = unchanged_on c.args.pages.now c.is_repeated.new.pages c.get.new.pages
+    c.is_repeated.ensures.unchanged c.get.ensures.unchanged
 
 pub returns-clause-unchanged : goal.returns-clause-unchanged
-returns-clause-unchanged g c = unchanged_on c.args.pages.now c.is_repeated.new.pages c.get.new.pages c.is_repeated.ensures.unchanged c.get.ensures.unchanged
+returns-clause-unchanged g c = unchanged_on c.args.pages.now c.is_repeated.new.pages c.get.new.pages
+    c.is_repeated.ensures.unchanged c.get.ensures.unchanged
 
 pub returns-in_err-row-clause-damaged : goal.returns-in_err-row-clause-damaged
 returns-in_err-row-clause-damaged g c = λ honest agrees is spec i rows row told fits.
     let from = rw is at c.from_residual-in_err-row.ensures.1 in
     let fault : c.in_err-row.field-0.0 ≡ Damaged = cc from in
     let damaged : c.get.result ≡ Err Damaged = c.in_err-row.was ∙ ap Err fault in
-    let same = same_pages c.args.pages.now c.is_repeated.new.pages (g.D.Device.state c.args.device.now) (g.D.Device.state c.is_repeated.new.device) c.is_repeated.ensures.unchanged (c.is_repeated.ensures.only.state honest) in
+    let same =
+    same_pages c.args.pages.now c.is_repeated.new.pages (g.D.Device.state c.args.device.now) (g.D.Device.state
+    c.is_repeated.new.device) c.is_repeated.ensures.unchanged (c.is_repeated.ensures.only.state honest) in
     let prime : RootedTree = c.args.prime.now in
-    let here = subst (λ (p : List (Option Sector)). IsTreeOrEmpty prime.layout p prime.root told.there.levels) (sym same) told.there.holds in
-    c.get.ensures.damaged (c.is_repeated.ensures.only.honest.0 honest) (c.is_repeated.ensures.agrees honest agrees) damaged told.there.levels here
+    let here = subst (λ (p : List (Option Sector)). IsTreeOrEmpty prime.layout p prime.root told.there.levels)
+    (sym same) told.there.holds in
+    c.get.ensures.damaged (c.is_repeated.ensures.only.honest.0 honest) (c.is_repeated.ensures.agrees honest agrees)
+    damaged told.there.levels here
 
 pub returns-in-None-clause-damaged : goal.returns-in-None-clause-damaged
 returns-in-None-clause-damaged g c = λ honest agrees is spec i rows row told fits.
-    let pages : List (Option Sector) = (map_now c.args.pages.now (g.D.Device.state c.args.device.now).disk.present).pages in
-    let same = same_pages c.args.pages.now c.is_repeated.new.pages (g.D.Device.state c.args.device.now) (g.D.Device.state c.is_repeated.new.device) c.is_repeated.ensures.unchanged (c.is_repeated.ensures.only.state honest) in
+    let pages : List (Option Sector) =
+    (map_now c.args.pages.now (g.D.Device.state c.args.device.now).disk.present).pages in
+    let same =
+    same_pages c.args.pages.now c.is_repeated.new.pages (g.D.Device.state c.args.device.now) (g.D.Device.state
+    c.is_repeated.new.device) c.is_repeated.ensures.unchanged (c.is_repeated.ensures.only.state honest) in
     let prime : RootedTree = c.args.prime.now in
-    let here = subst (λ (p : List (Option Sector)). IsTreeOrEmpty prime.layout p prime.root told.there.levels) (sym same) told.there.holds in
-    let got = c.in_ok-row.ensures.entry (c.is_repeated.ensures.only.honest.0 honest) (c.is_repeated.ensures.agrees honest agrees) told.there.levels here in
+    let here = subst (λ (p : List (Option Sector)). IsTreeOrEmpty prime.layout p prime.root told.there.levels)
+    (sym same) told.there.holds in
+    let got = c.in_ok-row.ensures.entry (c.is_repeated.ensures.only.honest.0 honest)
+    (c.is_repeated.ensures.agrees honest agrees) told.there.levels here in
     let there = row_there spec i c.args.value_length pages rows prime c.args.under.now c.args.entry.now row told in
     let found = got ∙ ap (entry_with (entries_of prime.layout told.there.levels)) c.value.ensures ∙ there in
     let clash : None ≡ Some (entry_under spec Prime row) = sym c.in-None.is ∙ found in
@@ -59,24 +72,32 @@ returns-in-None-clause-damaged g c = λ honest agrees is spec i rows row told fi
 
 pub returns-in_err-copy_record-clause-damaged : goal.returns-in_err-copy_record-clause-damaged
 returns-in_err-copy_record-clause-damaged g c = λ honest agrees is spec i rows row told fits.
-    let pages : List (Option Sector) = (map_now c.args.pages.now (g.D.Device.state c.args.device.now).disk.present).pages in
-    let same = same_pages c.args.pages.now c.is_repeated.new.pages (g.D.Device.state c.args.device.now) (g.D.Device.state c.is_repeated.new.device) c.is_repeated.ensures.unchanged (c.is_repeated.ensures.only.state honest) in
+    let pages : List (Option Sector) =
+    (map_now c.args.pages.now (g.D.Device.state c.args.device.now).disk.present).pages in
+    let same =
+    same_pages c.args.pages.now c.is_repeated.new.pages (g.D.Device.state c.args.device.now) (g.D.Device.state
+    c.is_repeated.new.device) c.is_repeated.ensures.unchanged (c.is_repeated.ensures.only.state honest) in
     let prime : RootedTree = c.args.prime.now in
-    let here = subst (λ (p : List (Option Sector)). IsTreeOrEmpty prime.layout p prime.root told.there.levels) (sym same) told.there.holds in
-    let got = c.in_ok-row.ensures.entry (c.is_repeated.ensures.only.honest.0 honest) (c.is_repeated.ensures.agrees honest agrees) told.there.levels here in
+    let here = subst (λ (p : List (Option Sector)). IsTreeOrEmpty prime.layout p prime.root told.there.levels)
+    (sym same) told.there.holds in
+    let got = c.in_ok-row.ensures.entry (c.is_repeated.ensures.only.honest.0 honest)
+    (c.is_repeated.ensures.agrees honest agrees) told.there.levels here in
     let there = row_there spec i c.args.value_length pages rows prime c.args.under.now c.args.entry.now row told in
     let found = got ∙ ap (entry_with (entries_of prime.layout told.there.levels)) c.value.ensures ∙ there in
     let some : Some c.in-Some.row ≡ Some (entry_under spec Prime row) = sym c.in-Some.is ∙ found in
     let whole : c.in-Some.row ≡ entry_under spec Prime row = cc in
-    let count = ap (λ (e : Entry). length e.value) whole ∙ length-append row.bytes (flat_map (big_bytes 8) row.arrivals) in
-    let record_is = All-contains (λ (r : Row). length r.bytes ≡ spec.record_length) rows row told.there.records told.has in
+    let count =
+    ap (λ (e : Entry). length e.value) whole ∙ length-append row.bytes (flat_map (big_bytes 8) row.arrivals) in
+    let record_is =
+    All-contains (λ (r : Row). length r.bytes ≡ spec.record_length) rows row told.there.records told.has in
     let low = c.in_err-copy_record.ensures.err.1 in
     omega arith
 
 pub returns-in_err-number-clause-damaged : goal.returns-in_err-number-clause-damaged
 returns-in_err-number-clause-damaged g c = λ honest agrees is spec i rows row told fits.
     let under = All-contains (IsUnder spec (Alternate i)) rows row told.pairs.fits told.has in
-    let count : length c.key.result.now ≡ c.args.value_length + 8 = ap length c.key.ensures ∙ ap (λ (e : Entry). length e.key) told.is ∙ alternate_long spec i c.args.value_length row under told.long in
+    let count : length c.key.result.now ≡ c.args.value_length + 8 = ap length c.key.ensures
+    ∙ ap (λ (e : Entry). length e.key) told.is ∙ alternate_long spec i c.args.value_length row under told.long in
     let low = c.in_err-number.ensures.err.1 in
     omega arith
 
@@ -88,28 +109,37 @@ returns-in_err-repeated-clause-damaged g c = λ honest agrees is spec i rows row
 
 pub returns-clause-found : goal.returns-clause-found
 returns-clause-found g c = λ honest agrees spec i rows row told.
-    let pages : List (Option Sector) = (map_now c.args.pages.now (g.D.Device.state c.args.device.now).disk.present).pages in
+    let pages : List (Option Sector) =
+    (map_now c.args.pages.now (g.D.Device.state c.args.device.now).disk.present).pages in
     let under = All-contains (IsUnder spec (Alternate i)) rows row told.pairs.fits told.has in
     let n = c.args.value_length in
     let tree : RootedTree = c.args.under.now in
-    let number = c.in_ok-number.ensures.ok ∙ ap (λ k. big_number 8 (drop n k)) c.key.ensures ∙ ap (λ (e : Entry). big_number 8 (drop n e.key)) told.is ∙ alternate_number spec i n row under told.long in
+    let number = c.in_ok-number.ensures.ok ∙ ap (λ k. big_number 8 (drop n k)) c.key.ensures
+    ∙ ap (λ (e : Entry). big_number 8 (drop n e.key)) told.is ∙ alternate_number spec i n row under told.long in
     let repeated = c.in_ok-repeated.ensures.repeated honest agrees told.pairs.levels told.pairs.holds
-    ∙ ap (λ (e : Entry). begins_with_value (take n e.key) (found_entry aim.After (entries_of tree.layout told.pairs.levels) e.key)) told.is
+    ∙ ap (λ (e : Entry).
+    begins_with_value (take n e.key) (found_entry aim.After (entries_of tree.layout told.pairs.levels) e.key)) told.is
     ∙ repeated_is spec i n pages rows tree row told.pairs told.has told.long in
     let Told : ℕ → Bool → Found = λ a b. record { number = a; repeated = b } in
     ap (λ a. Told a c.in_ok-repeated.repeated) number ∙ ap (Told _) repeated
 
 pub returns-clause-bytes : goal.returns-clause-bytes
 returns-clause-bytes g c = λ honest agrees spec i rows row told fits.
-    let pages : List (Option Sector) = (map_now c.args.pages.now (g.D.Device.state c.args.device.now).disk.present).pages in
-    let same = same_pages c.args.pages.now c.is_repeated.new.pages (g.D.Device.state c.args.device.now) (g.D.Device.state c.is_repeated.new.device) c.is_repeated.ensures.unchanged (c.is_repeated.ensures.only.state honest) in
+    let pages : List (Option Sector) =
+    (map_now c.args.pages.now (g.D.Device.state c.args.device.now).disk.present).pages in
+    let same =
+    same_pages c.args.pages.now c.is_repeated.new.pages (g.D.Device.state c.args.device.now) (g.D.Device.state
+    c.is_repeated.new.device) c.is_repeated.ensures.unchanged (c.is_repeated.ensures.only.state honest) in
     let prime : RootedTree = c.args.prime.now in
-    let here = subst (λ (p : List (Option Sector)). IsTreeOrEmpty prime.layout p prime.root told.there.levels) (sym same) told.there.holds in
-    let got = c.in_ok-row.ensures.entry (c.is_repeated.ensures.only.honest.0 honest) (c.is_repeated.ensures.agrees honest agrees) told.there.levels here in
+    let here = subst (λ (p : List (Option Sector)). IsTreeOrEmpty prime.layout p prime.root told.there.levels)
+    (sym same) told.there.holds in
+    let got = c.in_ok-row.ensures.entry (c.is_repeated.ensures.only.honest.0 honest)
+    (c.is_repeated.ensures.agrees honest agrees) told.there.levels here in
     let there = row_there spec i c.args.value_length pages rows prime c.args.under.now c.args.entry.now row told in
     let found = got ∙ ap (entry_with (entries_of prime.layout told.there.levels)) c.value.ensures ∙ there in
     let some : Some c.in-Some.row ≡ Some (entry_under spec Prime row) = sym c.in-Some.is ∙ found in
     let whole : c.in-Some.row ≡ entry_under spec Prime row = cc in
-    let record_is = All-contains (λ (r : Row). length r.bytes ≡ spec.record_length) rows row told.there.records told.has in
+    let record_is =
+    All-contains (λ (r : Row). length r.bytes ≡ spec.record_length) rows row told.there.records told.has in
     c.in_ok-copy_record.ensures.ok ∙ ap (λ (e : Entry). take (length c.args.bytes.now) e.value) whole
     ∙ take_at row.bytes (flat_map (big_bytes 8) row.arrivals) (length c.args.bytes.now) (record_is ∙ sym fits)

@@ -17,7 +17,8 @@ use Rattle.alternate_keys.proofs.found_rows.read_prime_row.Goals as goal
 pub returns-in_err-number-clause-damaged : goal.returns-in_err-number-clause-damaged
 returns-in_err-number-clause-damaged c = λ spec row same is under fits.
     let count : length c.key.result.now ≡ prime_key_length c.args.organization =
-    ap length c.key.ensures ∙ ap (λ (e : Entry). length e.key) is ∙ prime_long spec row under ∙ ap prime_key_length same in
+    ap length c.key.ensures ∙ ap (λ (e : Entry). length e.key) is ∙ prime_long spec row under
+    ∙ ap prime_key_length same in
     let low = c.in_err-number.ensures.err.1 in
     absurd (omega arith)
 
@@ -36,7 +37,8 @@ pub returns-clause-found : goal.returns-clause-found
 returns-clause-found c = λ spec row rows same is under.
     let key : List ℕ = (entry_under spec Prime row).key in
     let Told : ℕ → Found = λ n. record { number = n; repeated = false } in
-    ap Told (c.in_ok-number.ensures.ok ∙ ap (λ k. number_in c.args.organization k) c.key.ensures ∙ ap (λ (e : Entry). number_in c.args.organization e.key) is
+    ap Told (c.in_ok-number.ensures.ok ∙ ap (λ k. number_in c.args.organization k) c.key.ensures
+    ∙ ap (λ (e : Entry). number_in c.args.organization e.key) is
     ∙ ap (λ (o : Organization). number_in o key) (sym same) ∙ prime_number spec row under)
 
 pub returns-clause-bytes : goal.returns-clause-bytes

@@ -19,30 +19,40 @@ returns-in-Ok-true-clause-removed g c = λ honest agrees left right entries stan
     let after : List (Option Sector) = (map_now c.remove.new.pages image).pages in
     let old : RootedTree = c.args.tree.now in
     let new : RootedTree = c.remove.new.self in
-    let told = c.in-Ok-true.ensures.removed honest agrees stands.levels (grows before left right old entries stands) (ap Ok c.in-Ok-true.field-0-test) in
-    let listed : without_entry (entries_of old.layout stands.levels) c.args.key.now ≡ without_entry entries c.args.key.now = ap (λ (es : List Entry). without_entry es c.args.key.now) stands.listed in
+    let told = c.in-Ok-true.ensures.removed honest agrees stands.levels (grows before left right old entries stands)
+    (ap Ok c.in-Ok-true.field-0-test) in
+    let listed : without_entry (entries_of old.layout stands.levels) c.args.key.now
+    ≡ without_entry entries c.args.key.now = ap (λ (es : List Entry). without_entry es c.args.key.now) stands.listed in
     let becomes : Becomes old.layout before stands.levels after new.root (without_entry entries c.args.key.now) =
     subst (λ (es : List Entry). Becomes old.layout before stands.levels after new.root es) listed told.1.became in
-    becomes_among before after left right old new entries (without_entry entries c.args.key.now) stands c.in-Ok-true.ensures.layout becomes
+    becomes_among before after left right old new entries (without_entry entries c.args.key.now) stands
+    c.in-Ok-true.ensures.layout becomes
 
 pub returns-in-Ok-true-clause-few : goal.returns-in-Ok-true-clause-few
 returns-in-Ok-true-clause-few g c = λ honest agrees left right entries stands.
-    let before : List (Option Sector) = (map_now c.args.pages.now (g.D.Device.state c.args.device.now).disk.present).pages in
-    c.in-Ok-true.ensures.changed_pages honest agrees stands.levels (grows before left right c.args.tree.now entries stands)
+    let before : List (Option Sector) =
+    (map_now c.args.pages.now (g.D.Device.state c.args.device.now).disk.present).pages in
+    c.in-Ok-true.ensures.changed_pages honest agrees stands.levels
+    (grows before left right c.args.tree.now entries stands)
 
 pub returns-in-Ok-false-clause-damaged : goal.returns-in-Ok-false-clause-damaged
 returns-in-Ok-false-clause-damaged g c = λ honest agrees left right entries stands some is.
-    let before : List (Option Sector) = (map_now c.args.pages.now (g.D.Device.state c.args.device.now).disk.present).pages in
+    let before : List (Option Sector) =
+    (map_now c.args.pages.now (g.D.Device.state c.args.device.now).disk.present).pages in
     let tree : RootedTree = c.args.tree.now in
-    let none : entry_with (entries_of tree.layout stands.levels) c.args.key.now ≡ None = c.in-Ok-false.ensures.missing honest agrees stands.levels (grows before left right tree entries stands) (ap Ok c.in-Ok-false.field-0-test) in
-    let none_there : entry_with entries c.args.key.now ≡ None = ap (λ (es : List Entry). entry_with es c.args.key.now) (sym stands.listed) ∙ none in
+    let none : entry_with (entries_of tree.layout stands.levels) c.args.key.now ≡ None = c.in-Ok-false.ensures.missing
+    honest agrees stands.levels (grows before left right tree entries stands) (ap Ok c.in-Ok-false.field-0-test) in
+    let none_there : entry_with entries c.args.key.now ≡ None =
+    ap (λ (es : List Entry). entry_with es c.args.key.now) (sym stands.listed) ∙ none in
     let clash : is_some (entry_with entries c.args.key.now) ≡ false = ap (λ (e : Option Entry). is_some e) none_there in
     let both : true ≡ false = sym some ∙ clash in
     cc
 
 pub returns-in-Err-clause-damaged : goal.returns-in-Err-clause-damaged
 returns-in-Err-clause-damaged g c = λ honest agrees left right entries stands some is.
-    let before : List (Option Sector) = (map_now c.args.pages.now (g.D.Device.state c.args.device.now).disk.present).pages in
+    let before : List (Option Sector) =
+    (map_now c.args.pages.now (g.D.Device.state c.args.device.now).disk.present).pages in
     let told : c.to_fault.result ≡ Damaged = cc in
     let fault : c.in-Err.error ≡ pages.Damaged = damaged_back c.in-Err.error (sym c.to_fault.ensures ∙ told) in
-    c.in-Err.ensures.damaged honest agrees (ap Err fault) stands.levels (grows before left right c.args.tree.now entries stands)
+    c.in-Err.ensures.damaged honest agrees (ap Err fault) stands.levels
+    (grows before left right c.args.tree.now entries stands)

@@ -27,39 +27,56 @@ returns-in-Ok-true-clause-replaced g c = λ honest agrees left right entries sta
     let after : List (Option Sector) = (map_now c.replace.new.pages image).pages in
     let tree : RootedTree = c.catalog_tree-catalog.result in
     let own : RootedTree = catalog_at (catalog_of c.args.pages.now) in
-    let same : tree ≡ own = same_tree tree own c.catalog_tree-catalog.ensures.layout (c.catalog_tree-catalog.ensures.root ∙ c.catalog.ensures) in
-    let here : IsTreeAmong before left right tree entries = subst (λ (t : RootedTree). IsTreeAmong before left right t entries) (sym same) stands in
+    let same : tree ≡ own = same_tree tree own c.catalog_tree-catalog.ensures.layout
+    (c.catalog_tree-catalog.ensures.root ∙ c.catalog.ensures) in
+    let here : IsTreeAmong before left right tree entries =
+    subst (λ (t : RootedTree). IsTreeAmong before left right t entries) (sym same) stands in
     let done : c.in-Ok-true.field-0 ≡ true = c.in-Ok-true.field-0-test in
     let key : c.pad_name.result ≡ padded_name c.args.name.now = c.pad_name.ensures in
-    let told = c.in-Ok-true.ensures.replaced honest agrees here.levels (grows before left right tree entries here) (ap Ok done) in
-    let listed : with_value (entries_of tree.layout here.levels) (made c.pad_name.result c.args.listing.now) ≡ with_value entries (made (padded_name c.args.name.now) c.args.listing.now) =
-    ap (λ (es : List Entry). with_value es (made c.pad_name.result c.args.listing.now)) here.listed ∙ ap (λ (k : List ℕ). with_value entries (made k c.args.listing.now)) key in
-    let becomes : Becomes tree.layout before here.levels after tree.root (with_value entries (made (padded_name c.args.name.now) c.args.listing.now)) =
+    let told =
+    c.in-Ok-true.ensures.replaced honest agrees here.levels (grows before left right tree entries here) (ap Ok done) in
+    let listed : with_value (entries_of tree.layout here.levels) (made c.pad_name.result c.args.listing.now)
+    ≡ with_value entries (made (padded_name c.args.name.now) c.args.listing.now) =
+    ap (λ (es : List Entry). with_value es (made c.pad_name.result c.args.listing.now)) here.listed
+    ∙ ap (λ (k : List ℕ). with_value entries (made k c.args.listing.now)) key in
+    let becomes : Becomes tree.layout before here.levels after tree.root
+    (with_value entries (made (padded_name c.args.name.now) c.args.listing.now)) =
     subst (λ (es : List Entry). Becomes tree.layout before here.levels after tree.root es) listed told.1 in
-    subst (λ (t : RootedTree). IsTreeAmong after left right t (with_value entries (made (padded_name c.args.name.now) c.args.listing.now))) same
-    (becomes_among before after left right tree tree entries (with_value entries (made (padded_name c.args.name.now) c.args.listing.now)) here refl becomes)
+    subst (λ (t : RootedTree).
+    IsTreeAmong after left right t (with_value entries (made (padded_name c.args.name.now) c.args.listing.now))) same
+    (becomes_among before after left right tree tree entries
+    (with_value entries (made (padded_name c.args.name.now) c.args.listing.now)) here refl becomes)
 
 pub returns-in-Ok-false-clause-damaged : goal.returns-in-Ok-false-clause-damaged
 returns-in-Ok-false-clause-damaged g c = λ honest agrees left right entries stands some is.
-    let before : List (Option Sector) = (map_now c.args.pages.now (g.D.Device.state c.args.device.now).disk.present).pages in
+    let before : List (Option Sector) =
+    (map_now c.args.pages.now (g.D.Device.state c.args.device.now).disk.present).pages in
     let tree : RootedTree = c.catalog_tree-catalog.result in
     let own : RootedTree = catalog_at (catalog_of c.args.pages.now) in
-    let same : tree ≡ own = same_tree tree own c.catalog_tree-catalog.ensures.layout (c.catalog_tree-catalog.ensures.root ∙ c.catalog.ensures) in
-    let here : IsTreeAmong before left right tree entries = subst (λ (t : RootedTree). IsTreeAmong before left right t entries) (sym same) stands in
-    let none : entry_with (entries_of tree.layout here.levels) c.pad_name.result ≡ None = c.in-Ok-false.ensures.missing honest agrees here.levels (grows before left right tree entries here) (ap Ok c.in-Ok-false.field-0-test) in
+    let same : tree ≡ own = same_tree tree own c.catalog_tree-catalog.ensures.layout
+    (c.catalog_tree-catalog.ensures.root ∙ c.catalog.ensures) in
+    let here : IsTreeAmong before left right tree entries =
+    subst (λ (t : RootedTree). IsTreeAmong before left right t entries) (sym same) stands in
+    let none : entry_with (entries_of tree.layout here.levels) c.pad_name.result ≡ None = c.in-Ok-false.ensures.missing
+    honest agrees here.levels (grows before left right tree entries here) (ap Ok c.in-Ok-false.field-0-test) in
     let none_there : entry_with entries (padded_name c.args.name.now) ≡ None =
-    ap (λ (es : List Entry). entry_with es (padded_name c.args.name.now)) (sym here.listed) ∙ ap (entry_with (entries_of tree.layout here.levels)) (sym c.pad_name.ensures) ∙ none in
-    let clash : is_some (entry_with entries (padded_name c.args.name.now)) ≡ false = ap (λ (e : Option Entry). is_some e) none_there in
+    ap (λ (es : List Entry). entry_with es (padded_name c.args.name.now)) (sym here.listed)
+    ∙ ap (entry_with (entries_of tree.layout here.levels)) (sym c.pad_name.ensures) ∙ none in
+    let clash : is_some (entry_with entries (padded_name c.args.name.now)) ≡ false =
+    ap (λ (e : Option Entry). is_some e) none_there in
     let both : true ≡ false = sym some ∙ clash in
     cc
 
 pub returns-in-Err-clause-damaged : goal.returns-in-Err-clause-damaged
 returns-in-Err-clause-damaged g c = λ honest agrees left right entries stands some is.
-    let before : List (Option Sector) = (map_now c.args.pages.now (g.D.Device.state c.args.device.now).disk.present).pages in
+    let before : List (Option Sector) =
+    (map_now c.args.pages.now (g.D.Device.state c.args.device.now).disk.present).pages in
     let tree : RootedTree = c.catalog_tree-catalog.result in
     let own : RootedTree = catalog_at (catalog_of c.args.pages.now) in
-    let same : tree ≡ own = same_tree tree own c.catalog_tree-catalog.ensures.layout (c.catalog_tree-catalog.ensures.root ∙ c.catalog.ensures) in
-    let here : IsTreeAmong before left right tree entries = subst (λ (t : RootedTree). IsTreeAmong before left right t entries) (sym same) stands in
+    let same : tree ≡ own = same_tree tree own c.catalog_tree-catalog.ensures.layout
+    (c.catalog_tree-catalog.ensures.root ∙ c.catalog.ensures) in
+    let here : IsTreeAmong before left right tree entries =
+    subst (λ (t : RootedTree). IsTreeAmong before left right t entries) (sym same) stands in
     let told : c.to_fault.result ≡ Damaged = cc in
     let fault : c.in-Err.error ≡ pages.Damaged = damaged_back c.in-Err.error (sym c.to_fault.ensures ∙ told) in
     c.in-Err.ensures.damaged honest agrees (ap Err fault) here.levels (grows before left right tree entries here)

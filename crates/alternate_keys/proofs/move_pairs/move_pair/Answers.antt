@@ -41,7 +41,8 @@ returns-in_ok-give_pair-in-Insert-clause-moved g c = λ honest agrees left right
     let bytes : List ℕ = c.args.bytes.now in
     let image = (g.D.Device.state c.args.device.now).disk.present in
     let after : List (Option Sector) = (map_now c.give_pair.new.pages image).pages in
-    subst (λ (v : RowVerb). IsTreeAmong after left right c.give_pair.new.tree (entries_after v spec c.args.key old bytes c.args.arrival entries)) (sym c.in-Insert.is)
+    subst (λ (v : RowVerb). IsTreeAmong after left right c.give_pair.new.tree
+    (entries_after v spec c.args.key old bytes c.args.arrival entries)) (sym c.in-Insert.is)
     (c.in_ok-give_pair-in-Insert.ensures.given honest agrees left right entries stands)
 
 pub returns-in_ok-give_pair-in-Insert-clause-few : goal.returns-in_ok-give_pair-in-Insert-clause-few
@@ -67,7 +68,8 @@ returns-in_ok-take_pair-in-Remove-clause-moved g c = λ honest agrees left right
     let bytes : List ℕ = c.args.bytes.now in
     let image = (g.D.Device.state c.args.device.now).disk.present in
     let after : List (Option Sector) = (map_now c.take_pair.new.pages image).pages in
-    subst (λ (v : RowVerb). IsTreeAmong after left right c.take_pair.new.tree (entries_after v spec c.args.key old bytes c.args.arrival entries)) (sym c.in-Remove.is)
+    subst (λ (v : RowVerb). IsTreeAmong after left right c.take_pair.new.tree
+    (entries_after v spec c.args.key old bytes c.args.arrival entries)) (sym c.in-Remove.is)
     (c.in_ok-take_pair-in-Remove.ensures.taken honest agrees left right entries stands)
 
 pub returns-in_ok-take_pair-in-Remove-clause-few : goal.returns-in_ok-take_pair-in-Remove-clause-few
@@ -84,7 +86,8 @@ returns-in_err-take_pair-in-Replace-clause-damaged g c = λ honest agrees left r
     let old : List ℕ = c.args.old.now in
     let bytes : List ℕ = c.args.bytes.now in
     let change : changes_at spec c.args.key old bytes ≡ true = sym c.is_changed.ensures ∙ c.if-not-is_changed.false in
-    let both = subst (λ (v : RowVerb). MayMove v spec c.args.key old bytes c.args.arrival entries) c.in-Replace.is may change in
+    let both =
+    subst (λ (v : RowVerb). MayMove v spec c.args.key old bytes c.args.arrival entries) c.in-Replace.is may change in
     c.take_pair-in-Replace.ensures.damaged honest agrees left right entries stands both.0 told
 
 pub returns-in_err-give_pair-in-Replace-clause-damaged : goal.returns-in_err-give_pair-in-Replace-clause-damaged
@@ -96,13 +99,16 @@ returns-in_err-give_pair-in-Replace-clause-damaged g c = λ honest agrees left r
     let old : List ℕ = c.args.old.now in
     let bytes : List ℕ = c.args.bytes.now in
     let change : changes_at spec c.args.key old bytes ≡ true = sym c.is_changed.ensures ∙ c.if-not-is_changed.false in
-    let both = subst (λ (v : RowVerb). MayMove v spec c.args.key old bytes c.args.arrival entries) c.in-Replace.is may change in
+    let both =
+    subst (λ (v : RowVerb). MayMove v spec c.args.key old bytes c.args.arrival entries) c.in-Replace.is may change in
     let own_key : List ℕ = old_key spec c.args.key old in
     let edits = c.take_pair-in-Replace.ensures.edits in
     let still = edits.only.state honest in
-    let here = subst (λ (s : State). IsTreeAmong (map_now c.take_pair-in-Replace.new.pages s.disk.present).pages left right c.take_pair-in-Replace.new.tree (without_entry entries own_key)) (sym still)
+    let here = subst (λ (s : State). IsTreeAmong (map_now c.take_pair-in-Replace.new.pages s.disk.present).pages left
+    right c.take_pair-in-Replace.new.tree (without_entry entries own_key)) (sym still)
     (c.in_ok-take_pair-in-Replace.ensures.taken honest agrees left right entries stands) in
-    c.give_pair-in-Replace.ensures.damaged (edits.only.honest.0 honest) (edits.agrees honest agrees) left right (without_entry entries own_key) here both.1 told
+    c.give_pair-in-Replace.ensures.damaged (edits.only.honest.0 honest) (edits.agrees honest agrees) left right
+    (without_entry entries own_key) here both.1 told
 
 pub returns-in_err-give_pair-in-Replace-clause-room : goal.returns-in_err-give_pair-in-Replace-clause-room
 returns-in_err-give_pair-in-Replace-clause-room g c = λ honest agrees left right entries stands full.
@@ -115,10 +121,12 @@ returns-in_err-give_pair-in-Replace-clause-room g c = λ honest agrees left righ
     let own_key : List ℕ = old_key spec c.args.key old in
     let edits = c.take_pair-in-Replace.ensures.edits in
     let still = edits.only.state honest in
-    let here = subst (λ (s : State). IsTreeAmong (map_now c.take_pair-in-Replace.new.pages s.disk.present).pages left right c.take_pair-in-Replace.new.tree (without_entry entries own_key)) (sym still)
+    let here = subst (λ (s : State). IsTreeAmong (map_now c.take_pair-in-Replace.new.pages s.disk.present).pages left
+    right c.take_pair-in-Replace.new.tree (without_entry entries own_key)) (sym still)
     (c.in_ok-take_pair-in-Replace.ensures.taken honest agrees left right entries stands) in
     let few = c.in_ok-take_pair-in-Replace.ensures.few honest agrees left right entries stands in
-    let room = c.give_pair-in-Replace.ensures.room (edits.only.honest.0 honest) (edits.agrees honest agrees) left right (without_entry entries own_key) here told in
+    let room = c.give_pair-in-Replace.ensures.room (edits.only.honest.0 honest) (edits.agrees honest agrees) left right
+    (without_entry entries own_key) here told in
     let same = ap free_count (same_volume c.args.pages.now c.take_pair-in-Replace.new.pages edits.committed) in
     omega (arith, few, room, same)
 
@@ -132,14 +140,19 @@ returns-in_ok-give_pair-in-Replace-clause-moved g c = λ honest agrees left righ
     let own_key : List ℕ = old_key spec c.args.key old in
     let edits = c.take_pair-in-Replace.ensures.edits in
     let still = edits.only.state honest in
-    let here = subst (λ (s : State). IsTreeAmong (map_now c.take_pair-in-Replace.new.pages s.disk.present).pages left right c.take_pair-in-Replace.new.tree (without_entry entries own_key)) (sym still)
+    let here = subst (λ (s : State). IsTreeAmong (map_now c.take_pair-in-Replace.new.pages s.disk.present).pages left
+    right c.take_pair-in-Replace.new.tree (without_entry entries own_key)) (sym still)
     (c.in_ok-take_pair-in-Replace.ensures.taken honest agrees left right entries stands) in
-    let given = c.in_ok-give_pair-in-Replace.ensures.given (edits.only.honest.0 honest) (edits.agrees honest agrees) left right (without_entry entries own_key) here in
+    let given = c.in_ok-give_pair-in-Replace.ensures.given (edits.only.honest.0 honest) (edits.agrees honest agrees)
+    left right (without_entry entries own_key) here in
     let new : RootedTree = c.give_pair-in-Replace.new.tree in
     let after : List (Option Sector) = (map_now c.give_pair-in-Replace.new.pages image).pages in
-    let later : List Entry = with_new_entry (without_entry entries own_key) (pair_entry spec c.args.key bytes c.args.arrival) in
-    let put = subst (λ (s : State). IsTreeAmong (map_now c.give_pair-in-Replace.new.pages s.disk.present).pages left right new later) still given in
-    subst (λ (v : RowVerb). IsTreeAmong after left right new (entries_after v spec c.args.key old bytes c.args.arrival entries)) (sym c.in-Replace.is)
+    let later : List Entry =
+    with_new_entry (without_entry entries own_key) (pair_entry spec c.args.key bytes c.args.arrival) in
+    let put = subst (λ (s : State).
+    IsTreeAmong (map_now c.give_pair-in-Replace.new.pages s.disk.present).pages left right new later) still given in
+    subst (λ (v : RowVerb). IsTreeAmong after left right new
+    (entries_after v spec c.args.key old bytes c.args.arrival entries)) (sym c.in-Replace.is)
     (subst (λ (b : Bool). IsTreeAmong after left right new (if b then later else entries)) (sym change) put)
 
 pub returns-in_ok-give_pair-in-Replace-clause-few : goal.returns-in_ok-give_pair-in-Replace-clause-few
@@ -150,8 +163,10 @@ returns-in_ok-give_pair-in-Replace-clause-few g c = λ honest agrees left right 
     let own_key : List ℕ = old_key spec c.args.key old in
     let edits = c.take_pair-in-Replace.ensures.edits in
     let still = edits.only.state honest in
-    let here = subst (λ (s : State). IsTreeAmong (map_now c.take_pair-in-Replace.new.pages s.disk.present).pages left right c.take_pair-in-Replace.new.tree (without_entry entries own_key)) (sym still)
+    let here = subst (λ (s : State). IsTreeAmong (map_now c.take_pair-in-Replace.new.pages s.disk.present).pages left
+    right c.take_pair-in-Replace.new.tree (without_entry entries own_key)) (sym still)
     (c.in_ok-take_pair-in-Replace.ensures.taken honest agrees left right entries stands) in
     let one = c.in_ok-take_pair-in-Replace.ensures.few honest agrees left right entries stands in
-    let two = c.in_ok-give_pair-in-Replace.ensures.few (edits.only.honest.0 honest) (edits.agrees honest agrees) left right (without_entry entries own_key) here in
+    let two = c.in_ok-give_pair-in-Replace.ensures.few (edits.only.honest.0 honest) (edits.agrees honest agrees) left
+    right (without_entry entries own_key) here in
     omega (arith, one, two)

@@ -1,4 +1,5 @@
-use Rattle.std.proofs.Common.{◌≡◌, ◌<◌, ◌+◌, ◌++◌, ℕ, List, [], ◌∷◌, length, drop, Err, refl, sym, ap, subst, ◌∙◌, arith}
+use Rattle.std.proofs.Common.{◌≡◌, ◌<◌, ◌+◌, ◌++◌, ℕ, List, [], ◌∷◌, length, drop, Err, refl, sym, ap, subst, ◌∙◌}
+use Rattle.std.proofs.Common.{arith}
 use Rattle.std.specs.Prelude.{Option, slice_index_or}
 use Rattle.std.proofs.lemmas.List.{length-append}
 use Rattle.station.specs.Disk.{Sector}
@@ -31,11 +32,13 @@ pub loop-key-init : goal.loop-key-init
 loop-key-init g c = record {
   edits = edits_nothing g.D.Device c.args.pages.now c.args.device.now c.requires.open;
   came = λ honest agrees held left right trees is has after spec_then move.
-      let before : List (Option Sector) = (map_now c.args.pages.now (g.D.Device.state c.args.device.now).disk.present).pages in
+      let before : List (Option Sector) =
+      (map_now c.args.pages.now (g.D.Device.state c.args.device.now).disk.present).pages in
       record {
         done = [];
         count = refl;
-        forest = subst (λ (ts : List TreeLevels). IsForest before (left ++ (ts ++ right))) (sym (drop_none trees)) has.forest;
+        forest = subst (λ (ts : List TreeLevels). IsForest before (left ++ (ts ++ right))) (sym (drop_none trees))
+            has.forest;
         indexes = λ k less. absurd (omega (arith, less));
         roots_are = sym c.new-roots.ensures.items;
       };
@@ -59,26 +62,35 @@ returns-in_err-move_pair-clause-room g c = λ honest agrees held left right tree
     let honest_then = loop.invariant.edits.only.honest.0 honest in
     let agrees_then = loop.invariant.edits.agrees honest agrees in
     let still = loop.invariant.edits.only.state honest in
-    let same : (map_now loop.pages (g.D.Device.state loop.device).disk.present).pages ≡ here = ap (λ (s : State). (map_now loop.pages s.disk.present).pages) still in
-    let n : c.len-count.result ≡ length c.args.file.now.alternates.items = omega (arith, c.len-count.ensures, c.args.file.now.alternates.ok) in
-    let become : HaveBecome after here left right trees loop.key loop.roots.items = loop.invariant.came honest agrees held left right trees is has after spec_then move in
+    let same : (map_now loop.pages (g.D.Device.state loop.device).disk.present).pages ≡ here =
+    ap (λ (s : State). (map_now loop.pages s.disk.present).pages) still in
+    let n : c.len-count.result ≡ length c.args.file.now.alternates.items =
+    omega (arith, c.len-count.ensures, c.args.file.now.alternates.ok) in
+    let become : HaveBecome after here left right trees loop.key loop.roots.items =
+    loop.invariant.came honest agrees held left right trees is has after spec_then move in
     let low : loop.key < length spec.alternates = let test = c.loop-key-test.true in omega (arith, n, test) in
-    let low_held : loop.key < length held.spec.alternates = subst (λ (s : Spec). loop.key < length s.alternates) (sym is) low in
+    let low_held : loop.key < length held.spec.alternates =
+    subst (λ (s : Spec). loop.key < length s.alternates) (sym is) low in
     let tree : RootedTree = c.file_tree-tree.result in
-    let tree_is : tree ≡ listed_tree held.spec loop.key listing = same_tree tree (listed_tree spec loop.key listing) c.file_tree-tree.ensures.layout c.file_tree-tree.ensures.root ∙ ap (λ (s : Spec). listed_tree s loop.key listing) (sym is) in
+    let tree_is : tree ≡ listed_tree held.spec loop.key listing =
+    same_tree tree (listed_tree spec loop.key listing) c.file_tree-tree.ensures.layout c.file_tree-tree.ensures.root
+    ∙ ap (λ (s : Spec). listed_tree s loop.key listing) (sym is) in
     let lefts : List TreeLevels = left ++ become.done in
     let rights : List TreeLevels = drop (loop.key + 1) trees ++ right in
     let t : TreeLevels = slice_index_or trees loop.key no_tree in
     let entries : List Entry = entries_of tree.layout t.levels in
-    let stands_here = stands_next held after before here left right trees listing loop.key loop.roots.items has become low_held tree tree_is in
+    let stands_here = stands_next held after before here left right trees listing loop.key loop.roots.items has become
+    low_held tree tree_is in
     let stands = subst (λ (p : List (Option Sector)). IsTreeAmong p lefts rights tree entries) (sym same) stands_here in
     let few = loop.invariant.few honest agrees held left right trees is has after spec_then move in
     let room = c.move_pair.ensures.room honest_then agrees_then lefts rights entries stands told in
-    let committed : free_count (committed_of loop.pages) ≡ free_count (committed_of c.args.pages.now) = ap free_count (same_volume c.args.pages.now loop.pages loop.invariant.edits.committed) in
+    let committed : free_count (committed_of loop.pages) ≡ free_count (committed_of c.args.pages.now) =
+    ap free_count (same_volume c.args.pages.now loop.pages loop.invariant.edits.committed) in
     omega (arith, few, room, committed, low)
 
 pub returns-in_err-move_pair-clause-damaged : goal.returns-in_err-move_pair-clause-damaged
-returns-in_err-move_pair-clause-damaged g c = λ honest agrees held left right trees is has after spec_then move may refused.
+returns-in_err-move_pair-clause-damaged g c =
+    λ honest agrees held left right trees is has after spec_then move may refused.
     let from = rw refused at c.from_residual.ensures.1 in
     let fault : c.in_err-move_pair.field-0.0 ≡ Damaged = sym from in
     let told : c.move_pair.result ≡ Err Damaged = c.in_err-move_pair.was ∙ ap Err fault in
@@ -93,20 +105,29 @@ returns-in_err-move_pair-clause-damaged g c = λ honest agrees held left right t
     let honest_then = loop.invariant.edits.only.honest.0 honest in
     let agrees_then = loop.invariant.edits.agrees honest agrees in
     let still = loop.invariant.edits.only.state honest in
-    let same : (map_now loop.pages (g.D.Device.state loop.device).disk.present).pages ≡ here = ap (λ (s : State). (map_now loop.pages s.disk.present).pages) still in
-    let n : c.len-count.result ≡ length c.args.file.now.alternates.items = omega (arith, c.len-count.ensures, c.args.file.now.alternates.ok) in
-    let become : HaveBecome after here left right trees loop.key loop.roots.items = loop.invariant.came honest agrees held left right trees is has after spec_then move in
+    let same : (map_now loop.pages (g.D.Device.state loop.device).disk.present).pages ≡ here =
+    ap (λ (s : State). (map_now loop.pages s.disk.present).pages) still in
+    let n : c.len-count.result ≡ length c.args.file.now.alternates.items =
+    omega (arith, c.len-count.ensures, c.args.file.now.alternates.ok) in
+    let become : HaveBecome after here left right trees loop.key loop.roots.items =
+    loop.invariant.came honest agrees held left right trees is has after spec_then move in
     let low : loop.key < length spec.alternates = let test = c.loop-key-test.true in omega (arith, n, test) in
-    let low_held : loop.key < length held.spec.alternates = subst (λ (s : Spec). loop.key < length s.alternates) (sym is) low in
+    let low_held : loop.key < length held.spec.alternates =
+    subst (λ (s : Spec). loop.key < length s.alternates) (sym is) low in
     let tree : RootedTree = c.file_tree-tree.result in
-    let tree_is : tree ≡ listed_tree held.spec loop.key listing = same_tree tree (listed_tree spec loop.key listing) c.file_tree-tree.ensures.layout c.file_tree-tree.ensures.root ∙ ap (λ (s : Spec). listed_tree s loop.key listing) (sym is) in
+    let tree_is : tree ≡ listed_tree held.spec loop.key listing =
+    same_tree tree (listed_tree spec loop.key listing) c.file_tree-tree.ensures.layout c.file_tree-tree.ensures.root
+    ∙ ap (λ (s : Spec). listed_tree s loop.key listing) (sym is) in
     let lefts : List TreeLevels = left ++ become.done in
     let rights : List TreeLevels = drop (loop.key + 1) trees ++ right in
     let t : TreeLevels = slice_index_or trees loop.key no_tree in
     let entries : List Entry = entries_of tree.layout t.levels in
-    let stands_here = stands_next held after before here left right trees listing loop.key loop.roots.items has become low_held tree tree_is in
+    let stands_here = stands_next held after before here left right trees listing loop.key loop.roots.items has become
+    low_held tree tree_is in
     let stands = subst (λ (p : List (Option Sector)). IsTreeAmong p lefts rights tree entries) (sym same) stands_here in
-    let own = may loop.key entries low_held (pairs_next held before left right trees listing loop.key has low_held tree tree_is) (entries_ascend here lefts rights tree entries stands_here) in
+    let own =
+    may loop.key entries low_held (pairs_next held before left right trees listing loop.key has low_held tree tree_is)
+    (entries_ascend here lefts rights tree entries stands_here) in
     let mine = subst (λ (s : Spec). MayMove c.args.verb s loop.key old bytes c.args.arrival entries) is own in
     c.move_pair.ensures.damaged honest_then agrees_then lefts rights entries stands mine told
 
@@ -114,7 +135,9 @@ pub loop-key-preserved : goal.loop-key-preserved
 loop-key-preserved g c = record {
   edits =
       let loop = c.loop-key in
-      edits_then g.D.Device ⊥ (c.move_pair.result ≡ Err Device) ⊥ c.args.pages.now loop.pages c.move_pair.new.pages c.args.device.now loop.device c.move_pair.new.device (λ is. absurd is) loop.invariant.edits c.move_pair.ensures.edits;
+      edits_then g.D.Device ⊥ (c.move_pair.result ≡ Err Device) ⊥ c.args.pages.now loop.pages
+      c.move_pair.new.pages c.args.device.now loop.device c.move_pair.new.device (λ is. absurd is) loop.invariant.edits
+      c.move_pair.ensures.edits;
   came = λ honest agrees held left right trees is has after spec_then move.
       let loop = c.loop-key in
       let spec : Spec = spec_of c.args.file.now in
@@ -127,27 +150,41 @@ loop-key-preserved g c = record {
       let honest_then = loop.invariant.edits.only.honest.0 honest in
       let agrees_then = loop.invariant.edits.agrees honest agrees in
       let still = loop.invariant.edits.only.state honest in
-      let same : (map_now loop.pages (g.D.Device.state loop.device).disk.present).pages ≡ here = ap (λ (s : State). (map_now loop.pages s.disk.present).pages) still in
-      let n : c.len-count.result ≡ length c.args.file.now.alternates.items = omega (arith, c.len-count.ensures, c.args.file.now.alternates.ok) in
-      let become : HaveBecome after here left right trees loop.key loop.roots.items = loop.invariant.came honest agrees held left right trees is has after spec_then move in
+      let same : (map_now loop.pages (g.D.Device.state loop.device).disk.present).pages ≡ here =
+      ap (λ (s : State). (map_now loop.pages s.disk.present).pages) still in
+      let n : c.len-count.result ≡ length c.args.file.now.alternates.items =
+      omega (arith, c.len-count.ensures, c.args.file.now.alternates.ok) in
+      let become : HaveBecome after here left right trees loop.key loop.roots.items =
+      loop.invariant.came honest agrees held left right trees is has after spec_then move in
       let low : loop.key < length spec.alternates = let test = c.loop-key-test.true in omega (arith, n, test) in
-      let low_held : loop.key < length held.spec.alternates = subst (λ (s : Spec). loop.key < length s.alternates) (sym is) low in
+      let low_held : loop.key < length held.spec.alternates =
+      subst (λ (s : Spec). loop.key < length s.alternates) (sym is) low in
       let tree : RootedTree = c.file_tree-tree.result in
-      let tree_is : tree ≡ listed_tree held.spec loop.key listing = same_tree tree (listed_tree spec loop.key listing) c.file_tree-tree.ensures.layout c.file_tree-tree.ensures.root ∙ ap (λ (s : Spec). listed_tree s loop.key listing) (sym is) in
+      let tree_is : tree ≡ listed_tree held.spec loop.key listing =
+      same_tree tree (listed_tree spec loop.key listing) c.file_tree-tree.ensures.layout c.file_tree-tree.ensures.root
+      ∙ ap (λ (s : Spec). listed_tree s loop.key listing) (sym is) in
       let lefts : List TreeLevels = left ++ become.done in
       let rights : List TreeLevels = drop (loop.key + 1) trees ++ right in
       let t : TreeLevels = slice_index_or trees loop.key no_tree in
       let entries : List Entry = entries_of tree.layout t.levels in
-      let stands_here = stands_next held after before here left right trees listing loop.key loop.roots.items has become low_held tree tree_is in
-      let stands = subst (λ (p : List (Option Sector)). IsTreeAmong p lefts rights tree entries) (sym same) stands_here in
+      let stands_here = stands_next held after before here left right trees listing loop.key loop.roots.items has become
+      low_held tree tree_is in
+      let stands =
+      subst (λ (p : List (Option Sector)). IsTreeAmong p lefts rights tree entries) (sym same) stands_here in
       let new : RootedTree = c.move_pair.new.tree in
       let later : List (Option Sector) = (map_now c.move_pair.new.pages image).pages in
       let told = c.in_ok-move_pair.ensures.moved honest_then agrees_then lefts rights entries stands in
-      let put = subst (λ (s : State). IsTreeAmong (map_now c.move_pair.new.pages s.disk.present).pages lefts rights new (entries_after c.args.verb spec loop.key old bytes c.args.arrival entries)) still told in
-      let own = move loop.key entries low_held (pairs_next held before left right trees listing loop.key has low_held tree tree_is) (entries_ascend here lefts rights tree entries stands_here) in
-      let mine = subst (λ (s : Spec). AreOf after.spec (Alternate loop.key) after.rows (entries_after c.args.verb s loop.key old bytes c.args.arrival entries)) (spec_then ∙ is) own in
-      let next = become_next held after before here later left right trees listing loop.key loop.roots.items has become low_held tree new (entries_after c.args.verb spec loop.key old bytes c.args.arrival entries) tree_is c.move_pair.ensures.layout spec_then mine put in
-      let pushed : loop.roots.items ++ new.root ∷ [] ≡ c.push.new.self.items = ap (λ (r : ℕ). loop.roots.items ++ r ∷ []) (sym c.root.ensures) ∙ sym c.in_ok-push.ensures.items in
+      let put = subst (λ (s : State). IsTreeAmong (map_now c.move_pair.new.pages s.disk.present).pages lefts rights new
+      (entries_after c.args.verb spec loop.key old bytes c.args.arrival entries)) still told in
+      let own = move loop.key entries low_held (pairs_next held before left right trees listing loop.key has low_held
+      tree tree_is) (entries_ascend here lefts rights tree entries stands_here) in
+      let mine = subst (λ (s : Spec). AreOf after.spec (Alternate loop.key) after.rows
+      (entries_after c.args.verb s loop.key old bytes c.args.arrival entries)) (spec_then ∙ is) own in
+      let next = become_next held after before here later left right trees listing loop.key loop.roots.items
+      has become low_held tree new (entries_after c.args.verb spec loop.key old bytes c.args.arrival entries) tree_is
+      c.move_pair.ensures.layout spec_then mine put in
+      let pushed : loop.roots.items ++ new.root ∷ [] ≡ c.push.new.self.items =
+      ap (λ (r : ℕ). loop.roots.items ++ r ∷ []) (sym c.root.ensures) ∙ sym c.in_ok-push.ensures.items in
       subst (λ (l : List ℕ). HaveBecome after later left right trees (loop.key + 1) l) pushed next;
   few = λ honest agrees held left right trees is has after spec_then move.
       let loop = c.loop-key in
@@ -161,25 +198,34 @@ loop-key-preserved g c = record {
       let honest_then = loop.invariant.edits.only.honest.0 honest in
       let agrees_then = loop.invariant.edits.agrees honest agrees in
       let still = loop.invariant.edits.only.state honest in
-      let same : (map_now loop.pages (g.D.Device.state loop.device).disk.present).pages ≡ here = ap (λ (s : State). (map_now loop.pages s.disk.present).pages) still in
-      let n : c.len-count.result ≡ length c.args.file.now.alternates.items = omega (arith, c.len-count.ensures, c.args.file.now.alternates.ok) in
-      let become : HaveBecome after here left right trees loop.key loop.roots.items = loop.invariant.came honest agrees held left right trees is has after spec_then move in
+      let same : (map_now loop.pages (g.D.Device.state loop.device).disk.present).pages ≡ here =
+      ap (λ (s : State). (map_now loop.pages s.disk.present).pages) still in
+      let n : c.len-count.result ≡ length c.args.file.now.alternates.items =
+      omega (arith, c.len-count.ensures, c.args.file.now.alternates.ok) in
+      let become : HaveBecome after here left right trees loop.key loop.roots.items =
+      loop.invariant.came honest agrees held left right trees is has after spec_then move in
       let low : loop.key < length spec.alternates = let test = c.loop-key-test.true in omega (arith, n, test) in
-      let low_held : loop.key < length held.spec.alternates = subst (λ (s : Spec). loop.key < length s.alternates) (sym is) low in
+      let low_held : loop.key < length held.spec.alternates =
+      subst (λ (s : Spec). loop.key < length s.alternates) (sym is) low in
       let tree : RootedTree = c.file_tree-tree.result in
-      let tree_is : tree ≡ listed_tree held.spec loop.key listing = same_tree tree (listed_tree spec loop.key listing) c.file_tree-tree.ensures.layout c.file_tree-tree.ensures.root ∙ ap (λ (s : Spec). listed_tree s loop.key listing) (sym is) in
+      let tree_is : tree ≡ listed_tree held.spec loop.key listing =
+      same_tree tree (listed_tree spec loop.key listing) c.file_tree-tree.ensures.layout c.file_tree-tree.ensures.root
+      ∙ ap (λ (s : Spec). listed_tree s loop.key listing) (sym is) in
       let lefts : List TreeLevels = left ++ become.done in
       let rights : List TreeLevels = drop (loop.key + 1) trees ++ right in
       let t : TreeLevels = slice_index_or trees loop.key no_tree in
       let entries : List Entry = entries_of tree.layout t.levels in
-      let stands_here = stands_next held after before here left right trees listing loop.key loop.roots.items has become low_held tree tree_is in
-      let stands = subst (λ (p : List (Option Sector)). IsTreeAmong p lefts rights tree entries) (sym same) stands_here in
+      let stands_here = stands_next held after before here left right trees listing loop.key loop.roots.items has become
+      low_held tree tree_is in
+      let stands =
+      subst (λ (p : List (Option Sector)). IsTreeAmong p lefts rights tree entries) (sym same) stands_here in
       let few = loop.invariant.few honest agrees held left right trees is has after spec_then move in
       let more = c.in_ok-move_pair.ensures.few honest_then agrees_then lefts rights entries stands in
       omega (arith, few, more);
   count =
       let loop = c.loop-key in
-      let all : length c.push.new.self.items ≡ length (loop.roots.items ++ c.root.result ∷ []) = ap (λ (l : List ℕ). length l) c.in_ok-push.ensures.items in
+      let all : length c.push.new.self.items ≡ length (loop.roots.items ++ c.root.result ∷ []) =
+      ap (λ (l : List ℕ). length l) c.in_ok-push.ensures.items in
       let many = length-append loop.roots.items (c.root.result ∷ []) in
       let count = loop.invariant.count in
       omega (arith, all, many, count);
@@ -190,14 +236,18 @@ returns-clause-came g c = λ honest agrees held left right trees is has after sp
     let loop = c.loop-key in
     let spec : Spec = spec_of c.args.file.now in
     let here : List (Option Sector) = (map_now loop.pages (g.D.Device.state c.args.device.now).disk.present).pages in
-    let n : c.len-count.result ≡ length c.args.file.now.alternates.items = omega (arith, c.len-count.ensures, c.args.file.now.alternates.ok) in
+    let n : c.len-count.result ≡ length c.args.file.now.alternates.items =
+    omega (arith, c.len-count.ensures, c.args.file.now.alternates.ok) in
     let count : length trees ≡ length spec.alternates = has.count ∙ ap (λ (s : Spec). length s.alternates) is in
-    let all : loop.key ≡ length trees = let test = c.loop-key-test.false in let end = loop.auto.key-end in omega (arith, n, count, test, end) in
-    subst (λ (k : ℕ). HaveBecome after here left right trees k loop.roots.items) all (loop.invariant.came honest agrees held left right trees is has after spec_then move)
+    let all : loop.key ≡ length trees = let test = c.loop-key-test.false in let end =
+    loop.auto.key-end in omega (arith, n, count, test, end) in
+    subst (λ (k : ℕ). HaveBecome after here left right trees k loop.roots.items) all
+    (loop.invariant.came honest agrees held left right trees is has after spec_then move)
 
 pub returns-clause-few : goal.returns-clause-few
 returns-clause-few g c = λ honest agrees held left right trees is has after spec_then move.
-    let n : c.len-count.result ≡ length c.args.file.now.alternates.items = omega (arith, c.len-count.ensures, c.args.file.now.alternates.ok) in
+    let n : c.len-count.result ≡ length c.args.file.now.alternates.items =
+    omega (arith, c.len-count.ensures, c.args.file.now.alternates.ok) in
     let few = c.loop-key.invariant.few honest agrees held left right trees is has after spec_then move in
     let end = c.loop-key.auto.key-end in
     omega (arith, few, n, end)

@@ -30,15 +30,20 @@ returns-clause-inserted g c = λ honest agrees left right entries stands is.
     let own : Entry = entry_under spec Prime (row_with spec c.args.number c.args.arrival c.args.bytes.now) in
     let key : c.deref.result.now ≡ own.key = c.deref.ensures.value ∙ c.in_ok-key.ensures.key in
     let value : c.deref-2.result.now ≡ own.value = c.deref-2.ensures.value ∙ c.in_ok-value.ensures.value in
-    let same : made c.deref.result.now c.deref-2.result.now ≡ own = ap (λ (k : List ℕ). made k c.deref-2.result.now) key ∙ ap (made own.key) value in
-    let after : List (Option Sector) = (map_now c.insert_among.new.pages (g.D.Device.state c.args.device.now).disk.present).pages in
+    let same : made c.deref.result.now c.deref-2.result.now ≡ own =
+    ap (λ (k : List ℕ). made k c.deref-2.result.now) key ∙ ap (made own.key) value in
+    let after : List (Option Sector) =
+    (map_now c.insert_among.new.pages (g.D.Device.state c.args.device.now).disk.present).pages in
     let new : RootedTree = c.insert_among.new.tree in
-    let told = c.insert_among.ensures.inserted honest agrees left right entries stands is in
-    (ap (entry_with entries) (sym key) ∙ told.0, subst (λ (e : Entry). IsTreeAmong after left right new (with_new_entry entries e)) same told.1)
+    let told = c.insert_among.ensures.inserted honest agrees left right entries stands is in (
+      ap (entry_with entries) (sym key) ∙ told.0,
+      subst (λ (e : Entry). IsTreeAmong after left right new (with_new_entry entries e)) same told.1,
+    )
 
 pub returns-clause-there : goal.returns-clause-there
 returns-clause-there g c = λ honest agrees left right entries stands is.
     let spec : Spec = spec_of c.args.file.now in
     let own : Entry = entry_under spec Prime (row_with spec c.args.number c.args.arrival c.args.bytes.now) in
     let key : c.deref.result.now ≡ own.key = c.deref.ensures.value ∙ c.in_ok-key.ensures.key in
-    subst (λ (k : List ℕ). IsSome (entry_with entries k)) key (c.insert_among.ensures.there honest agrees left right entries stands is)
+    subst (λ (k : List ℕ). IsSome (entry_with entries k)) key
+    (c.insert_among.ensures.there honest agrees left right entries stands is)

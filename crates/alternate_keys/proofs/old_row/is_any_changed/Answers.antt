@@ -11,19 +11,23 @@ pub returns-then-is_changed : goal.returns-then-is_changed
 returns-then-is_changed c =
     let keys : List AlternateKey = c.args.file.now.alternates.items in
     let f : AlternateKey → Bool = changes (take c.args.file.now.record_length c.args.old.now) c.args.bytes.now in
-    let low : c.loop-key.key < length keys = omega (arith, c.len-count.ensures, c.args.file.now.alternates.ok, c.loop-key-test.true) in
+    let low : c.loop-key.key < length keys =
+    omega (arith, c.len-count.ensures, c.args.file.now.alternates.ok, c.loop-key-test.true) in
     sym (any_at f keys c.loop-key.key no_key low (sym c.is_changed.ensures ∙ c.if-is_changed.true))
 
 pub loop-key-preserved : goal.loop-key-preserved
 loop-key-preserved c =
     let keys : List AlternateKey = c.args.file.now.alternates.items in
     let f : AlternateKey → Bool = changes (take c.args.file.now.record_length c.args.old.now) c.args.bytes.now in
-    let low : c.loop-key.key < length keys = omega (arith, c.len-count.ensures, c.args.file.now.alternates.ok, c.loop-key-test.true) in
-    any_more f keys c.loop-key.key no_key low ∙ ap (λ (b : Bool). b || f (slice_index_or keys c.loop-key.key no_key)) c.loop-key.invariant ∙ sym c.is_changed.ensures ∙ c.if-is_changed.false
+    let low : c.loop-key.key < length keys =
+    omega (arith, c.len-count.ensures, c.args.file.now.alternates.ok, c.loop-key-test.true) in
+    any_more f keys c.loop-key.key no_key low ∙ ap (λ (b : Bool). b || f (slice_index_or keys c.loop-key.key no_key))
+    c.loop-key.invariant ∙ sym c.is_changed.ensures ∙ c.if-is_changed.false
 
 pub returns : goal.returns
 returns c =
     let keys : List AlternateKey = c.args.file.now.alternates.items in
     let f : AlternateKey → Bool = changes (take c.args.file.now.record_length c.args.old.now) c.args.bytes.now in
-    let all : take c.loop-key.key keys ≡ keys = all_taken keys c.loop-key.key (omega (arith, c.len-count.ensures, c.args.file.now.alternates.ok, c.loop-key-test.false, c.loop-key.auto.key-end)) in
+    let all : take c.loop-key.key keys ≡ keys = all_taken keys c.loop-key.key (omega
+    (arith, c.len-count.ensures, c.args.file.now.alternates.ok, c.loop-key-test.false, c.loop-key.auto.key-end)) in
     sym (ap (list_any f) (sym all) ∙ c.loop-key.invariant)

@@ -11,8 +11,11 @@ returns c =
     let place : KeyPlace = place_of (spec_of c.args.file.now) (Alternate c.args.key) in
     let record_was : List ℕ = take c.args.file.now.record_length c.args.old.now in
     let one : c.part_of.result.now ≡ part place record_was =
-    c.part_of.ensures ∙ ap (λ (p : KeyPlace). part p c.record_in.result.now) c.key_place-place.ensures.place ∙ ap (part place) c.record_in.ensures.is in
-    let two : c.part_of-2.result.now ≡ part place c.args.bytes.now = c.part_of-2.ensures ∙ ap (λ (p : KeyPlace). part p c.args.bytes.now) c.key_place-place.ensures.place in
+    c.part_of.ensures ∙ ap (λ (p : KeyPlace). part p c.record_in.result.now) c.key_place-place.ensures.place
+    ∙ ap (part place) c.record_in.ensures.is in
+    let two : c.part_of-2.result.now ≡ part place c.args.bytes.now =
+    c.part_of-2.ensures ∙ ap (λ (p : KeyPlace). part p c.args.bytes.now) c.key_place-place.ensures.place in
     ap not
-    (c.eq-same.ensures ∙ sym (is_eq-slice_cmp c.part_of.result.now c.part_of-2.result.now) ∙ ap (λ (l : List ℕ). same_bytes l c.part_of-2.result.now) one
+    (c.eq-same.ensures ∙ sym (is_eq-slice_cmp c.part_of.result.now c.part_of-2.result.now)
+    ∙ ap (λ (l : List ℕ). same_bytes l c.part_of-2.result.now) one
     ∙ ap (same_bytes (part place record_was)) two)

@@ -10,6 +10,7 @@ use Rattle.alternate_keys.proofs.old_row.value_after.Given as goal
 
 abbrev pub invariant-loop-key : goal.invariant-loop-key
 invariant-loop-key l = record {
-  items : (row : Row) → IsRowOf (spec_of l.file) row → l.old ≡ row_value row → l.out.items ≡ l.bytes ++ flat_map (big_bytes 8) (take l.key (arrivals_after row.bytes l.bytes l.arrival l.file.alternates.items row.arrivals));
+  items : (row : Row) → IsRowOf (spec_of l.file) row → l.old ≡ row_value row → l.out.items ≡ l.bytes ++ flat_map
+      (big_bytes 8) (take l.key (arrivals_after row.bytes l.bytes l.arrival l.file.alternates.items row.arrivals));
   long : length l.out.items ≡ l.file.record_length + 8 * l.key;
 }

@@ -11,9 +11,11 @@ loop-key-preserved c =
     let out : List ℕ = c.args.out.now.items in
     let keys : List AlternateKey = c.args.keys.now in
     let arrival : ℕ = c.args.arrival in
-    let done : List ℕ = flat_map (big_bytes 8) (map (λ (key : AlternateKey). arrival) (take c.loop-key.key-index keys)) in
+    let done : List ℕ =
+    flat_map (big_bytes 8) (map (λ (key : AlternateKey). arrival) (take c.loop-key.key-index keys)) in
     c.in_ok-extend_from_slice.ensures.items
     ∙ ap (λ (l : List ℕ). c.loop-key.out.items ++ l) c.to_be_bytes.ensures
     ∙ ap (λ (l : List ℕ). l ++ big_bytes 8 arrival) c.loop-key.invariant
     ∙ append_assoc out done (big_bytes 8 arrival)
-    ∙ ap (λ (l : List ℕ). out ++ l) (sym (arrivals_more keys c.loop-key.key-index arrival (omega (arith, c.loop-key-test.true, c.loop-key.auto.key-index-end))))
+    ∙ ap (λ (l : List ℕ). out ++ l) (sym (arrivals_more keys c.loop-key.key-index arrival
+    (omega (arith, c.loop-key-test.true, c.loop-key.auto.key-index-end))))

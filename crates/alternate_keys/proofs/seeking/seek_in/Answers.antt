@@ -30,16 +30,20 @@ returns-in_err-entry-clause-damaged g c = λ honest agrees files held holds has 
 pub returns-in-None-clause-found : goal.returns-in-None-clause-found
 returns-in-None-clause-found g c = λ honest agrees files held holds has.
     let m : Map = map_now c.args.pages.now (g.D.Device.state c.args.device.now).disk.present in
-    let listed = subst (λ (n : List ℕ). IsListed m (file_at n files) c.in_ok-entry.field-0) c.deref.ensures.value (c.in_ok-entry.ensures.listed honest agrees files holds) in
-    let none : file_at c.args.file.now.name.items files ≡ None = subst (IsListed m (file_at c.args.file.now.name.items files)) c.in-None.is listed in
+    let listed = subst (λ (n : List ℕ). IsListed m (file_at n files) c.in_ok-entry.field-0) c.deref.ensures.value
+    (c.in_ok-entry.ensures.listed honest agrees files holds) in
+    let none : file_at c.args.file.now.name.items files ≡ None =
+    subst (IsListed m (file_at c.args.file.now.name.items files)) c.in-None.is listed in
     let clash : None ≡ Some held = sym none ∙ has.there in
     cc
 
 pub returns-in-None-clause-bytes : goal.returns-in-None-clause-bytes
 returns-in-None-clause-bytes g c = λ honest agrees files held holds has.
     let m : Map = map_now c.args.pages.now (g.D.Device.state c.args.device.now).disk.present in
-    let listed = subst (λ (n : List ℕ). IsListed m (file_at n files) c.in_ok-entry.field-0) c.deref.ensures.value (c.in_ok-entry.ensures.listed honest agrees files holds) in
-    let none : file_at c.args.file.now.name.items files ≡ None = subst (IsListed m (file_at c.args.file.now.name.items files)) c.in-None.is listed in
+    let listed = subst (λ (n : List ℕ). IsListed m (file_at n files) c.in_ok-entry.field-0) c.deref.ensures.value
+    (c.in_ok-entry.ensures.listed honest agrees files holds) in
+    let none : file_at c.args.file.now.name.items files ≡ None =
+    subst (IsListed m (file_at c.args.file.now.name.items files)) c.in-None.is listed in
     let clash : None ≡ Some held = sym none ∙ has.there in
     cc
 
@@ -53,7 +57,8 @@ seek_row-requires-clause-short g c =
     )
 
 pub returns-in-Ok-clause-unchanged : goal.returns-in-Ok-clause-unchanged
-returns-in-Ok-clause-unchanged g c = unchanged_on c.args.pages.now c.find_listing.new.pages c.seek_row.new.pages c.find_listing.ensures.unchanged c.seek_row.ensures.unchanged
+returns-in-Ok-clause-unchanged g c = unchanged_on c.args.pages.now c.find_listing.new.pages c.seek_row.new.pages
+    c.find_listing.ensures.unchanged c.seek_row.ensures.unchanged
 
 pub returns-in-Ok-clause-found : goal.returns-in-Ok-clause-found
 returns-in-Ok-clause-found g c = λ honest agrees files held holds has.
@@ -64,11 +69,14 @@ returns-in-Ok-clause-found g c = λ honest agrees files held holds has.
     let prime : RootedTree = c.file_tree-prime.result in
     let under : RootedTree = c.file_tree-under.result in
     let at : List ℕ = c.deref-2.result.now in
-    let bounds = c.map_bounds.ensures.open c.args.pages.now (g.D.Device.state c.args.device.now).disk.present c.requires.open c.requires.unspent in
-    let knows : Knows m (file_at name files) held spec c.args.key c.in_ok-entry.field-0 c.in-Some.entry prime under = record {
+    let bounds = c.map_bounds.ensures.open c.args.pages.now (g.D.Device.state c.args.device.now).disk.present
+    c.requires.open c.requires.unspent in
+    let knows : Knows m (file_at name files) held spec c.args.key c.in_ok-entry.field-0 c.in-Some.entry prime under =
+    record {
       few = bounds.0;
       small = bounds.1;
-      listing = subst (λ (n : List ℕ). IsListed m (file_at n files) c.in_ok-entry.field-0) c.deref.ensures.value (c.in_ok-entry.ensures.listed honest agrees files holds);
+      listing = subst (λ (n : List ℕ). IsListed m (file_at n files) c.in_ok-entry.field-0) c.deref.ensures.value
+          (c.in_ok-entry.ensures.listed honest agrees files holds);
       some = c.in-Some.is;
       there = has.there;
       spec_is = has.spec;
@@ -79,10 +87,16 @@ returns-in-Ok-clause-found g c = λ honest agrees files held holds has.
       under_layout = c.file_tree-under.ensures.layout;
       under_root = c.file_tree-under.ensures.root ∙ ap (root_in c.args.key) c.value-2.ensures;
     } in
-    let bounded : IsBound spec c.args.key b = record { value = c.requires.value; number = let low = c.ranges.number.fits in omega arith } in
-    let way = sought_in m (file_at name files) held spec c.args.key b c.in_ok-entry.field-0 c.in-Some.entry prime under c.search_start_for-aim.result at knows bounded c.search_start_for-aim.ensures (c.deref-2.ensures.value ∙ c.in_ok-at.ensures.bytes) in
-    let same = same_pages c.args.pages.now c.find_listing.new.pages (g.D.Device.state c.args.device.now) (g.D.Device.state c.find_listing.new.device) c.find_listing.ensures.unchanged (c.find_listing.ensures.only.state honest) in
-    let here = subst (λ (p : List (Option Sector)). IsSought spec c.args.key b p held.rows prime under c.search_start_for-aim.result at) (sym same) way in
+    let bounded : IsBound spec c.args.key b =
+    record { value = c.requires.value; number = let low = c.ranges.number.fits in omega arith } in
+    let way = sought_in m (file_at name files) held spec c.args.key b c.in_ok-entry.field-0
+    c.in-Some.entry prime under c.search_start_for-aim.result at knows bounded c.search_start_for-aim.ensures
+    (c.deref-2.ensures.value ∙ c.in_ok-at.ensures.bytes) in
+    let same =
+    same_pages c.args.pages.now c.find_listing.new.pages (g.D.Device.state c.args.device.now) (g.D.Device.state
+    c.find_listing.new.device) c.find_listing.ensures.unchanged (c.find_listing.ensures.only.state honest) in
+    let here = subst (λ (p : List (Option Sector)).
+    IsSought spec c.args.key b p held.rows prime under c.search_start_for-aim.result at) (sym same) way in
     let honest_then = c.find_listing.ensures.only.honest.0 honest in
     let agrees_then = c.find_listing.ensures.agrees honest agrees in
     c.in-Ok.ensures.found honest_then agrees_then b held.rows here
@@ -96,11 +110,14 @@ returns-in-Ok-clause-bytes g c = λ honest agrees files held holds has.
     let prime : RootedTree = c.file_tree-prime.result in
     let under : RootedTree = c.file_tree-under.result in
     let at : List ℕ = c.deref-2.result.now in
-    let bounds = c.map_bounds.ensures.open c.args.pages.now (g.D.Device.state c.args.device.now).disk.present c.requires.open c.requires.unspent in
-    let knows : Knows m (file_at name files) held spec c.args.key c.in_ok-entry.field-0 c.in-Some.entry prime under = record {
+    let bounds = c.map_bounds.ensures.open c.args.pages.now (g.D.Device.state c.args.device.now).disk.present
+    c.requires.open c.requires.unspent in
+    let knows : Knows m (file_at name files) held spec c.args.key c.in_ok-entry.field-0 c.in-Some.entry prime under =
+    record {
       few = bounds.0;
       small = bounds.1;
-      listing = subst (λ (n : List ℕ). IsListed m (file_at n files) c.in_ok-entry.field-0) c.deref.ensures.value (c.in_ok-entry.ensures.listed honest agrees files holds);
+      listing = subst (λ (n : List ℕ). IsListed m (file_at n files) c.in_ok-entry.field-0) c.deref.ensures.value
+          (c.in_ok-entry.ensures.listed honest agrees files holds);
       some = c.in-Some.is;
       there = has.there;
       spec_is = has.spec;
@@ -111,16 +128,23 @@ returns-in-Ok-clause-bytes g c = λ honest agrees files held holds has.
       under_layout = c.file_tree-under.ensures.layout;
       under_root = c.file_tree-under.ensures.root ∙ ap (root_in c.args.key) c.value-2.ensures;
     } in
-    let bounded : IsBound spec c.args.key b = record { value = c.requires.value; number = let low = c.ranges.number.fits in omega arith } in
-    let way = sought_in m (file_at name files) held spec c.args.key b c.in_ok-entry.field-0 c.in-Some.entry prime under c.search_start_for-aim.result at knows bounded c.search_start_for-aim.ensures (c.deref-2.ensures.value ∙ c.in_ok-at.ensures.bytes) in
-    let same = same_pages c.args.pages.now c.find_listing.new.pages (g.D.Device.state c.args.device.now) (g.D.Device.state c.find_listing.new.device) c.find_listing.ensures.unchanged (c.find_listing.ensures.only.state honest) in
-    let here = subst (λ (p : List (Option Sector)). IsSought spec c.args.key b p held.rows prime under c.search_start_for-aim.result at) (sym same) way in
+    let bounded : IsBound spec c.args.key b =
+    record { value = c.requires.value; number = let low = c.ranges.number.fits in omega arith } in
+    let way = sought_in m (file_at name files) held spec c.args.key b c.in_ok-entry.field-0
+    c.in-Some.entry prime under c.search_start_for-aim.result at knows bounded c.search_start_for-aim.ensures
+    (c.deref-2.ensures.value ∙ c.in_ok-at.ensures.bytes) in
+    let same =
+    same_pages c.args.pages.now c.find_listing.new.pages (g.D.Device.state c.args.device.now) (g.D.Device.state
+    c.find_listing.new.device) c.find_listing.ensures.unchanged (c.find_listing.ensures.only.state honest) in
+    let here = subst (λ (p : List (Option Sector)).
+    IsSought spec c.args.key b p held.rows prime under c.search_start_for-aim.result at) (sym same) way in
     let honest_then = c.find_listing.ensures.only.honest.0 honest in
     let agrees_then = c.find_listing.ensures.agrees honest agrees in
     c.in-Ok.ensures.bytes honest_then agrees_then b held.rows here c.requires.bytes
 
 pub returns-clause-unchanged : goal.returns-clause-unchanged
-returns-clause-unchanged g c = unchanged_on c.args.pages.now c.find_listing.new.pages c.seek_row.new.pages c.find_listing.ensures.unchanged c.seek_row.ensures.unchanged
+returns-clause-unchanged g c = unchanged_on c.args.pages.now c.find_listing.new.pages c.seek_row.new.pages
+    c.find_listing.ensures.unchanged c.seek_row.ensures.unchanged
 
 pub returns-clause-damaged : goal.returns-clause-damaged
 returns-clause-damaged g c = λ honest agrees files held holds has is.
@@ -131,11 +155,14 @@ returns-clause-damaged g c = λ honest agrees files held holds has is.
     let prime : RootedTree = c.file_tree-prime.result in
     let under : RootedTree = c.file_tree-under.result in
     let at : List ℕ = c.deref-2.result.now in
-    let bounds = c.map_bounds.ensures.open c.args.pages.now (g.D.Device.state c.args.device.now).disk.present c.requires.open c.requires.unspent in
-    let knows : Knows m (file_at name files) held spec c.args.key c.in_ok-entry.field-0 c.in-Some.entry prime under = record {
+    let bounds = c.map_bounds.ensures.open c.args.pages.now (g.D.Device.state c.args.device.now).disk.present
+    c.requires.open c.requires.unspent in
+    let knows : Knows m (file_at name files) held spec c.args.key c.in_ok-entry.field-0 c.in-Some.entry prime under =
+    record {
       few = bounds.0;
       small = bounds.1;
-      listing = subst (λ (n : List ℕ). IsListed m (file_at n files) c.in_ok-entry.field-0) c.deref.ensures.value (c.in_ok-entry.ensures.listed honest agrees files holds);
+      listing = subst (λ (n : List ℕ). IsListed m (file_at n files) c.in_ok-entry.field-0) c.deref.ensures.value
+          (c.in_ok-entry.ensures.listed honest agrees files holds);
       some = c.in-Some.is;
       there = has.there;
       spec_is = has.spec;
@@ -146,10 +173,16 @@ returns-clause-damaged g c = λ honest agrees files held holds has is.
       under_layout = c.file_tree-under.ensures.layout;
       under_root = c.file_tree-under.ensures.root ∙ ap (root_in c.args.key) c.value-2.ensures;
     } in
-    let bounded : IsBound spec c.args.key b = record { value = c.requires.value; number = let low = c.ranges.number.fits in omega arith } in
-    let way = sought_in m (file_at name files) held spec c.args.key b c.in_ok-entry.field-0 c.in-Some.entry prime under c.search_start_for-aim.result at knows bounded c.search_start_for-aim.ensures (c.deref-2.ensures.value ∙ c.in_ok-at.ensures.bytes) in
-    let same = same_pages c.args.pages.now c.find_listing.new.pages (g.D.Device.state c.args.device.now) (g.D.Device.state c.find_listing.new.device) c.find_listing.ensures.unchanged (c.find_listing.ensures.only.state honest) in
-    let here = subst (λ (p : List (Option Sector)). IsSought spec c.args.key b p held.rows prime under c.search_start_for-aim.result at) (sym same) way in
+    let bounded : IsBound spec c.args.key b =
+    record { value = c.requires.value; number = let low = c.ranges.number.fits in omega arith } in
+    let way = sought_in m (file_at name files) held spec c.args.key b c.in_ok-entry.field-0
+    c.in-Some.entry prime under c.search_start_for-aim.result at knows bounded c.search_start_for-aim.ensures
+    (c.deref-2.ensures.value ∙ c.in_ok-at.ensures.bytes) in
+    let same =
+    same_pages c.args.pages.now c.find_listing.new.pages (g.D.Device.state c.args.device.now) (g.D.Device.state
+    c.find_listing.new.device) c.find_listing.ensures.unchanged (c.find_listing.ensures.only.state honest) in
+    let here = subst (λ (p : List (Option Sector)).
+    IsSought spec c.args.key b p held.rows prime under c.search_start_for-aim.result at) (sym same) way in
     let honest_then = c.find_listing.ensures.only.honest.0 honest in
     let agrees_then = c.find_listing.ensures.agrees honest agrees in
     let told : c.to_fault.result ≡ Damaged = cc in

@@ -9,6 +9,7 @@ above n m h k = grind arith
 pub returns-then-digits-gt9 : goal.returns-then-digits-gt9
 returns-then-digits-gt9 c =
     let large = c.if-digits-gt9.true in
-    let most : 10 ^ 10 ≤ 10 ^ c.args.digits = pow-le-pow_right {n = 10} (omega arith) {i = 10} {j = c.args.digits} (omega (arith, large)) in
+    let most : 10 ^ 10 ≤ 10 ^ c.args.digits =
+    pow-le-pow_right {n = 10} (omega arith) {i = 10} {j = c.args.digits} (omega (arith, large)) in
     let small = c.ranges.size.fits in
     above c.args.size (10 ^ c.args.digits) (omega (arith, small)) most

@@ -6,4 +6,5 @@ use Rattle.check_rules.specs.FiledKeys.{key_place_of, place_of}
 use Rattle.check_rules.proofs.file_keys.begins_alternate_key.Given as goal
 
 abbrev pub invariant-loop-key : goal.invariant-loop-key
-invariant-loop-key l = list_any (begins_key (place_of l.one)) (map key_place_of l.alternates) ≡ list_any (begins_key (place_of l.one)) (map key_place_of (drop l.key-index l.alternates))
+invariant-loop-key l = list_any (begins_key (place_of l.one)) (map key_place_of l.alternates)
+    ≡ list_any (begins_key (place_of l.one)) (map key_place_of (drop l.key-index l.alternates))

@@ -23,7 +23,8 @@ returns-in_err-declarations-clause-exact c =
     (is_first_front fault declared statements c.in_err-declarations.ensures.rules)))
 
 -- What was made is held where nothing failed behind it.
-nothing_failed : {A E : Type 0} (first : A) (behind : Result (Unit {0}) E) (held : A) (end : Unit {0}) → result_map_both {U = A × Unit {0}} (λ b. (first, b)) (λ e. e) behind ≡ Ok (held, end)
+nothing_failed : {A E : Type 0} (first : A) (behind : Result (Unit {0}) E) (held : A) (end : Unit {0})
+    → result_map_both {U = A × Unit {0}} (λ b. (first, b)) (λ e. e) behind ≡ Ok (held, end)
     → (held ≡ first) × (behind ≡ Ok end)
 nothing_failed {A} first (Ok end) held other h =
     let same : ◌≡◌ {A = A × Unit {0}} (held, other) (first, end) = cc in
@@ -35,36 +36,42 @@ at_ok {P} r x h e = subst (λ r. OnOk r P) e h
 
 pub new-requires-clause-kept : goal.new-requires-clause-kept
 new-requires-clause-kept c =
-    let held = nothing_failed c.in_ok-declarations.declarations c.procedure_division_rules-ruled.result c.in_ok-declarations-2.declarations tt
+    let held = nothing_failed c.in_ok-declarations.declarations c.procedure_division_rules-ruled.result
+    c.in_ok-declarations-2.declarations tt
     (sym c.beside.ensures ∙ c.in_ok-declarations-2.was) in
     at_ok c.procedure_division_rules-ruled.result tt c.procedure_division_rules-ruled.ensures.kept held.1
 
 pub new-requires-clause-order : goal.new-requires-clause-order
 new-requires-clause-order c =
-    let held = nothing_failed c.in_ok-declarations.declarations c.procedure_division_rules-ruled.result c.in_ok-declarations-2.declarations tt
+    let held = nothing_failed c.in_ok-declarations.declarations c.procedure_division_rules-ruled.result
+    c.in_ok-declarations-2.declarations tt
     (sym c.beside.ensures ∙ c.in_ok-declarations-2.was) in
     at_ok c.procedure_division_rules-ruled.result tt c.procedure_division_rules-ruled.ensures.order held.1
 
 pub new-requires-clause-program : goal.new-requires-clause-program
 new-requires-clause-program c =
-    let held = nothing_failed c.in_ok-declarations.declarations c.procedure_division_rules-ruled.result c.in_ok-declarations-2.declarations tt
+    let held = nothing_failed c.in_ok-declarations.declarations c.procedure_division_rules-ruled.result
+    c.in_ok-declarations-2.declarations tt
     (sym c.beside.ensures ∙ c.in_ok-declarations-2.was) in
     subst (Declares c.args.program.now) (sym held.0) c.in_ok-declarations.ensures.program
 
 pub new-requires-clause-declared : goal.new-requires-clause-declared
 new-requires-clause-declared c =
-    let held = nothing_failed c.in_ok-declarations.declarations c.procedure_division_rules-ruled.result c.in_ok-declarations-2.declarations tt
+    let held = nothing_failed c.in_ok-declarations.declarations c.procedure_division_rules-ruled.result
+    c.in_ok-declarations-2.declarations tt
     (sym c.beside.ensures ∙ c.in_ok-declarations-2.was) in
     subst IsDeclared (sym held.0) c.in_ok-declarations.ensures.declared
 
 pub returns-clause-kept : goal.returns-clause-kept
 returns-clause-kept c =
-    let held = nothing_failed c.in_ok-declarations.declarations c.procedure_division_rules-ruled.result c.in_ok-declarations-2.declarations tt
+    let held = nothing_failed c.in_ok-declarations.declarations c.procedure_division_rules-ruled.result
+    c.in_ok-declarations-2.declarations tt
     (sym c.beside.ensures ∙ c.in_ok-declarations-2.was) in
     at_ok c.procedure_division_rules-ruled.result tt c.procedure_division_rules-ruled.ensures.kept held.1
 
 pub returns-clause-order : goal.returns-clause-order
 returns-clause-order c =
-    let held = nothing_failed c.in_ok-declarations.declarations c.procedure_division_rules-ruled.result c.in_ok-declarations-2.declarations tt
+    let held = nothing_failed c.in_ok-declarations.declarations c.procedure_division_rules-ruled.result
+    c.in_ok-declarations-2.declarations tt
     (sym c.beside.ensures ∙ c.in_ok-declarations-2.was) in
     at_ok c.procedure_division_rules-ruled.result tt c.procedure_division_rules-ruled.ensures.order held.1

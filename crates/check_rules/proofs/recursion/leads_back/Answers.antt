@@ -8,9 +8,11 @@ loop-paragraph-init c = λ k low high. absurd (omega arith)
 
 pub loop-paragraph-preserved : goal.loop-paragraph-preserved
 loop-paragraph-preserved c =
-    unmarked_more (marks c.args.marked.now) c.args.one.first c.loop-paragraph.paragraph c.loop-paragraph.invariant (sym c.is_marked-in-loop-paragraph.ensures ∙ c.if-is_marked.false)
+    unmarked_more (marks c.args.marked.now) c.args.one.first c.loop-paragraph.paragraph c.loop-paragraph.invariant
+    (sym c.is_marked-in-loop-paragraph.ensures ∙ c.if-is_marked.false)
 
 pub returns : goal.returns
 returns c =
     let end = c.loop-paragraph-test.false in
-    not_back (marks c.args.marked.now) c.args.one c.loop-paragraph.paragraph (λ le. omega arith) c.loop-paragraph.invariant
+    not_back (marks c.args.marked.now) c.args.one c.loop-paragraph.paragraph (λ le. omega arith)
+    c.loop-paragraph.invariant

@@ -6,12 +6,15 @@ use Rattle.check_rules.proofs.statement_count.+count.Given as goal
 
 abbrev pub invariant-after_statements-loop-one : goal.invariant-after_statements-loop-one
 invariant-after_statements-loop-one l =
-    room_after l.fn.room (each_place statement_places l.all) ≡ room_after l.so_far (each_place statement_places (drop l.one-index l.all))
+    room_after l.fn.room (each_place statement_places l.all)
+    ≡ room_after l.so_far (each_place statement_places (drop l.one-index l.all))
 
 abbrev pub invariant-after_selected-loop-one : goal.invariant-after_selected-loop-one
-invariant-after_selected-loop-one l = room_after l.fn.room (selected_places l.all) ≡ room_after l.so_far (selected_places (drop l.one-index l.all))
+invariant-after_selected-loop-one l =
+    room_after l.fn.room (selected_places l.all) ≡ room_after l.so_far (selected_places (drop l.one-index l.all))
 
--- Each goes down by the depth of the statements in it; a phrase, and what stands around phrases, stand above the statements that they have.
+-- Each goes down by the depth of the statements in it; a phrase, and what stands around phrases, stand above the
+-- statements that they have.
 abbrev pub decreases-after_statement : goal.decreases-after_statement
 decreases-after_statement l = 8 * goal.size-after_statement l
 

@@ -7,9 +7,12 @@ use Rattle.check_rules.proofs.statement_count.after_paragraphs.Goals as goal
 
 pub loop-one-preserved : goal.loop-one-preserved
 loop-one-preserved c =
-    after_next (each_place paragraph_places) paragraph_places (λ x xs. refl) c.args.all.now c.loop-one.one-index c.one-item.result c.args.room c.loop-one.so_far c.after_sentences-so_far.result
+    after_next (each_place paragraph_places) paragraph_places (λ x xs. refl) c.args.all.now c.loop-one.one-index
+    c.one-item.result c.args.room c.loop-one.so_far c.after_sentences-so_far.result
     c.loop-one-test.true c.one-item.is c.loop-one.invariant
-    (c.after_sentences-so_far.ensures ∙ ap (λ (l : List Sentence). room_after c.loop-one.so_far (each_place sentence_places l)) c.as_slice.ensures)
+    (c.after_sentences-so_far.ensures
+    ∙ ap (λ (l : List Sentence). room_after c.loop-one.so_far (each_place sentence_places l)) c.as_slice.ensures)
 
 pub returns : goal.returns
-returns c = after_all (each_place paragraph_places) paragraph_places (λ x xs. refl) c.args.all.now c.loop-one.one-index c.args.room c.loop-one.so_far refl c.loop-one-test.false c.loop-one.invariant
+returns c = after_all (each_place paragraph_places) paragraph_places (λ x xs. refl) c.args.all.now c.loop-one.one-index
+    c.args.room c.loop-one.so_far refl c.loop-one-test.false c.loop-one.invariant

@@ -5,4 +5,5 @@ use Rattle.code_image.proofs.known.find_operands.Given as goal
 
 -- What is known along all is what is known from here on.
 abbrev pub invariant-loop-instruction : goal.invariant-loop-instruction
-invariant-loop-instruction l = known_along l.code.tables l.code.instructions empty ≡ known_along l.code.tables (drop l.instruction-index l.code.instructions) l.shape
+invariant-loop-instruction l = known_along l.code.tables l.code.instructions empty
+    ≡ known_along l.code.tables (drop l.instruction-index l.code.instructions) l.shape

@@ -16,5 +16,6 @@ returns c =
     let second : c.deref-2.result.now ≡ all = c.deref-2.ensures.value ∙ items in
     let ranges = subst (All (IsRange n)) first (c.are_ranges.ensures.0 c.if-not-are_ranges.false) in
     let order = subst (λ given. IsOrder n given found) second c.in_ok-order.ensures in
-    let same = order_is code found (subst (λ m. All (IsRange m) all) count ranges) (subst (λ m. IsOrder m all found) count order) in
+    let same = order_is code found (subst (λ m. All (IsRange m) all) count ranges)
+    (subst (λ m. IsOrder m all found) count order) in
     (λ e. same.0 (c.has_ranks.ensures.0 e), λ has. c.has_ranks.ensures.1 (same.1 has))

@@ -9,4 +9,5 @@ invariant-loop-instruction l =
     (length l.paragraphs.items ≡ l.instruction-index + 1)
     × (l.number ≡ paragraph_at l.instructions l.instruction-index)
     × (l.number ≤ l.instruction-index)
-    × ((address : ℕ) → address ≤ l.instruction-index → slice_index l.paragraphs.items address ≡ paragraph_at l.instructions address)
+    × ((address : ℕ) → address ≤ l.instruction-index
+    → slice_index l.paragraphs.items address ≡ paragraph_at l.instructions address)

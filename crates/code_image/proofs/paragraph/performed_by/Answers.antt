@@ -19,7 +19,8 @@ loop-address-preserved c =
     (elim c.match-instruction.branch [
       | in-Perform+in_ok-push w ↦
           (let push = w.in_ok-push.ensures.items in
-          let adds = adds_one (paragraph_at is k) performer w.in-Perform.line w.in-Perform.first w.in-Perform.last one found w.in-Perform.is listed in
+          let adds = adds_one (paragraph_at is k) performer w.in-Perform.line w.in-Perform.first w.in-Perform.last one
+          found w.in-Perform.is listed in
           cc)
       | in_default w ↦ (let adds = adds_none (paragraph_at is k) one found w.in_default.not-Perform in cc)
     ])

@@ -5,7 +5,13 @@ use Rattle.code_image.specs.Demands.{NamesData}
 use Rattle.code_image.proofs.verified.name_data.Goals as goal
 
 pub loop-instruction-preserved : goal.loop-instruction-preserved
-loop-instruction-preserved c = All-more (NamesData c.args.tables.now) c.args.instructions.now c.loop-instruction.instruction-index _ c.loop-instruction-test.true c.loop-instruction.invariant (c.names_data.ensures.0 c.if-not-names_data.false)
+loop-instruction-preserved c =
+    All-more (NamesData c.args.tables.now) c.args.instructions.now c.loop-instruction.instruction-index _
+    c.loop-instruction-test.true c.loop-instruction.invariant (c.names_data.ensures.0 c.if-not-names_data.false)
 
 pub returns : goal.returns
-returns c = (λ _. subst (All (NamesData c.args.tables.now)) (take_all c.loop-instruction.instruction-index c.args.instructions.now (omega arith)) c.loop-instruction.invariant, λ _. refl)
+returns c = (
+  λ _. subst (All (NamesData c.args.tables.now)) (take_all c.loop-instruction.instruction-index c.args.instructions.now
+      (omega arith)) c.loop-instruction.invariant,
+  λ _. refl,
+)

@@ -5,7 +5,13 @@ use Rattle.code_image.specs.Demands.{NamesFile}
 use Rattle.code_image.proofs.verified.name_files.Goals as goal
 
 pub loop-instruction-preserved : goal.loop-instruction-preserved
-loop-instruction-preserved c = All-more (NamesFile c.args.count) c.args.instructions.now c.loop-instruction.instruction-index _ c.loop-instruction-test.true c.loop-instruction.invariant (c.names_file.ensures.0 c.if-not-names_file.false)
+loop-instruction-preserved c =
+    All-more (NamesFile c.args.count) c.args.instructions.now c.loop-instruction.instruction-index _
+    c.loop-instruction-test.true c.loop-instruction.invariant (c.names_file.ensures.0 c.if-not-names_file.false)
 
 pub returns : goal.returns
-returns c = (λ _. subst (All (NamesFile c.args.count)) (take_all c.loop-instruction.instruction-index c.args.instructions.now (omega arith)) c.loop-instruction.invariant, λ _. refl)
+returns c = (
+  λ _. subst (All (NamesFile c.args.count)) (take_all c.loop-instruction.instruction-index c.args.instructions.now
+      (omega arith)) c.loop-instruction.invariant,
+  λ _. refl,
+)

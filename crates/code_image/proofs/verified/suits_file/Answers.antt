@@ -16,7 +16,9 @@ returns-in-File c =
     let number = c.in-File.file.number in
     let within : number < length files = subst (NamesFile (length files)) c.in-File.is c.requires in
     let one = c.index-as_slice-file.result in
-    let is : one ≡ slice_index_or files number one = c.index-as_slice-file.is ∙ ap (λ (all : List CodeFile). slice_index_or all number one) c.as_slice.ensures in
-    let e : entry_of tables one ≡ entry_at (entries_of tables files) number = entry_within tables files number one within is in
+    let is : one ≡ slice_index_or files number one =
+    c.index-as_slice-file.is ∙ ap (λ (all : List CodeFile). slice_index_or all number one) c.as_slice.ensures in
+    let e : entry_of tables one ≡ entry_at (entries_of tables files) number =
+    entry_within tables files number one within is in
     subst (λ (i : Instruction). IsTrue c.suits.result ↔ SuitsFile (entries_of tables files) i) (sym c.in-File.is)
     (subst (λ (entry : Entry). IsTrue c.suits.result ↔ Suits entry c.in-File.verb) e (c.suits.ensures tables))

@@ -7,6 +7,8 @@ pub returns : goal.returns
 returns c =
     let declarations = c.args.declarations.now in
     let same = c.deref-file-items.ensures.value in
-    codes_all (items_in declarations) declarations.selects.now declarations.files.files.items (files_in declarations) c.loop-file.file-index
-    c.loop-file.files (omega (arith, c.loop-file-test.false, c.loop-file.auto.file-index-end, ap length same)) c.loop-file.invariant
+    codes_all (items_in declarations) declarations.selects.now declarations.files.files.items (files_in declarations)
+    c.loop-file.file-index
+    c.loop-file.files (omega (arith, c.loop-file-test.false, c.loop-file.auto.file-index-end, ap length same))
+    c.loop-file.invariant
     c.requires.files.numbers c.requires.files.files

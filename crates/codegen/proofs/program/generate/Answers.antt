@@ -18,65 +18,85 @@ use Rattle.codegen.proofs.program.generate.Goals as goal
 
 pub storage_code-requires-clause-program : goal.storage_code-requires-clause-program
 storage_code-requires-clause-program c =
-    subst (λ (p : Program). Declares p c.declarations-declarations.result.now) (sym c.program-program.ensures.same) c.declarations-declarations.ensures.program
+    subst (λ (p : Program). Declares p c.declarations-declarations.result.now) (sym c.program-program.ensures.same)
+    c.declarations-declarations.ensures.program
 
 pub storage_code-requires-clause-rules : goal.storage_code-requires-clause-rules
 storage_code-requires-clause-rules c =
-    ap (λ (p : Program). entry_rules p.storage) c.program-program.ensures.same ∙ entries_kept c.args.checked.now c.program-program.ensures.kept
+    ap (λ (p : Program). entry_rules p.storage) c.program-program.ensures.same
+    ∙ entries_kept c.args.checked.now c.program-program.ensures.kept
 
 pub emit_sections-requires-clause-entries : goal.emit_sections-requires-clause-entries
 emit_sections-requires-clause-entries c =
     let program = c.args.checked.now in
-    entries_by program c.declarations-declarations.result.now c.declarations-declarations.ensures.program (entries_kept program c.program-program.ensures.kept)
+    entries_by program c.declarations-declarations.result.now c.declarations-declarations.ensures.program
+    (entries_kept program c.program-program.ensures.kept)
 
 pub emit_sections-requires-clause-rules : goal.emit_sections-requires-clause-rules
 emit_sections-requires-clause-rules c =
     let program = c.args.checked.now in
-    sections_by program c.declarations-declarations.result.now c.declarations-declarations.ensures.program c.as_slice.result.now
-    (c.as_slice.ensures ∙ ap (λ (p : Program). p.sections) c.program-program.ensures.same) (sections_kept program c.program-program.ensures.kept)
+    sections_by program c.declarations-declarations.result.now c.declarations-declarations.ensures.program
+    c.as_slice.result.now
+    (c.as_slice.ensures ∙ ap (λ (p : Program). p.sections) c.program-program.ensures.same)
+    (sections_kept program c.program-program.ensures.kept)
 
 pub returns-clause-layout : goal.returns-clause-layout
 returns-clause-layout c =
-    code_by c.args.checked.now c.declarations-declarations.result.now c.declarations-declarations.ensures.program c.program-program.result.now c.as_slice.result.now
-    c.in_ok-code.code c.emit_sections.new.code c.emit_end.new.code c.program-program.ensures.same c.as_slice.ensures c.in_ok-code.ensures c.in_ok-emit_sections.ensures c.in_ok-emit_end.ensures
+    code_by c.args.checked.now c.declarations-declarations.result.now c.declarations-declarations.ensures.program
+    c.program-program.result.now c.as_slice.result.now
+    c.in_ok-code.code c.emit_sections.new.code c.emit_end.new.code c.program-program.ensures.same c.as_slice.ensures
+    c.in_ok-code.ensures c.in_ok-emit_sections.ensures c.in_ok-emit_end.ensures
 
 pub returns-clause-ends : goal.returns-clause-ends
 returns-clause-ends c =
     let program = c.args.checked.now in
     let e : c.emit_end.new.code ≡ code_of program =
-    code_by program c.declarations-declarations.result.now c.declarations-declarations.ensures.program c.program-program.result.now c.as_slice.result.now
-    c.in_ok-code.code c.emit_sections.new.code c.emit_end.new.code c.program-program.ensures.same c.as_slice.ensures c.in_ok-code.ensures c.in_ok-emit_sections.ensures c.in_ok-emit_end.ensures in
-    λ given. subst (λ (code : Code). Runs code given (meaning program given)) (sym e) (runs program c.program-program.ensures.kept c.program-program.ensures.order given)
+    code_by program c.declarations-declarations.result.now c.declarations-declarations.ensures.program
+    c.program-program.result.now c.as_slice.result.now
+    c.in_ok-code.code c.emit_sections.new.code c.emit_end.new.code c.program-program.ensures.same c.as_slice.ensures
+    c.in_ok-code.ensures c.in_ok-emit_sections.ensures c.in_ok-emit_end.ensures in
+    λ given. subst (λ (code : Code). Runs code given (meaning program given)) (sym e)
+    (runs program c.program-program.ensures.kept c.program-program.ensures.order given)
 
 pub returns-clause-ends_only : goal.returns-clause-ends_only
 returns-clause-ends_only c =
     let program = c.args.checked.now in
     let e : c.emit_end.new.code ≡ code_of program =
-    code_by program c.declarations-declarations.result.now c.declarations-declarations.ensures.program c.program-program.result.now c.as_slice.result.now
-    c.in_ok-code.code c.emit_sections.new.code c.emit_end.new.code c.program-program.ensures.same c.as_slice.ensures c.in_ok-code.ensures c.in_ok-emit_sections.ensures c.in_ok-emit_end.ensures in
+    code_by program c.declarations-declarations.result.now c.declarations-declarations.ensures.program
+    c.program-program.result.now c.as_slice.result.now
+    c.in_ok-code.code c.emit_sections.new.code c.emit_end.new.code c.program-program.ensures.same c.as_slice.ensures
+    c.in_ok-code.ensures c.in_ok-emit_sections.ensures c.in_ok-emit_end.ensures in
     λ given run r. one_run c.emit_end.new.code given run (meaning program given) r
-    (subst (λ (code : Code). Runs code given (meaning program given)) (sym e) (runs program c.program-program.ensures.kept c.program-program.ensures.order given))
+    (subst (λ (code : Code). Runs code given (meaning program given)) (sym e)
+    (runs program c.program-program.ensures.kept c.program-program.ensures.order given))
 
 pub returns-clause-files : goal.returns-clause-files
 returns-clause-files c =
     let program = c.args.checked.now in
     let e : c.emit_end.new.code ≡ code_of program =
-    code_by program c.declarations-declarations.result.now c.declarations-declarations.ensures.program c.program-program.result.now c.as_slice.result.now
-    c.in_ok-code.code c.emit_sections.new.code c.emit_end.new.code c.program-program.ensures.same c.as_slice.ensures c.in_ok-code.ensures c.in_ok-emit_sections.ensures c.in_ok-emit_end.ensures in
+    code_by program c.declarations-declarations.result.now c.declarations-declarations.ensures.program
+    c.program-program.result.now c.as_slice.result.now
+    c.in_ok-code.code c.emit_sections.new.code c.emit_end.new.code c.program-program.ensures.same c.as_slice.ensures
+    c.in_ok-code.ensures c.in_ok-emit_sections.ensures c.in_ok-emit_end.ensures in
     ap (λ (code : Code). length code.files) e ∙ files_counted program c.program-program.ensures.kept
 
 pub returns-clause-entries : goal.returns-clause-entries
 returns-clause-entries c =
     let program = c.args.checked.now in
     let e : c.emit_end.new.code ≡ code_of program =
-    code_by program c.declarations-declarations.result.now c.declarations-declarations.ensures.program c.program-program.result.now c.as_slice.result.now
-    c.in_ok-code.code c.emit_sections.new.code c.emit_end.new.code c.program-program.ensures.same c.as_slice.ensures c.in_ok-code.ensures c.in_ok-emit_sections.ensures c.in_ok-emit_end.ensures in
-    subst (λ (code : Code). entries_of code.tables code.files ≡ described.entries_of (scope program).files) (sym e) (entries_same program c.program-program.ensures.kept)
+    code_by program c.declarations-declarations.result.now c.declarations-declarations.ensures.program
+    c.program-program.result.now c.as_slice.result.now
+    c.in_ok-code.code c.emit_sections.new.code c.emit_end.new.code c.program-program.ensures.same c.as_slice.ensures
+    c.in_ok-code.ensures c.in_ok-emit_sections.ensures c.in_ok-emit_end.ensures in
+    subst (λ (code : Code). entries_of code.tables code.files ≡ described.entries_of (scope program).files) (sym e)
+    (entries_same program c.program-program.ensures.kept)
 
 pub returns-clause-verified : goal.returns-clause-verified
 returns-clause-verified c =
     let program = c.args.checked.now in
     let e : c.emit_end.new.code ≡ code_of program =
-    code_by program c.declarations-declarations.result.now c.declarations-declarations.ensures.program c.program-program.result.now c.as_slice.result.now
-    c.in_ok-code.code c.emit_sections.new.code c.emit_end.new.code c.program-program.ensures.same c.as_slice.ensures c.in_ok-code.ensures c.in_ok-emit_sections.ensures c.in_ok-emit_end.ensures in
+    code_by program c.declarations-declarations.result.now c.declarations-declarations.ensures.program
+    c.program-program.result.now c.as_slice.result.now
+    c.in_ok-code.code c.emit_sections.new.code c.emit_end.new.code c.program-program.ensures.same c.as_slice.ensures
+    c.in_ok-code.ensures c.in_ok-emit_sections.ensures c.in_ok-emit_end.ensures in
     subst IsVerified (sym e) (verified program c.program-program.ensures.kept c.program-program.ensures.order)

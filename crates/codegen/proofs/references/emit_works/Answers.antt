@@ -7,4 +7,5 @@ use Rattle.codegen.proofs.references.emit_works.Goals as goal
 
 pub returns : goal.returns
 returns c =
-    is_done work_fragment c.args.all.now c.loop-one.one-index c.loop-one.code _ c.loop-one-test.false c.loop-one.invariant ∙ ap (append c.args.code.now) (works_are c.args.all.now c.args.code.now)
+    is_done work_fragment c.args.all.now c.loop-one.one-index c.loop-one.code _ c.loop-one-test.false
+    c.loop-one.invariant ∙ ap (append c.args.code.now) (works_are c.args.all.now c.args.code.now)

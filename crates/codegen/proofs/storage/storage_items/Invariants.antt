@@ -9,4 +9,5 @@ use Rattle.codegen.proofs.storage.storage_items.Given as goal
 abbrev pub invariant-loop-file : goal.invariant-loop-file
 invariant-loop-file l =
     l.items ≡ map data_item (items_in l.declarations)
-    ++ map (λ file. sent_entry (items_in l.declarations) (file_in (items_in l.declarations) file)) (take l.file-index l.declarations.files.files.items)
+    ++ map (λ file. sent_entry (items_in l.declarations) (file_in (items_in l.declarations) file))
+    (take l.file-index l.declarations.files.files.items)

@@ -1,4 +1,5 @@
-use Rattle.std.proofs.Common.{◌≡◌, ℕ, ◌+◌, ◌-◌, ◌*◌, ◌≤◌, List, [], ◌∷◌, ◌++◌, length, take, get_or, sym, ap, subst, ◌∙◌}
+use Rattle.std.proofs.Common.{◌≡◌, ℕ, ◌+◌, ◌-◌, ◌*◌, ◌≤◌, List, [], ◌∷◌, ◌++◌, length, take, get_or, sym, ap, subst}
+use Rattle.std.proofs.Common.{◌∙◌}
 use Rattle.std.specs.Prelude.{min}
 use Rattle.std.proofs.lemmas.List.{take_all, take_more}
 use Rattle.source_tree.specs.Performing.{most_turns, turns_of}
@@ -14,8 +15,10 @@ loop-digit-preserved c =
     let same = c.as_slice-digit-items.ensures in
     let digit = get_or items i 0 in
     let taken : take (i + 1) digits ≡ take i digits ++ digit ∷ [] =
-    ap (take (i + 1)) (sym same) ∙ take_more items i 0 c.loop-digit-test.true ∙ ap (λ (l : List ℕ). take i l ++ digit ∷ []) same in
-    let value : c.saturating_add-count.result ≡ min (min (c.loop-digit.count * 10) most_turns + (digit - 48)) most_turns = cc in
+    ap (take (i + 1)) (sym same) ∙ take_more items i 0 c.loop-digit-test.true
+    ∙ ap (λ (l : List ℕ). take i l ++ digit ∷ []) same in
+    let value : c.saturating_add-count.result
+    ≡ min (min (c.loop-digit.count * 10) most_turns + (digit - 48)) most_turns = cc in
     value
     ∙ ap (λ n. min (min (n * 10) most_turns + (digit - 48)) most_turns) c.loop-digit.invariant
     ∙ turns_more place (take i digits) digit
@@ -26,5 +29,6 @@ returns c =
     let i = c.loop-digit.digit-index in
     let place = c.args.integer.now.place in
     let digits = c.args.integer.now.digits in
-    let all : length digits ≤ i = subst (λ (l : List ℕ). length l ≤ i) c.as_slice-digit-items.ensures c.loop-digit-test.false in
+    let all : length digits ≤ i =
+    subst (λ (l : List ℕ). length l ≤ i) c.as_slice-digit-items.ensures c.loop-digit-test.false in
     c.loop-digit.invariant ∙ ap (λ (l : List ℕ). turns_of (of_digits place l)) (take_all i digits all)

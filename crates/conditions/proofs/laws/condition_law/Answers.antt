@@ -10,4 +10,5 @@ pub returns-clause-only : goal.returns-clause-only
 returns-clause-only c = only_to_depth
 
 pub returns-clause-parentheses : goal.returns-clause-parentheses
-returns-clause-parentheses c = λ depth one from rest s. parentheses_passed {p = condition depth one} (condition_even depth one) from rest s
+returns-clause-parentheses c =
+    λ depth one from rest s. parentheses_passed {p = condition depth one} (condition_even depth one) from rest s

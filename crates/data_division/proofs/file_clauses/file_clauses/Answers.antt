@@ -12,23 +12,27 @@ loop-turn-init c = first_of (search rules, grind (arith, common_steps))
 pub returns-in_default : goal.returns-in_default
 unfolding gathering_turns
 returns-in_default c =
-    let e = one_more (λ n. gathering_turns file_clauses file_clause_reader n c.loop-turn.stated c.loop-turn.tokens) _ c.loop-turn._turn c.loop-turn-test.true c.loop-turn.invariant in
+    let e = one_more (λ n. gathering_turns file_clauses file_clause_reader n c.loop-turn.stated c.loop-turn.tokens) _
+    c.loop-turn._turn c.loop-turn-test.true c.loop-turn.invariant in
     first_of (search rules, grind (arith, common_steps))
 
 pub returns-then-has : goal.returns-then-has
 unfolding gathering_turns
 returns-then-has c =
-    let e = one_more (λ n. gathering_turns file_clauses file_clause_reader n c.loop-turn.stated c.loop-turn.tokens) _ c.loop-turn._turn c.loop-turn-test.true c.loop-turn.invariant in
+    let e = one_more (λ n. gathering_turns file_clauses file_clause_reader n c.loop-turn.stated c.loop-turn.tokens) _
+    c.loop-turn._turn c.loop-turn-test.true c.loop-turn.invariant in
     first_of (search rules, grind (arith, common_steps))
 
 pub returns-in_err-file_clause : goal.returns-in_err-file_clause
 unfolding gathering_turns
 returns-in_err-file_clause c =
-    let e = one_more (λ n. gathering_turns file_clauses file_clause_reader n c.loop-turn.stated c.loop-turn.tokens) _ c.loop-turn._turn c.loop-turn-test.true c.loop-turn.invariant in
+    let e = one_more (λ n. gathering_turns file_clauses file_clause_reader n c.loop-turn.stated c.loop-turn.tokens) _
+    c.loop-turn._turn c.loop-turn-test.true c.loop-turn.invariant in
     first_of (search rules, grind (arith, common_steps))
 
 pub loop-turn-preserved : goal.loop-turn-preserved
 unfolding gathering_turns
 loop-turn-preserved c =
-    let e = one_more (λ n. gathering_turns file_clauses file_clause_reader n c.loop-turn.stated c.loop-turn.tokens) _ c.loop-turn._turn c.loop-turn-test.true c.loop-turn.invariant in
+    let e = one_more (λ n. gathering_turns file_clauses file_clause_reader n c.loop-turn.stated c.loop-turn.tokens) _
+    c.loop-turn._turn c.loop-turn-test.true c.loop-turn.invariant in
     first_of (search rules, grind (arith, common_steps))

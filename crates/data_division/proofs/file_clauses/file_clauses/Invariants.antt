@@ -5,4 +5,5 @@ use Rattle.data_division.proofs.file_clauses.file_clauses.Given as goal
 
 -- what is still to be read
 abbrev pub invariant-loop-turn : goal.invariant-loop-turn
-invariant-loop-turn l = gathering_reader file_clauses file_clause_reader no_file_clauses l.fn.tokens ≡ gathering_turns file_clauses file_clause_reader (l._turn-end - l._turn) l.stated l.tokens
+invariant-loop-turn l = gathering_reader file_clauses file_clause_reader no_file_clauses l.fn.tokens
+    ≡ gathering_turns file_clauses file_clause_reader (l._turn-end - l._turn) l.stated l.tokens

@@ -4,4 +4,5 @@ use Rattle.data_division.proofs.forms.formless_file.Given as goal
 
 -- what is still to be looked at
 abbrev pub invariant-loop-file : goal.invariant-loop-file
-invariant-loop-file l = first_formless (file_entries l.files) ≡ first_formless (file_entries (drop l.file-index l.files))
+invariant-loop-file l =
+    first_formless (file_entries l.files) ≡ first_formless (file_entries (drop l.file-index l.files))

@@ -11,4 +11,8 @@ loop-one-preserved c =
     (c.is_inspection.ensures.0 c.if-not-is_inspection.false) c.loop-one.invariant
 
 pub returns : goal.returns
-returns c = (λ t k one here. let within = slice_get_within c.args.inspections.now k one here in c.loop-one.invariant k one (omega (arith, within)) here, λ all. refl)
+returns c = (
+  λ t k one here. let within =
+      slice_get_within c.args.inspections.now k one here in c.loop-one.invariant k one (omega (arith, within)) here,
+  λ all. refl,
+)

@@ -12,7 +12,8 @@ pub returns-clause-sign : goal.returns-clause-sign
 returns-clause-sign c = sign_works
 
 pub returns-clause-class : goal.returns-clause-class
-returns-clause-class c = λ items tables reference negated one code order is. class_works items tables order reference negated one code is
+returns-clause-class c =
+    λ items tables reference negated one code order is. class_works items tables order reference negated one code is
 
 pub returns-clause-name : goal.returns-clause-name
 returns-clause-name c = λ items tables reference code order is. name_works items tables order reference code is

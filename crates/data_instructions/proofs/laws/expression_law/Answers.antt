@@ -1,4 +1,5 @@
-use Rattle.data_instructions.proofs.Expressions.{value_works, negated_works, first_works, further_works, value_known, negated_known, first_known, further_known}
+use Rattle.data_instructions.proofs.Expressions.{value_works, negated_works, first_works, further_works, value_known}
+use Rattle.data_instructions.proofs.Expressions.{negated_known, first_known, further_known}
 use Rattle.data_instructions.proofs.laws.expression_law.Goals as goal
 
 pub returns-clause-operand : goal.returns-clause-operand

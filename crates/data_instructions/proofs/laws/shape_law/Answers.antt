@@ -6,7 +6,8 @@ pub returns-clause-chain : goal.returns-clause-chain
 returns-clause-chain c = effects_append
 
 pub returns-clause-moves : goal.returns-clause-moves
-returns-clause-moves c = λ items tables sender receivers code sent is sends may. move_known items tables sender receivers code is sent sends may
+returns-clause-moves c = λ items tables sender receivers code sent is sends may.
+    move_known items tables sender receivers code is sent sends may
 
 pub returns-clause-displays : goal.returns-clause-displays
 returns-clause-displays c = display_known

@@ -11,4 +11,8 @@ loop-one-preserved c =
     (c.is_data_item.ensures.0 c.if-not-is_data_item.false) c.loop-one.invariant
 
 pub returns : goal.returns
-returns c = (λ t k one here. let within = slice_get_within c.args.items.now k one here in c.loop-one.invariant k one (omega (arith, within)) here, λ all. refl)
+returns c = (
+  λ t k one here. let within =
+      slice_get_within c.args.items.now k one here in c.loop-one.invariant k one (omega (arith, within)) here,
+  λ all. refl,
+)

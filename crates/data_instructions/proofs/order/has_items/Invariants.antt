@@ -5,4 +5,5 @@ use Rattle.data_instructions.specs.declared.tables.DataItem.{DataItem}
 use Rattle.data_instructions.proofs.order.has_items.Given as goal
 
 abbrev pub invariant-loop-one : goal.invariant-loop-one
-invariant-loop-one l = (k : ℕ) (one : DataItem) → k < l.one-index → slice_get l.items k ≡ Some one → IsDataItem l.areas one
+invariant-loop-one l =
+    (k : ℕ) (one : DataItem) → k < l.one-index → slice_get l.items k ≡ Some one → IsDataItem l.areas one

@@ -5,4 +5,5 @@ use Rattle.data_instructions.specs.declared.tables.LiteralSender.{LiteralSender}
 use Rattle.data_instructions.proofs.order.has_senders.Given as goal
 
 abbrev pub invariant-loop-one : goal.invariant-loop-one
-invariant-loop-one l = (k : ℕ) (one : LiteralSender) → k < l.one-index → slice_get l.senders k ≡ Some one → IsTaken one.taken one.bytes
+invariant-loop-one l =
+    (k : ℕ) (one : LiteralSender) → k < l.one-index → slice_get l.senders k ≡ Some one → IsTaken one.taken one.bytes

@@ -5,7 +5,8 @@ use Rattle.data_instructions.proofs.InspectChains.{inspect_leaves}
 use Rattle.data_instructions.proofs.text_laws.text_law.Goals as goal
 
 pub returns-clause-initializes : goal.returns-clause-initializes
-returns-clause-initializes c = λ items tables receivers code order is. initialize_works items tables order receivers code is
+returns-clause-initializes c =
+    λ items tables receivers code order is. initialize_works items tables order receivers code is
 
 pub returns-clause-sets : goal.returns-clause-sets
 returns-clause-sets c = λ items tables conditions code order is. set_works items tables order conditions code is

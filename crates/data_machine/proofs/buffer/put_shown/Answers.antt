@@ -8,6 +8,7 @@ returns-clause-writes c = (
   take c.in_ok-count.count c.shown.new.to,
   c.in_ok-count.ensures,
   behind c.args.used c.min.result c.split_at_mut-rest.result.0.now c.shown.new.to c.split_at_mut-rest.ensures.front_len
-      ∙ ap (λ text. c.split_at_mut-rest.result.0.now ++ text) (ap (λ m. take m c.shown.new.to) (c.min.ensures ∙ ap (min c.in_ok-count.count) (sym c.shown.auto.to)) ∙ take_min c.in_ok-count.count c.shown.new.to)
+      ∙ ap (λ text. c.split_at_mut-rest.result.0.now ++ text) (ap (λ m. take m c.shown.new.to) (c.min.ensures
+      ∙ ap (min c.in_ok-count.count) (sym c.shown.auto.to)) ∙ take_min c.in_ok-count.count c.shown.new.to)
       ∙ ap (λ front. front ++ take c.in_ok-count.count c.shown.new.to) c.split_at_mut-rest.ensures.front,
 )

@@ -18,8 +18,13 @@ returns-in-Numeric-default c =
 pub returns-in-NumericEdited-Some : goal.returns-in-NumericEdited-Some
 returns-in-NumericEdited-Some c =
     let at = c.in-NumericEdited-Some in (
-      record { digits = at.picture.digits; scale = at.picture.scale; bytes = edited_or_blank at.blank_when_zero at.picture },
-      ap (λ (k : Kind). receiver_of k c.args.one.now.editing) at.is-0 ∙ ap (receiver_of (kind.NumericEdited at.blank_when_zero)) at.is-1,
+      record {
+        digits = at.picture.digits;
+        scale = at.picture.scale;
+        bytes = edited_or_blank at.blank_when_zero at.picture;
+      },
+      ap (λ (k : Kind). receiver_of k c.args.one.now.editing) at.is-0
+          ∙ ap (receiver_of (kind.NumericEdited at.blank_when_zero)) at.is-1,
       c.store_edited.ensures.bytes,
       c.store_edited.ensures.size,
     )

@@ -12,13 +12,19 @@ above a b m is = (grind (arith, common_steps), grind (arith, common_steps))
 pub loop-one-preserved : goal.loop-one-preserved
 loop-one-preserved c =
     let tallying = above c.loop-one.most c.len.result c.max.result c.max.ensures in
-    more_entries (λ (one : Inspection). (length one.tallying ≤ c.max-most.result) × (length one.replacing ≤ c.max-most.result)) c.args.inspections.now c.loop-one.one-index c.one-item.result
-    (slice_get_read c.args.inspections.now _ c.loop-one.one-index c.one-item.result refl (omega arith) c.one-item.is)
-    (omega (arith, c.len.ensures, tallying, c.max-most.ensures), omega (arith, c.len-in-loop-one.ensures, c.max-most.ensures))
-    (λ k one within here. let h = c.loop-one.invariant k one within here in (omega (arith, h.0, tallying, c.max-most.ensures), omega (arith, h.1, tallying, c.max-most.ensures)))
+    more_entries (λ (one : Inspection). (length one.tallying ≤ c.max-most.result)
+    × (length one.replacing ≤ c.max-most.result)) c.args.inspections.now c.loop-one.one-index c.one-item.result
+    (slice_get_read c.args.inspections.now _ c.loop-one.one-index c.one-item.result refl (omega arith) c.one-item.is) (
+      omega (arith, c.len.ensures, tallying, c.max-most.ensures),
+      omega (arith, c.len-in-loop-one.ensures, c.max-most.ensures),
+    )
+    (λ k one within here. let h = c.loop-one.invariant k one within here in
+    (omega (arith, h.0, tallying, c.max-most.ensures), omega (arith, h.1, tallying, c.max-most.ensures)))
 
 pub returns-clause-tallying : goal.returns-clause-tallying
-returns-clause-tallying c = λ k one here. let within = slice_get_within c.args.inspections.now k one here in (c.loop-one.invariant k one (omega (arith, within)) here).0
+returns-clause-tallying c = λ k one here. let within =
+    slice_get_within c.args.inspections.now k one here in (c.loop-one.invariant k one (omega (arith, within)) here).0
 
 pub returns-clause-replacing : goal.returns-clause-replacing
-returns-clause-replacing c = λ k one here. let within = slice_get_within c.args.inspections.now k one here in (c.loop-one.invariant k one (omega (arith, within)) here).1
+returns-clause-replacing c = λ k one here. let within =
+    slice_get_within c.args.inspections.now k one here in (c.loop-one.invariant k one (omega (arith, within)) here).1

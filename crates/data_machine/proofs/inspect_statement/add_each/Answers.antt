@@ -11,27 +11,34 @@ none = record { item = record { number = 0 }; offset = 0; length = 0 }
 
 pub add_at-requires-clause-stands : goal.add_at-requires-clause-stands
 add_at-requires-clause-stands c =
-    (next_stands c.args.tables.now c.loop-number.areas c.args.places.now c.loop-number.number none (omega arith) c.loop-number.invariant.stand).0
+    (next_stands c.args.tables.now c.loop-number.areas c.args.places.now c.loop-number.number none (omega arith)
+    c.loop-number.invariant.stand).0
 
 pub returns-in-Err-clause-adds : goal.returns-in-Err-clause-adds
 returns-in-Err-clause-adds c =
     let inv = c.loop-number.invariant in
     let p = get_or c.args.places.now c.loop-number.number none in
     sym inv.adds
-    ∙ added c.args.tables.now (slice_index c.args.counts.now) c.loop-number.from c.args.places.now c.args.counters.now c.loop-number.number none 0 c.loop-number.areas
-    (there c.args.tables.now p) (Err (fault_of c.in-Err.fault)) (omega arith) (omega (arith, c.requires.counters)) refl c.in-Err.ensures.adds
+    ∙ added c.args.tables.now (slice_index c.args.counts.now) c.loop-number.from c.args.places.now c.args.counters.now
+    c.loop-number.number none 0 c.loop-number.areas
+    (there c.args.tables.now p) (Err (fault_of c.in-Err.fault)) (omega arith) (omega (arith, c.requires.counters)) refl
+    c.in-Err.ensures.adds
 
 pub loop-number-preserved : goal.loop-number-preserved
 loop-number-preserved c =
     let inv = c.loop-number.invariant in
     let p = get_or c.args.places.now c.loop-number.number none in
-    let next = next_stands c.args.tables.now c.loop-number.areas c.args.places.now c.loop-number.number none (omega arith) inv.stand in
+    let next = next_stands c.args.tables.now c.loop-number.areas c.args.places.now c.loop-number.number none
+    (omega arith) inv.stand in
     record {
-      entries = total_next c.args.tables.now c.args.counters.now c.loop-number.number 0 c.loop-number.from (omega (arith, c.requires.counters)) inv.entries;
+      entries = total_next c.args.tables.now c.args.counters.now c.loop-number.number 0 c.loop-number.from
+          (omega (arith, c.requires.counters)) inv.entries;
       stand = still_each c.args.tables.now c.loop-number.areas c.add_at.new.areas _ c.add_at.ensures.lengths next.1;
       lengths = c.add_at.ensures.lengths ∙ inv.lengths;
       adds =
-          sym (added c.args.tables.now (slice_index c.args.counts.now) c.loop-number.from c.args.places.now c.args.counters.now c.loop-number.number none 0 c.loop-number.areas
-          (there c.args.tables.now p) (Ok c.add_at.new.areas) (omega arith) (omega (arith, c.requires.counters)) refl c.in-Ok.ensures.adds)
+          sym (added c.args.tables.now (slice_index c.args.counts.now) c.loop-number.from c.args.places.now
+          c.args.counters.now c.loop-number.number none 0 c.loop-number.areas
+          (there c.args.tables.now p) (Ok c.add_at.new.areas) (omega arith) (omega (arith, c.requires.counters)) refl
+          c.in-Ok.ensures.adds)
           ∙ inv.adds;
     }

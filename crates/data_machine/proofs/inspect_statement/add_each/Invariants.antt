@@ -12,6 +12,8 @@ invariant-loop-number l = record {
   stand : StandEach l.fn.tables l.areas (drop l.number l.fn.places);
   lengths : map length l.areas ≡ map length l.fn.areas;
   adds :
-      meaning.add_each (map (there l.fn.tables) (drop l.number l.fn.places)) (layout.counted_fits (slice_index l.fn.counts) l.from (drop l.number l.fn.counters)) l.areas
-      ≡ meaning.add_each (map (there l.fn.tables) l.fn.places) (layout.counted_fits (slice_index l.fn.counts) 0 l.fn.counters) l.fn.areas;
+      meaning.add_each (map (there l.fn.tables) (drop l.number l.fn.places))
+      (layout.counted_fits (slice_index l.fn.counts) l.from (drop l.number l.fn.counters)) l.areas
+      ≡ meaning.add_each (map (there l.fn.tables) l.fn.places)
+      (layout.counted_fits (slice_index l.fn.counts) 0 l.fn.counters) l.fn.areas;
 }

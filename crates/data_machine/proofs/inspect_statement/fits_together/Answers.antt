@@ -6,5 +6,6 @@ use Rattle.data_machine.proofs.inspect_statement.fits_together.Goals as goal
 pub loop-number-preserved : goal.loop-number-preserved
 loop-number-preserved c =
     let inv = c.loop-number.invariant in
-    let is = fits_more (slice_index c.args.counts.now) c.args.from c.loop-number.number c.loop-number.fits c.from-fits.result inv.value c.from-fits.ensures in
+    let is = fits_more (slice_index c.args.counts.now) c.args.from c.loop-number.number c.loop-number.fits
+    c.from-fits.result inv.value c.from-fits.ensures in
     record { value = is; small = omega arith }

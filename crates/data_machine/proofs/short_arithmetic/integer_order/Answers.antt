@@ -15,5 +15,7 @@ returns-in-Some c =
     let is : c.cmp.result ≡ int_cmp a b = simp to_z-of_z at c.cmp.ensures in
     let integer : c.new.result ≡ record { coefficient = pos c.args.integer; scale = 0 } = search rules in
     let other : b ≡ aligned_coefficient (record { coefficient = pos c.args.integer; scale = 0 }) c.args.x.scale =
-    c.in-Some.ensures ∙ ap (λ y. aligned_coefficient y c.scale.result) integer ∙ ap (aligned_coefficient (record { coefficient = pos c.args.integer; scale = 0 })) c.scale.ensures.value in
-    order_by c.args.x (record { coefficient = pos c.args.integer; scale = 0 }) a b c.cmp.result c.coefficient.ensures refl other is
+    c.in-Some.ensures ∙ ap (λ y. aligned_coefficient y c.scale.result) integer
+    ∙ ap (aligned_coefficient (record { coefficient = pos c.args.integer; scale = 0 })) c.scale.ensures.value in
+    order_by c.args.x (record { coefficient = pos c.args.integer; scale = 0 }) a b c.cmp.result c.coefficient.ensures
+    refl other is

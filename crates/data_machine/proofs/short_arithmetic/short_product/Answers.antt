@@ -14,6 +14,8 @@ returns-in-Some c =
     let right : FitsSigned w64 two = search rules in
     let fits : FitsSigned w64 times = search rules in
     let value : times ≡ one *ℤ two = simp to_z-of_z at c.in-Some.ensures.1 in
-    let coefficient : c.new.result.coefficient ≡ times = omega (arith, ints, ap (λ (x : Fraction). x.coefficient) c.new.ensures) in
+    let coefficient : c.new.result.coefficient ≡ times =
+    omega (arith, ints, ap (λ (x : Fraction). x.coefficient) c.new.ensures) in
     let scale : c.new.result.scale ≡ c.scale.result + c.scale-2.result = ap (λ (x : Fraction). x.scale) c.new.ensures in
-    product_short c.args.left c.args.right c.new.result one two times (c.scale.result + c.scale-2.result) (omega arith) (omega arith) c.coefficient.ensures c.coefficient-2.ensures value fits coefficient scale
+    product_short c.args.left c.args.right c.new.result one two times (c.scale.result + c.scale-2.result) (omega arith)
+    (omega arith) c.coefficient.ensures c.coefficient-2.ensures value fits coefficient scale

@@ -14,6 +14,8 @@ returns-in-Some-checked_add c =
     let right : FitsSigned w64 two = search rules in
     let fits : FitsSigned w64 total = search rules in
     let value : total ≡ one +ℤ two = omega (arith, ints, c.in-Some-checked_add.ensures.1) in
-    let coefficient : c.new.result.coefficient ≡ total = omega (arith, ints, ap (λ (x : Fraction). x.coefficient) c.new.ensures) in
+    let coefficient : c.new.result.coefficient ≡ total =
+    omega (arith, ints, ap (λ (x : Fraction). x.coefficient) c.new.ensures) in
     let scale : c.new.result.scale ≡ c.max-scale.result = ap (λ (x : Fraction). x.scale) c.new.ensures in
-    sum_short c.args.left c.args.right c.new.result one two total c.max-scale.result (omega arith) (omega arith) c.in-Some.ensures c.in-Some-aligned.ensures left right value fits coefficient scale
+    sum_short c.args.left c.args.right c.new.result one two total c.max-scale.result (omega arith) (omega arith)
+    c.in-Some.ensures c.in-Some-aligned.ensures left right value fits coefficient scale

@@ -17,7 +17,8 @@ returns-in-Unsigned c =
     let item = c.args.item in
     let is : item.usage ≡ usage.Display sign.Unsigned = c.in-Display.is ∙ ap usage.Display c.in-Unsigned.is in
     let fits : FitsSigned w64 c.args.coefficient = search rules in
-    let value : c.unsigned_abs.result ≡ unsigned_abs c.args.coefficient = simp to_z-of_z at c.unsigned_abs.ensures.value in
+    let value : c.unsigned_abs.result ≡ unsigned_abs c.args.coefficient =
+    simp to_z-of_z at c.unsigned_abs.ensures.value in
     c.put_digits.ensures
     ∙ ap (λ size. digit_text size c.unsigned_abs.result) (c.requires.length ∙ unsigned_length item is)
     ∙ ap (digit_text item.digits) value
@@ -29,7 +30,8 @@ store-requires-clause-holds c =
     let fits : FitsSigned w64 c.args.coefficient = search rules in
     let held_fits : FitsSigned w64 c.held_coefficient-held.result = search rules in
     let short : c.short.result ≡ at_scale item c.held_coefficient-held.result = simp to_z-of_z at c.short.ensures in
-    let held : at_scale item c.held_coefficient-held.result ≡ held_by item (at_scale item c.args.coefficient) = simp to_z-of_z at c.held_coefficient-held.ensures in
+    let held : at_scale item c.held_coefficient-held.result ≡ held_by item (at_scale item c.args.coefficient) =
+    simp to_z-of_z at c.held_coefficient-held.ensures in
     subst (CanHold item) (sym (short ∙ held)) (is_held item (at_scale item c.args.coefficient) refl c.requires.digits)
 
 pub returns : goal.returns
@@ -38,5 +40,6 @@ returns c =
     let fits : FitsSigned w64 c.args.coefficient = search rules in
     let held_fits : FitsSigned w64 c.held_coefficient-held.result = search rules in
     let short : c.short.result ≡ at_scale item c.held_coefficient-held.result = simp to_z-of_z at c.short.ensures in
-    let held : at_scale item c.held_coefficient-held.result ≡ held_by item (at_scale item c.args.coefficient) = simp to_z-of_z at c.held_coefficient-held.ensures in
+    let held : at_scale item c.held_coefficient-held.result ≡ held_by item (at_scale item c.args.coefficient) =
+    simp to_z-of_z at c.held_coefficient-held.ensures in
     c.store.ensures ∙ ap (bytes_of item) (short ∙ held)

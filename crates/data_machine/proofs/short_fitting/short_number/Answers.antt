@@ -3,4 +3,5 @@ use Rattle.items.proofs.Held.{held_number}
 use Rattle.data_machine.proofs.short_fitting.short_number.Goals as goal
 
 pub held-requires-clause-holds : goal.held-requires-clause-holds
-held-requires-clause-holds c = held_number c.args.item c.args.bytes.now c.in-Some.x (sym c.number.ensures ∙ c.in-Some.is)
+held-requires-clause-holds c =
+    held_number c.args.item c.args.bytes.now c.in-Some.x (sym c.number.ensures ∙ c.in-Some.is)

@@ -12,4 +12,5 @@ returns-in_err-bytes-clause-rules c =
     let p = err_from_is_err_and c.from_residual.result c.from_residual.ensures.1 in
     let program = c.args.program.now in
     let fault = fault_of c.in_err-bytes.field-0.0 in
-    rw (p.1, p.2) (is_first_front fault (entry_rules program.storage) (file_rules program) (subst (λ (l : List Entry). IsFirst fault (entry_rules l)) c.as_slice.ensures c.in_err-bytes.ensures.rules))
+    rw (p.1, p.2) (is_first_front fault (entry_rules program.storage) (file_rules program)
+    (subst (λ (l : List Entry). IsFirst fault (entry_rules l)) c.as_slice.ensures c.in_err-bytes.ensures.rules))

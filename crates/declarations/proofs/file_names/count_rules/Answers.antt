@@ -14,4 +14,5 @@ returns-in-Some c =
     let names = c.args.names.now in
     let one : RuleBreach = record { rule = 69; place = c.in-Some.one.now.now.place } in
     finds_first c.broken_if.result one (each (broken_at 69) (drop most_files (names_of names))) c.broken_if.ensures
-    (past 15 names c.in-Some.one.now there.3.0 ∙ ap (λ (b : Bor Name). Some (record { rule = 69; place = b.now.place })) (sym there.1))
+    (past 15 names c.in-Some.one.now there.3.0
+    ∙ ap (λ (b : Bor Name). Some (record { rule = 69; place = b.now.place })) (sym there.1))

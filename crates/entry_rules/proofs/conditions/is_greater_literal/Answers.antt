@@ -9,6 +9,9 @@ use Rattle.entry_rules.proofs.conditions.is_greater_literal.Goals as goal
 pub returns-in-Some-Some : goal.returns-in-Some-Some
 returns-in-Some-Some c =
     c.is_greater_text.ensures
-    ∙ ap is_greater (ap (λ t. comparison_of t c.in-Some-Some.ones.now c.text-in-Some-Some.result c.in-Some-Some.others.now) c.text.ensures
-    ∙ ap (λ t. comparison_of (text_taken c.in-Some-Some.ones.now) c.in-Some-Some.ones.now t c.in-Some-Some.others.now) c.text-in-Some-Some.ensures
-    ∙ sym (once_order (literals.literal_sender c.args.first.now) (literals.literal_sender c.args.last.now) c.in-Some-Some.ones.now c.in-Some-Some.others.now c.in-Some-Some.ensures c.in-Some-Some.ensures'))
+    ∙ ap is_greater (ap
+    (λ t. comparison_of t c.in-Some-Some.ones.now c.text-in-Some-Some.result c.in-Some-Some.others.now) c.text.ensures
+    ∙ ap (λ t. comparison_of (text_taken c.in-Some-Some.ones.now) c.in-Some-Some.ones.now t c.in-Some-Some.others.now)
+    c.text-in-Some-Some.ensures
+    ∙ sym (once_order (literals.literal_sender c.args.first.now) (literals.literal_sender c.args.last.now)
+    c.in-Some-Some.ones.now c.in-Some-Some.others.now c.in-Some-Some.ensures c.in-Some-Some.ensures'))

@@ -7,5 +7,6 @@ use Rattle.entry_rules.proofs.conditions.is_greater_number.Goals as goal
 
 pub returns : goal.returns
 returns c =
-    c.gt.ensures ∙ ap (λ x. is_gt (order x c.number-2.result)) c.number.ensures ∙ ap (λ x. is_gt (order (number_of_literal c.args.first.now) x)) c.number-2.ensures
+    c.gt.ensures ∙ ap (λ x. is_gt (order x c.number-2.result)) c.number.ensures
+    ∙ ap (λ x. is_gt (order (number_of_literal c.args.first.now) x)) c.number-2.ensures
     ∙ greater_numbers c.numbers_come_back.ensures c.args.first.now c.args.last.now c.requires.first c.requires.last

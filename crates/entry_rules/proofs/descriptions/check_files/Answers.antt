@@ -7,4 +7,7 @@ use Rattle.entry_rules.proofs.descriptions.check_files.Goals as goal
 pub check_description-requires : goal.check_description-requires
 check_description-requires c =
     let within = entries_within c.args.descriptions.now c.loop-one.one-index c.one-item.result c.loop-one-test.true in
-    record { few = subst (λ (one : FileDescription). length one.entries ≤ most_entries) (sym c.one-item.is) (omega (arith, within, c.requires.few)) }
+    record {
+      few = subst (λ (one : FileDescription). length one.entries ≤ most_entries) (sym c.one-item.is)
+          (omega (arith, within, c.requires.few));
+    }

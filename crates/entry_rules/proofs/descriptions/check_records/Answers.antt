@@ -17,24 +17,37 @@ pub returns-in_err-bytes-clause-rules : goal.returns-in_err-bytes-clause-rules
 returns-in_err-bytes-clause-rules c =
     let p = err_from_is_err_and c.from_residual.result c.from_residual.ensures.1 in
     let one = c.in-Some.one in
-    rw (p.1, p.2) (found_in c.outermost.result (redefinable_of c.items.last) (forest_of c.items.rest.now) one.entry.now (leading_conditions one.inner.now) (forest_of one.inner.now) (forest_of one.next.now) (forest_rules (outermost true) None (forest_of c.args.entries.now)) (fault_of c.in_err-bytes.field-0.0)
-    c.in-Some.ensures.0 (c.items.invariant.rules ∙ ap (λ at. forest_rules at (redefinable_of c.items.last) (forest_of c.items.rest.now)) (sym c.outermost.ensures)) c.in_err-bytes.ensures.rules)
+    rw (p.1, p.2) (found_in c.outermost.result (redefinable_of c.items.last) (forest_of c.items.rest.now)
+    one.entry.now (leading_conditions one.inner.now) (forest_of one.inner.now) (forest_of one.next.now)
+    (forest_rules (outermost true) None (forest_of c.args.entries.now)) (fault_of c.in_err-bytes.field-0.0)
+    c.in-Some.ensures.0 (c.items.invariant.rules ∙ ap (λ at. forest_rules at (redefinable_of c.items.last)
+    (forest_of c.items.rest.now)) (sym c.outermost.ensures)) c.in_err-bytes.ensures.rules)
 
 pub items-preserved : goal.items-preserved
 items-preserved c =
     let one = c.in-Some.one in
     let e = c.in-Some.ensures.0 in
-    let parts = levels_tree (forest_of c.items.rest.now) one.entry.now (leading_conditions one.inner.now) (forest_of one.inner.now) (forest_of one.next.now) e c.items.invariant.levels in
+    let parts = levels_tree (forest_of c.items.rest.now) one.entry.now (leading_conditions one.inner.now)
+    (forest_of one.inner.now) (forest_of one.next.now) e c.items.invariant.levels in
     let around = ap (λ (at : rules.Position). at.around) c.outermost.ensures in
     let bytes = c.in_ok-bytes.ensures.bytes ∙ ap (λ a. extent a one.entry.now (forest_of one.inner.now)) around in
     record {
       levels = parts.2;
-      last = known_remembered one.entry.now c.in_ok-bytes.bytes (redefinable_of c.items.last) (redefinable_of c.remembered-last.result) parts.0 c.items.invariant.last c.remembered-last.ensures;
+      last = known_remembered one.entry.now c.in_ok-bytes.bytes (redefinable_of c.items.last)
+          (redefinable_of c.remembered-last.result) parts.0 c.items.invariant.last c.remembered-last.ensures;
       shorter = omega (arith, c.in-Some.ensures.1, c.items.invariant.shorter);
-      rules = none_in c.outermost.result (redefinable_of c.items.last) (redefinable_of c.remembered-last.result) (forest_of c.items.rest.now) one.entry.now (leading_conditions one.inner.now) (forest_of one.inner.now) (forest_of one.next.now) (forest_rules (outermost true) None (forest_of c.args.entries.now)) c.in_ok-bytes.bytes
-          e (c.items.invariant.rules ∙ ap (λ at. forest_rules at (redefinable_of c.items.last) (forest_of c.items.rest.now)) (sym c.outermost.ensures)) c.in_ok-bytes.ensures.rules c.in_ok-bytes.ensures.bytes c.remembered-last.ensures
-          ∙ ap (λ at. forest_rules at (redefinable_of c.remembered-last.result) (forest_of one.next.now)) c.outermost.ensures;
-      longest = longest_tree (longest nothing_around (forest_of c.args.entries.now)) c.items.longest c.in_ok-bytes.bytes (forest_of c.items.rest.now) one.entry.now (leading_conditions one.inner.now) (forest_of one.inner.now) (forest_of one.next.now) e c.items.invariant.longest bytes
+      rules = none_in c.outermost.result (redefinable_of c.items.last) (redefinable_of c.remembered-last.result)
+          (forest_of c.items.rest.now) one.entry.now (leading_conditions one.inner.now) (forest_of one.inner.now)
+          (forest_of one.next.now) (forest_rules (outermost true) None (forest_of c.args.entries.now))
+          c.in_ok-bytes.bytes
+          e (c.items.invariant.rules ∙ ap (λ at.
+          forest_rules at (redefinable_of c.items.last) (forest_of c.items.rest.now)) (sym c.outermost.ensures))
+          c.in_ok-bytes.ensures.rules c.in_ok-bytes.ensures.bytes c.remembered-last.ensures
+          ∙ ap (λ at. forest_rules at (redefinable_of c.remembered-last.result) (forest_of one.next.now))
+          c.outermost.ensures;
+      longest = longest_tree (longest nothing_around (forest_of c.args.entries.now)) c.items.longest c.in_ok-bytes.bytes
+          (forest_of c.items.rest.now) one.entry.now (leading_conditions one.inner.now) (forest_of one.inner.now)
+          (forest_of one.next.now) e c.items.invariant.longest bytes
           ∙ ap (λ n. max n (longest nothing_around (forest_of one.next.now))) (sym c.max-longest.ensures);
       bound = omega (arith, c.items.invariant.bound, c.in_ok-bytes.ensures.bound, c.max-longest.ensures);
     }

@@ -12,7 +12,8 @@ invariant-items l = record {
   levels : HasLevels (forest_of l.rest);
   last : HasLevelLast l.last;
   shorter : length l.rest ≤ length l.entries;
-  rules : forest_rules (outermost true) None (forest_of l.entries) ≡ forest_rules (outermost true) (redefinable_of l.last) (forest_of l.rest);
+  rules : forest_rules (outermost true) None (forest_of l.entries)
+      ≡ forest_rules (outermost true) (redefinable_of l.last) (forest_of l.rest);
   longest : longest nothing_around (forest_of l.entries) ≡ max l.longest (longest nothing_around (forest_of l.rest));
   bound : l.longest ≤ most_extent;
 }

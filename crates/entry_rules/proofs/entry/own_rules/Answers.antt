@@ -8,4 +8,5 @@ use Rattle.entry_rules.proofs.entry.own_rules.Goals as goal
 pub returns-in_err-form_rules : goal.returns-in_err-form_rules
 returns-in_err-form_rules c =
     let p = err_from_is_err_and c.from_residual.result c.from_residual.ensures.1 in
-    rw (p.1, p.2) (own_found c.args.at c.args.one.now.entry.now c.args.one.now.item (forest_of c.args.inner.now) (redefinable_of c.args.last) (broken_of c.in_err-form_rules.field-0.0) c.in_err-form_rules.ensures)
+    rw (p.1, p.2) (own_found c.args.at c.args.one.now.entry.now c.args.one.now.item (forest_of c.args.inner.now)
+    (redefinable_of c.args.last) (broken_of c.in_err-form_rules.field-0.0) c.in_err-form_rules.ensures)

@@ -14,8 +14,10 @@ invariant-items l = record {
   levels : HasLevels (forest_of l.rest);
   last : HasLevelLast l.last;
   shorter : length l.rest ≤ length l.entries;
-  rules : forest_rules (outermost false) None (forest_of l.entries) ≡ forest_rules (outermost false) (redefinable_of l.last) (forest_of l.rest);
-  areas : first (storage_rules 0 (forest_of l.entries)) ≡ first (past_rules l.areas.past ++ broken_area_rules l.areas.before l.areas.last (forest_of l.rest));
+  rules : forest_rules (outermost false) None (forest_of l.entries)
+      ≡ forest_rules (outermost false) (redefinable_of l.last) (forest_of l.rest);
+  areas : first (storage_rules 0 (forest_of l.entries))
+      ≡ first (past_rules l.areas.past ++ broken_area_rules l.areas.before l.areas.last (forest_of l.rest));
   total : sum (area_lengths (forest_of l.entries)) ≡ total l.areas.before l.areas.last (forest_of l.rest);
   bound : bytes_in l.areas + most_extent * length l.rest ≤ most_extent * length l.entries;
 }

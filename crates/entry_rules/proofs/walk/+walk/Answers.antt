@@ -12,27 +12,42 @@ pub check_group-returns-in_err-extent-clause-rules : goal.check_group-returns-in
 check_group-returns-in_err-extent-clause-rules t c =
     let p = err_from_is_err_and c.from_residual.result c.from_residual.ensures.1 in
     let one = c.in-Some.one in
-    rw (p.1, p.2) (found_in c.args.at (redefinable_of c.items.last) (forest_of c.items.rest.now) one.entry.now (leading_conditions one.inner.now) (forest_of one.inner.now) (forest_of one.next.now) _ (fault_of c.in_err-extent.field-0.0)
+    rw (p.1, p.2) (found_in c.args.at (redefinable_of c.items.last) (forest_of c.items.rest.now)
+    one.entry.now (leading_conditions one.inner.now) (forest_of one.inner.now) (forest_of one.next.now) _
+    (fault_of c.in_err-extent.field-0.0)
     c.in-Some.ensures.0 c.items.invariant.rules c.in_err-extent.ensures.rules)
 
 pub check_group-items-preserved : goal.check_group-items-preserved
 check_group-items-preserved t c =
     let one = c.in-Some.one in
     let e = c.in-Some.ensures.0 in
-    let parts = levels_tree (forest_of c.items.rest.now) one.entry.now (leading_conditions one.inner.now) (forest_of one.inner.now) (forest_of one.next.now) e c.items.invariant.levels in
-    let split = room_tree c.args.at.around (forest_of c.items.rest.now) one.entry.now (leading_conditions one.inner.now) (forest_of one.inner.now) (forest_of one.next.now) e in
+    let parts = levels_tree (forest_of c.items.rest.now) one.entry.now (leading_conditions one.inner.now)
+    (forest_of one.inner.now) (forest_of one.next.now) e c.items.invariant.levels in
+    let split = room_tree c.args.at.around (forest_of c.items.rest.now) one.entry.now (leading_conditions one.inner.now)
+    (forest_of one.inner.now) (forest_of one.next.now) e in
     let same = c.taken-bytes.ensures.value ∙ ap (own_bytes one.entry.now) c.in_ok-extent.ensures.bytes in
     record {
       levels = parts.2;
-      last = known_remembered one.entry.now c.in_ok-extent.extent (redefinable_of c.items.last) (redefinable_of c.remembered-last.result) parts.0 c.items.invariant.last c.remembered-last.ensures;
+      last = known_remembered one.entry.now c.in_ok-extent.extent (redefinable_of c.items.last)
+          (redefinable_of c.remembered-last.result) parts.0 c.items.invariant.last c.remembered-last.ensures;
       shorter = omega (arith, c.in-Some.ensures.1, c.items.invariant.shorter);
-      rules = none_in c.args.at (redefinable_of c.items.last) (redefinable_of c.remembered-last.result) (forest_of c.items.rest.now) one.entry.now (leading_conditions one.inner.now) (forest_of one.inner.now) (forest_of one.next.now) _ c.in_ok-extent.extent
+      rules = none_in c.args.at (redefinable_of c.items.last) (redefinable_of c.remembered-last.result)
+          (forest_of c.items.rest.now) one.entry.now (leading_conditions one.inner.now) (forest_of one.inner.now)
+          (forest_of one.next.now) _ c.in_ok-extent.extent
           e c.items.invariant.rules c.in_ok-extent.ensures.rules c.in_ok-extent.ensures.bytes c.remembered-last.ensures;
       sum = omega (arith, split, same, c.items.invariant.sum);
-      bound = omega (arith, c.in-Some.ensures.1, c.items.invariant.bound, c.taken-bytes.ensures.bound, c.in_ok-extent.ensures.bound);
+      bound = omega (
+        arith,
+        c.in-Some.ensures.1,
+        c.items.invariant.bound,
+        c.taken-bytes.ensures.bound,
+        c.in_ok-extent.ensures.bound,
+      );
     }
 
 pub check_item-returns-in_err-within-clause-rules : goal.check_item-returns-in_err-within-clause-rules
 check_item-returns-in_err-within-clause-rules t c =
     let p = err_from_is_err_and c.from_residual.result c.from_residual.ensures.1 in
-    rw (p.1, p.2) (item_within c.args.at c.below.result c.args.one.entry.now (leading_conditions c.args.one.inner.now) (forest_of c.args.one.inner.now) (redefinable_of c.args.last) (fault_of c.in_err-within.field-0.0) c.below.ensures.value c.in_err-within.ensures.rules)
+    rw (p.1, p.2) (item_within c.args.at c.below.result c.args.one.entry.now (leading_conditions c.args.one.inner.now)
+    (forest_of c.args.one.inner.now) (redefinable_of c.args.last) (fault_of c.in_err-within.field-0.0)
+    c.below.ensures.value c.in_err-within.ensures.rules)

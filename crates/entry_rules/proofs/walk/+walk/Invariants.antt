@@ -17,7 +17,8 @@ invariant-check_group-items l = record {
   levels : HasLevels (forest_of l.rest);
   last : HasLevelLast l.last;
   shorter : length l.rest ≤ length l.entries;
-  rules : forest_rules (at_of l.at) None (forest_of l.entries) ≡ forest_rules (at_of l.at) (redefinable_of l.last) (forest_of l.rest);
+  rules : forest_rules (at_of l.at) None (forest_of l.entries)
+      ≡ forest_rules (at_of l.at) (redefinable_of l.last) (forest_of l.rest);
   sum : l.bytes + room l.at.around (forest_of l.rest) ≡ room l.at.around (forest_of l.entries);
   bound : l.bytes + most_extent * length l.rest ≤ most_extent * length l.entries;
 }

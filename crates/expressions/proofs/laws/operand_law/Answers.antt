@@ -1,5 +1,6 @@
 use Rattle.expressions.specs.Operands.{operand, operand_reader, number_operand, number_operand_reader}
-use Rattle.expressions.proofs.Exact.Operands.{operand_sound, operand_complete, number_operand_sound, number_operand_complete}
+use Rattle.expressions.proofs.Exact.Operands.{operand_sound, operand_complete, number_operand_sound}
+use Rattle.expressions.proofs.Exact.Operands.{number_operand_complete}
 use Rattle.expressions.proofs.Exact.Laws.{Never, only}
 use Rattle.expressions.proofs.laws.operand_law.Goals as goal
 

@@ -14,9 +14,13 @@ returns-clause-bytes c =
     let head : List ℕ = spec_head (spec_of c.args.file.now) in
     let keys : List ℕ = flat_map key_bytes c.args.file.now.alternates.items in
     let count : ℕ = 35 - 5 * c.len.result in
-    let counted : c.len.result ≡ length c.args.file.now.alternates.items = omega (arith, c.len.ensures, c.args.file.now.alternates.ok) in
+    let counted : c.len.result ≡ length c.args.file.now.alternates.items =
+    omega (arith, c.len.ensures, c.args.file.now.alternates.ok) in
     let first : c.push_head.new.out.items ≡ out ++ head = c.in_ok-push_head.ensures.bytes in
-    let second : c.push_keys.new.out.items ≡ (out ++ head) ++ keys = c.in_ok-push_keys.ensures.bytes ∙ ap (λ (l : List AlternateKey). c.push_head.new.out.items ++ flat_map key_bytes l) c.deref.ensures.value ∙ ap (λ (l : List ℕ). l ++ keys) first in
+    let second : c.push_keys.new.out.items ≡ (out ++ head) ++ keys = c.in_ok-push_keys.ensures.bytes
+    ∙ ap (λ (l : List AlternateKey). c.push_head.new.out.items ++ flat_map key_bytes l) c.deref.ensures.value
+    ∙ ap (λ (l : List ℕ). l ++ keys) first in
     c.in_ok-push_zeros.ensures.bytes ∙ ap (λ (l : List ℕ). l ++ replicate count 0) second
-    ∙ append_assoc (out ++ head) keys (replicate count 0) ∙ ap (λ (l : List ℕ). (out ++ head) ++ l) (keys_filled c.args.file.now.alternates.items count (ap (λ (n : ℕ). 35 - 5 * n) counted))
+    ∙ append_assoc (out ++ head) keys (replicate count 0) ∙ ap (λ (l : List ℕ). (out ++ head) ++ l)
+    (keys_filled c.args.file.now.alternates.items count (ap (λ (n : ℕ). 35 - 5 * n) counted))
     ∙ append_assoc out head (filled_to 35 keys)

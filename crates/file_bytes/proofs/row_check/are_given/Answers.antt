@@ -8,4 +8,5 @@ pub returns-clause-yes : goal.returns-clause-yes
 returns-clause-yes c = λ is.
     let arrivals = c.args.arrivals.now in
     let none : length arrivals - c.loop-back.back ≡ 0 = omega (arith, c.loop-back-test.false) in
-    unmapped (IsArrival c.args.next) arrivals (subst (λ (n : ℕ). AllByRecursion (IsArrival c.args.next) (map (λ (a : ℕ). a) (drop n arrivals))) none c.loop-back.invariant)
+    unmapped (IsArrival c.args.next) arrivals (subst (λ (n : ℕ).
+    AllByRecursion (IsArrival c.args.next) (map (λ (a : ℕ). a) (drop n arrivals))) none c.loop-back.invariant)

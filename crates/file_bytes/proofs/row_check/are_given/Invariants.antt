@@ -4,4 +4,5 @@ use Rattle.records.specs.Files.{IsArrival}
 use Rattle.file_bytes.proofs.row_check.are_given.Given as goal
 
 abbrev pub invariant-loop-back : goal.invariant-loop-back
-invariant-loop-back l = AllByRecursion (IsArrival l.next) (map (λ (a : ℕ). a) (drop (length l.arrivals - l.back) l.arrivals))
+invariant-loop-back l =
+    AllByRecursion (IsArrival l.next) (map (λ (a : ℕ). a) (drop (length l.arrivals - l.back) l.arrivals))

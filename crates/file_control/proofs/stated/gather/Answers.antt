@@ -13,30 +13,35 @@ loop-turn-init c = first_of (search rules, grind (arith, common_steps))
 pub returns-in_default : goal.returns-in_default
 unfolding gathering_turns
 returns-in_default c =
-    let e = one_more (λ n. gathering_turns select_clauses clause_reader n c.loop-turn.stated c.loop-turn.tokens) _ c.loop-turn._turn c.loop-turn-test.true c.loop-turn.invariant in
+    let e = one_more (λ n. gathering_turns select_clauses clause_reader n c.loop-turn.stated c.loop-turn.tokens) _
+    c.loop-turn._turn c.loop-turn-test.true c.loop-turn.invariant in
     first_of (search rules, grind (arith, common_steps))
 
 pub returns-then-has : goal.returns-then-has
 unfolding gathering_turns
 returns-then-has c =
-    let e = one_more (λ n. gathering_turns select_clauses clause_reader n c.loop-turn.stated c.loop-turn.tokens) _ c.loop-turn._turn c.loop-turn-test.true c.loop-turn.invariant in
+    let e = one_more (λ n. gathering_turns select_clauses clause_reader n c.loop-turn.stated c.loop-turn.tokens) _
+    c.loop-turn._turn c.loop-turn-test.true c.loop-turn.invariant in
     first_of (search rules, grind (arith, common_steps))
 
 pub returns-in_err-clause_of_kind : goal.returns-in_err-clause_of_kind
 unfolding gathering_turns
 returns-in_err-clause_of_kind c =
-    let e = one_more (λ n. gathering_turns select_clauses clause_reader n c.loop-turn.stated c.loop-turn.tokens) _ c.loop-turn._turn c.loop-turn-test.true c.loop-turn.invariant in
+    let e = one_more (λ n. gathering_turns select_clauses clause_reader n c.loop-turn.stated c.loop-turn.tokens) _
+    c.loop-turn._turn c.loop-turn-test.true c.loop-turn.invariant in
     first_of (search rules, grind (arith, common_steps))
 
 pub loop-turn-preserved : goal.loop-turn-preserved
 unfolding gathering_turns
 loop-turn-preserved c =
-    let e = one_more (λ n. gathering_turns select_clauses clause_reader n c.loop-turn.stated c.loop-turn.tokens) _ c.loop-turn._turn c.loop-turn-test.true c.loop-turn.invariant in
+    let e = one_more (λ n. gathering_turns select_clauses clause_reader n c.loop-turn.stated c.loop-turn.tokens) _
+    c.loop-turn._turn c.loop-turn-test.true c.loop-turn.invariant in
     first_of (search rules, grind (arith, common_steps))
 
 pub returns-then-is_some : goal.returns-then-is_some
 unfolding gathering_turns
 returns-then-is_some c =
     let none : c.len-turn-end.result - c.loop-turn._turn ≡ 0 = omega arith in
-    let e = c.loop-turn.invariant ∙ ap (λ n. gathering_turns select_clauses clause_reader n c.loop-turn.stated c.loop-turn.tokens) none in
+    let e = c.loop-turn.invariant
+    ∙ ap (λ n. gathering_turns select_clauses clause_reader n c.loop-turn.stated c.loop-turn.tokens) none in
     first_of (search rules, grind (arith, common_steps))

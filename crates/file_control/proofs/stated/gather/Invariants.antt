@@ -6,4 +6,5 @@ use Rattle.file_control.proofs.stated.gather.Given as goal
 
 -- what is still to be read
 abbrev pub invariant-loop-turn : goal.invariant-loop-turn
-invariant-loop-turn l = gathering_reader select_clauses clause_reader l.fn.stated l.fn.tokens ≡ gathering_turns select_clauses clause_reader (l._turn-end - l._turn) l.stated l.tokens
+invariant-loop-turn l = gathering_reader select_clauses clause_reader l.fn.stated l.fn.tokens
+    ≡ gathering_turns select_clauses clause_reader (l._turn-end - l._turn) l.stated l.tokens

@@ -15,7 +15,8 @@ returns-then-eq c =
     let one = c.file-item.result in
     let rest = rest_at files i one c.loop-file-test.true c.file-item.is in
     let alike : same name one.name ≡ true =
-    sym (ap (λ l. bytes_eq l c.as_slice-in-loop-file.result.now) c.as_slice.ensures ∙ ap (bytes_eq name.characters) c.as_slice-in-loop-file.ensures) ∙ sym c.eq.ensures ∙ c.if-eq.true in (
+    sym (ap (λ l. bytes_eq l c.as_slice-in-loop-file.result.now) c.as_slice.ensures
+    ∙ ap (bytes_eq name.characters) c.as_slice-in-loop-file.ensures) ∙ sym c.eq.ensures ∙ c.if-eq.true in (
       sym c.loop-file.invariant.same ∙ is_this area name (drop i files) (drop (i + 1) files) one rest alike,
       this_kept area name (drop i files) (drop (i + 1) files) one rest c.loop-file.invariant.rules,
     )
@@ -30,7 +31,8 @@ loop-file-preserved c =
     let rest = rest_at files i one c.loop-file-test.true c.file-item.is in
     let is = c.loop-file.invariant.area_is in
     let other : same name one.name ≡ false =
-    sym (ap (λ l. bytes_eq l c.as_slice-in-loop-file.result.now) c.as_slice.ensures ∙ ap (bytes_eq name.characters) c.as_slice-in-loop-file.ensures) ∙ sym c.eq.ensures ∙ c.if-eq.false in
+    sym (ap (λ l. bytes_eq l c.as_slice-in-loop-file.result.now) c.as_slice.ensures
+    ∙ ap (bytes_eq name.characters) c.as_slice-in-loop-file.ensures) ∙ sym c.eq.ensures ∙ c.if-eq.false in
     record {
       area_is = omega arith;
       rules = others_kept area name (drop i files) (drop (i + 1) files) one rest c.loop-file.invariant.rules;
@@ -40,4 +42,5 @@ loop-file-preserved c =
 pub returns : goal.returns
 returns c =
     sym c.loop-file.invariant.same
-    ∙ ap (described_file c.loop-file.area c.args.name.now) (let past = c.loop-file-test.false in drop_all c.loop-file.file-index c.args.files.now past)
+    ∙ ap (described_file c.loop-file.area c.args.name.now) (let past =
+    c.loop-file-test.false in drop_all c.loop-file.file-index c.args.files.now past)

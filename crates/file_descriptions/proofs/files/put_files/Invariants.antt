@@ -8,7 +8,8 @@ use Rattle.file_descriptions.proofs.files.put_files.Given as goal
 abbrev pub invariant-loop-number : goal.invariant-loop-number
 invariant-loop-number l = record {
   clauses : AllByRecursion (KeepsClauses (items_in l.source)) (drop l.number l.selects);
-  files : map (file_in (items_in l.source)) l.out.items ++ files_after l.source.program.now l.number (drop l.number l.selects)
+  files : map (file_in (items_in l.source)) l.out.items
+      ++ files_after l.source.program.now l.number (drop l.number l.selects)
       ≡ map (file_in (items_in l.source)) l.initial.out.items ++ files_after l.source.program.now 0 l.selects;
   numbers : map numbers_in l.out.items ++ map (clause_numbers (items_in l.source)) (drop l.number l.selects)
       ≡ map numbers_in l.initial.out.items ++ map (clause_numbers (items_in l.source)) l.selects;

@@ -8,4 +8,6 @@ pub returns : goal.returns
 returns c =
     let one = c.args.one in
     let keys = c.args.keys.now.items in
-    c.in_ok-insert.ensures.items ∙ ap (λ n. insert keys n one) (c.keys_before-before.ensures.value ∙ ap (keys_before one) c.deref.ensures.value) ∙ in_order one keys
+    c.in_ok-insert.ensures.items
+    ∙ ap (λ n. insert keys n one) (c.keys_before-before.ensures.value ∙ ap (keys_before one) c.deref.ensures.value)
+    ∙ in_order one keys

@@ -19,7 +19,9 @@ use Rattle.file_recovery.proofs.alternates.check_alternate.Goals as goal
 
 pub returns-clause-looks : goal.returns-clause-looks
 returns-clause-looks g c =
-    looks_then g.D.Device (c.check_pages.result ≡ Err Device) (c.check_index.result ≡ Err Device) (c.check_index.result ≡ Err Device) c.args.pages.now c.check_pages.new.pages c.check_index.new.pages c.args.device.now c.check_pages.new.device c.check_index.new.device
+    looks_then g.D.Device (c.check_pages.result ≡ Err Device) (c.check_index.result ≡ Err Device)
+    (c.check_index.result ≡ Err Device) c.args.pages.now c.check_pages.new.pages c.check_index.new.pages
+    c.args.device.now c.check_pages.new.device c.check_index.new.device
     (λ is. inr is) c.check_pages.ensures.looks c.check_index.ensures.looks
 
 pub returns-clause-index : goal.returns-clause-index
@@ -27,11 +29,14 @@ returns-clause-index g c = λ up honest agrees.
     let spec = spec_of c.args.file.now in
     let rows = rows_of c.args.rows.now in
     let tree : RootedTree = c.new-tree.result in
-    let layout : tree.layout ≡ layout_under spec (Alternate c.args.key) = c.new-tree.ensures.layout ∙ c.tree_layout-layout.ensures.layout in
+    let layout : tree.layout ≡ layout_under spec (Alternate c.args.key) =
+    c.new-tree.ensures.layout ∙ c.tree_layout-layout.ensures.layout in
     let found = c.in_ok-check_pages.ensures.holds honest agrees in
     let looks = c.check_pages.ensures.looks in
-    let same = pages_kept g.D.Device (c.check_pages.result ≡ Err Device) c.args.pages.now c.check_pages.new.pages c.args.device.now c.check_pages.new.device looks honest in
-    let there_now = subst (λ (p : List (Option Sector)). IsTreeOrEmpty tree.layout p tree.root found.levels) (sym same) found.holds in
+    let same = pages_kept g.D.Device (c.check_pages.result ≡ Err Device) c.args.pages.now c.check_pages.new.pages
+    c.args.device.now c.check_pages.new.device looks honest in
+    let there_now =
+    subst (λ (p : List (Option Sector)). IsTreeOrEmpty tree.layout p tree.root found.levels) (sym same) found.holds in
     on_ok_weaker c.check_index.result
     (λ pairs. record {
       tree = tree_levels tree found.levels;
@@ -46,16 +51,22 @@ pub returns-clause-damaged : goal.returns-clause-damaged
 returns-clause-damaged g c = λ up honest agrees told own is rooted grows can.
     let spec = spec_of c.args.file.now in
     let tree : RootedTree = c.new-tree.result in
-    let layout : own.tree.layout ≡ tree.layout = is.layout ∙ sym (c.new-tree.ensures.layout ∙ c.tree_layout-layout.ensures.layout) in
+    let layout : own.tree.layout ≡ tree.layout =
+    is.layout ∙ sym (c.new-tree.ensures.layout ∙ c.tree_layout-layout.ensures.layout) in
     let root : own.tree.root ≡ tree.root = rooted ∙ sym (c.new-tree.ensures.root ∙ c.alternate_root.ensures) in
-    let before : List (Option Sector) = (map_now c.args.pages.now (g.D.Device.state c.args.device.now).disk.present).pages in
+    let before : List (Option Sector) =
+    (map_now c.args.pages.now (g.D.Device.state c.args.device.now).disk.present).pages in
     let there : IsTreeOrEmpty tree.layout before tree.root own.levels =
-    subst (λ (l : RowLayout). IsTreeOrEmpty l before tree.root own.levels) layout (subst (λ r. IsTreeOrEmpty own.tree.layout before r own.levels) root grows) in
+    subst (λ (l : RowLayout). IsTreeOrEmpty l before tree.root own.levels) layout
+    (subst (λ r. IsTreeOrEmpty own.tree.layout before r own.levels) root grows) in
     let looks = c.check_pages.ensures.looks in
-    let same = pages_kept g.D.Device (c.check_pages.result ≡ Err Device) c.args.pages.now c.check_pages.new.pages c.args.device.now c.check_pages.new.device looks honest in
-    let there_now = subst (λ (p : List (Option Sector)). IsTreeOrEmpty tree.layout p tree.root own.levels) (sym same) there in
+    let same = pages_kept g.D.Device (c.check_pages.result ≡ Err Device) c.args.pages.now c.check_pages.new.pages
+    c.args.device.now c.check_pages.new.device looks honest in
+    let there_now =
+    subst (λ (p : List (Option Sector)). IsTreeOrEmpty tree.layout p tree.root own.levels) (sym same) there in
     c.check_index.ensures.damaged up (looks.only.honest.0 honest) (looks.agrees honest agrees) own.levels there_now told
-    (subst (λ (l : RowLayout). AreOf spec (Alternate c.args.key) (rows_of c.args.rows.now) (entries_of l own.levels)) layout is.pairs)
+    (subst (λ (l : RowLayout). AreOf spec (Alternate c.args.key) (rows_of c.args.rows.now) (entries_of l own.levels))
+    layout is.pairs)
 
 pub returns-in_err-check_pages-clause-damaged : goal.returns-in_err-check_pages-clause-damaged
 returns-in_err-check_pages-clause-damaged g c = λ up honest agrees refused own is rooted grows can.
@@ -63,9 +74,12 @@ returns-in_err-check_pages-clause-damaged g c = λ up honest agrees refused own 
     let fault : c.in_err-check_pages.field-0.0 ≡ Damaged = sym from in
     let told : c.check_pages.result ≡ Err Damaged = c.in_err-check_pages.was ∙ ap Err fault in
     let tree : RootedTree = c.new-tree.result in
-    let layout : own.tree.layout ≡ tree.layout = is.layout ∙ sym (c.new-tree.ensures.layout ∙ c.tree_layout-layout.ensures.layout) in
+    let layout : own.tree.layout ≡ tree.layout =
+    is.layout ∙ sym (c.new-tree.ensures.layout ∙ c.tree_layout-layout.ensures.layout) in
     let root : own.tree.root ≡ tree.root = rooted ∙ sym (c.new-tree.ensures.root ∙ c.alternate_root.ensures) in
-    let before : List (Option Sector) = (map_now c.args.pages.now (g.D.Device.state c.args.device.now).disk.present).pages in
+    let before : List (Option Sector) =
+    (map_now c.args.pages.now (g.D.Device.state c.args.device.now).disk.present).pages in
     let there : IsTreeOrEmpty tree.layout before tree.root own.levels =
-    subst (λ (l : RowLayout). IsTreeOrEmpty l before tree.root own.levels) layout (subst (λ r. IsTreeOrEmpty own.tree.layout before r own.levels) root grows) in
+    subst (λ (l : RowLayout). IsTreeOrEmpty l before tree.root own.levels) layout
+    (subst (λ r. IsTreeOrEmpty own.tree.layout before r own.levels) root grows) in
     c.check_pages.ensures.damaged honest agrees told own.levels there can.unmarked

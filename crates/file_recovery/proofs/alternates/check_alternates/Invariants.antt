@@ -11,6 +11,8 @@ use Rattle.file_recovery.proofs.alternates.check_alternates.Given as goal
 abbrev pub invariant-loop-key : goal.invariant-loop-key
 invariant-loop-key g l = record {
   looks : LooksAt g.D.Device ⊥ l.fn.pages l.fn.device l.pages l.device;
-  found : RowsAscend l.file.organization (rows_of l.rows) → OnPages g.D.Device l.fn.pages l.fn.device (λ before. FindsIndexes before (spec_of l.file) (rows_of l.rows) l.value l.key l.fn.seen l.seen);
-  rest : RowsAscend l.file.organization (rows_of l.rows) → OnPages g.D.Device l.fn.pages l.fn.device (λ before. CanGoOn before (spec_of l.file) (rows_of l.rows) l.value (length l.file.alternates.items) l.fn.seen l.key l.seen);
+  found : RowsAscend l.file.organization (rows_of l.rows) → OnPages g.D.Device l.fn.pages l.fn.device
+      (λ before. FindsIndexes before (spec_of l.file) (rows_of l.rows) l.value l.key l.fn.seen l.seen);
+  rest : RowsAscend l.file.organization (rows_of l.rows) → OnPages g.D.Device l.fn.pages l.fn.device (λ before.
+      CanGoOn before (spec_of l.file) (rows_of l.rows) l.value (length l.file.alternates.items) l.fn.seen l.key l.seen);
 }

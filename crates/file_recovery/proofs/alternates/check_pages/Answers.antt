@@ -16,4 +16,5 @@ pub returns-in-Err-clause-cause : goal.returns-in-Err-clause-cause
 returns-in-Err-clause-cause g c =
     subst IsReadFault (sym c.to_fault.ensures)
     (change_fault c.in-Err.error c.in-Err.ensures.cause
-    (λ is. let spent = (c.in-Err.ensures.spent.0 (ap Err is)).0 in let clash : true ≡ false = sym spent ∙ c.requires.unspent in cc))
+    (λ is. let spent = (c.in-Err.ensures.spent.0 (ap Err is)).0 in let clash : true ≡ false =
+    sym spent ∙ c.requires.unspent in cc))

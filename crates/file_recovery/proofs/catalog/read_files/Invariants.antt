@@ -14,7 +14,11 @@ invariant-loop-turn g l = record {
   looks : LooksAt g.D.Device ⊥ l.fn.pages l.fn.device l.pages l.device;
   many : length l.files.items ≡ l._turn;
   lengths : IfSome l.next (HasLengths l.catalog.layout);
-  next_is : OnTree g.D.Device l.catalog.layout l.catalog.root l.fn.pages l.fn.device (λ levels. l.next ≡ entry_at l._turn (entries_of l.catalog.layout levels));
-  found : OnTree g.D.Device l.catalog.layout l.catalog.root l.fn.pages l.fn.device (λ levels. FindsFiles (pages_on g.D.Device l.fn.pages l.fn.device) l.generation (take l._turn (entries_of l.catalog.layout levels)) (files_of l.files.items) l.fn.seen l.seen);
-  rest : OnTree g.D.Device l.catalog.layout l.catalog.root l.fn.pages l.fn.device (λ levels. CanGoOn (pages_on g.D.Device l.fn.pages l.fn.device) l.generation (entries_of l.catalog.layout levels) l.fn.seen l._turn l.seen);
+  next_is : OnTree g.D.Device l.catalog.layout l.catalog.root l.fn.pages l.fn.device
+      (λ levels. l.next ≡ entry_at l._turn (entries_of l.catalog.layout levels));
+  found : OnTree g.D.Device l.catalog.layout l.catalog.root
+      l.fn.pages l.fn.device (λ levels. FindsFiles (pages_on g.D.Device l.fn.pages l.fn.device) l.generation
+      (take l._turn (entries_of l.catalog.layout levels)) (files_of l.files.items) l.fn.seen l.seen);
+  rest : OnTree g.D.Device l.catalog.layout l.catalog.root l.fn.pages l.fn.device (λ levels. CanGoOn (pages_on
+      g.D.Device l.fn.pages l.fn.device) l.generation (entries_of l.catalog.layout levels) l.fn.seen l._turn l.seen);
 }

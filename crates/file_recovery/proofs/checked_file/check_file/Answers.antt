@@ -32,21 +32,27 @@ use Rattle.file_recovery.proofs.checked_file.check_file.Goals as goal
 
 pub returns-in_default-clause-damaged : goal.returns-in_default-clause-damaged
 returns-in_default-clause-damaged g c = λ honest agrees told kept found can.
-    let before : List (Option Sector) = (map_now c.args.pages.now (g.D.Device.state c.args.device.now).disk.present).pages in
-    let few = (c.map_bounds.ensures.open c.args.pages.now (g.D.Device.state c.args.device.now).disk.present c.requires.open c.requires.unspent).1 in
+    let before : List (Option Sector) =
+    (map_now c.args.pages.now (g.D.Device.state c.args.device.now).disk.present).pages in
+    let few = (c.map_bounds.ensures.open c.args.pages.now (g.D.Device.state c.args.device.now).disk.present
+    c.requires.open c.requires.unspent).1 in
     let small : length before ≤ 2 ^ 20 = omega (arith, few) in
-    c.in_ok-file.ensures.none (ap (λ (o : Option FileSpec). Ok o) (is_none c.in_ok-file.field-0 c.in_default.not-Some)) kept.named.name _ found.named.name
+    c.in_ok-file.ensures.none (ap (λ (o : Option FileSpec). Ok o) (is_none c.in_ok-file.field-0 c.in_default.not-Some))
+    kept.named.name _ found.named.name
     (own_listing before c.args.generation c.args.entry.now kept small c.requires.generation found)
     (c.key.ensures ∙ own_key before c.args.generation c.args.entry.now kept small c.requires.generation found)
     (c.value-value.ensures ∙ own_value before c.args.generation c.args.entry.now kept small c.requires.generation found)
 
 pub returns-then-not-is_next-clause-damaged : goal.returns-then-not-is_next-clause-damaged
 returns-then-not-is_next-clause-damaged g c = λ honest agrees told kept found can.
-    let before : List (Option Sector) = (map_now c.args.pages.now (g.D.Device.state c.args.device.now).disk.present).pages in
-    let few = (c.map_bounds.ensures.open c.args.pages.now (g.D.Device.state c.args.device.now).disk.present c.requires.open c.requires.unspent).1 in
+    let before : List (Option Sector) =
+    (map_now c.args.pages.now (g.D.Device.state c.args.device.now).disk.present).pages in
+    let few = (c.map_bounds.ensures.open c.args.pages.now (g.D.Device.state c.args.device.now).disk.present
+    c.requires.open c.requires.unspent).1 in
     let small : length before ≤ 2 ^ 20 = omega (arith, few) in
     let next : c.next_arrival-next.result ≡ kept.named.file.next_arrival =
-    c.next_arrival-next.ensures ∙ ap (λ (v : List ℕ). big_number 8 (drop 75 v)) c.value-value.ensures ∙ sym (own_next before c.args.generation c.args.entry.now kept small c.requires.generation found) in
+    c.next_arrival-next.ensures ∙ ap (λ (v : List ℕ). big_number 8 (drop 75 v)) c.value-value.ensures
+    ∙ sym (own_next before c.args.generation c.args.entry.now kept small c.requires.generation found) in
     let some = found.named.file.next in
     let low = found.is.arrivals in
     c.is_next.ensures.no c.if-not-is_next.true (omega (arith, next, some)) (omega (arith, next, low))
@@ -56,27 +62,44 @@ returns-clause-file g c = λ honest agrees.
     let entry : Entry = c.args.entry.now in
     let file = c.in-Some.file in
     let spec = spec_of file in
-    let before : List (Option Sector) = (map_now c.args.pages.now (g.D.Device.state c.args.device.now).disk.present).pages in
-    let heading = heading_read entry c.key.result.now c.value-value.result.now c.key.ensures c.value-value.ensures c.args.generation c.in_ok-file.field-0 file c.next_arrival-next.result c.in-Some.is c.in_ok-file.ensures.some c.next_arrival-next.ensures (c.is_next.ensures.yes c.if-not-is_next.false) in
+    let before : List (Option Sector) =
+    (map_now c.args.pages.now (g.D.Device.state c.args.device.now).disk.present).pages in
+    let heading = heading_read entry c.key.result.now c.value-value.result.now c.key.ensures c.value-value.ensures
+    c.args.generation c.in_ok-file.field-0 file c.next_arrival-next.result c.in-Some.is c.in_ok-file.ensures.some
+    c.next_arrival-next.ensures (c.is_next.ensures.yes c.if-not-is_next.false) in
     let tree : RootedTree = c.new-tree.result in
-    let layout : tree.layout ≡ layout_under spec Prime = c.new-tree.ensures.layout ∙ c.tree_layout-layout.ensures.layout in
+    let layout : tree.layout ≡ layout_under spec Prime =
+    c.new-tree.ensures.layout ∙ c.tree_layout-layout.ensures.layout in
     let found = c.in_ok-check_pages.ensures.holds honest agrees in
     let one = c.check_pages.ensures.looks in
     let two = c.read_rows.ensures.looks in
-    let same = pages_kept g.D.Device (c.check_pages.result ≡ Err Device) c.args.pages.now c.check_pages.new.pages c.args.device.now c.check_pages.new.device one honest in
-    let same_too = pages_kept g.D.Device (c.read_rows.result ≡ Err Device) c.check_pages.new.pages c.read_rows.new.pages c.check_pages.new.device c.read_rows.new.device two (one.only.honest.0 honest) in
-    let there_now = subst (λ (p : List (Option Sector)). IsTreeOrEmpty tree.layout p tree.root found.levels) (sym same) found.holds in
+    let same = pages_kept g.D.Device (c.check_pages.result ≡ Err Device) c.args.pages.now c.check_pages.new.pages
+    c.args.device.now c.check_pages.new.device one honest in
+    let same_too = pages_kept g.D.Device (c.read_rows.result ≡ Err Device) c.check_pages.new.pages c.read_rows.new.pages
+    c.check_pages.new.device c.read_rows.new.device two (one.only.honest.0 honest) in
+    let there_now =
+    subst (λ (p : List (Option Sector)). IsTreeOrEmpty tree.layout p tree.root found.levels) (sym same) found.holds in
     let rows = rows_of c.in_ok-rows.rows.items in
-    let listed : entries_of tree.layout found.levels ≡ map (entry_under spec Prime) rows = c.in_ok-rows.ensures.rows (one.only.honest.0 honest) (one.agrees honest agrees) found.levels there_now in
-    let up : Ascend (keys_listed (map (entry_under spec Prime) rows)) = subst (λ (es : List Entry). Ascend (keys_listed es)) listed (tree_ascends tree.layout before tree.root found.levels found.holds) in
-    let ascend = rows_ascend spec c.next_arrival-next.result file.sound heading.some (let low = heading.few in let few = c.requires.generation in omega (arith, low, few)) rows c.in_ok-rows.ensures.are up in
-    let passed = subst (λ (l : List StoredRow). RowsAscend spec.organization (rows_of l)) (sym c.deref.ensures.value) ascend in
-    let indexes = c.in_ok-check_alternates.ensures.indexes passed (two.only.honest.0 (one.only.honest.0 honest)) (two.agrees (one.only.honest.0 honest) (one.agrees honest agrees)) in
-    let there = subst (λ (v : List ℕ). FindsIndexes before spec rows v (length spec.alternates) c.check_pages.new.seen c.check_alternates.new.seen) c.value-value.ensures
-    (subst (λ (l : List StoredRow). FindsIndexes before spec (rows_of l) c.value-value.result.now (length spec.alternates) c.check_pages.new.seen c.check_alternates.new.seen) c.deref.ensures.value
-    (subst (λ (p : List (Option Sector)). FindsIndexes p spec (rows_of c.deref.result.now) c.value-value.result.now (length spec.alternates) c.check_pages.new.seen c.check_alternates.new.seen) (same_too ∙ same) indexes)) in
-    finds_file before c.args.generation entry file.name.items spec rows c.next_arrival-next.result (tree_levels tree found.levels) c.args.seen.now c.check_pages.new.seen c.check_alternates.new.seen heading layout
-    (root_told entry c.key.result.now c.value-value.result.now c.key.ensures c.value-value.ensures tree.root (c.new-tree.ensures.root ∙ c.prime_root.ensures))
+    let listed : entries_of tree.layout found.levels ≡ map (entry_under spec Prime) rows =
+    c.in_ok-rows.ensures.rows (one.only.honest.0 honest) (one.agrees honest agrees) found.levels there_now in
+    let up : Ascend (keys_listed (map (entry_under spec Prime) rows)) = subst (λ (es : List Entry).
+    Ascend (keys_listed es)) listed (tree_ascends tree.layout before tree.root found.levels found.holds) in
+    let ascend = rows_ascend spec c.next_arrival-next.result file.sound heading.some (let low = heading.few in let few =
+    c.requires.generation in omega (arith, low, few)) rows c.in_ok-rows.ensures.are up in
+    let passed =
+    subst (λ (l : List StoredRow). RowsAscend spec.organization (rows_of l)) (sym c.deref.ensures.value) ascend in
+    let indexes = c.in_ok-check_alternates.ensures.indexes passed (two.only.honest.0 (one.only.honest.0 honest))
+    (two.agrees (one.only.honest.0 honest) (one.agrees honest agrees)) in
+    let there = subst (λ (v : List ℕ). FindsIndexes before spec rows v (length spec.alternates) c.check_pages.new.seen
+    c.check_alternates.new.seen) c.value-value.ensures
+    (subst (λ (l : List StoredRow). FindsIndexes before spec (rows_of l) c.value-value.result.now
+    (length spec.alternates) c.check_pages.new.seen c.check_alternates.new.seen) c.deref.ensures.value
+    (subst (λ (p : List (Option Sector)). FindsIndexes p spec (rows_of c.deref.result.now) c.value-value.result.now
+    (length spec.alternates) c.check_pages.new.seen c.check_alternates.new.seen) (same_too ∙ same) indexes)) in
+    finds_file before c.args.generation entry file.name.items spec rows c.next_arrival-next.result
+    (tree_levels tree found.levels) c.args.seen.now c.check_pages.new.seen c.check_alternates.new.seen heading layout
+    (root_told entry c.key.result.now c.value-value.result.now c.key.ensures c.value-value.ensures tree.root
+    (c.new-tree.ensures.root ∙ c.prime_root.ensures))
     found.holds found.marks listed c.in_ok-rows.ensures.are ascend there
 
 pub returns-in_err-check_pages-clause-damaged : goal.returns-in_err-check_pages-clause-damaged
@@ -84,17 +107,24 @@ returns-in_err-check_pages-clause-damaged g c = λ honest agrees refused.
     let entry : Entry = c.args.entry.now in
     let file = c.in-Some.file in
     let spec = spec_of file in
-    let before : List (Option Sector) = (map_now c.args.pages.now (g.D.Device.state c.args.device.now).disk.present).pages in
-    let few = (c.map_bounds.ensures.open c.args.pages.now (g.D.Device.state c.args.device.now).disk.present c.requires.open c.requires.unspent).1 in
+    let before : List (Option Sector) =
+    (map_now c.args.pages.now (g.D.Device.state c.args.device.now).disk.present).pages in
+    let few = (c.map_bounds.ensures.open c.args.pages.now (g.D.Device.state c.args.device.now).disk.present
+    c.requires.open c.requires.unspent).1 in
     let small : length before ≤ 2 ^ 20 = omega (arith, few) in
-    let heading = heading_read entry c.key.result.now c.value-value.result.now c.key.ensures c.value-value.ensures c.args.generation c.in_ok-file.field-0 file c.next_arrival-next.result c.in-Some.is c.in_ok-file.ensures.some c.next_arrival-next.ensures (c.is_next.ensures.yes c.if-not-is_next.false) in
+    let heading = heading_read entry c.key.result.now c.value-value.result.now c.key.ensures c.value-value.ensures
+    c.args.generation c.in_ok-file.field-0 file c.next_arrival-next.result c.in-Some.is c.in_ok-file.ensures.some
+    c.next_arrival-next.ensures (c.is_next.ensures.yes c.if-not-is_next.false) in
     let tree : RootedTree = c.new-tree.result in
-    let layout : tree.layout ≡ layout_under spec Prime = c.new-tree.ensures.layout ∙ c.tree_layout-layout.ensures.layout in
-    let root = root_told entry c.key.result.now c.value-value.result.now c.key.ensures c.value-value.ensures tree.root (c.new-tree.ensures.root ∙ c.prime_root.ensures) in
+    let layout : tree.layout ≡ layout_under spec Prime =
+    c.new-tree.ensures.layout ∙ c.tree_layout-layout.ensures.layout in
+    let root = root_told entry c.key.result.now c.value-value.result.now c.key.ensures c.value-value.ensures tree.root
+    (c.new-tree.ensures.root ∙ c.prime_root.ensures) in
     let from = rw refused at c.from_residual-in_err-check_pages.ensures.1 in
     let fault : c.in_err-check_pages.field-0.0 ≡ Damaged = sym from in
     let told : c.check_pages.result ≡ Err Damaged = c.in_err-check_pages.was ∙ ap Err fault in
-    no_tree_there before c.args.generation entry small c.requires.generation file.name.items spec c.next_arrival-next.result heading tree layout root c.args.seen.now
+    no_tree_there before c.args.generation entry small c.requires.generation file.name.items spec
+    c.next_arrival-next.result heading tree layout root c.args.seen.now
     (λ levels holds unmarked. c.check_pages.ensures.damaged honest agrees told levels holds unmarked)
 
 pub returns-in_err-rows-clause-damaged : goal.returns-in_err-rows-clause-damaged
@@ -102,21 +132,30 @@ returns-in_err-rows-clause-damaged g c = λ honest agrees refused.
     let entry : Entry = c.args.entry.now in
     let file = c.in-Some.file in
     let spec = spec_of file in
-    let before : List (Option Sector) = (map_now c.args.pages.now (g.D.Device.state c.args.device.now).disk.present).pages in
-    let few = (c.map_bounds.ensures.open c.args.pages.now (g.D.Device.state c.args.device.now).disk.present c.requires.open c.requires.unspent).1 in
+    let before : List (Option Sector) =
+    (map_now c.args.pages.now (g.D.Device.state c.args.device.now).disk.present).pages in
+    let few = (c.map_bounds.ensures.open c.args.pages.now (g.D.Device.state c.args.device.now).disk.present
+    c.requires.open c.requires.unspent).1 in
     let small : length before ≤ 2 ^ 20 = omega (arith, few) in
-    let heading = heading_read entry c.key.result.now c.value-value.result.now c.key.ensures c.value-value.ensures c.args.generation c.in_ok-file.field-0 file c.next_arrival-next.result c.in-Some.is c.in_ok-file.ensures.some c.next_arrival-next.ensures (c.is_next.ensures.yes c.if-not-is_next.false) in
+    let heading = heading_read entry c.key.result.now c.value-value.result.now c.key.ensures c.value-value.ensures
+    c.args.generation c.in_ok-file.field-0 file c.next_arrival-next.result c.in-Some.is c.in_ok-file.ensures.some
+    c.next_arrival-next.ensures (c.is_next.ensures.yes c.if-not-is_next.false) in
     let tree : RootedTree = c.new-tree.result in
-    let layout : tree.layout ≡ layout_under spec Prime = c.new-tree.ensures.layout ∙ c.tree_layout-layout.ensures.layout in
-    let root = root_told entry c.key.result.now c.value-value.result.now c.key.ensures c.value-value.ensures tree.root (c.new-tree.ensures.root ∙ c.prime_root.ensures) in
+    let layout : tree.layout ≡ layout_under spec Prime =
+    c.new-tree.ensures.layout ∙ c.tree_layout-layout.ensures.layout in
+    let root = root_told entry c.key.result.now c.value-value.result.now c.key.ensures c.value-value.ensures tree.root
+    (c.new-tree.ensures.root ∙ c.prime_root.ensures) in
     let from = rw refused at c.from_residual-in_err-rows.ensures.1 in
     let fault : c.in_err-rows.field-0.0 ≡ Damaged = sym from in
     let told : c.read_rows.result ≡ Err Damaged = c.in_err-rows.was ∙ ap Err fault in
     let one = c.check_pages.ensures.looks in
-    let same = pages_kept g.D.Device (c.check_pages.result ≡ Err Device) c.args.pages.now c.check_pages.new.pages c.args.device.now c.check_pages.new.device one honest in
-    no_rows_there before c.args.generation entry small c.requires.generation file.name.items spec c.next_arrival-next.result heading tree layout root c.args.seen.now
+    let same = pages_kept g.D.Device (c.check_pages.result ≡ Err Device) c.args.pages.now c.check_pages.new.pages
+    c.args.device.now c.check_pages.new.device one honest in
+    no_rows_there before c.args.generation entry small c.requires.generation file.name.items spec
+    c.next_arrival-next.result heading tree layout root c.args.seen.now
     (λ levels holds.
-    let there_now = subst (λ (p : List (Option Sector)). IsTreeOrEmpty tree.layout p tree.root levels) (sym same) holds in
+    let there_now =
+    subst (λ (p : List (Option Sector)). IsTreeOrEmpty tree.layout p tree.root levels) (sym same) holds in
     c.read_rows.ensures.damaged (one.only.honest.0 honest) (one.agrees honest agrees) levels there_now told)
 
 pub returns-in_err-check_alternates-clause-damaged : goal.returns-in_err-check_alternates-clause-damaged
@@ -124,55 +163,85 @@ returns-in_err-check_alternates-clause-damaged g c = λ honest agrees refused.
     let entry : Entry = c.args.entry.now in
     let file = c.in-Some.file in
     let spec = spec_of file in
-    let before : List (Option Sector) = (map_now c.args.pages.now (g.D.Device.state c.args.device.now).disk.present).pages in
-    let few = (c.map_bounds.ensures.open c.args.pages.now (g.D.Device.state c.args.device.now).disk.present c.requires.open c.requires.unspent).1 in
+    let before : List (Option Sector) =
+    (map_now c.args.pages.now (g.D.Device.state c.args.device.now).disk.present).pages in
+    let few = (c.map_bounds.ensures.open c.args.pages.now (g.D.Device.state c.args.device.now).disk.present
+    c.requires.open c.requires.unspent).1 in
     let small : length before ≤ 2 ^ 20 = omega (arith, few) in
-    let heading = heading_read entry c.key.result.now c.value-value.result.now c.key.ensures c.value-value.ensures c.args.generation c.in_ok-file.field-0 file c.next_arrival-next.result c.in-Some.is c.in_ok-file.ensures.some c.next_arrival-next.ensures (c.is_next.ensures.yes c.if-not-is_next.false) in
+    let heading = heading_read entry c.key.result.now c.value-value.result.now c.key.ensures c.value-value.ensures
+    c.args.generation c.in_ok-file.field-0 file c.next_arrival-next.result c.in-Some.is c.in_ok-file.ensures.some
+    c.next_arrival-next.ensures (c.is_next.ensures.yes c.if-not-is_next.false) in
     let tree : RootedTree = c.new-tree.result in
-    let layout : tree.layout ≡ layout_under spec Prime = c.new-tree.ensures.layout ∙ c.tree_layout-layout.ensures.layout in
-    let root = root_told entry c.key.result.now c.value-value.result.now c.key.ensures c.value-value.ensures tree.root (c.new-tree.ensures.root ∙ c.prime_root.ensures) in
+    let layout : tree.layout ≡ layout_under spec Prime =
+    c.new-tree.ensures.layout ∙ c.tree_layout-layout.ensures.layout in
+    let root = root_told entry c.key.result.now c.value-value.result.now c.key.ensures c.value-value.ensures tree.root
+    (c.new-tree.ensures.root ∙ c.prime_root.ensures) in
     let from = rw refused at c.from_residual-in_err-check_alternates.ensures.1 in
     let fault : c.in_err-check_alternates.field-0.0 ≡ Damaged = sym from in
     let told : c.check_alternates.result ≡ Err Damaged = c.in_err-check_alternates.was ∙ ap Err fault in
     let one = c.check_pages.ensures.looks in
-    let same = pages_kept g.D.Device (c.check_pages.result ≡ Err Device) c.args.pages.now c.check_pages.new.pages c.args.device.now c.check_pages.new.device one honest in
+    let same = pages_kept g.D.Device (c.check_pages.result ≡ Err Device) c.args.pages.now c.check_pages.new.pages
+    c.args.device.now c.check_pages.new.device one honest in
     let found = c.in_ok-check_pages.ensures.holds honest agrees in
     let two = c.read_rows.ensures.looks in
-    let same_too = pages_kept g.D.Device (c.read_rows.result ≡ Err Device) c.check_pages.new.pages c.read_rows.new.pages c.check_pages.new.device c.read_rows.new.device two (one.only.honest.0 honest) in
-    let there_now = subst (λ (p : List (Option Sector)). IsTreeOrEmpty tree.layout p tree.root found.levels) (sym same) found.holds in
+    let same_too = pages_kept g.D.Device (c.read_rows.result ≡ Err Device) c.check_pages.new.pages c.read_rows.new.pages
+    c.check_pages.new.device c.read_rows.new.device two (one.only.honest.0 honest) in
+    let there_now =
+    subst (λ (p : List (Option Sector)). IsTreeOrEmpty tree.layout p tree.root found.levels) (sym same) found.holds in
     let rows = rows_of c.in_ok-rows.rows.items in
-    let listed : entries_of tree.layout found.levels ≡ map (entry_under spec Prime) rows = c.in_ok-rows.ensures.rows (one.only.honest.0 honest) (one.agrees honest agrees) found.levels there_now in
-    let up : Ascend (keys_listed (map (entry_under spec Prime) rows)) = subst (λ (es : List Entry). Ascend (keys_listed es)) listed (tree_ascends tree.layout before tree.root found.levels found.holds) in
-    let ascend = rows_ascend spec c.next_arrival-next.result file.sound heading.some (let low = heading.few in let few = c.requires.generation in omega (arith, low, few)) rows c.in_ok-rows.ensures.are up in
-    let passed = subst (λ (l : List StoredRow). RowsAscend spec.organization (rows_of l)) (sym c.deref.ensures.value) ascend in
-    let never = c.check_alternates.ensures.damaged passed (two.only.honest.0 (one.only.honest.0 honest)) (two.agrees (one.only.honest.0 honest) (one.agrees honest agrees)) told in
-    no_pairs_there before c.args.generation entry small c.requires.generation file.name.items spec c.next_arrival-next.result heading tree layout root c.args.seen.now c.check_pages.new.seen rows found.levels found.holds found.marks listed c.in_ok-rows.ensures.are ascend
-    (subst (λ (v : List ℕ). NoIndexes before spec rows v (length spec.alternates) c.check_pages.new.seen) c.value-value.ensures
-    (subst (λ (l : List StoredRow). NoIndexes before spec (rows_of l) c.value-value.result.now (length spec.alternates) c.check_pages.new.seen) c.deref.ensures.value
-    (subst (λ (p : List (Option Sector)). NoIndexes p spec (rows_of c.deref.result.now) c.value-value.result.now (length spec.alternates) c.check_pages.new.seen) (same_too ∙ same) never)))
+    let listed : entries_of tree.layout found.levels ≡ map (entry_under spec Prime) rows =
+    c.in_ok-rows.ensures.rows (one.only.honest.0 honest) (one.agrees honest agrees) found.levels there_now in
+    let up : Ascend (keys_listed (map (entry_under spec Prime) rows)) = subst (λ (es : List Entry).
+    Ascend (keys_listed es)) listed (tree_ascends tree.layout before tree.root found.levels found.holds) in
+    let ascend = rows_ascend spec c.next_arrival-next.result file.sound heading.some (let low = heading.few in let few =
+    c.requires.generation in omega (arith, low, few)) rows c.in_ok-rows.ensures.are up in
+    let passed =
+    subst (λ (l : List StoredRow). RowsAscend spec.organization (rows_of l)) (sym c.deref.ensures.value) ascend in
+    let never = c.check_alternates.ensures.damaged passed (two.only.honest.0 (one.only.honest.0 honest))
+    (two.agrees (one.only.honest.0 honest) (one.agrees honest agrees)) told in
+    no_pairs_there before c.args.generation entry small c.requires.generation file.name.items
+    spec c.next_arrival-next.result heading tree layout root c.args.seen.now c.check_pages.new.seen rows found.levels
+    found.holds found.marks listed c.in_ok-rows.ensures.are ascend
+    (subst (λ (v : List ℕ). NoIndexes before spec rows v (length spec.alternates) c.check_pages.new.seen)
+    c.value-value.ensures
+    (subst (λ (l : List StoredRow). NoIndexes before spec (rows_of l) c.value-value.result.now (length spec.alternates)
+    c.check_pages.new.seen) c.deref.ensures.value
+    (subst (λ (p : List (Option Sector)). NoIndexes p spec (rows_of c.deref.result.now) c.value-value.result.now
+    (length spec.alternates) c.check_pages.new.seen) (same_too ∙ same) never)))
 
 pub check_alternates-requires-clause-rows : goal.check_alternates-requires-clause-rows
 check_alternates-requires-clause-rows g c =
     let spec = spec_of c.in-Some.file in
-    subst (λ (l : List StoredRow). All (IsSized spec) (rows_of l)) (sym c.deref.ensures.value) (rows_sized spec c.next_arrival-next.result (rows_of c.in_ok-rows.rows.items) c.in_ok-rows.ensures.are)
+    subst (λ (l : List StoredRow). All (IsSized spec) (rows_of l)) (sym c.deref.ensures.value)
+    (rows_sized spec c.next_arrival-next.result (rows_of c.in_ok-rows.rows.items) c.in_ok-rows.ensures.are)
 
 pub returns-in_err-rows-clause-looks : goal.returns-in_err-rows-clause-looks
 returns-in_err-rows-clause-looks g c =
-    looks_then g.D.Device (c.check_pages.result ≡ Err Device) (c.read_rows.result ≡ Err Device) _ c.args.pages.now c.check_pages.new.pages c.read_rows.new.pages c.args.device.now c.check_pages.new.device c.read_rows.new.device
-    (λ is. let from = rw is at c.from_residual-in_err-rows.ensures.1 in let fault : c.in_err-rows.field-0.0 ≡ Device = sym from in let told : c.read_rows.result ≡ Err Device = c.in_err-rows.was ∙ ap Err fault in inr told)
+    looks_then g.D.Device (c.check_pages.result ≡ Err Device) (c.read_rows.result ≡ Err Device) _ c.args.pages.now
+    c.check_pages.new.pages c.read_rows.new.pages c.args.device.now c.check_pages.new.device c.read_rows.new.device
+    (λ is. let from = rw is at c.from_residual-in_err-rows.ensures.1 in let fault : c.in_err-rows.field-0.0 ≡ Device =
+    sym from in let told : c.read_rows.result ≡ Err Device = c.in_err-rows.was ∙ ap Err fault in inr told)
     c.check_pages.ensures.looks c.read_rows.ensures.looks
 
 pub returns-in_err-check_alternates-clause-looks : goal.returns-in_err-check_alternates-clause-looks
 returns-in_err-check_alternates-clause-looks g c =
-    let both = looks_then g.D.Device (c.check_pages.result ≡ Err Device) (c.read_rows.result ≡ Err Device) ⊥ c.args.pages.now c.check_pages.new.pages c.read_rows.new.pages c.args.device.now c.check_pages.new.device c.read_rows.new.device
+    let both =
+    looks_then g.D.Device (c.check_pages.result ≡ Err Device) (c.read_rows.result ≡ Err Device) ⊥ c.args.pages.now
+    c.check_pages.new.pages c.read_rows.new.pages c.args.device.now c.check_pages.new.device c.read_rows.new.device
     (λ is. absurd is) c.check_pages.ensures.looks c.read_rows.ensures.looks in
-    looks_then g.D.Device ⊥ (c.check_alternates.result ≡ Err Device) _ c.args.pages.now c.read_rows.new.pages c.check_alternates.new.pages c.args.device.now c.read_rows.new.device c.check_alternates.new.device
-    (λ is. let from = rw is at c.from_residual-in_err-check_alternates.ensures.1 in let fault : c.in_err-check_alternates.field-0.0 ≡ Device = sym from in let told : c.check_alternates.result ≡ Err Device = c.in_err-check_alternates.was ∙ ap Err fault in inr told)
+    looks_then g.D.Device ⊥ (c.check_alternates.result ≡ Err Device) _ c.args.pages.now c.read_rows.new.pages
+    c.check_alternates.new.pages c.args.device.now c.read_rows.new.device c.check_alternates.new.device
+    (λ is. let from = rw is at c.from_residual-in_err-check_alternates.ensures.1 in
+    let fault : c.in_err-check_alternates.field-0.0 ≡ Device = sym from in
+    let told : c.check_alternates.result ≡ Err Device = c.in_err-check_alternates.was ∙ ap Err fault in inr told)
     both c.check_alternates.ensures.looks
 
 pub returns-clause-looks : goal.returns-clause-looks
 returns-clause-looks g c =
-    let both = looks_then g.D.Device (c.check_pages.result ≡ Err Device) (c.read_rows.result ≡ Err Device) ⊥ c.args.pages.now c.check_pages.new.pages c.read_rows.new.pages c.args.device.now c.check_pages.new.device c.read_rows.new.device
+    let both =
+    looks_then g.D.Device (c.check_pages.result ≡ Err Device) (c.read_rows.result ≡ Err Device) ⊥ c.args.pages.now
+    c.check_pages.new.pages c.read_rows.new.pages c.args.device.now c.check_pages.new.device c.read_rows.new.device
     (λ is. absurd is) c.check_pages.ensures.looks c.read_rows.ensures.looks in
-    looks_then g.D.Device ⊥ (c.check_alternates.result ≡ Err Device) _ c.args.pages.now c.read_rows.new.pages c.check_alternates.new.pages c.args.device.now c.read_rows.new.device c.check_alternates.new.device
+    looks_then g.D.Device ⊥ (c.check_alternates.result ≡ Err Device) _ c.args.pages.now c.read_rows.new.pages
+    c.check_alternates.new.pages c.args.device.now c.read_rows.new.device c.check_alternates.new.device
     (λ is. let never : ⊥ = cc in absurd never) both c.check_alternates.ensures.looks

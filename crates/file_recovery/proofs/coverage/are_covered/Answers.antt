@@ -8,7 +8,8 @@ loop-page-init c = λ image. covered_none (map_now c.args.pages.now image).pages
 
 pub loop-page-preserved : goal.loop-page-preserved
 loop-page-preserved c = λ image.
-    covered_more (map_now c.args.pages.now image).pages c.args.seen.now c.loop-page.page (c.loop-page.invariant image) (c.is_stray.ensures.no c.if-is_stray.false image)
+    covered_more (map_now c.args.pages.now image).pages c.args.seen.now c.loop-page.page (c.loop-page.invariant image)
+    (c.is_stray.ensures.no c.if-is_stray.false image)
 
 pub returns-then-is_stray-clause-no : goal.returns-then-is_stray-clause-no
 returns-then-is_stray-clause-no c = λ is image covered.
@@ -23,4 +24,5 @@ returns-clause-yes c = λ is image.
     let counted = c.page_count-count.ensures.count in
     let few = c.page_count-count.ensures.few c.requires.open c.requires.unspent in
     let test = c.loop-page-test.false in
-    covered_all pages c.args.seen.now c.loop-page.page (omega (arith, many, counted, few, test)) (c.loop-page.invariant image)
+    covered_all pages c.args.seen.now c.loop-page.page (omega (arith, many, counted, few, test))
+    (c.loop-page.invariant image)

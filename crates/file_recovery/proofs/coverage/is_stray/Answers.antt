@@ -13,4 +13,5 @@ returns-clause-yes c = λ is image. (
 )
 
 pub returns-clause-no : goal.returns-clause-no
-returns-clause-no c = λ is image used. none_used (page_of (map_now c.args.pages.now image) c.args.page) (sym (c.has_page.ensures image) ∙ is) used
+returns-clause-no c = λ is image used.
+    none_used (page_of (map_now c.args.pages.now image) c.args.page) (sym (c.has_page.ensures image) ∙ is) used

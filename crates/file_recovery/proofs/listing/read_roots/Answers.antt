@@ -10,7 +10,8 @@ loop-key-preserved c =
     let one : suc k ≡ k + 1 = omega arith in
     let many = length-append c.loop-key.roots.items next in
     let was = c.loop-key.invariant.long in
-    let pushed : length c.push.new.self.items ≡ length (c.loop-key.roots.items ++ next) = ap (λ (l : List ℕ). length l) c.in_ok-push.ensures.items in
+    let pushed : length c.push.new.self.items ≡ length (c.loop-key.roots.items ++ next) =
+    ap (λ (l : List ℕ). length l) c.in_ok-push.ensures.items in
     record {
       roots = c.in_ok-push.ensures.items
           ∙ ap (λ (l : List ℕ). l ++ next) c.loop-key.invariant.roots

@@ -12,8 +12,11 @@ use Rattle.file_recovery.proofs.pairs.check_index.Given as goal
 abbrev pub invariant-loop-turn : goal.invariant-loop-turn
 invariant-loop-turn g l = record {
   looks : LooksAt g.D.Device ⊥ l.fn.pages l.fn.device l.pages l.device;
-  next_is : OnTree g.D.Device l.tree.layout l.tree.root l.fn.pages l.fn.device (λ levels. l.next ≡ entry_at l.turn (entries_of l.tree.layout levels));
-  some : OnTree g.D.Device l.tree.layout l.tree.root l.fn.pages l.fn.device (λ levels. l.turn ≤ length (entries_of l.tree.layout levels));
+  next_is : OnTree g.D.Device l.tree.layout l.tree.root l.fn.pages l.fn.device
+      (λ levels. l.next ≡ entry_at l.turn (entries_of l.tree.layout levels));
+  some : OnTree g.D.Device l.tree.layout l.tree.root l.fn.pages l.fn.device
+      (λ levels. l.turn ≤ length (entries_of l.tree.layout levels));
   pairs : OnTree g.D.Device l.tree.layout l.tree.root l.fn.pages l.fn.device
-      (λ levels. AllByRecursion (IsPairOf (spec_of l.file) l.key (rows_of l.rows)) (take l.turn (entries_of l.tree.layout levels)));
+      (λ levels. AllByRecursion (IsPairOf (spec_of l.file) l.key (rows_of l.rows))
+      (take l.turn (entries_of l.tree.layout levels)));
 }

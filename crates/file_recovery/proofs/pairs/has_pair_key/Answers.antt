@@ -13,7 +13,8 @@ returns-then-not-is_same-clause-no c = λ told is.
     let whole : value ++ tail ≡ c.args.pair.now = ap (λ (v : List ℕ). v ++ tail) c.alternate_value-value.ensures ∙ is in
     let front = c.split_at.ensures.front ∙ front_of value tail c.args.pair.now (length value) refl whole in
     let clash : true ≡ false =
-    sym (same_itself value) ∙ ap (λ (v : List ℕ). same_bytes v value) (sym front) ∙ sym c.is_same.ensures ∙ c.if-not-is_same.true in
+    sym (same_itself value) ∙ ap (λ (v : List ℕ). same_bytes v value) (sym front) ∙ sym c.is_same.ensures
+    ∙ c.if-not-is_same.true in
     absurd {0} cc
 
 pub returns-clause-yes : goal.returns-clause-yes
@@ -25,4 +26,5 @@ returns-clause-yes c = λ is.
     let number : c.to_be_bytes.result ≡ tail = c.to_be_bytes.ensures ∙ ap (big_bytes 8) c.arrival_of.ensures in
     let behind : drop (length value) c.args.pair.now ≡ tail =
     sym c.split_at.ensures.back ∙ sym (bytes_same c.to_be_bytes.result _ (sym c.is_same-2.ensures ∙ is)) ∙ number in
-    sym (ap (λ (v : List ℕ). v ++ tail) c.alternate_value-value.ensures) ∙ joined value tail c.args.pair.now (length value) refl front behind
+    sym (ap (λ (v : List ℕ). v ++ tail) c.alternate_value-value.ensures)
+    ∙ joined value tail c.args.pair.now (length value) refl front behind

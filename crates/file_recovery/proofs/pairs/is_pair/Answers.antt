@@ -16,12 +16,15 @@ returns-in-Some-clause-no c = λ up told own.
     let many = length-map c.args.rows.now row_of in
     let low = c.in-Some.ensures.place in
     let row = row_placed c.args.rows.now c.in-Some.place c.index-rows-place.result low c.index-rows-place.is in
-    other_pair spec c.args.key rows c.args.entry.now up c.in-Some.place (omega (arith, low, many)) (c.in-Some.ensures.found ∙ c.value.ensures)
+    other_pair spec c.args.key rows c.args.entry.now up c.in-Some.place (omega (arith, low, many))
+    (c.in-Some.ensures.found ∙ c.value.ensures)
     (λ key. c.has_pair_key.ensures.no told
-    (ap (λ (r : Row). key_under spec (Alternate c.args.key) (pair_under spec (Alternate c.args.key) r)) row ∙ key ∙ sym c.key.ensures)) own
+    (ap (λ (r : Row). key_under spec (Alternate c.args.key) (pair_under spec (Alternate c.args.key) r)) row ∙ key
+    ∙ sym c.key.ensures)) own
 
 pub returns-in-None-clause-no : goal.returns-in-None-clause-no
 returns-in-None-clause-no c = λ up told own.
     let many = length-map c.args.rows.now row_of in
     no_pair (spec_of c.args.file.now) c.args.key (rows_of c.args.rows.now) c.args.entry.now
-    (λ k low same. c.find_row.ensures.missing up c.in-None.is k (omega (arith, low, many)) (same ∙ sym c.value.ensures)) own
+    (λ k low same. c.find_row.ensures.missing up c.in-None.is k (omega (arith, low, many)) (same ∙ sym c.value.ensures))
+    own

@@ -16,8 +16,11 @@ pub returns-clause-row : goal.returns-clause-row
 returns-clause-row c =
     let spec = spec_of c.args.file.now in
     let row = c.in-Some.row in
-    let is = subst (λ (o : Option StoredRow). IfSome o (λ r. IsRow spec c.args.next_arrival (row_of r))) c.in-Some.is c.in_ok-row.ensures.row in
-    let spells = subst (λ (o : Option StoredRow). IfSome o (λ r. (key_under spec Prime (pair_under spec Prime (row_of r)) ≡ c.key.result.now) × (row_value (row_of r) ≡ c.value.result.now))) c.in-Some.is c.in_ok-row.ensures.some in
+    let is = subst (λ (o : Option StoredRow). IfSome o (λ r. IsRow spec c.args.next_arrival (row_of r))) c.in-Some.is
+    c.in_ok-row.ensures.row in
+    let spells =
+    subst (λ (o : Option StoredRow). IfSome o (λ r. (key_under spec Prime (pair_under spec Prime (row_of r))
+    ≡ c.key.result.now) × (row_value (row_of r) ≡ c.value.result.now))) c.in-Some.is c.in_ok-row.ensures.some in
     record {
       row = row_of row;
       is = (is, same_entry spec (row_of row) c.args.entry.now (spells.0 ∙ c.key.ensures) (spells.1 ∙ c.value.ensures));
@@ -26,5 +29,7 @@ returns-clause-row c =
 
 pub returns-in_default-clause-damaged : goal.returns-in_default-clause-damaged
 returns-in_default-clause-damaged c = λ told row is spells.
-    c.in_ok-row.ensures.none (ap (λ (o : Option StoredRow). Ok o) (is_none c.in_ok-row.field-0 c.in_default.not-Some)) row is
-    (key_of (spec_of c.args.file.now) row c.args.entry.now spells ∙ sym c.key.ensures) (value_of (spec_of c.args.file.now) row c.args.entry.now spells ∙ sym c.value.ensures)
+    c.in_ok-row.ensures.none (ap (λ (o : Option StoredRow). Ok o) (is_none c.in_ok-row.field-0 c.in_default.not-Some))
+    row is
+    (key_of (spec_of c.args.file.now) row c.args.entry.now spells ∙ sym c.key.ensures)
+    (value_of (spec_of c.args.file.now) row c.args.entry.now spells ∙ sym c.value.ensures)

@@ -17,6 +17,8 @@ invariant-loop-turn g l = record {
   looks : LooksAt g.D.Device ⊥ l.fn.pages l.fn.device l.pages l.device;
   are : AllByRecursion (IsRow (spec_of l.file) l.next_arrival) (rows_of l.rows.items);
   lengths : IfSome l.next (HasLengths l.tree.layout);
-  next_is : OnTree g.D.Device l.tree.layout l.tree.root l.fn.pages l.fn.device (λ levels. l.next ≡ entry_at l._turn (entries_of l.tree.layout levels));
-  rows_are : OnTree g.D.Device l.tree.layout l.tree.root l.fn.pages l.fn.device (λ levels. map (entry_under (spec_of l.file) Prime) (rows_of l.rows.items) ≡ take l._turn (entries_of l.tree.layout levels));
+  next_is : OnTree g.D.Device l.tree.layout l.tree.root l.fn.pages l.fn.device
+      (λ levels. l.next ≡ entry_at l._turn (entries_of l.tree.layout levels));
+  rows_are : OnTree g.D.Device l.tree.layout l.tree.root l.fn.pages l.fn.device (λ levels.
+      map (entry_under (spec_of l.file) Prime) (rows_of l.rows.items) ≡ take l._turn (entries_of l.tree.layout levels));
 }

@@ -19,9 +19,13 @@ returns-in_err-files-clause-damaged g c = λ honest agrees told files holds.
     let refused : c.read_catalog.result ≡ Err Damaged = c.in_err-files.was ∙ ap Err fault in
     let filled = c.in_ok-seen.ensures.items_if_clones_equal (λ y is. is) in
     let old : List Bool = c.deref_mut.result.now in
-    let none : NoneMarked old = subst NoneMarked (sym (c.deref_mut.ensures.value ∙ filled)) (none_marked c.page_count.result) in
-    let many : length old ≡ length m.pages = ap (λ (l : List Bool). length l) (c.deref_mut.ensures.value ∙ filled) ∙ length-replicate c.page_count.result false ∙ c.page_count.ensures.count ∙ sym (c.page_count.ensures.pages image) in
-    none_is_held m m refl c.generation.result (c.generation.ensures.is image) old none many (c.read_catalog.ensures.damaged honest agrees refused) files holds
+    let none : NoneMarked old =
+    subst NoneMarked (sym (c.deref_mut.ensures.value ∙ filled)) (none_marked c.page_count.result) in
+    let many : length old ≡ length m.pages =
+    ap (λ (l : List Bool). length l) (c.deref_mut.ensures.value ∙ filled) ∙ length-replicate c.page_count.result false
+    ∙ c.page_count.ensures.count ∙ sym (c.page_count.ensures.pages image) in
+    none_is_held m m refl c.generation.result (c.generation.ensures.is image) old none many
+    (c.read_catalog.ensures.damaged honest agrees refused) files holds
 
 pub returns-then-not-are_covered-clause-damaged : goal.returns-then-not-are_covered-clause-damaged
 returns-then-not-are_covered-clause-damaged g c = λ honest agrees told files holds.
@@ -31,15 +35,20 @@ returns-then-not-are_covered-clause-damaged g c = λ honest agrees told files ho
     let filled = c.in_ok-seen.ensures.items_if_clones_equal (λ y is. is) in
     let old : List Bool = c.deref_mut.result.now in
     let new : List Bool = c.read_catalog.new.seen in
-    let none : NoneMarked old = subst NoneMarked (sym (c.deref_mut.ensures.value ∙ filled)) (none_marked c.page_count.result) in
+    let none : NoneMarked old =
+    subst NoneMarked (sym (c.deref_mut.ensures.value ∙ filled)) (none_marked c.page_count.result) in
     let few = c.page_count.ensures.few c.requires.open c.requires.unspent in
     let counted = c.page_count.ensures.count in
     let many = c.page_count.ensures.pages image in
     let small : length m.pages ≤ 2 ^ 20 = omega (arith, few, counted, many) in
-    let kept : (with_items c.in_ok-seen.seen new).items ≡ new = with_items_is c.in_ok-seen.seen new (c.read_catalog.auto.seen ∙ c.deref_mut.ensures.len) in
+    let kept : (with_items c.in_ok-seen.seen new).items ≡ new =
+    with_items_is c.in_ok-seen.seen new (c.read_catalog.auto.seen ∙ c.deref_mut.ensures.len) in
     let marked : c.deref.result.now ≡ new = c.deref.ensures.value ∙ kept in
-    stray_is_held m after (c.read_catalog.ensures.looks.unchanged.map image) c.generation.result (c.generation.ensures.is image) old none (files_of c.in_ok-files.files.items) new small (c.in_ok-files.ensures.files honest agrees)
-    (λ covered. c.are_covered.ensures.no c.if-not-are_covered.true image (subst (λ (l : List Bool). IsCovered after.pages l) (sym marked) covered)) files holds
+    stray_is_held m after (c.read_catalog.ensures.looks.unchanged.map image)
+    c.generation.result (c.generation.ensures.is image) old none (files_of c.in_ok-files.files.items) new small
+    (c.in_ok-files.ensures.files honest agrees)
+    (λ covered. c.are_covered.ensures.no c.if-not-are_covered.true image
+    (subst (λ (l : List Bool). IsCovered after.pages l) (sym marked) covered)) files holds
 
 pub returns-clause-holds : goal.returns-clause-holds
 returns-clause-holds g c = λ honest agrees.
@@ -49,8 +58,13 @@ returns-clause-holds g c = λ honest agrees.
     let filled = c.in_ok-seen.ensures.items_if_clones_equal (λ y is. is) in
     let old : List Bool = c.deref_mut.result.now in
     let new : List Bool = c.read_catalog.new.seen in
-    let none : NoneMarked old = subst NoneMarked (sym (c.deref_mut.ensures.value ∙ filled)) (none_marked c.page_count.result) in
-    let kept : (with_items c.in_ok-seen.seen new).items ≡ new = with_items_is c.in_ok-seen.seen new (c.read_catalog.auto.seen ∙ c.deref_mut.ensures.len) in
+    let none : NoneMarked old =
+    subst NoneMarked (sym (c.deref_mut.ensures.value ∙ filled)) (none_marked c.page_count.result) in
+    let kept : (with_items c.in_ok-seen.seen new).items ≡ new =
+    with_items_is c.in_ok-seen.seen new (c.read_catalog.auto.seen ∙ c.deref_mut.ensures.len) in
     let marked : c.deref.result.now ≡ new = c.deref.ensures.value ∙ kept in
-    catalog_is_held m after (c.read_catalog.ensures.looks.unchanged.map image) c.generation.result (c.generation.ensures.is image) old none (files_of c.in_ok-files.files.items) new (c.in_ok-files.ensures.files honest agrees)
-    (subst (λ (l : List Bool). IsCovered after.pages l) marked (c.are_covered.ensures.yes c.if-not-are_covered.false image))
+    catalog_is_held m after (c.read_catalog.ensures.looks.unchanged.map image)
+    c.generation.result (c.generation.ensures.is image) old none (files_of c.in_ok-files.files.items) new
+    (c.in_ok-files.ensures.files honest agrees)
+    (subst (λ (l : List Bool). IsCovered after.pages l) marked
+    (c.are_covered.ensures.yes c.if-not-are_covered.false image))

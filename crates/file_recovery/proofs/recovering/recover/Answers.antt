@@ -20,26 +20,33 @@ returns-in-Layout-clause-moments g c = λ honest.
 pub returns-in-Layout-clause-holds : goal.returns-in-Layout-clause-holds
 returns-in-Layout-clause-holds g c = λ honest.
     let d = g.D.Device in
-    let same = same_present (d.state c.args.device.now) (d.state c.recover_trees.new.device) (c.in-Err.ensures.unwritten honest) in
-    ok_so c.recover.result (λ files holds. inr (subst (λ (image : List Sector). HoldsHalf image (files_of files.items)) same holds)) (c.recover.ensures.holds (c.recover_trees.ensures.only.honest.0 honest))
+    let same =
+    same_present (d.state c.args.device.now) (d.state c.recover_trees.new.device) (c.in-Err.ensures.unwritten honest) in
+    ok_so c.recover.result
+    (λ files holds. inr (subst (λ (image : List Sector). HoldsHalf image (files_of files.items)) same holds))
+    (c.recover.ensures.holds (c.recover_trees.ensures.only.honest.0 honest))
 
 pub returns-in-Layout-clause-refused : goal.returns-in-Layout-clause-refused
 returns-in-Layout-clause-refused g c = λ honest.
     let d = g.D.Device in
     let image = (d.state c.args.device.now).disk.present in
-    let same = same_present (d.state c.args.device.now) (d.state c.recover_trees.new.device) (c.in-Err.ensures.unwritten honest) in
+    let same =
+    same_present (d.state c.args.device.now) (d.state c.recover_trees.new.device) (c.in-Err.ensures.unwritten honest) in
     let foreign : IsForeign image = subst (RefusedTrees image) c.in-Layout.is (c.in-Err.ensures.refused honest) in
     half_refused image c.recover.result foreign
-    (subst (λ (l : List Sector). IfErr c.recover.result (λ fault. RefusedHalf l fault)) same (c.recover.ensures.refused (c.recover_trees.ensures.only.honest.0 honest)))
+    (subst (λ (l : List Sector). IfErr c.recover.result (λ fault. RefusedHalf l fault)) same
+    (c.recover.ensures.refused (c.recover_trees.ensures.only.honest.0 honest)))
 
 pub returns-in-Layout-clause-opens : goal.returns-in-Layout-clause-opens
 returns-in-Layout-clause-opens g c = λ honest files holds.
     let d = g.D.Device in
     let image = (d.state c.args.device.now).disk.present in
-    let same = same_present (d.state c.args.device.now) (d.state c.recover_trees.new.device) (c.in-Err.ensures.unwritten honest) in
+    let same =
+    same_present (d.state c.args.device.now) (d.state c.recover_trees.new.device) (c.in-Err.ensures.unwritten honest) in
     let foreign : IsForeign image = subst (RefusedTrees image) c.in-Layout.is (c.in-Err.ensures.refused honest) in
     half_cause image c.recover.result files foreign
-    (λ half. c.recover.ensures.opens (c.recover_trees.ensures.only.honest.0 honest) files (subst (λ (l : List Sector). HoldsHalf l files) (sym same) half)) holds
+    (λ half. c.recover.ensures.opens (c.recover_trees.ensures.only.honest.0 honest) files
+    (subst (λ (l : List Sector). HoldsHalf l files) (sym same) half)) holds
 
 pub returns-in_default : goal.returns-in_default
 returns-in_default g c =
@@ -50,6 +57,8 @@ returns-in_default g c =
       state = c.in-Err.ensures.state;
       unwritten = c.in-Err.ensures.unwritten;
       holds = λ honest. tt;
-      refused = λ honest. either_refused image c.in-Err.fault c.in_default.not-Layout (c.in-Err.ensures.refused honest) (c.in-Err.ensures.foreign honest);
-      opens = λ honest files holds. either_cause image c.in-Err.fault files c.in_default.not-Layout (c.in-Err.ensures.opens honest files) (c.in-Err.ensures.foreign honest) holds;
+      refused = λ honest. either_refused image c.in-Err.fault c.in_default.not-Layout (c.in-Err.ensures.refused honest)
+          (c.in-Err.ensures.foreign honest);
+      opens = λ honest files holds. either_cause image c.in-Err.fault files c.in_default.not-Layout
+          (c.in-Err.ensures.opens honest files) (c.in-Err.ensures.foreign honest) holds;
     }

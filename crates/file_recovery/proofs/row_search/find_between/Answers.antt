@@ -13,7 +13,8 @@ use Rattle.file_recovery.proofs.row_search.find_between.Goals as goal
 pub loop-low-init : goal.loop-low-init
 loop-low-init c = record {
   within = c.requires.end;
-  left = λ up first last. left_all (spec_of c.args.file.now) (rows_of c.args.rows.now) c.args.value.now c.args.start c.args.end first (last ∙ sym (length-map c.args.rows.now row_of));
+  left = λ up first last. left_all (spec_of c.args.file.now) (rows_of c.args.rows.now) c.args.value.now c.args.start
+      c.args.end first (last ∙ sym (length-map c.args.rows.now row_of));
 }
 
 pub loop-low-preserved-in-Less : goal.loop-low-preserved-in-Less
@@ -26,7 +27,8 @@ loop-low-preserved-in-Less c =
     let order : bytes_cmp (prime_at spec rows middle) c.args.value.now ≡ Less = cc in
     record {
       within = c.loop-low.invariant.within;
-      left = λ up first last. left_right spec rows c.args.value.now up c.loop-low.low c.loop-low.high middle (c.loop-low.invariant.left up first last) within order;
+      left = λ up first last. left_right spec rows c.args.value.now up c.loop-low.low c.loop-low.high middle
+          (c.loop-low.invariant.left up first last) within order;
     }
 
 pub loop-low-preserved : goal.loop-low-preserved
@@ -39,7 +41,8 @@ loop-low-preserved c =
     let order : bytes_cmp (prime_at spec rows middle) c.args.value.now ≡ Greater = cc in
     record {
       within = omega (arith, within, many);
-      left = λ up first last. left_left spec rows c.args.value.now up c.loop-low.low c.loop-low.high middle (c.loop-low.invariant.left up first last) within order;
+      left = λ up first last. left_left spec rows c.args.value.now up c.loop-low.low c.loop-low.high middle
+          (c.loop-low.invariant.left up first last) within order;
     }
 
 pub returns-in-Equal-clause-found : goal.returns-in-Equal-clause-found
@@ -53,5 +56,6 @@ returns-in-Equal-clause-found c =
 pub returns-clause-missing : goal.returns-clause-missing
 returns-clause-missing c = λ up first last told k low same.
     let many = length-map c.args.rows.now row_of in
-    none_left (spec_of c.args.file.now) (rows_of c.args.rows.now) c.args.value.now c.loop-low.low c.loop-low.high (c.loop-low.invariant.left up first last)
+    none_left (spec_of c.args.file.now) (rows_of c.args.rows.now) c.args.value.now c.loop-low.low c.loop-low.high
+    (c.loop-low.invariant.left up first last)
     (omega (arith, c.loop-low-test.false)) k (omega (arith, low, many)) same

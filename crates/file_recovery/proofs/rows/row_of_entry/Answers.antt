@@ -12,13 +12,16 @@ use Rattle.file_recovery.proofs.rows.row_of_entry.Goals as goal
 pub returns-then-not-is_row-clause-none : goal.returns-then-not-is_row-clause-none
 returns-then-not-is_row-clause-none c = λ told row is key value.
     let spec = spec_of c.args.file.now in
-    let same : row_of c.in_ok-row.row ≡ row = c.in_ok-row.ensures.row ∙ row_back spec c.args.next (search) row is c.args.key.now c.args.value.now key value in
+    let same : row_of c.in_ok-row.row ≡ row =
+    c.in_ok-row.ensures.row ∙ row_back spec c.args.next (search) row is c.args.key.now c.args.value.now key value in
     c.is_row.ensures.no c.if-not-is_row.true (subst (IsRow spec c.args.next) (sym same) is)
 
 pub returns-then-not-is_own-clause-none : goal.returns-then-not-is_own-clause-none
 returns-then-not-is_own-clause-none c = λ told row is key value.
     let spec = spec_of c.args.file.now in
-    let same : row_of c.in_ok-row.row ≡ row = c.in_ok-row.ensures.row ∙ row_back spec c.args.next (search) row is c.args.key.now c.args.value.now key value in
-    let own = c.in_ok-is_own.ensures.no (ap (λ (r : Row). key_under spec Prime (pair_under spec Prime r)) same ∙ key) (ap row_value same ∙ value) in
+    let same : row_of c.in_ok-row.row ≡ row =
+    c.in_ok-row.ensures.row ∙ row_back spec c.args.next (search) row is c.args.key.now c.args.value.now key value in
+    let own = c.in_ok-is_own.ensures.no (ap (λ (r : Row). key_under spec Prime (pair_under spec Prime r)) same ∙ key)
+    (ap row_value same ∙ value) in
     let both : true ≡ false = sym own ∙ c.if-not-is_own.true in
     absurd {0} cc

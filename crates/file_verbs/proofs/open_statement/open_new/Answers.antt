@@ -8,4 +8,5 @@ use Rattle.file_verbs.proofs.open_statement.open_new.Goals as goal
 pub returns-clause-linked : goal.returns-clause-linked
 returns-clause-linked g c = λ files.
     let file = c.args.select.now.file in
-    There c.begin.ensures.absent (empty_file (spec_of file)) (record { there = found_again file.name.items (empty_file (spec_of file)) files; spec = refl })
+    There c.begin.ensures.absent (empty_file (spec_of file))
+    (record { there = found_again file.name.items (empty_file (spec_of file)) files; spec = refl })

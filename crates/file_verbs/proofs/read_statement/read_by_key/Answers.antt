@@ -20,9 +20,13 @@ returns-in_default-clause-step g c = λ files stands linked.
     let key = c.args.key in
     let h = held_of files s l linked c.if-link.false in
     let row = fits s l files c.args.bytes.now c.args.number.now h.0 h.1 key c.requires.key Equal in
-    let told = subst (λ (p : KeyPlace). IsFoundRow spec key h.0.rows c.seek_fitting.new.sought (row p.length) c.in_ok-found.field-0) c.key_place-count.ensures.place (c.in_ok-found.ensures.found files h.0 stands h.1) in
-    let none = told_no_row spec key h.0.rows c.seek_fitting.new.sought (row (key_length spec key)) (subst (λ (o : Option Found). IsFoundRow spec key h.0.rows c.seek_fitting.new.sought (row (key_length spec key)) o) c.in_default.is told) in
-    ended _ _ NotFound _ _ (read_is s l files c.args.bytes.now c.args.number.now h.0 h.1 key c.requires.key None none) refl (ap (connector_of spec) c.lose_position-in_default.ensures) refl
+    let told = subst (λ (p : KeyPlace). IsFoundRow spec key h.0.rows c.seek_fitting.new.sought (row p.length)
+    c.in_ok-found.field-0) c.key_place-count.ensures.place (c.in_ok-found.ensures.found files h.0 stands h.1) in
+    let none =
+    told_no_row spec key h.0.rows c.seek_fitting.new.sought (row (key_length spec key)) (subst (λ (o : Option Found).
+    IsFoundRow spec key h.0.rows c.seek_fitting.new.sought (row (key_length spec key)) o) c.in_default.is told) in
+    ended _ _ NotFound _ _ (read_is s l files c.args.bytes.now c.args.number.now h.0 h.1 key c.requires.key None none)
+    refl (ap (connector_of spec) c.lose_position-in_default.ensures) refl
 
 pub returns-clause-step : goal.returns-clause-step
 returns-clause-step g c = λ files stands linked.
@@ -32,9 +36,17 @@ returns-clause-step g c = λ files stands linked.
     let key = c.args.key in
     let h = held_of files s l linked c.if-link.false in
     let row = fits s l files c.args.bytes.now c.args.number.now h.0 h.1 key c.requires.key Equal in
-    let told = subst (λ (p : KeyPlace). IsFoundRow spec key h.0.rows c.seek_fitting.new.sought (row p.length) c.in_ok-found.field-0) c.key_place-count.ensures.place (c.in_ok-found.ensures.found files h.0 stands h.1) in
-    let some = told_row spec key h.0.rows c.seek_fitting.new.sought (row (key_length spec key)) c.in-Some.found (subst (λ (o : Option Found). IsFoundRow spec key h.0.rows c.seek_fitting.new.sought (row (key_length spec key)) o) c.in-Some.is told) in
-    let w : (with_items l.sought c.seek_fitting.new.sought).items ≡ c.seek_fitting.new.sought = with_items_is l.sought c.seek_fitting.new.sought (c.seek_fitting.auto.sought ∙ c.deref_mut.ensures.len) in
-    let taken = takes_row s l files c.args.bytes.now c.args.number.now h.0 h.1 key c.requires.key some.0 c.in-Some.found (with_items l.sought c.seek_fitting.new.sought).items c.take_row.result (connector_of spec c.take_row.new.link) c.take_row.new.bytes c.take_row.new.number
-    some.2 (w ∙ some.3) c.take_row.ensures.status (ap (connector_of spec) c.take_row.ensures.link) c.take_row.ensures.bytes c.take_row.ensures.number in
-    ended _ _ _ _ _ (read_is s l files c.args.bytes.now c.args.number.now h.0 h.1 key c.requires.key (Some some.0) some.1) taken.status_is taken.connector_is taken.area_is
+    let told = subst (λ (p : KeyPlace). IsFoundRow spec key h.0.rows c.seek_fitting.new.sought (row p.length)
+    c.in_ok-found.field-0) c.key_place-count.ensures.place (c.in_ok-found.ensures.found files h.0 stands h.1) in
+    let some = told_row spec key h.0.rows c.seek_fitting.new.sought (row (key_length spec key)) c.in-Some.found
+    (subst (λ (o : Option Found). IsFoundRow spec key h.0.rows c.seek_fitting.new.sought (row (key_length spec key)) o)
+    c.in-Some.is told) in
+    let w : (with_items l.sought c.seek_fitting.new.sought).items ≡ c.seek_fitting.new.sought =
+    with_items_is l.sought c.seek_fitting.new.sought (c.seek_fitting.auto.sought ∙ c.deref_mut.ensures.len) in
+    let taken = takes_row s l files c.args.bytes.now c.args.number.now h.0 h.1 key c.requires.key some.0 c.in-Some.found
+    (with_items l.sought c.seek_fitting.new.sought).items c.take_row.result (connector_of spec c.take_row.new.link)
+    c.take_row.new.bytes c.take_row.new.number
+    some.2 (w ∙ some.3) c.take_row.ensures.status (ap (connector_of spec) c.take_row.ensures.link)
+    c.take_row.ensures.bytes c.take_row.ensures.number in
+    ended _ _ _ _ _ (read_is s l files c.args.bytes.now c.args.number.now h.0 h.1 key c.requires.key (Some some.0)
+    some.1) taken.status_is taken.connector_is taken.area_is

@@ -19,8 +19,10 @@ returns-in_default-clause-step g c = λ files stands linked.
     let h = held_of files s l linked c.if-link.false in
     let row = fits s l files c.args.bytes.now c.args.number h.0 h.1 key c.requires.key c.args.relation c.args.count in
     let told = c.in_ok-found.ensures.found files h.0 stands h.1 in
-    let none = told_no_row spec key h.0.rows c.seek_fitting.new.sought row (subst (λ (o : Option Found). IsFoundRow spec key h.0.rows c.seek_fitting.new.sought row o) c.in_default.is told) in
-    ended _ _ NotFound _ _ (start_is s l files c.args.bytes.now c.args.number h.0 h.1 key c.requires.key c.args.relation c.args.count None none) refl (ap (connector_of spec) c.lose_position-in_default.ensures) refl
+    let none = told_no_row spec key h.0.rows c.seek_fitting.new.sought row
+    (subst (λ (o : Option Found). IsFoundRow spec key h.0.rows c.seek_fitting.new.sought row o) c.in_default.is told) in
+    ended _ _ NotFound _ _ (start_is s l files c.args.bytes.now c.args.number h.0 h.1 key c.requires.key c.args.relation
+    c.args.count None none) refl (ap (connector_of spec) c.lose_position-in_default.ensures) refl
 
 pub returns-clause-step : goal.returns-clause-step
 returns-clause-step g c = λ files stands linked.
@@ -31,7 +33,12 @@ returns-clause-step g c = λ files stands linked.
     let h = held_of files s l linked c.if-link.false in
     let row = fits s l files c.args.bytes.now c.args.number h.0 h.1 key c.requires.key c.args.relation c.args.count in
     let told = c.in_ok-found.ensures.found files h.0 stands h.1 in
-    let some = told_row spec key h.0.rows c.seek_fitting.new.sought row c.in-Some.found (subst (λ (o : Option Found). IsFoundRow spec key h.0.rows c.seek_fitting.new.sought row o) c.in-Some.is told) in
-    let w : (with_items l.sought c.seek_fitting.new.sought).items ≡ c.seek_fitting.new.sought = with_items_is l.sought c.seek_fitting.new.sought (c.seek_fitting.auto.sought ∙ c.deref_mut.ensures.len) in
-    let stood = stands_row s l files c.args.bytes.now c.args.number h.0 h.1 key c.requires.key some.0 c.in-Some.found (with_items l.sought c.seek_fitting.new.sought).items (connector_of spec c.stand.new.link) some.2 (w ∙ some.3) (ap (connector_of spec) c.stand.ensures) in
-    ended _ _ Success _ _ (start_is s l files c.args.bytes.now c.args.number h.0 h.1 key c.requires.key c.args.relation c.args.count (Some some.0) some.1) stood.status_is stood.connector_is stood.area_is
+    let some = told_row spec key h.0.rows c.seek_fitting.new.sought row c.in-Some.found
+    (subst (λ (o : Option Found). IsFoundRow spec key h.0.rows c.seek_fitting.new.sought row o) c.in-Some.is told) in
+    let w : (with_items l.sought c.seek_fitting.new.sought).items ≡ c.seek_fitting.new.sought =
+    with_items_is l.sought c.seek_fitting.new.sought (c.seek_fitting.auto.sought ∙ c.deref_mut.ensures.len) in
+    let stood = stands_row s l files c.args.bytes.now c.args.number h.0 h.1 key c.requires.key some.0 c.in-Some.found
+    (with_items l.sought c.seek_fitting.new.sought).items (connector_of spec c.stand.new.link) some.2 (w ∙ some.3)
+    (ap (connector_of spec) c.stand.ensures) in
+    ended _ _ Success _ _ (start_is s l files c.args.bytes.now c.args.number h.0 h.1 key c.requires.key c.args.relation
+    c.args.count (Some some.0) some.1) stood.status_is stood.connector_is stood.area_is

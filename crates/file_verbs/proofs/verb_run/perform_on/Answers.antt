@@ -2,7 +2,9 @@ use Rattle.std.proofs.Common.{refl, ap, subst, ℕ}
 use Rattle.records.specs.declared.verb.Verb.TheVariants.{Open, ReadNext, Read, Write, Rewrite, Delete, Start}
 use Rattle.records.specs.FileStep.{area}
 use Rattle.file_verbs.specs.Connections.{May}
-use Rattle.file_verbs.proofs.Doing.{as_verb, reads_do, changes_do, opening_does, err_any, err_map, next_open, read_open, start_open, write_open, change_open, open_shut, next_stays, read_stays, start_stays, write_stays, rewrite_stays, delete_stays}
+use Rattle.file_verbs.proofs.Doing.{as_verb, reads_do, changes_do, opening_does, err_any, err_map, next_open, read_open}
+use Rattle.file_verbs.proofs.Doing.{start_open, write_open, change_open, open_shut, next_stays, read_stays, start_stays}
+use Rattle.file_verbs.proofs.Doing.{write_stays, rewrite_stays, delete_stays}
 use Rattle.file_verbs.proofs.verb_run.perform_on.Goals as goal
 
 pub returns-in-Open : goal.returns-in-Open
@@ -12,9 +14,13 @@ returns-in-Open g c =
     let number = c.args.number.now in
     record {
       does = as_verb c.args.verb (Open c.in-Open.mode) c.in-Open.is
-          (opening_does g.T.Keeps g.D.Device (Open c.in-Open.mode) c.open_file.result c.args.store.now c.args.device.now c.open_file.new.store c.open_file.new.device old _ _ _ c.open_file.ensures.changes refl
-          (open_shut old c.in-Open.mode (subst (May old) c.in-Open.is c.requires.may)) (λ files stands. c.open_file.ensures.step files stands bytes number) (λ files stands. c.open_file.ensures.linked files stands bytes number)
-          (λ files stands. c.open_file.ensures.turns files stands bytes number) c.open_file.ensures.idle c.open_file.ensures.same refl c.open_file.ensures.rests
+          (opening_does g.T.Keeps g.D.Device (Open c.in-Open.mode) c.open_file.result c.args.store.now c.args.device.now
+          c.open_file.new.store c.open_file.new.device old _ _ _ c.open_file.ensures.changes refl
+          (open_shut old c.in-Open.mode (subst (May old) c.in-Open.is c.requires.may))
+          (λ files stands. c.open_file.ensures.step files stands bytes number)
+          (λ files stands. c.open_file.ensures.linked files stands bytes number)
+          (λ files stands. c.open_file.ensures.turns files stands bytes number) c.open_file.ensures.idle
+          c.open_file.ensures.same refl c.open_file.ensures.rests
           (λ files stands. c.open_file.ensures.full files stands bytes number) c.open_file.ensures.never_full);
     }
 
@@ -23,8 +29,12 @@ returns-in-Some g c =
     let old = c.args.linked.now in
     record {
       does = as_verb c.args.verb ReadNext c.in-ReadNext.is
-          (reads_do g.T.Keeps g.D.Device ReadNext c.read_next.result c.args.store.now c.args.device.now c.read_next.new.store c.read_next.new.device old _ _ _ (g.met.T.Store.held c.args.store.now) c.read_next.ensures.reads refl
-          (next_open old (subst (May old) c.in-ReadNext.is c.requires.may)) c.read_next.ensures.step c.read_next.ensures.damaged c.read_next.ensures.mode c.read_next.ensures.absent c.read_next.ensures.same c.read_next.ensures.area
+          (reads_do g.T.Keeps g.D.Device ReadNext c.read_next.result c.args.store.now c.args.device.now
+          c.read_next.new.store c.read_next.new.device old _ _ _ (g.met.T.Store.held c.args.store.now)
+          c.read_next.ensures.reads refl
+          (next_open old (subst (May old) c.in-ReadNext.is c.requires.may)) c.read_next.ensures.step
+          c.read_next.ensures.damaged c.read_next.ensures.mode c.read_next.ensures.absent c.read_next.ensures.same
+          c.read_next.ensures.area
           (next_stays old (area c.args.bytes.now c.args.number.now)));
     }
 
@@ -33,8 +43,12 @@ returns-in-Read g c =
     let old = c.args.linked.now in
     record {
       does = as_verb c.args.verb (Read c.in-Read.key) c.in-Read.is
-          (reads_do g.T.Keeps g.D.Device (Read c.in-Read.key) c.read_by_key.result c.args.store.now c.args.device.now c.read_by_key.new.store c.read_by_key.new.device old _ _ _ (g.met.T.Store.held c.args.store.now) c.read_by_key.ensures.reads refl
-          (read_open old c.in-Read.key (subst (May old) c.in-Read.is c.requires.may)) c.read_by_key.ensures.step c.read_by_key.ensures.damaged c.read_by_key.ensures.mode c.read_by_key.ensures.absent c.read_by_key.ensures.same c.read_by_key.ensures.area
+          (reads_do g.T.Keeps g.D.Device (Read c.in-Read.key) c.read_by_key.result c.args.store.now c.args.device.now
+          c.read_by_key.new.store c.read_by_key.new.device old _ _ _ (g.met.T.Store.held c.args.store.now)
+          c.read_by_key.ensures.reads refl
+          (read_open old c.in-Read.key (subst (May old) c.in-Read.is c.requires.may)) c.read_by_key.ensures.step
+          c.read_by_key.ensures.damaged c.read_by_key.ensures.mode c.read_by_key.ensures.absent
+          c.read_by_key.ensures.same c.read_by_key.ensures.area
           (read_stays old (area c.args.bytes.now c.args.number.now) c.in-Read.key));
     }
 
@@ -44,8 +58,12 @@ returns-in-Write g c =
     let may = subst (May old) c.in-Write.is c.requires.may in
     record {
       does = as_verb c.args.verb Write c.in-Write.is
-          (changes_do g.T.Keeps g.D.Device Write c.write_row.result c.args.store.now c.args.device.now c.write_row.new.store c.write_row.new.device old _ _ _ c.write_row.ensures.changes refl (write_open old may) c.write_row.ensures.step c.write_row.ensures.turns
-          c.write_row.ensures.mode c.write_row.ensures.absent c.write_row.ensures.idle c.write_row.ensures.same (err_map c.write_row.result (λ e. ap (λ (n : ℕ). area c.args.bytes.now n) e) c.write_row.ensures.area) c.write_row.ensures.rests
+          (changes_do g.T.Keeps g.D.Device Write c.write_row.result c.args.store.now c.args.device.now
+          c.write_row.new.store c.write_row.new.device old _ _ _ c.write_row.ensures.changes refl
+          (write_open old may) c.write_row.ensures.step c.write_row.ensures.turns
+          c.write_row.ensures.mode c.write_row.ensures.absent c.write_row.ensures.idle c.write_row.ensures.same
+          (err_map c.write_row.result (λ e. ap (λ (n : ℕ). area c.args.bytes.now n) e) c.write_row.ensures.area)
+          c.write_row.ensures.rests
           (write_stays old (area c.args.bytes.now c.args.number.now) may) c.write_row.ensures.full refl);
     }
 
@@ -55,8 +73,11 @@ returns-in-Rewrite g c =
     let may = subst (May old) c.in-Rewrite.is c.requires.may in
     record {
       does = as_verb c.args.verb Rewrite c.in-Rewrite.is
-          (changes_do g.T.Keeps g.D.Device Rewrite c.rewrite_row.result c.args.store.now c.args.device.now c.rewrite_row.new.store c.rewrite_row.new.device old _ _ _ c.rewrite_row.ensures.changes refl (change_open old may) c.rewrite_row.ensures.step c.rewrite_row.ensures.turns
-          c.rewrite_row.ensures.mode c.rewrite_row.ensures.absent c.rewrite_row.ensures.idle c.rewrite_row.ensures.same (err_any c.rewrite_row.result refl) c.rewrite_row.ensures.rests
+          (changes_do g.T.Keeps g.D.Device Rewrite c.rewrite_row.result c.args.store.now c.args.device.now
+          c.rewrite_row.new.store c.rewrite_row.new.device old _ _ _ c.rewrite_row.ensures.changes refl
+          (change_open old may) c.rewrite_row.ensures.step c.rewrite_row.ensures.turns
+          c.rewrite_row.ensures.mode c.rewrite_row.ensures.absent c.rewrite_row.ensures.idle c.rewrite_row.ensures.same
+          (err_any c.rewrite_row.result refl) c.rewrite_row.ensures.rests
           (rewrite_stays old (area c.args.bytes.now c.args.number.now) may) c.rewrite_row.ensures.full refl);
     }
 
@@ -66,8 +87,11 @@ returns-in-Delete g c =
     let may = subst (May old) c.in-Delete.is c.requires.may in
     record {
       does = as_verb c.args.verb Delete c.in-Delete.is
-          (changes_do g.T.Keeps g.D.Device Delete c.delete_row.result c.args.store.now c.args.device.now c.delete_row.new.store c.delete_row.new.device old _ _ _ c.delete_row.ensures.changes refl (change_open old may) c.delete_row.ensures.step c.delete_row.ensures.turns
-          c.delete_row.ensures.mode c.delete_row.ensures.absent c.delete_row.ensures.idle c.delete_row.ensures.same (err_any c.delete_row.result refl) c.delete_row.ensures.rests
+          (changes_do g.T.Keeps g.D.Device Delete c.delete_row.result c.args.store.now c.args.device.now
+          c.delete_row.new.store c.delete_row.new.device old _ _ _ c.delete_row.ensures.changes refl
+          (change_open old may) c.delete_row.ensures.step c.delete_row.ensures.turns
+          c.delete_row.ensures.mode c.delete_row.ensures.absent c.delete_row.ensures.idle c.delete_row.ensures.same
+          (err_any c.delete_row.result refl) c.delete_row.ensures.rests
           (delete_stays old (area c.args.bytes.now c.args.number.now) may) c.delete_row.ensures.full refl);
     }
 
@@ -77,7 +101,11 @@ returns-in-Start g c =
     let verb = Start c.in-Start.relation c.in-Start.key c.in-Start.count in
     record {
       does = as_verb c.args.verb verb c.in-Start.is
-          (reads_do g.T.Keeps g.D.Device verb c.start.result c.args.store.now c.args.device.now c.start.new.store c.start.new.device old _ _ _ (g.met.T.Store.held c.args.store.now) c.start.ensures.reads refl
-          (start_open old c.in-Start.relation c.in-Start.key c.in-Start.count (subst (May old) c.in-Start.is c.requires.may)) c.start.ensures.step c.start.ensures.damaged c.start.ensures.mode c.start.ensures.absent c.start.ensures.same (err_any c.start.result refl)
-          (start_stays old (area c.args.bytes.now c.args.number.now) c.in-Start.relation c.in-Start.key c.in-Start.count));
+          (reads_do g.T.Keeps g.D.Device verb c.start.result c.args.store.now c.args.device.now c.start.new.store
+          c.start.new.device old _ _ _ (g.met.T.Store.held c.args.store.now) c.start.ensures.reads refl
+          (start_open old c.in-Start.relation c.in-Start.key c.in-Start.count
+          (subst (May old) c.in-Start.is c.requires.may)) c.start.ensures.step c.start.ensures.damaged
+          c.start.ensures.mode c.start.ensures.absent c.start.ensures.same (err_any c.start.result refl)
+          (start_stays old (area c.args.bytes.now c.args.number.now) c.in-Start.relation c.in-Start.key
+          c.in-Start.count));
     }

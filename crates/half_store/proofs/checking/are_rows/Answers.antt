@@ -8,7 +8,8 @@ use Rattle.records.specs.Stores.{spec_of}
 use Rattle.records.proofs.Ascending.{pair_total}
 use Rattle.file_bytes.specs.Stored.{row_of}
 use Rattle.file_bytes.specs.declared.stored.StoredRow.{StoredRow}
-use Rattle.half_store.proofs.Checked.{all_behind, all_none, all_there, sorted_none, sorted_behind, sorted_there, map_twice}
+use Rattle.half_store.proofs.Checked.{all_behind, all_none, all_there, sorted_none, sorted_behind, sorted_there}
+use Rattle.half_store.proofs.Checked.{map_twice}
 use Rattle.half_store.proofs.checking.are_rows.Goals as goal
 
 pub loop-back-init : goal.loop-back-init
@@ -17,7 +18,9 @@ loop-back-init c =
     let o = c.args.spec.now.organization in
     record {
       rows = all_none row_of (IsRow (spec_of c.args.spec.now) c.args.next) rows (length rows - 0) (omega arith);
-      ascend = subst (IsStrictlySortedBy pair_cmp) (sym (map_twice row_of (prime_pair o) (drop (length rows - 0) rows))) (sorted_none pair_cmp pair_total (λ (r : StoredRow). prime_pair o (row_of r)) rows (length rows - 0) (omega arith));
+      ascend = subst (IsStrictlySortedBy pair_cmp) (sym (map_twice row_of (prime_pair o) (drop (length rows - 0) rows)))
+          (sorted_none pair_cmp pair_total (λ (r : StoredRow). prime_pair o (row_of r)) rows (length rows - 0)
+          (omega arith));
     }
 
 pub returns-then-not-is_row-clause-no : goal.returns-then-not-is_row-clause-no
@@ -28,7 +31,8 @@ returns-then-not-is_row-clause-no c = λ is all ascend.
     let lt : place < length rows = omega (arith, c.loop-back-test.true) in
     let here : get_or rows place row ≡ row = sym (get_or_read rows place row lt c.index-rows-place.is row) in
     let P : Row → Type 0 = IsRow (spec_of c.args.spec.now) c.args.next in
-    c.is_row.ensures.no c.if-not-is_row.true (subst (λ (r : StoredRow). P (row_of r)) here (all_there row_of P rows place row lt all))
+    c.is_row.ensures.no c.if-not-is_row.true
+    (subst (λ (r : StoredRow). P (row_of r)) here (all_there row_of P rows place row lt all))
 
 pub returns-then-not-is_before_next-clause-no : goal.returns-then-not-is_before_next-clause-no
 returns-then-not-is_before_next-clause-no c = λ is all ascend.
@@ -37,7 +41,8 @@ returns-then-not-is_before_next-clause-no c = λ is all ascend.
     let place = length rows - 1 - c.loop-back.back in
     let row = c.index-rows-place.result in
     let never = c.is_before_next.ensures.no c.if-not-is_before_next.true row in
-    never.1 (sorted_there pair_cmp pair_total (λ (r : StoredRow). prime_pair o (row_of r)) rows place row never.0 (subst (IsStrictlySortedBy pair_cmp) (map_twice row_of (prime_pair o) rows) ascend))
+    never.1 (sorted_there pair_cmp pair_total (λ (r : StoredRow). prime_pair o (row_of r)) rows place row never.0
+    (subst (IsStrictlySortedBy pair_cmp) (map_twice row_of (prime_pair o) rows) ascend))
 
 pub loop-back-preserved : goal.loop-back-preserved
 loop-back-preserved c =
@@ -57,6 +62,9 @@ loop-back-preserved c =
           (subst (λ (n : ℕ). AllByRecursion P (map row_of (drop n rows))) was c.loop-back.invariant.rows));
       ascend = subst (λ (n : ℕ). IsStrictlySortedBy pair_cmp (map (prime_pair o) (map row_of (drop n rows)))) now
           (subst (IsStrictlySortedBy pair_cmp) (sym (map_twice row_of (prime_pair o) (drop place rows)))
-          (sorted_behind pair_cmp pair_total (λ (r : StoredRow). prime_pair o (row_of r)) rows place row lt (c.is_before_next.ensures.yes c.if-not-is_before_next.false row)
-          (subst (IsStrictlySortedBy pair_cmp) (map_twice row_of (prime_pair o) (drop (place + 1) rows)) (subst (λ (n : ℕ). IsStrictlySortedBy pair_cmp (map (prime_pair o) (map row_of (drop n rows)))) was c.loop-back.invariant.ascend))));
+          (sorted_behind pair_cmp pair_total (λ (r : StoredRow). prime_pair o (row_of r)) rows place row lt
+          (c.is_before_next.ensures.yes c.if-not-is_before_next.false row)
+          (subst (IsStrictlySortedBy pair_cmp) (map_twice row_of (prime_pair o) (drop (place + 1) rows))
+          (subst (λ (n : ℕ). IsStrictlySortedBy pair_cmp (map (prime_pair o) (map row_of (drop n rows)))) was
+          c.loop-back.invariant.ascend))));
     }

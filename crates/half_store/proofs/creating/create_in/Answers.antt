@@ -15,8 +15,11 @@ returns-then-is_eq-clause-after c =
     let old = c.index.result.now in
     let lt : place < length files = omega (arith, c.if-place-len.true, c.len.ensures) in
     let here : get_or files place old ≡ old = sym (get_or_read files place old lt c.index.ensures old) in
-    let passed : PassedNames name files place = subst (λ (l : List StoredFile). PassedNames name l place) c.deref.ensures.value
-    (subst (λ (n : List ℕ). PassedNames n c.deref.result.now place) c.deref-2.ensures.value c.place_of_name-place.ensures.place) in
+    let passed : PassedNames name files place =
+    subst (λ (l : List StoredFile). PassedNames name l place) c.deref.ensures.value
+    (subst (λ (n : List ℕ). PassedNames n c.deref.result.now place) c.deref-2.ensures.value
+    c.place_of_name-place.ensures.place) in
     let same : same_bytes old.spec.name.items name ≡ true = search rules in
-    put_here name files place old c.in_ok-files.field-0 lt passed (ap (λ (f : StoredFile). same_bytes f.spec.name.items name) here ∙ same) c.in_ok-files.ensures.file.0
+    put_here name files place old c.in_ok-files.field-0 lt passed
+    (ap (λ (f : StoredFile). same_bytes f.spec.name.items name) here ∙ same) c.in_ok-files.ensures.file.0
     ∙ ap (λ (f : File). with_file name f (files_of files)) c.in_ok-files.ensures.file.1

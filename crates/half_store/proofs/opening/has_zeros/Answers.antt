@@ -6,4 +6,5 @@ tail : (i n : ℕ) (bytes : List ℕ) → length bytes ≡ i + n → take n (dro
 tail i n bytes all = take_all n (drop i bytes) (omega (arith, all, length-drop i bytes))
 
 pub returns : goal.returns
-returns c = c.are_zeros.ensures ∙ ap (list_all (λ (byte : ℕ). byte == 0)) (tail 8 4068 c.args.payload.now c.told-payload)
+returns c =
+    c.are_zeros.ensures ∙ ap (list_all (λ (byte : ℕ). byte == 0)) (tail 8 4068 c.args.payload.now c.told-payload)

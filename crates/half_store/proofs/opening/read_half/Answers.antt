@@ -5,21 +5,38 @@ use Rattle.half_store.proofs.Staged.{enough, few, half_less, within}
 use Rattle.half_store.proofs.opening.read_half.Goals as goal
 
 pub count_of-requires : goal.count_of-requires
-count_of-requires g c = omega (arith, c.length_in-length.ensures, c.requires.fits, half_less c.args.root.now.sectors, c.requires.most)
+count_of-requires g c =
+    omega (arith, c.length_in-length.ensures, c.requires.fits, half_less c.args.root.now.sectors, c.requires.most)
 
 pub read_sectors-requires-clause-there : goal.read_sectors-requires-clause-there
 read_sectors-requires-clause-there g c =
     let n = c.args.root.now.sectors in
     let fits : c.length_in-length.result ≤ 4096 * half n = omega (arith, c.length_in-length.ensures, c.requires.fits) in
-    omega (arith, c.start_of-from.ensures, c.count_of.ensures, few c.length_in-length.result n fits, within n c.args.root.now.generation (omega (arith, c.requires.least)), c.requires.there)
+    omega (
+      arith,
+      c.start_of-from.ensures,
+      c.count_of.ensures,
+      few c.length_in-length.result n fits,
+      within n c.args.root.now.generation (omega (arith, c.requires.least)),
+      c.requires.there,
+    )
 
 pub read_sectors-requires-clause-bound : goal.read_sectors-requires-clause-bound
 read_sectors-requires-clause-bound g c =
     let n = c.args.root.now.sectors in
     let fits : c.length_in-length.result ≤ 4096 * half n = omega (arith, c.length_in-length.ensures, c.requires.fits) in
-    omega (arith, c.start_of-from.ensures, c.count_of.ensures, few c.length_in-length.result n fits, within n c.args.root.now.generation (omega (arith, c.requires.least)), c.requires.most)
+    omega (
+      arith,
+      c.start_of-from.ensures,
+      c.count_of.ensures,
+      few c.length_in-length.result n fits,
+      within n c.args.root.now.generation (omega (arith, c.requires.least)),
+      c.requires.most,
+    )
 
 pub returns-clause-long : goal.returns-clause-long
 returns-clause-long g c =
-    let le : c.length_in-length.result ≤ length c.in_ok-bytes.bytes.items = omega (arith, c.in_ok-bytes.ensures.long, c.count_of.ensures, enough c.length_in-length.result) in
-    ap length c.truncate.ensures.items ∙ length-take-le c.length_in-length.result c.in_ok-bytes.bytes.items le ∙ c.length_in-length.ensures
+    let le : c.length_in-length.result ≤ length c.in_ok-bytes.bytes.items =
+    omega (arith, c.in_ok-bytes.ensures.long, c.count_of.ensures, enough c.length_in-length.result) in
+    ap length c.truncate.ensures.items ∙ length-take-le c.length_in-length.result c.in_ok-bytes.bytes.items le
+    ∙ c.length_in-length.ensures

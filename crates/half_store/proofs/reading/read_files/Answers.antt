@@ -14,21 +14,25 @@ returns-in_default-clause-files c = λ files each is.
     let rest = drop c.loop-at.at c.args.bytes.now in
     let some : 0 < length rest = omega (arith, length-drop c.loop-at.at c.args.bytes.now) in
     let next = next_of files (files_of c.loop-at.files.items) rest some (c.loop-at.invariant.rest files each is) in
-    from_none c.in_ok-found.field-0 _ c.in_default.not-Some (c.in_ok-found.ensures.file next.one (files_bytes next.more) next.good next.spells)
+    from_none c.in_ok-found.field-0 _ c.in_default.not-Some
+    (c.in_ok-found.ensures.file next.one (files_bytes next.more) next.good next.spells)
 
 pub loop-at-preserved : goal.loop-at-preserved
 loop-at-preserved c = record {
-  within = (subst (λ (o : Option FoundFile). IfSome o (λ f. (c.loop-at.at < f.end) × (f.end ≤ length c.args.bytes.now))) c.in-Some.is c.in_ok-found.ensures.end).1;
+  within = (subst (λ (o : Option FoundFile). IfSome o (λ f. (c.loop-at.at < f.end) × (f.end ≤ length c.args.bytes.now)))
+      c.in-Some.is c.in_ok-found.ensures.end).1;
   rest = λ files each is.
       let bytes = c.args.bytes.now in
       let rest = drop c.loop-at.at bytes in
       let done = files_of c.loop-at.files.items in
       let some : 0 < length rest = omega (arith, length-drop c.loop-at.at bytes) in
       let next = next_of files done rest some (c.loop-at.invariant.rest files each is) in
-      let told = subst (λ (o : Option FoundFile). IfRead (Ok o) (λ f. (named_of f.file ≡ next.one) × (drop f.end bytes ≡ files_bytes next.more))) c.in-Some.is
+      let told = subst (λ (o : Option FoundFile).
+      IfRead (Ok o) (λ f. (named_of f.file ≡ next.one) × (drop f.end bytes ≡ files_bytes next.more))) c.in-Some.is
       (c.in_ok-found.ensures.file next.one (files_bytes next.more) next.good next.spells) in
       rest_of files done rest (drop c.in-Some.found.end bytes) next (files_of c.push.new.self.items)
-      (ap files_of c.in_ok-push.ensures.items ∙ map-append named_of c.loop-at.files.items (c.in-Some.found.file ∷ []) ∙ ap (λ (n : NamedFile). done ++ n ∷ []) told.0) told.1;
+      (ap files_of c.in_ok-push.ensures.items ∙ map-append named_of c.loop-at.files.items (c.in-Some.found.file ∷ [])
+      ∙ ap (λ (n : NamedFile). done ++ n ∷ []) told.0) told.1;
 }
 
 pub returns-clause-files : goal.returns-clause-files

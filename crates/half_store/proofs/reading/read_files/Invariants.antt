@@ -10,7 +10,8 @@ use Rattle.half_store.proofs.reading.read_files.Given as goal
 abbrev pub invariant-loop-at : goal.invariant-loop-at
 invariant-loop-at l = record {
   within : l.at ≤ length l.bytes;
-  rest : (files : Files) → AllByRecursion IsReadable files → l.bytes ≡ files_bytes files → IsRest files (files_of l.files.items) (drop l.at l.bytes);
+  rest : (files : Files) → AllByRecursion IsReadable files → l.bytes ≡ files_bytes files
+      → IsRest files (files_of l.files.items) (drop l.at l.bytes);
 }
 
 abbrev pub decreases-loop-at : goal.decreases-loop-at

@@ -10,4 +10,5 @@ pub returns-clause-spec : goal.returns-clause-spec
 returns-clause-spec c = λ name spec more named sound is.
     let bytes : List ℕ = c.args.bytes.now in
     let all = take_all (length bytes - 30) (drop 30 bytes) (omega (arith, length-drop 30 bytes)) in
-    c.read_description.ensures.spec name spec more named sound (name_there name more bytes spec named is) (all ∙ spec_there name more bytes spec named is)
+    c.read_description.ensures.spec name spec more named sound (name_there name more bytes spec named is)
+    (all ∙ spec_there name more bytes spec named is)

@@ -15,9 +15,12 @@ loop-row-preserved c =
     let before = c.loop-row.invariant in
     let here = drop-drop (row_size spec * k) c.args.at bytes in
     record {
-      place = ap (λ (n : ℕ). c.loop-row.place + n) c.row_size-size.ensures.size ∙ stepped c.args.at (row_size spec) k c.loop-row.place before.place;
+      place = ap (λ (n : ℕ). c.loop-row.place + n) c.row_size-size.ensures.size
+          ∙ stepped c.args.at (row_size spec) k c.loop-row.place before.place;
       within = search rules;
-      rows = one_more (row_size spec) (first_row spec) k (drop c.args.at bytes) (map row_of c.loop-row.rows.items) (map row_of c.push.new.self.items) (row_of c.in_ok-row.row) before.rows
-          (c.in_ok-row.ensures.row ∙ ap (λ (n : ℕ). first_row spec (drop n bytes)) before.place ∙ ap (first_row spec) (sym here))
+      rows = one_more (row_size spec) (first_row spec) k (drop c.args.at bytes) (map row_of c.loop-row.rows.items)
+          (map row_of c.push.new.self.items) (row_of c.in_ok-row.row) before.rows
+          (c.in_ok-row.ensures.row ∙ ap (λ (n : ℕ). first_row spec (drop n bytes)) before.place
+          ∙ ap (first_row spec) (sym here))
           (ap (map row_of) c.in_ok-push.ensures.items ∙ map-append row_of c.loop-row.rows.items (c.in_ok-row.row ∷ []));
     }

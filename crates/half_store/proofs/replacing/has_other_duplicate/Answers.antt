@@ -7,5 +7,7 @@ use Rattle.half_store.proofs.Replaced.{any_filter}
 use Rattle.half_store.proofs.replacing.has_other_duplicate.Goals as goal
 
 pub returns : goal.returns
-returns c = c.is_any_duplicate.ensures ∙ sym (any_filter (λ (key : AlternateKey). key.duplicates && repeats (without_pair c.args.organization (pair_of c.args.organization c.args.prime.now c.args.number) (map row_of c.args.rows.now)) c.args.bytes.now key)
+returns c = c.is_any_duplicate.ensures
+    ∙ sym (any_filter (λ (key : AlternateKey). key.duplicates && repeats (without_pair c.args.organization
+    (pair_of c.args.organization c.args.prime.now c.args.number) (map row_of c.args.rows.now)) c.args.bytes.now key)
     (changes c.args.old.now c.args.bytes.now) c.args.keys.now)

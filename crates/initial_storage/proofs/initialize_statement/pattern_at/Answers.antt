@@ -17,13 +17,15 @@ pub program_item_at-requires-clause-formed : goal.program_item_at-requires-claus
 program_item_at-requires-clause-formed c = forest_formed c.args.storage.now c.requires.storage
 
 pub program_item_at-requires-clause-files_fit : goal.program_item_at-requires-clause-files_fit
-program_item_at-requires-clause-files_fit c = files_fit c.args.storage.now c.args.files.now c.requires.files c.record_levels_are_told.ensures
+program_item_at-requires-clause-files_fit c =
+    files_fit c.args.storage.now c.args.files.now c.requires.files c.record_levels_are_told.ensures
 
 pub program_item_at-requires-clause-files_formed : goal.program_item_at-requires-clause-files_formed
 program_item_at-requires-clause-files_formed c = files_formed c.args.storage.now c.args.files.now c.requires.files
 
 pub returns-in-None : goal.returns-in-None
-returns-in-None c = c.new-pattern.ensures.items ∙ sym (pattern_outlined c.args.storage.now c.args.files.now c.args.number _ c.in-None.ensures)
+returns-in-None c = c.new-pattern.ensures.items
+    ∙ sym (pattern_outlined c.args.storage.now c.args.files.now c.args.number _ c.in-None.ensures)
 
 pub returns-in_ok-put_named-in-Some : goal.returns-in_ok-put_named-in-Some
 returns-in_ok-put_named-in-Some c =

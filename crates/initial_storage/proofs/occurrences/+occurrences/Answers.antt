@@ -16,9 +16,11 @@ put_item-returns-clause-length t c =
     let begin : c.len-begin.result ≡ length c.args.out.now.items = search rules in
     let times : c.occurrences.result ≡ occurrences one = omega (arith, c.occurrences.ensures, c.requires.fits.times) in
     on_ok_weaker c.repeat_from.result (λ new.
-    repeated_length c.occurrences.result (occurrences one) (item_with around one inner).length c.args.out.now.items (occurrence around one inner) c.put_occurrence.new.out.items c.repeat_from.new.out.items
+    repeated_length c.occurrences.result (occurrences one) (item_with around one inner).length c.args.out.now.items
+    (occurrence around one inner) c.put_occurrence.new.out.items c.repeat_from.new.out.items
     times c.in_ok-put_occurrence.ensures.length c.in_ok-put_occurrence.ensures.bytes
-    (repeated_behind c.len-begin.result c.occurrences.result c.args.out.now.items (occurrence around one inner) c.put_occurrence.new.out.items c.repeat_from.new.out.items
+    (repeated_behind c.len-begin.result c.occurrences.result c.args.out.now.items (occurrence around one inner)
+    c.put_occurrence.new.out.items c.repeat_from.new.out.items
     begin c.in_ok-put_occurrence.ensures.bytes new))
     c.repeat_from.ensures
 
@@ -27,6 +29,9 @@ pub put_occurrence-returns-in_ok-resize-in-Some-clause-bytes :
 put_occurrence-returns-in_ok-resize-in-Some-clause-bytes t c =
     let begin : c.len-begin.result ≡ length c.args.out.now.items = search rules in
     on_ok_weaker c.start_from.result
-    (elementary_put c.args.around c.args.one.entry.now (forest_of c.args.one.inner.now) c.in-Some.picture c.elementary-item.result c.len-begin.result c.args.out.now.items _ c.resize.new.self.items c.start_from.new.out.items
-    begin c.in_ok-resize-in-Some.ensures.items (sym c.in-Some.is ∙ c.in_ok-picture.ensures) c.elementary-item.ensures.item)
+    (elementary_put c.args.around c.args.one.entry.now (forest_of c.args.one.inner.now)
+    c.in-Some.picture c.elementary-item.result c.len-begin.result c.args.out.now.items _ c.resize.new.self.items
+    c.start_from.new.out.items
+    begin c.in_ok-resize-in-Some.ensures.items (sym c.in-Some.is ∙ c.in_ok-picture.ensures)
+    c.elementary-item.ensures.item)
     c.start_from.ensures.bytes

@@ -21,8 +21,10 @@ abbrev pub invariant-put_group-items : goal.invariant-put_group-items
 invariant-put_group-items l = record {
   fits : Fits l.around (forest_of l.rest);
   shorter : length l.rest ≤ length l.entries;
-  bytes : l.out.items ++ start l.around (forest_of l.rest) ≡ l.initial.out.items ++ start l.around (forest_of l.entries);
-  room : length l.out.items + room l.around (forest_of l.rest) ≡ length l.initial.out.items + room l.around (forest_of l.entries);
+  bytes : l.out.items ++ start l.around (forest_of l.rest)
+      ≡ l.initial.out.items ++ start l.around (forest_of l.entries);
+  room : length l.out.items + room l.around (forest_of l.rest)
+      ≡ length l.initial.out.items + room l.around (forest_of l.entries);
 }
 
 abbrev pub decreases-put_group-items : goal.decreases-put_group-items

@@ -11,7 +11,8 @@ abbrev pub invariant-items : goal.invariant-items
 invariant-items l = record {
   fits : Fits l.around (forest_of l.rest);
   formed : AreFormed l.around (forest_of l.rest);
-  same : slice_get (outlines l.around (forest_of l.rest)) l.left ≡ slice_get (outlines nothing_around (forest_of l.entries)) l.number;
+  same : slice_get (outlines l.around (forest_of l.rest)) l.left
+      ≡ slice_get (outlines nothing_around (forest_of l.entries)) l.number;
 }
 
 abbrev pub decreases-items : goal.decreases-items

@@ -18,9 +18,12 @@ returns-then-left-within c =
     let rest = rest_at files i one c.loop-file-test.true c.file-item.is in
     let own = outlines nothing_around (forest_of one.entries) in
     let same = ap (λ l. outlines nothing_around (forest_of l)) c.as_slice-entries.ensures in
-    let few : left < length own = subst (λ n. left < n) (c.count_items-within.ensures nothing_around ∙ ap length same) c.if-left-within.true in
-    found_if (file_outlines files) (outlines nothing_around (forest_of c.as_slice-entries.result.now)) c.args.number left c.item_at.result
-    (sym c.loop-file.invariant.same ∙ ap (λ l. slice_get (file_outlines l) left) rest ∙ in_first own (file_outlines (drop (i + 1) files)) left few ∙ ap (λ l. slice_get l left) (sym same))
+    let few : left < length own =
+    subst (λ n. left < n) (c.count_items-within.ensures nothing_around ∙ ap length same) c.if-left-within.true in
+    found_if (file_outlines files) (outlines nothing_around (forest_of c.as_slice-entries.result.now)) c.args.number
+    left c.item_at.result
+    (sym c.loop-file.invariant.same ∙ ap (λ l. slice_get (file_outlines l) left) rest
+    ∙ in_first own (file_outlines (drop (i + 1) files)) left few ∙ ap (λ l. slice_get l left) (sym same))
     c.item_at.ensures
 
 pub loop-file-preserved : goal.loop-file-preserved
@@ -40,5 +43,6 @@ loop-file-preserved c =
     record {
       fits = fits.1;
       formed = formed.1;
-      same = ap (λ n. slice_get more (left - n)) within ∙ sym (in_second own more left many) ∙ ap (λ l. slice_get (file_outlines l) left) (sym rest) ∙ c.loop-file.invariant.same;
+      same = ap (λ n. slice_get more (left - n)) within ∙ sym (in_second own more left many)
+          ∙ ap (λ l. slice_get (file_outlines l) left) (sym rest) ∙ c.loop-file.invariant.same;
     }

@@ -22,7 +22,8 @@ invariant-put_within-items l = record {
   fits : Fits l.around (forest_of l.rest);
   formed : AreFormed l.around (forest_of l.rest);
   shorter : length l.rest ≤ length l.entries;
-  bytes : l.out.items ++ entries_pattern l.around (forest_of l.rest) ≡ l.initial.out.items ++ entries_pattern l.around (forest_of l.entries);
+  bytes : l.out.items ++ entries_pattern l.around (forest_of l.rest)
+      ≡ l.initial.out.items ++ entries_pattern l.around (forest_of l.entries);
 }
 
 abbrev pub decreases-put_within-items : goal.decreases-put_within-items

@@ -8,7 +8,8 @@ use Rattle.initial_storage.proofs.storage.longest_redefinition.Given as goal
 abbrev pub invariant-records : goal.invariant-records
 invariant-records l = record {
   fits : Fits nothing_around (forest_of l.rest);
-  most : max l.bytes (longest nothing_around (leading_redefinitions (forest_of l.rest))) ≡ longest nothing_around (leading_redefinitions (forest_of l.entries));
+  most : max l.bytes (longest nothing_around (leading_redefinitions (forest_of l.rest)))
+      ≡ longest nothing_around (leading_redefinitions (forest_of l.entries));
 }
 
 abbrev pub decreases-records : goal.decreases-records

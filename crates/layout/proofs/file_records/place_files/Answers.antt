@@ -14,7 +14,8 @@ place_records-requires-clause-fits c =
     let i = c.loop-file.file-index in
     let one = c.file-item.result in
     let rest = rest_at files i one c.loop-file-test.true c.file-item.is in
-    subst (λ l. Fits nothing_around (forest_of l)) (sym c.as_slice.ensures) (fits_first (drop i files) (drop (i + 1) files) one rest c.loop-file.invariant.fits).0.entries
+    subst (λ l. Fits nothing_around (forest_of l)) (sym c.as_slice.ensures)
+    (fits_first (drop i files) (drop (i + 1) files) one rest c.loop-file.invariant.fits).0.entries
 
 pub place_records-requires-clause-most : goal.place_records-requires-clause-most
 place_records-requires-clause-most c =
@@ -22,7 +23,8 @@ place_records-requires-clause-most c =
     let i = c.loop-file.file-index in
     let one = c.file-item.result in
     let rest = rest_at files i one c.loop-file-test.true c.file-item.is in
-    subst (λ l. length l ≤ most_entries) (sym c.as_slice.ensures) (fits_first (drop i files) (drop (i + 1) files) one rest c.loop-file.invariant.fits).0.most
+    subst (λ l. length l ≤ most_entries) (sym c.as_slice.ensures)
+    (fits_first (drop i files) (drop (i + 1) files) one rest c.loop-file.invariant.fits).0.most
 
 pub loop-file-preserved : goal.loop-file-preserved
 loop-file-preserved c =
@@ -36,11 +38,14 @@ loop-file-preserved c =
     record {
       fits = (fits_first (drop i files) (drop (i + 1) files) one rest c.loop-file.invariant.fits).1;
       area_is = omega arith;
-      placed = file_step c.place_records.new.out.items old _ area (area + 1) (drop i files) (drop (i + 1) files) one rest refl
-          (c.in_ok-place_records.ensures ∙ ap (λ l. old ++ record_items area (forest_of l)) c.as_slice.ensures) c.loop-file.invariant.placed;
+      placed = file_step c.place_records.new.out.items old _ area (area + 1) (drop i files) (drop (i + 1) files) one
+          rest refl
+          (c.in_ok-place_records.ensures ∙ ap (λ l. old ++ record_items area (forest_of l)) c.as_slice.ensures)
+          c.loop-file.invariant.placed;
     }
 
 pub returns : goal.returns
 returns c =
     file_end c.loop-file.out.items _ c.loop-file.area (drop c.loop-file.file-index c.args.files.now)
-    (let past = c.loop-file-test.false in drop_all c.loop-file.file-index c.args.files.now past) c.loop-file.invariant.placed
+    (let past =
+    c.loop-file-test.false in drop_all c.loop-file.file-index c.args.files.now past) c.loop-file.invariant.placed

@@ -7,5 +7,6 @@ abbrev pub invariant-loop-file : goal.invariant-loop-file
 invariant-loop-file l = record {
   fits : FitFiles (drop l.file-index l.files);
   area_is : l.area ≡ l.first + l.file-index;
-  placed : l.out.items ++ file_items l.area (drop l.file-index l.files) ≡ l.initial.out.items ++ file_items l.first l.files;
+  placed : l.out.items ++ file_items l.area (drop l.file-index l.files)
+      ≡ l.initial.out.items ++ file_items l.first l.files;
 }

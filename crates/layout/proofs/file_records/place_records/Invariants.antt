@@ -9,7 +9,8 @@ abbrev pub invariant-records : goal.invariant-records
 invariant-records l = record {
   fits : Fits nothing_around (forest_of l.rest);
   shorter : length l.rest ≤ length l.entries;
-  placed : l.out.items ++ record_items l.area (forest_of l.rest) ≡ l.initial.out.items ++ record_items l.area (forest_of l.entries);
+  placed : l.out.items ++ record_items l.area (forest_of l.rest)
+      ≡ l.initial.out.items ++ record_items l.area (forest_of l.entries);
 }
 
 abbrev pub decreases-records : goal.decreases-records

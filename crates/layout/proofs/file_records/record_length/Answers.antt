@@ -6,4 +6,5 @@ use Rattle.layout.proofs.KeptFiles.{description_fits}
 use Rattle.layout.proofs.file_records.record_length.Goals as goal
 
 pub longest-requires : goal.longest-requires
-longest-requires c = subst (λ l. Fits nothing_around (forest_of l)) (sym c.as_slice.ensures) (description_fits c.args.file.now c.requires)
+longest-requires c = subst (λ l. Fits nothing_around (forest_of l)) (sym c.as_slice.ensures)
+    (description_fits c.args.file.now c.requires)

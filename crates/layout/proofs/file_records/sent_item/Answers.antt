@@ -6,4 +6,5 @@ use Rattle.layout.proofs.KeptFiles.{description_fits}
 use Rattle.layout.proofs.file_records.sent_item.Goals as goal
 
 pub sent_of-requires : goal.sent_of-requires
-sent_of-requires c = subst (λ l. Fits nothing_around (forest_of l)) (sym c.as_slice.ensures) (description_fits c.args.file.now c.requires)
+sent_of-requires c = subst (λ l. Fits nothing_around (forest_of l)) (sym c.as_slice.ensures)
+    (description_fits c.args.file.now c.requires)

@@ -17,8 +17,10 @@ invariant-place_group-items l = record {
   room : l.here + room l.around.around (forest_of l.rest) ≤ l.start + 65535;
   last : l.last ≤ l.start + 65535;
   shorter : length l.rest ≤ length l.entries;
-  placed : l.out.items ++ group_items l.around.around l.around.area l.around.dimensions.now l.last l.here (forest_of l.rest)
-      ≡ l.initial.out.items ++ group_items l.around.around l.around.area l.around.dimensions.now l.start l.start (forest_of l.entries);
+  placed : l.out.items
+      ++ group_items l.around.around l.around.area l.around.dimensions.now l.last l.here (forest_of l.rest)
+      ≡ l.initial.out.items
+      ++ group_items l.around.around l.around.area l.around.dimensions.now l.start l.start (forest_of l.entries);
 }
 
 abbrev pub decreases-place_group-items : goal.decreases-place_group-items

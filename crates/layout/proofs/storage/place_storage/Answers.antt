@@ -8,15 +8,20 @@ use Rattle.layout.proofs.storage.place_storage.Goals as goal
 pub items-preserved : goal.items-preserved
 items-preserved c =
     let e = c.in-Some.ensures.0 in
-    let parts = fits_tree nothing_around (forest_of c.items.rest.now) c.in-Some.one.entry.now (leading_conditions c.in-Some.one.inner.now) (forest_of c.in-Some.one.inner.now) (forest_of c.in-Some.one.next.now) e c.items.invariant.fits in
-    let most = below_if (redefines c.in-Some.one.entry.now) c.area_of-area.result (c.items.areas - 1) c.items.areas c.items.areas c.area_of-area.ensures (omega arith) (omega arith) in
+    let parts = fits_tree nothing_around (forest_of c.items.rest.now) c.in-Some.one.entry.now
+    (leading_conditions c.in-Some.one.inner.now) (forest_of c.in-Some.one.inner.now) (forest_of c.in-Some.one.next.now)
+    e c.items.invariant.fits in
+    let most = below_if (redefines c.in-Some.one.entry.now) c.area_of-area.result (c.items.areas - 1) c.items.areas
+    c.items.areas c.area_of-area.ensures (omega arith) (omega arith) in
     record {
       fits = parts.2;
       few = omega (arith, most, c.in-Some.ensures.1, c.items.invariant.few);
       placed = storage_step c.place_item.new.out.items c.items.out.items _ c.items.areas c.area_of-area.result
-          (forest_of c.items.rest.now) c.in-Some.one.entry.now (leading_conditions c.in-Some.one.inner.now) (forest_of c.in-Some.one.inner.now) (forest_of c.in-Some.one.next.now)
+          (forest_of c.items.rest.now) c.in-Some.one.entry.now (leading_conditions c.in-Some.one.inner.now)
+          (forest_of c.in-Some.one.inner.now) (forest_of c.in-Some.one.next.now)
           e c.area_of-area.ensures c.in_ok-place_item.ensures.items c.items.invariant.placed;
     }
 
 pub returns : goal.returns
-returns c = storage_end c.items.out.items _ c.items.areas (forest_of c.items.rest.now) c.in_default.ensures c.items.invariant.placed
+returns c = storage_end c.items.out.items _ c.items.areas (forest_of c.items.rest.now) c.in_default.ensures
+    c.items.invariant.placed

@@ -10,7 +10,8 @@ abbrev pub invariant-items : goal.invariant-items
 invariant-items l = record {
   fits : Fits nothing_around (forest_of l.rest);
   few : l.areas + length l.rest ≤ most_entries;
-  placed : l.out.items ++ storage_items l.areas (forest_of l.rest) ≡ l.initial.out.items ++ storage_items 0 (forest_of l.entries);
+  placed : l.out.items ++ storage_items l.areas (forest_of l.rest)
+      ≡ l.initial.out.items ++ storage_items 0 (forest_of l.entries);
 }
 
 abbrev pub decreases-items : goal.decreases-items

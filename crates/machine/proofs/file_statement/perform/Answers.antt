@@ -11,73 +11,98 @@ use Rattle.source_tree.specs.FileStatements.{step_by, area_of}
 use Rattle.file_image.specs.Files.{places_of}
 use Rattle.machine.proofs.Counters.{now_has}
 use Rattle.machine.proofs.Table.{StaysOrFits}
-use Rattle.machine.proofs.Stored.{status_as_long, number_as_long, taken_back, back_lengths, step_of, step_number_fits, storage_left, entry_digits}
+use Rattle.machine.proofs.Stored.{status_as_long, number_as_long, taken_back, back_lengths, step_of, step_number_fits}
+use Rattle.machine.proofs.Stored.{storage_left, entry_digits}
 use Rattle.machine.proofs.file_statement.perform.Goals as goal
 
 pub returns-in-Err-clause-lengths : goal.returns-in-Err-clause-lengths
 returns-in-Err-clause-lengths g c =
     let long = c.perform-performed.auto.bytes ∙ ap length c.as_mut_slice.ensures.value in
-    let takes : c.exchange-2.new.self ≡ slice_set c.exchange.new.self c.args.one.now.area c.perform-performed.new.bytes =
-    c.exchange-2.ensures.area ∙ ap (slice_set c.exchange.new.self c.args.one.now.area) (now_has c.exchange.new.bytes c.perform-performed.new.bytes long) in
-    back_lengths c.args.areas.now c.exchange.new.self c.exchange-2.new.self c.args.one.now.area c.args.bytes.now.items c.as_mut_slice.result.now
-    c.perform-performed.new.bytes c.exchange.ensures.area takes (c.as_mut_slice.ensures.value ∙ c.exchange.ensures.bytes) c.perform-performed.auto.bytes
+    let takes : c.exchange-2.new.self
+    ≡ slice_set c.exchange.new.self c.args.one.now.area c.perform-performed.new.bytes =
+    c.exchange-2.ensures.area ∙ ap (slice_set c.exchange.new.self c.args.one.now.area)
+    (now_has c.exchange.new.bytes c.perform-performed.new.bytes long) in
+    back_lengths c.args.areas.now c.exchange.new.self c.exchange-2.new.self c.args.one.now.area c.args.bytes.now.items
+    c.as_mut_slice.result.now
+    c.perform-performed.new.bytes c.exchange.ensures.area takes
+    (c.as_mut_slice.ensures.value ∙ c.exchange.ensures.bytes) c.perform-performed.auto.bytes
 
 pub returns-in-Err-clause-turns : goal.returns-in-Err-clause-turns
 returns-in-Err-clause-turns g c = λ files stands.
     let entries : List Entry = g.F.FileVerbs.entries c.args.verbs.now in
     let connectors : List Connector = g.F.FileVerbs.connectors c.args.verbs.now in
     let places : FilePlaces = places_of c.args.tables.now c.args.file.number c.args.one.now in
-    let is = step_of entries places c.args.verb files connectors c.args.areas.now c.as_mut_slice.result.now c.relative_number-old.result
+    let is = step_of entries places c.args.verb files connectors c.args.areas.now c.as_mut_slice.result.now
+    c.relative_number-old.result
     (c.as_mut_slice.ensures.value ∙ c.exchange.ensures.bytes) c.relative_number-old.ensures in
     let did = step_by entries places c.args.verb files connectors c.args.areas.now in
-    subst (λ (name : List ℕ). ChangesFiles g.F.Keeps g.D.Device {T = Status} (Err c.in-Err.fault) (makes_file c.args.verb) name files did.files c.args.verbs.now c.args.device.now
+    subst (λ (name : List ℕ). ChangesFiles g.F.Keeps g.D.Device {T =
+    Status} (Err c.in-Err.fault) (makes_file c.args.verb) name files did.files c.args.verbs.now c.args.device.now
     c.perform-performed.new.self c.perform-performed.new.device) (ap (λ (e : Entry). e.name) c.requires.entry)
-    (subst (λ (s : Step). ChangesFiles g.F.Keeps g.D.Device {T = Status} (Err c.in-Err.fault) (makes_file c.args.verb) (entry_at entries c.args.file.number).name files s.files c.args.verbs.now c.args.device.now
+    (subst (λ (s : Step). ChangesFiles g.F.Keeps g.D.Device {T = Status} (Err c.in-Err.fault) (makes_file c.args.verb)
+    (entry_at entries c.args.file.number).name files s.files c.args.verbs.now c.args.device.now
     c.perform-performed.new.self c.perform-performed.new.device) is (c.in-Err.ensures.turns files stands))
 
 pub leave-requires-clause-relative_key : goal.leave-requires-clause-relative_key
 leave-requires-clause-relative_key g c =
     let long = c.perform-performed.auto.bytes ∙ ap length c.as_mut_slice.ensures.value in
-    let takes : c.exchange-2.new.self ≡ slice_set c.exchange.new.self c.args.one.now.area c.perform-performed.new.bytes =
-    c.exchange-2.ensures.area ∙ ap (slice_set c.exchange.new.self c.args.one.now.area) (now_has c.exchange.new.bytes c.perform-performed.new.bytes long) in
+    let takes : c.exchange-2.new.self
+    ≡ slice_set c.exchange.new.self c.args.one.now.area c.perform-performed.new.bytes =
+    c.exchange-2.ensures.area ∙ ap (slice_set c.exchange.new.self c.args.one.now.area)
+    (now_has c.exchange.new.bytes c.perform-performed.new.bytes long) in
     number_as_long c.args.tables.now c.args.areas.now c.exchange-2.new.self c.args.one.now.relative_key
-    (back_lengths c.args.areas.now c.exchange.new.self c.exchange-2.new.self c.args.one.now.area c.args.bytes.now.items c.as_mut_slice.result.now
-    c.perform-performed.new.bytes c.exchange.ensures.area takes (c.as_mut_slice.ensures.value ∙ c.exchange.ensures.bytes) c.perform-performed.auto.bytes)
+    (back_lengths c.args.areas.now c.exchange.new.self c.exchange-2.new.self c.args.one.now.area c.args.bytes.now.items
+    c.as_mut_slice.result.now
+    c.perform-performed.new.bytes c.exchange.ensures.area takes
+    (c.as_mut_slice.ensures.value ∙ c.exchange.ensures.bytes) c.perform-performed.auto.bytes)
     c.requires.places.relative_key
 
 pub leave-requires-clause-status : goal.leave-requires-clause-status
 leave-requires-clause-status g c =
     let long = c.perform-performed.auto.bytes ∙ ap length c.as_mut_slice.ensures.value in
-    let takes : c.exchange-2.new.self ≡ slice_set c.exchange.new.self c.args.one.now.area c.perform-performed.new.bytes =
-    c.exchange-2.ensures.area ∙ ap (slice_set c.exchange.new.self c.args.one.now.area) (now_has c.exchange.new.bytes c.perform-performed.new.bytes long) in
+    let takes : c.exchange-2.new.self
+    ≡ slice_set c.exchange.new.self c.args.one.now.area c.perform-performed.new.bytes =
+    c.exchange-2.ensures.area ∙ ap (slice_set c.exchange.new.self c.args.one.now.area)
+    (now_has c.exchange.new.bytes c.perform-performed.new.bytes long) in
     status_as_long c.args.tables.now c.args.areas.now c.exchange-2.new.self c.args.one.now.status
-    (back_lengths c.args.areas.now c.exchange.new.self c.exchange-2.new.self c.args.one.now.area c.args.bytes.now.items c.as_mut_slice.result.now
-    c.perform-performed.new.bytes c.exchange.ensures.area takes (c.as_mut_slice.ensures.value ∙ c.exchange.ensures.bytes) c.perform-performed.auto.bytes)
+    (back_lengths c.args.areas.now c.exchange.new.self c.exchange-2.new.self c.args.one.now.area c.args.bytes.now.items
+    c.as_mut_slice.result.now
+    c.perform-performed.new.bytes c.exchange.ensures.area takes
+    (c.as_mut_slice.ensures.value ∙ c.exchange.ensures.bytes) c.perform-performed.auto.bytes)
     c.requires.places.status
 
 pub returns-in-Ok-clause-lengths : goal.returns-in-Ok-clause-lengths
 returns-in-Ok-clause-lengths g c =
     let long = c.perform-performed.auto.bytes ∙ ap length c.as_mut_slice.ensures.value in
-    let takes : c.exchange-2.new.self ≡ slice_set c.exchange.new.self c.args.one.now.area c.perform-performed.new.bytes =
-    c.exchange-2.ensures.area ∙ ap (slice_set c.exchange.new.self c.args.one.now.area) (now_has c.exchange.new.bytes c.perform-performed.new.bytes long) in
+    let takes : c.exchange-2.new.self
+    ≡ slice_set c.exchange.new.self c.args.one.now.area c.perform-performed.new.bytes =
+    c.exchange-2.ensures.area ∙ ap (slice_set c.exchange.new.self c.args.one.now.area)
+    (now_has c.exchange.new.bytes c.perform-performed.new.bytes long) in
     c.leave.ensures.lengths
-    ∙ back_lengths c.args.areas.now c.exchange.new.self c.exchange-2.new.self c.args.one.now.area c.args.bytes.now.items c.as_mut_slice.result.now
-    c.perform-performed.new.bytes c.exchange.ensures.area takes (c.as_mut_slice.ensures.value ∙ c.exchange.ensures.bytes) c.perform-performed.auto.bytes
+    ∙ back_lengths c.args.areas.now c.exchange.new.self c.exchange-2.new.self c.args.one.now.area c.args.bytes.now.items
+    c.as_mut_slice.result.now
+    c.perform-performed.new.bytes c.exchange.ensures.area takes
+    (c.as_mut_slice.ensures.value ∙ c.exchange.ensures.bytes) c.perform-performed.auto.bytes
 
 pub returns-in-Ok-clause-did : goal.returns-in-Ok-clause-did
 returns-in-Ok-clause-did g c = λ files stands.
     let long = c.perform-performed.auto.bytes ∙ ap length c.as_mut_slice.ensures.value in
-    let takes : c.exchange-2.new.self ≡ slice_set c.exchange.new.self c.args.one.now.area c.perform-performed.new.bytes =
-    c.exchange-2.ensures.area ∙ ap (slice_set c.exchange.new.self c.args.one.now.area) (now_has c.exchange.new.bytes c.perform-performed.new.bytes long) in
+    let takes : c.exchange-2.new.self
+    ≡ slice_set c.exchange.new.self c.args.one.now.area c.perform-performed.new.bytes =
+    c.exchange-2.ensures.area ∙ ap (slice_set c.exchange.new.self c.args.one.now.area)
+    (now_has c.exchange.new.bytes c.perform-performed.new.bytes long) in
     let entries : List Entry = g.F.FileVerbs.entries c.args.verbs.now in
     let connectors : List Connector = g.F.FileVerbs.connectors c.args.verbs.now in
     let places : FilePlaces = places_of c.args.tables.now c.args.file.number c.args.one.now in
-    let is = step_of entries places c.args.verb files connectors c.args.areas.now c.as_mut_slice.result.now c.relative_number-old.result
+    let is = step_of entries places c.args.verb files connectors c.args.areas.now c.as_mut_slice.result.now
+    c.relative_number-old.result
     (c.as_mut_slice.ensures.value ∙ c.exchange.ensures.bytes) c.relative_number-old.ensures in
     let did = step_by entries places c.args.verb files connectors c.args.areas.now in
-    let does = subst (λ (s : Step). IsStep connectors c.args.file.number s c.in-Ok.status (g.F.FileVerbs.connectors c.perform-performed.new.self)
+    let does = subst (λ (s : Step).
+    IsStep connectors c.args.file.number s c.in-Ok.status (g.F.FileVerbs.connectors c.perform-performed.new.self)
     (area c.perform-performed.new.bytes c.perform-performed.new.number)) is (c.in-Ok.ensures.step files (inl stands)) in
-    let fits = subst (λ (digits : Option ℕ). StaysOrFits digits (area_of places c.args.areas.now).number did.area.number)
+    let fits =
+    subst (λ (digits : Option ℕ). StaysOrFits digits (area_of places c.args.areas.now).number did.area.number)
     (entry_digits c.args.tables.now c.args.one.now (entry_at entries c.args.file.number) c.requires.entry)
     (step_number_fits entries places c.args.verb files connectors c.args.areas.now
     (subst (λ (e : Entry). is_spec e.spec ≡ true) (sym c.requires.entry) c.requires.spec)
@@ -86,9 +111,11 @@ returns-in-Ok-clause-did g c = λ files stands.
       status_is = does.status_is;
       connectors_are = does.connectors_are;
       storage_is =
-          storage_left places did c.in-Ok.status c.args.areas.now c.exchange-2.new.self c.leave.new.areas c.relative_number-old.result c.perform-performed.new.number
+          storage_left places did c.in-Ok.status c.args.areas.now c.exchange-2.new.self c.leave.new.areas
+          c.relative_number-old.result c.perform-performed.new.number
           c.perform-performed.new.bytes c.relative_number-old.ensures does.area_is does.status_is
-          (taken_back c.args.areas.now c.exchange.new.self c.exchange-2.new.self c.args.one.now.area c.args.bytes.now.items c.as_mut_slice.result.now
+          (taken_back c.args.areas.now c.exchange.new.self c.exchange-2.new.self c.args.one.now.area
+          c.args.bytes.now.items c.as_mut_slice.result.now
           c.perform-performed.new.bytes c.exchange.ensures.area takes)
           c.leave.ensures.stores fits;
     }
@@ -98,12 +125,15 @@ returns-in-Ok-clause-turns g c = λ files stands.
     let entries : List Entry = g.F.FileVerbs.entries c.args.verbs.now in
     let connectors : List Connector = g.F.FileVerbs.connectors c.args.verbs.now in
     let places : FilePlaces = places_of c.args.tables.now c.args.file.number c.args.one.now in
-    let is = step_of entries places c.args.verb files connectors c.args.areas.now c.as_mut_slice.result.now c.relative_number-old.result
+    let is = step_of entries places c.args.verb files connectors c.args.areas.now c.as_mut_slice.result.now
+    c.relative_number-old.result
     (c.as_mut_slice.ensures.value ∙ c.exchange.ensures.bytes) c.relative_number-old.ensures in
     let did = step_by entries places c.args.verb files connectors c.args.areas.now in
-    subst (λ (name : List ℕ). ChangesFiles g.F.Keeps g.D.Device {T = Status} (Ok c.in-Ok.status) (makes_file c.args.verb) name files did.files c.args.verbs.now c.args.device.now
+    subst (λ (name : List ℕ). ChangesFiles g.F.Keeps g.D.Device {T =
+    Status} (Ok c.in-Ok.status) (makes_file c.args.verb) name files did.files c.args.verbs.now c.args.device.now
     c.perform-performed.new.self c.perform-performed.new.device) (ap (λ (e : Entry). e.name) c.requires.entry)
-    (subst (λ (s : Step). ChangesFiles g.F.Keeps g.D.Device {T = Status} (Ok c.in-Ok.status) (makes_file c.args.verb) (entry_at entries c.args.file.number).name files s.files c.args.verbs.now c.args.device.now
+    (subst (λ (s : Step). ChangesFiles g.F.Keeps g.D.Device {T = Status} (Ok c.in-Ok.status) (makes_file c.args.verb)
+    (entry_at entries c.args.file.number).name files s.files c.args.verbs.now c.args.device.now
     c.perform-performed.new.self c.perform-performed.new.device) is (c.in-Ok.ensures.turns files stands))
 
 pub returns-in-Err-clause-full : goal.returns-in-Err-clause-full
@@ -111,6 +141,7 @@ returns-in-Err-clause-full g c = λ files stands full.
     let entries : List Entry = g.F.FileVerbs.entries c.args.verbs.now in
     let connectors : List Connector = g.F.FileVerbs.connectors c.args.verbs.now in
     let places : FilePlaces = places_of c.args.tables.now c.args.file.number c.args.one.now in
-    let is = step_of entries places c.args.verb files connectors c.args.areas.now c.as_mut_slice.result.now c.relative_number-old.result
+    let is = step_of entries places c.args.verb files connectors c.args.areas.now c.as_mut_slice.result.now
+    c.relative_number-old.result
     (c.as_mut_slice.ensures.value ∙ c.exchange.ensures.bytes) c.relative_number-old.ensures in
     sym (ap (λ (s : Step). has_changed c.args.verb s.status) is) ∙ c.in-Err.ensures.full files stands full

@@ -15,7 +15,8 @@ loop-instruction-preserved c =
     let one = get_or all k (Tick 0) in
     let same : all ≡ c.args.code.now.instructions = c.as_slice-instruction-items.ensures in
     let here : drop k c.args.code.now.instructions ≡ one ∷ drop (k + 1) c.args.code.now.instructions =
-    subst (λ (is : List Instruction). drop k is ≡ one ∷ drop (k + 1) is) same (drop_here all k (k + 1) one refl (slice_get-get_or all k (Tick 0) c.loop-instruction-test.true)) in
+    subst (λ (is : List Instruction). drop k is ≡ one ∷ drop (k + 1) is) same
+    (drop_here all k (k + 1) one refl (slice_get-get_or all k (Tick 0) c.loop-instruction-test.true)) in
     let leaves = sym c.in_ok-after.ensures ∙ c.in-Some.is in
     let now = c.loop-instruction.invariant in
     record {
@@ -24,10 +25,16 @@ loop-instruction-preserved c =
           let more = no_more c.loop-instruction.room c.widened-room.result wide c.widened-room.ensures.wider less in
           now.enough wide more
           (subst (λ (is : List Instruction). HasRoomAlong tables wide is c.loop-instruction.shape) (sym here)
-          (room_before tables wide one (drop (k + 1) c.args.code.now.instructions) c.loop-instruction.shape c.in-Some.after leaves (holds_more c.loop-instruction.room wide c.loop-instruction.shape now.holds more) along));
+          (room_before tables wide one (drop (k + 1) c.args.code.now.instructions) c.loop-instruction.shape
+          c.in-Some.after leaves (holds_more c.loop-instruction.room wide c.loop-instruction.shape now.holds more)
+          along));
       least = λ other along.
           let from = now.least other along in
-          let more = room_behind tables other one (drop (k + 1) c.args.code.now.instructions) c.loop-instruction.shape c.in-Some.after leaves
-          (subst (λ (is : List Instruction). HasRoomAlong tables other is c.loop-instruction.shape) here from.1) in
-          (c.widened-room.ensures.least other (holds_first tables other (drop (k + 1) c.args.code.now.instructions) c.in-Some.after more) from.0, more);
+          let more = room_behind tables other one (drop (k + 1) c.args.code.now.instructions) c.loop-instruction.shape
+          c.in-Some.after leaves
+          (subst (λ (is : List Instruction). HasRoomAlong tables other is c.loop-instruction.shape) here from.1) in (
+            c.widened-room.ensures.least other
+                (holds_first tables other (drop (k + 1) c.args.code.now.instructions) c.in-Some.after more) from.0,
+            more,
+          );
     }

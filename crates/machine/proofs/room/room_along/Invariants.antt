@@ -9,7 +9,10 @@ invariant-loop-instruction l = record {
   -- there is room for what is known here
   holds : HasRoomFor l.room l.shape;
   -- what has room from here on, and as much as this, has room along all
-  enough : (wide : Room) → IsNoMore l.room wide → HasRoomAlong l.code.tables wide (drop l.instruction-index l.code.instructions) l.shape → HasRoomAlong l.code.tables wide l.code.instructions empty;
+  enough : (wide : Room)
+      → IsNoMore l.room wide → HasRoomAlong l.code.tables wide (drop l.instruction-index l.code.instructions) l.shape
+      → HasRoomAlong l.code.tables wide l.code.instructions empty;
   -- what has room along all has room from here on, and as much as this
-  least : (other : Room) → HasRoomAlong l.code.tables other l.code.instructions empty → IsNoMore l.room other × HasRoomAlong l.code.tables other (drop l.instruction-index l.code.instructions) l.shape;
+  least : (other : Room) → HasRoomAlong l.code.tables other l.code.instructions empty
+      → IsNoMore l.room other × HasRoomAlong l.code.tables other (drop l.instruction-index l.code.instructions) l.shape;
 }

@@ -30,7 +30,8 @@ with_records-requires-clause-items c =
 first_items : (n : ℕ) → 0 + n ≡ n
 first_items n = omega arith
 
-if_both : {A E : Type 0} (r : Result A E) (P Q R : A → Type 0) → ((x : A) → P x → Q x → R x) → IfOk r P → IfOk r Q → IfOk r R
+if_both : {A E : Type 0} (r : Result A E) (P Q R : A → Type 0) → ((x : A) → P x → Q x → R x) → IfOk r P → IfOk r Q
+    → IfOk r R
 if_both (Ok x) P Q R h p q = h x p q
 if_both (Err e) P Q R h p q = tt
 
@@ -40,8 +41,12 @@ returns c =
     let calls = calls_in c.args.items.now in
     if_both c.with_records.result _ _ _ (λ all told pairs.
     all_told calls program all c.requires told
-    (pairs ∙ ap (λ l. l ++ behind_records c.in_ok-passed.passed.items c.as_slice-2.result.now) (c.in_ok-passed.ensures.pairs ∙ ap (λ l. l ++ conditions_after 0 0 c.as_slice.result.now) (ap (map pair_of) c.new.ensures.conditions))
-    ∙ ap (λ n. conditions_after 0 0 c.as_slice.result.now ++ behind_records n c.as_slice-2.result.now) (c.in_ok-passed.ensures.items ∙ first_items (item_count c.as_slice.result.now))
+    (pairs ∙ ap
+    (λ l. l ++ behind_records c.in_ok-passed.passed.items c.as_slice-2.result.now) (c.in_ok-passed.ensures.pairs
+    ∙ ap (λ l. l ++ conditions_after 0 0 c.as_slice.result.now) (ap (map pair_of) c.new.ensures.conditions))
+    ∙ ap (λ n. conditions_after 0 0 c.as_slice.result.now ++ behind_records n c.as_slice-2.result.now)
+    (c.in_ok-passed.ensures.items ∙ first_items (item_count c.as_slice.result.now))
     ∙ ap (λ l. conditions_after 0 0 l ++ behind_records (item_count l) c.as_slice-2.result.now) c.as_slice.ensures
-    ∙ ap (λ l. conditions_after 0 0 program.storage ++ behind_records (item_count program.storage) l) c.as_slice-2.ensures))
+    ∙ ap (λ l. conditions_after 0 0 program.storage ++ behind_records (item_count program.storage) l)
+    c.as_slice-2.ensures))
     c.with_records.ensures.told c.with_records.ensures.pairs

@@ -15,8 +15,11 @@ loop-file-preserved c =
     let rest = rest_at files i one c.loop-file-test.true c.file-item.is in
     let counted = c.in_ok-so_far.ensures.items ∙ ap (λ l. count + item_count l) c.as_slice.ensures in
     record {
-      range = counted_step (drop i files) (drop (i + 1) files) one rest count new.items (length (calls_in c.args.items.now)) counted c.loop-file.invariant.range;
+      range = counted_step (drop i files) (drop (i + 1) files) one rest count new.items
+          (length (calls_in c.args.items.now)) counted c.loop-file.invariant.range;
       called = c.in_ok-so_far.ensures.told;
-      pairs = passed_step (drop i files) (drop (i + 1) files) one rest (pairs_in new.conditions) (pairs_in c.loop-file.so_far.conditions) _ count new.items counted
-          (c.in_ok-so_far.ensures.pairs ∙ ap (λ l. pairs_in c.loop-file.so_far.conditions ++ conditions_after count count l) c.as_slice.ensures) c.loop-file.invariant.pairs;
+      pairs = passed_step (drop i files) (drop (i + 1) files) one rest (pairs_in new.conditions)
+          (pairs_in c.loop-file.so_far.conditions) _ count new.items counted
+          (c.in_ok-so_far.ensures.pairs ∙ ap (λ l. pairs_in c.loop-file.so_far.conditions
+          ++ conditions_after count count l) c.as_slice.ensures) c.loop-file.invariant.pairs;
     }

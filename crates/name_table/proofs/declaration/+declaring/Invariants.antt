@@ -16,7 +16,8 @@ invariant-declare_group-items l = record {
   told : AreTold (forest_of l.rest);
   shorter : length l.rest ≤ length l.entries;
   table : IsTable l.declared;
-  calls : calls_in l.declared ++ item_calls (names_of l.groups) (forest_of l.rest) ≡ calls_in l.initial.declared ++ item_calls (names_of l.groups) (forest_of l.entries);
+  calls : calls_in l.declared ++ item_calls (names_of l.groups) (forest_of l.rest)
+      ≡ calls_in l.initial.declared ++ item_calls (names_of l.groups) (forest_of l.entries);
 }
 
 abbrev pub decreases-declare_group-items : goal.decreases-declare_group-items

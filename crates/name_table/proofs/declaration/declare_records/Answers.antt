@@ -13,7 +13,8 @@ declare_group-requires-clause-told c =
     let one = c.file-item.result in
     let rest = rest_at files i one c.loop-file-test.true c.file-item.is in
     subst (λ l. AreTold (forest_of l)) (sym c.as_slice.ensures)
-    (c.record_levels_are_told.ensures one (first_kept (drop i files) (drop (i + 1) files) one rest c.loop-file.invariant.rules))
+    (c.record_levels_are_told.ensures one
+    (first_kept (drop i files) (drop (i + 1) files) one rest c.loop-file.invariant.rules))
 
 pub loop-file-preserved : goal.loop-file-preserved
 loop-file-preserved c =
@@ -24,6 +25,8 @@ loop-file-preserved c =
     record {
       rules = others_kept (drop i files) (drop (i + 1) files) one rest c.loop-file.invariant.rules;
       table = c.in_ok-declared.ensures.table;
-      calls = declared_step (drop i files) (drop (i + 1) files) one rest (calls_in c.in_ok-declared.declared) (calls_in c.loop-file.declared) _
-          (c.in_ok-declared.ensures.calls ∙ ap (λ l. calls_in c.loop-file.declared ++ item_calls (one.name ∷ []) (forest_of l)) c.as_slice.ensures) c.loop-file.invariant.calls;
+      calls = declared_step (drop i files) (drop (i + 1) files) one rest (calls_in c.in_ok-declared.declared)
+          (calls_in c.loop-file.declared) _
+          (c.in_ok-declared.ensures.calls ∙ ap (λ l. calls_in c.loop-file.declared
+          ++ item_calls (one.name ∷ []) (forest_of l)) c.as_slice.ensures) c.loop-file.invariant.calls;
     }

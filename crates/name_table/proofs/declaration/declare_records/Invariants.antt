@@ -9,5 +9,6 @@ abbrev pub invariant-loop-file : goal.invariant-loop-file
 invariant-loop-file l = record {
   rules : each description_rules (drop l.file-index l.files) ≡ [];
   table : IsTable l.declared;
-  calls : calls_in l.declared ++ record_calls (drop l.file-index l.files) ≡ calls_in l.initial.declared ++ record_calls l.files;
+  calls : calls_in l.declared ++ record_calls (drop l.file-index l.files)
+      ≡ calls_in l.initial.declared ++ record_calls l.files;
 }

@@ -8,7 +8,8 @@ use Rattle.name_table.proofs.declaration.item_names.Goals as goal
 pub returns-clause-calls : goal.returns-clause-calls
 returns-clause-calls c =
     IfOk-weaker c.declare_records.result _ _ (λ new h.
-    h ∙ ap (λ l. l ++ record_calls c.as_slice.result.now) (c.in_ok-table.ensures.calls ∙ ap (λ l. l ++ item_calls [] (forest_of c.as_slice-storage.result.now)) c.new.ensures.calls)
+    h ∙ ap (λ l. l ++ record_calls c.as_slice.result.now) (c.in_ok-table.ensures.calls
+    ∙ ap (λ l. l ++ item_calls [] (forest_of c.as_slice-storage.result.now)) c.new.ensures.calls)
     ∙ ap (λ l. item_calls [] (forest_of l) ++ record_calls c.as_slice.result.now) c.as_slice-storage.ensures
     ∙ ap (λ l. item_calls [] (forest_of c.args.program.now.storage) ++ record_calls l) c.as_slice.ensures
     ∙ sym (of_program c.args.program.now))

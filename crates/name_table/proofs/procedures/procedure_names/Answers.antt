@@ -13,5 +13,7 @@ returns-in_err-first-clause-twice c =
     let error = err_from_is_err_and c.from_residual.result c.from_residual.ensures.1 in
     rw (error.1, error.2)
     (given_twice sections c.in_err-first.field-0.0
-    (c.in_err-first.ensures.noted (procedures_of sections) (procedures_from (first + length (paragraphs_or_one one.paragraphs)) (drop (i + 1) sections))
-    (next_section (procedures_of sections) sections first i one c.loop-section.names c.loop-section-test.true c.section-item.is c.loop-section.invariant)))
+    (c.in_err-first.ensures.noted (procedures_of sections)
+    (procedures_from (first + length (paragraphs_or_one one.paragraphs)) (drop (i + 1) sections))
+    (next_section (procedures_of sections) sections first i one c.loop-section.names c.loop-section-test.true
+    c.section-item.is c.loop-section.invariant)))

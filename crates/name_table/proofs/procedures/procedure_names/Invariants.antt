@@ -4,4 +4,5 @@ use Rattle.name_table.specs.Noting.{AreNoted}
 use Rattle.name_table.proofs.procedures.procedure_names.Given as goal
 
 abbrev pub invariant-loop-section : goal.invariant-loop-section
-invariant-loop-section l = AreNoted (procedures_of l.sections) (procedures_from l.first (drop l.section-index l.sections)) l.names
+invariant-loop-section l =
+    AreNoted (procedures_of l.sections) (procedures_from l.first (drop l.section-index l.sections)) l.names

@@ -11,5 +11,6 @@ returns-clause-last c = λ characters.
     let q : Bor (List ℕ) = record { ref_ptr = (0, 0); now = characters } in
     let old = get_by (λ (k : Bor (List ℕ)). bytes_eq characters k.now) c.args.last.now in
     c.in_ok-insert.ensures.updates.0 q
-    ∙ ap (λ b. if b then Some c.args.number else old) (nat_list_eq_equiv.symm c.as_slice.result.now characters ∙ ap (bytes_eq characters) c.as_slice.ensures)
+    ∙ ap (λ b. if b then Some c.args.number else old) (nat_list_eq_equiv.symm c.as_slice.result.now characters
+    ∙ ap (bytes_eq characters) c.as_slice.ensures)
     ∙ ap (λ n. if has_characters characters (option_copied n) then Some c.args.number else old) (sym c.in-Some.is)

@@ -16,56 +16,77 @@ use Rattle.pages.proofs.change.set_change.Goals as goal
 pub returns-in-Some-clause-changed : goal.returns-in-Some-clause-changed
 returns-in-Some-clause-changed c = λ once pages.
     let old = c.args.changes.now.items in
-    let low : c.in-Some.i < length old = subst (λ (l : List Change). c.in-Some.i < length l) c.deref.ensures.value c.in-Some.ensures.found.0 in
-    let here : HoldsAt (λ (x : Change). x.page ≡ c.args.page) old c.in-Some.i = subst (λ (l : List Change). HoldsAt (λ (x : Change). x.page ≡ c.args.page) l c.in-Some.i) c.deref.ensures.value c.in-Some.ensures.found.1 in
+    let low : c.in-Some.i < length old =
+    subst (λ (l : List Change). c.in-Some.i < length l) c.deref.ensures.value c.in-Some.ensures.found.0 in
+    let here : HoldsAt (λ (x : Change). x.page ≡ c.args.page) old c.in-Some.i = subst (λ (l : List Change).
+    HoldsAt (λ (x : Change). x.page ≡ c.args.page) l c.in-Some.i) c.deref.ensures.value c.in-Some.ensures.found.1 in
     let new : Change = record { page = c.args.page; bytes = c.args.bytes } in
-    only_set (λ (o : Option Sector). o) pages old c.args.page c.in-Some.i new (is_only old c.args.page c.in-Some.i once (λ e. omega (arith, e, c.requires)) low here) refl
+    only_set (λ (o : Option Sector). o) pages old c.args.page c.in-Some.i new
+    (is_only old c.args.page c.in-Some.i once (λ e. omega (arith, e, c.requires)) low here) refl
 
 pub returns-in-Some-clause-once : goal.returns-in-Some-clause-once
 returns-in-Some-clause-once c = λ once.
     let old = c.args.changes.now.items in
-    let low : c.in-Some.i < length old = subst (λ (l : List Change). c.in-Some.i < length l) c.deref.ensures.value c.in-Some.ensures.found.0 in
-    let here : HoldsAt (λ (x : Change). x.page ≡ c.args.page) old c.in-Some.i = subst (λ (l : List Change). HoldsAt (λ (x : Change). x.page ≡ c.args.page) l c.in-Some.i) c.deref.ensures.value c.in-Some.ensures.found.1 in
+    let low : c.in-Some.i < length old =
+    subst (λ (l : List Change). c.in-Some.i < length l) c.deref.ensures.value c.in-Some.ensures.found.0 in
+    let here : HoldsAt (λ (x : Change). x.page ≡ c.args.page) old c.in-Some.i = subst (λ (l : List Change).
+    HoldsAt (λ (x : Change). x.page ≡ c.args.page) l c.in-Some.i) c.deref.ensures.value c.in-Some.ensures.found.1 in
     let new : Change = record { page = c.args.page; bytes = c.args.bytes } in
     subst NamesOnce (sym (same_changed old c.in-Some.i new new low (sym (here new)))) once
 
 pub returns-in-Some-clause-changes_page : goal.returns-in-Some-clause-changes_page
 returns-in-Some-clause-changes_page c =
     let old = c.args.changes.now.items in
-    let low : c.in-Some.i < length old = subst (λ (l : List Change). c.in-Some.i < length l) c.deref.ensures.value c.in-Some.ensures.found.0 in
-    let here : HoldsAt (λ (x : Change). x.page ≡ c.args.page) old c.in-Some.i = subst (λ (l : List Change). HoldsAt (λ (x : Change). x.page ≡ c.args.page) l c.in-Some.i) c.deref.ensures.value c.in-Some.ensures.found.1 in
+    let low : c.in-Some.i < length old =
+    subst (λ (l : List Change). c.in-Some.i < length l) c.deref.ensures.value c.in-Some.ensures.found.0 in
+    let here : HoldsAt (λ (x : Change). x.page ≡ c.args.page) old c.in-Some.i = subst (λ (l : List Change).
+    HoldsAt (λ (x : Change). x.page ≡ c.args.page) l c.in-Some.i) c.deref.ensures.value c.in-Some.ensures.found.1 in
     let new : Change = record { page = c.args.page; bytes = c.args.bytes } in
-    inl (changed_at old c.in-Some.i c.args.page new low (here new), same_changed old c.in-Some.i new new low (sym (here new)))
+    inl (
+      changed_at old c.in-Some.i c.args.page new low (here new),
+      same_changed old c.in-Some.i new new low (sym (here new)),
+    )
 
 pub returns-in-None-clause-changed : goal.returns-in-None-clause-changed
 returns-in-None-clause-changed c = λ once.
     let new : Change = record { page = c.args.page; bytes = c.args.bytes } in
-    on_ok c.push_change.result (λ items pages. ap (pages_after pages) items ∙ applied_more (λ (o : Option Sector). o) pages c.args.changes.now.items new) c.push_change.ensures.ok
+    on_ok c.push_change.result (λ items pages. ap (pages_after pages) items
+    ∙ applied_more (λ (o : Option Sector). o) pages c.args.changes.now.items new) c.push_change.ensures.ok
 
 pub returns-in-None-clause-once : goal.returns-in-None-clause-once
 returns-in-None-clause-once c = λ once.
     let new : Change = record { page = c.args.page; bytes = c.args.bytes } in
-    let away : Away c.args.page c.args.changes.now.items = subst (Away c.args.page) c.deref.ensures.value c.in-None.ensures.absent in
-    on_ok c.push_change.result (λ items. subst (λ (l : List Change). NamesOnce (changed_pages l)) (sym items) (push_changed c.args.changes.now.items new once away)) c.push_change.ensures.ok
+    let away : Away c.args.page c.args.changes.now.items =
+    subst (Away c.args.page) c.deref.ensures.value c.in-None.ensures.absent in
+    on_ok c.push_change.result (λ items. subst (λ (l : List Change). NamesOnce (changed_pages l)) (sym items)
+    (push_changed c.args.changes.now.items new once away)) c.push_change.ensures.ok
 
 pub returns-in-None-clause-changes_page : goal.returns-in-None-clause-changes_page
 returns-in-None-clause-changes_page c =
     let new : Change = record { page = c.args.page; bytes = c.args.bytes } in
-    let away : Away c.args.page c.args.changes.now.items = subst (Away c.args.page) c.deref.ensures.value c.in-None.ensures.absent in
-    on_ok c.push_change.result (λ items. inr (away_changed c.args.changes.now.items c.args.page away, ap changed_pages items ∙ map_push (λ (x : Change). x.page) c.args.changes.now.items new)) c.push_change.ensures.ok
+    let away : Away c.args.page c.args.changes.now.items =
+    subst (Away c.args.page) c.deref.ensures.value c.in-None.ensures.absent in
+    on_ok c.push_change.result (λ items. inr (
+      away_changed c.args.changes.now.items c.args.page away,
+      ap changed_pages items ∙ map_push (λ (x : Change). x.page) c.args.changes.now.items new,
+    )) c.push_change.ensures.ok
 
 pub returns-in-Some-clause-filled : goal.returns-in-Some-clause-filled
 returns-in-Some-clause-filled c = λ once.
     let old = c.args.changes.now.items in
-    let low : c.in-Some.i < length old = subst (λ (l : List Change). c.in-Some.i < length l) c.deref.ensures.value c.in-Some.ensures.found.0 in
+    let low : c.in-Some.i < length old =
+    subst (λ (l : List Change). c.in-Some.i < length l) c.deref.ensures.value c.in-Some.ensures.found.0 in
     filled_replaced old c.in-Some.i (record { page = c.args.page; bytes = c.args.bytes }) low
 
 pub returns-in-Some-clause-fills : goal.returns-in-Some-clause-fills
 returns-in-Some-clause-fills c = λ once.
     let old = c.args.changes.now.items in
-    let low : c.in-Some.i < length old = subst (λ (l : List Change). c.in-Some.i < length l) c.deref.ensures.value c.in-Some.ensures.found.0 in
-    let here : HoldsAt (λ (x : Change). x.page ≡ c.args.page) old c.in-Some.i = subst (λ (l : List Change). HoldsAt (λ (x : Change). x.page ≡ c.args.page) l c.in-Some.i) c.deref.ensures.value c.in-Some.ensures.found.1 in
-    fills_set old c.args.page c.in-Some.i c.args.bytes (is_only old c.args.page c.in-Some.i once (λ e. omega (arith, e, c.requires.some)) low here)
+    let low : c.in-Some.i < length old =
+    subst (λ (l : List Change). c.in-Some.i < length l) c.deref.ensures.value c.in-Some.ensures.found.0 in
+    let here : HoldsAt (λ (x : Change). x.page ≡ c.args.page) old c.in-Some.i = subst (λ (l : List Change).
+    HoldsAt (λ (x : Change). x.page ≡ c.args.page) l c.in-Some.i) c.deref.ensures.value c.in-Some.ensures.found.1 in
+    fills_set old c.args.page c.in-Some.i c.args.bytes
+    (is_only old c.args.page c.in-Some.i once (λ e. omega (arith, e, c.requires.some)) low here)
 
 pub returns-in-None-clause-filled : goal.returns-in-None-clause-filled
 returns-in-None-clause-filled c = λ once.
@@ -76,5 +97,8 @@ returns-in-None-clause-filled c = λ once.
 
 pub returns-in-None-clause-fills : goal.returns-in-None-clause-fills
 returns-in-None-clause-fills c = λ once.
-    let away : Away c.args.page c.args.changes.now.items = subst (Away c.args.page) c.deref.ensures.value c.in-None.ensures.absent in
-    on_ok c.push_change.result (λ items. subst (λ (l : List Change). IfSome c.args.bytes (λ _. Fills c.args.changes.now.items c.args.page l)) (sym items) (fills_pushed c.args.changes.now.items c.args.page c.args.bytes away)) c.push_change.ensures.ok
+    let away : Away c.args.page c.args.changes.now.items =
+    subst (Away c.args.page) c.deref.ensures.value c.in-None.ensures.absent in
+    on_ok c.push_change.result
+    (λ items. subst (λ (l : List Change). IfSome c.args.bytes (λ _. Fills c.args.changes.now.items c.args.page l))
+    (sym items) (fills_pushed c.args.changes.now.items c.args.page c.args.bytes away)) c.push_change.ensures.ok

@@ -12,7 +12,8 @@ use Rattle.pages.proofs.Committed.{at_rest, amid_maps_as, now_committed, now_is_
 use Rattle.pages.proofs.commit.commit_volume.Goals as goal
 
 pub two_phase_write-requires-clause-blocks : goal.two_phase_write-requires-clause-blocks
-two_phase_write-requires-clause-blocks g c = subst (SectorsAre (λ (s : ℕ). s < g.D.Device.sectors c.args.device.now)) (sym c.deref.ensures.value)
+two_phase_write-requires-clause-blocks g c =
+    subst (SectorsAre (λ (s : ℕ). s < g.D.Device.sectors c.args.device.now)) (sym c.deref.ensures.value)
     (λ k d lt. omega (arith, (c.in_ok-draft.ensures.plan.free k d lt).low, c.requires.sectors))
 
 pub two_phase_write-requires-clause-root : goal.two_phase_write-requires-clause-root
@@ -21,16 +22,20 @@ two_phase_write-requires-clause-root g c = omega (arith, c.requires.sectors, c.r
 pub returns-in_err-draft-clause-moments : goal.returns-in_err-draft-clause-moments
 returns-in_err-draft-clause-moments g c = λ honest rests.
     let old = g.D.Device.state c.args.device.now in
-    stays (g.D.Device.history c.args.device.now) old _ (at_rest (volume_of c.args.volume.now) (next_map (map_of old.disk.present (volume_of c.args.volume.now)) c.args.changes.now c.args.catalog) old rests)
+    stays (g.D.Device.history c.args.device.now) old _ (at_rest (volume_of c.args.volume.now)
+    (next_map (map_of old.disk.present (volume_of c.args.volume.now)) c.args.changes.now c.args.catalog) old rests)
 
 pub returns-in_err-two_phase_write-clause-moments : goal.returns-in_err-two_phase_write-clause-moments
 returns-in_err-two_phase_write-clause-moments g c = λ honest rests.
     let old = g.D.Device.state c.args.device.now in
     let v = volume_of c.args.volume.now in
     let w = volume_of c.next_volume.new.volume in
-    let plan : IsPlan v w c.deref.result.now c.args.changes.now = subst (λ (b : List Block). IsPlan v w b c.args.changes.now) (sym c.deref.ensures.value) c.in_ok-draft.ensures.plan in
-    weakens (g.D.Device.history c.args.device.now) (g.D.Device.history c.two_phase_write.new.device) (g.D.Device.state c.two_phase_write.new.device) _ _
-    (amid_maps_as v w old.disk.present c.deref.result.now c.args.changes.now c.root_bytes_of-bytes.result rests.reads plan c.root_bytes_of-bytes.ensures c.args.catalog c.in_ok-draft.ensures.next.catalog old.events)
+    let plan : IsPlan v w c.deref.result.now c.args.changes.now = subst
+    (λ (b : List Block). IsPlan v w b c.args.changes.now) (sym c.deref.ensures.value) c.in_ok-draft.ensures.plan in
+    weakens (g.D.Device.history c.args.device.now) (g.D.Device.history c.two_phase_write.new.device)
+    (g.D.Device.state c.two_phase_write.new.device) _ _
+    (amid_maps_as v w old.disk.present c.deref.result.now c.args.changes.now c.root_bytes_of-bytes.result rests.reads
+    plan c.root_bytes_of-bytes.ensures c.args.catalog c.in_ok-draft.ensures.next.catalog old.events)
     (c.two_phase_write.ensures.moments honest rests.settled)
 
 pub returns-clause-moments : goal.returns-clause-moments
@@ -38,9 +43,12 @@ returns-clause-moments g c = λ honest rests.
     let old = g.D.Device.state c.args.device.now in
     let v = volume_of c.args.volume.now in
     let w = volume_of c.next_volume.new.volume in
-    let plan : IsPlan v w c.deref.result.now c.args.changes.now = subst (λ (b : List Block). IsPlan v w b c.args.changes.now) (sym c.deref.ensures.value) c.in_ok-draft.ensures.plan in
-    weakens (g.D.Device.history c.args.device.now) (g.D.Device.history c.two_phase_write.new.device) (g.D.Device.state c.two_phase_write.new.device) _ _
-    (amid_maps_as v w old.disk.present c.deref.result.now c.args.changes.now c.root_bytes_of-bytes.result rests.reads plan c.root_bytes_of-bytes.ensures c.args.catalog c.in_ok-draft.ensures.next.catalog old.events)
+    let plan : IsPlan v w c.deref.result.now c.args.changes.now = subst
+    (λ (b : List Block). IsPlan v w b c.args.changes.now) (sym c.deref.ensures.value) c.in_ok-draft.ensures.plan in
+    weakens (g.D.Device.history c.args.device.now) (g.D.Device.history c.two_phase_write.new.device)
+    (g.D.Device.state c.two_phase_write.new.device) _ _
+    (amid_maps_as v w old.disk.present c.deref.result.now c.args.changes.now c.root_bytes_of-bytes.result rests.reads
+    plan c.root_bytes_of-bytes.ensures c.args.catalog c.in_ok-draft.ensures.next.catalog old.events)
     (c.two_phase_write.ensures.moments honest rests.settled)
 
 pub returns-clause-committed : goal.returns-clause-committed
@@ -48,21 +56,28 @@ returns-clause-committed g c = λ honest rests.
     let old = g.D.Device.state c.args.device.now in
     let v = volume_of c.args.volume.now in
     let w = volume_of c.next_volume.new.volume in
-    let plan : IsPlan v w c.deref.result.now c.args.changes.now = subst (λ (b : List Block). IsPlan v w b c.args.changes.now) (sym c.deref.ensures.value) c.in_ok-draft.ensures.plan in
-    now_committed v w old.disk.present c.deref.result.now c.args.changes.now c.root_bytes_of-bytes.result rests.reads plan c.root_bytes_of-bytes.ensures (g.D.Device.state c.two_phase_write.new.device).disk (c.in_ok-two_phase_write.ensures.durable honest)
+    let plan : IsPlan v w c.deref.result.now c.args.changes.now = subst
+    (λ (b : List Block). IsPlan v w b c.args.changes.now) (sym c.deref.ensures.value) c.in_ok-draft.ensures.plan in
+    now_committed v w old.disk.present c.deref.result.now c.args.changes.now c.root_bytes_of-bytes.result
+    rests.reads plan c.root_bytes_of-bytes.ensures (g.D.Device.state c.two_phase_write.new.device).disk
+    (c.in_ok-two_phase_write.ensures.durable honest)
 
 pub returns-clause-map : goal.returns-clause-map
 returns-clause-map g c = λ honest rests.
     let old = g.D.Device.state c.args.device.now in
     let v = volume_of c.args.volume.now in
     let w = volume_of c.next_volume.new.volume in
-    let plan : IsPlan v w c.deref.result.now c.args.changes.now = subst (λ (b : List Block). IsPlan v w b c.args.changes.now) (sym c.deref.ensures.value) c.in_ok-draft.ensures.plan in
-    now_is_as v w old.disk.present c.deref.result.now c.args.changes.now c.root_bytes_of-bytes.result rests.reads plan c.root_bytes_of-bytes.ensures c.args.catalog c.in_ok-draft.ensures.next.catalog (g.D.Device.state c.two_phase_write.new.device).disk (c.in_ok-two_phase_write.ensures.durable honest)
+    let plan : IsPlan v w c.deref.result.now c.args.changes.now = subst
+    (λ (b : List Block). IsPlan v w b c.args.changes.now) (sym c.deref.ensures.value) c.in_ok-draft.ensures.plan in
+    now_is_as v w old.disk.present c.deref.result.now c.args.changes.now c.root_bytes_of-bytes.result rests.reads
+    plan c.root_bytes_of-bytes.ensures c.args.catalog c.in_ok-draft.ensures.next.catalog
+    (g.D.Device.state c.two_phase_write.new.device).disk (c.in_ok-two_phase_write.ensures.durable honest)
 
 pub returns-clause-sound : goal.returns-clause-sound
 returns-clause-sound g c =
     let after = c.in_ok-draft.ensures.sound in
-    let marked : c.mark_turns.new.used ≡ use_after c.next_volume.new.volume.used c.in_ok-draft.draft.turns.items = c.mark_turns.ensures.used ∙ ap (use_after c.next_volume.new.volume.used) c.deref-2.ensures.value in
+    let marked : c.mark_turns.new.used ≡ use_after c.next_volume.new.volume.used c.in_ok-draft.draft.turns.items =
+    c.mark_turns.ensures.used ∙ ap (use_after c.next_volume.new.volume.used) c.deref-2.ensures.value in
     record {
       generation = after.generation;
       least = after.least;
@@ -72,6 +87,7 @@ returns-clause-sound g c =
       places = after.places;
       once = after.once;
       unused = after.unused;
-      in_use = subst (IsUse c.next_volume.new.volume.sectors (names (volume_of c.next_volume.new.volume))) (sym marked) after.in_use;
+      in_use = subst (IsUse c.next_volume.new.volume.sectors (names (volume_of c.next_volume.new.volume))) (sym marked)
+          after.in_use;
       free = c.mark_turns.ensures.free;
     }

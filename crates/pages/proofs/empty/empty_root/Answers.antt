@@ -8,5 +8,7 @@ pub returns : goal.returns
 returns c =
     let blanks : List ℕ = replicate 900 0 in
     let cut : take c.map_count_of.result blanks ≡ replicate (map_count c.args.sectors) 0
-    = ap (λ (n : ℕ). take n blanks) c.map_count_of.ensures ∙ take-replicate {X = ℕ} (map_count c.args.sectors) 900 0 (omega (arith, c.requires.most)) in
-    subst (λ (l : List ℕ). SpellsRoot (record { generation = 0; sectors = c.args.sectors; catalog = 0; maps = l }) c.root_bytes_with.result) cut c.root_bytes_with.ensures
+    = ap (λ (n : ℕ). take n blanks) c.map_count_of.ensures
+    ∙ take-replicate {X = ℕ} (map_count c.args.sectors) 900 0 (omega (arith, c.requires.most)) in
+    subst (λ (l : List ℕ). SpellsRoot (record { generation = 0; sectors = c.args.sectors; catalog = 0; maps = l })
+    c.root_bytes_with.result) cut c.root_bytes_with.ensures

@@ -14,9 +14,12 @@ returns-clause-empty g c = λ honest.
     let root = c.empty_root-root.result in
     let honest' = c.in_ok-write.ensures.honest.0 honest in
     let honest'' = c.in_ok-write-2.ensures.honest.0 honest' in
-    let spells : SpellsRoot (empty_volume (g.D.Device.sectors c.args.device.now)).root root = subst (λ (n : ℕ). SpellsRoot (empty_volume n).root root) c.count.ensures c.empty_root-root.ensures in
-    on_ok c.sync.result (λ is. empty_images old.disk.present (g.D.Device.sectors c.args.device.now) root (g.met.D.Device.all_present c.args.device.now honest) c.requires.least spells (state c.sync.new.self)
-    (ap (λ (s : State). s.disk) is ∙ ap (λ (s : State). idle_disk s.disk.present) (c.in_ok-write-2.ensures.wrote honest') ∙ ap (λ (s : State). idle_disk (set s.disk.present 0 root)) (c.in_ok-write.ensures.wrote honest)))
+    let spells : SpellsRoot (empty_volume (g.D.Device.sectors c.args.device.now)).root root =
+    subst (λ (n : ℕ). SpellsRoot (empty_volume n).root root) c.count.ensures c.empty_root-root.ensures in
+    on_ok c.sync.result (λ is. empty_images old.disk.present (g.D.Device.sectors c.args.device.now) root
+    (g.met.D.Device.all_present c.args.device.now honest) c.requires.least spells (state c.sync.new.self)
+    (ap (λ (s : State). s.disk) is ∙ ap (λ (s : State). idle_disk s.disk.present) (c.in_ok-write-2.ensures.wrote
+    honest') ∙ ap (λ (s : State). idle_disk (set s.disk.present 0 root)) (c.in_ok-write.ensures.wrote honest)))
     (c.sync.ensures.synced honest'')
 
 pub returns-clause-committed : goal.returns-clause-committed
@@ -26,7 +29,10 @@ returns-clause-committed g c = λ honest.
     let root = c.empty_root-root.result in
     let honest' = c.in_ok-write.ensures.honest.0 honest in
     let honest'' = c.in_ok-write-2.ensures.honest.0 honest' in
-    let spells : SpellsRoot (empty_volume (g.D.Device.sectors c.args.device.now)).root root = subst (λ (n : ℕ). SpellsRoot (empty_volume n).root root) c.count.ensures c.empty_root-root.ensures in
-    on_ok c.sync.result (λ is. empty_committed old.disk.present (g.D.Device.sectors c.args.device.now) root (g.met.D.Device.all_present c.args.device.now honest) c.requires.least spells (state c.sync.new.self).disk
-    (ap (λ (s : State). s.disk) is ∙ ap (λ (s : State). idle_disk s.disk.present) (c.in_ok-write-2.ensures.wrote honest') ∙ ap (λ (s : State). idle_disk (set s.disk.present 0 root)) (c.in_ok-write.ensures.wrote honest)))
+    let spells : SpellsRoot (empty_volume (g.D.Device.sectors c.args.device.now)).root root =
+    subst (λ (n : ℕ). SpellsRoot (empty_volume n).root root) c.count.ensures c.empty_root-root.ensures in
+    on_ok c.sync.result (λ is. empty_committed old.disk.present (g.D.Device.sectors c.args.device.now) root
+    (g.met.D.Device.all_present c.args.device.now honest) c.requires.least spells (state c.sync.new.self).disk
+    (ap (λ (s : State). s.disk) is ∙ ap (λ (s : State). idle_disk s.disk.present) (c.in_ok-write-2.ensures.wrote
+    honest') ∙ ap (λ (s : State). idle_disk (set s.disk.present 0 root)) (c.in_ok-write.ensures.wrote honest)))
     (c.sync.ensures.synced honest'')

@@ -6,4 +6,5 @@ use Rattle.pages.proofs.Taking.{few_needed_lem}
 use Rattle.pages.proofs.laws.few_needed.Goals as goal
 
 pub returns : goal.returns
-returns c = λ p. omega (arith, few_needed_lem (committed_of p) p.changes.items, length-map p.changes.items (λ (x : Change). x.page))
+returns c = λ p.
+    omega (arith, few_needed_lem (committed_of p) p.changes.items, length-map p.changes.items (λ (x : Change). x.page))

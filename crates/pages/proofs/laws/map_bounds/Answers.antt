@@ -12,5 +12,12 @@ pub returns-clause-open : goal.returns-clause-open
 returns-clause-open c = λ p image ready unspent.
     let sound = (ready unspent).sound in (
       sound.generation,
-      omega (arith, length-applied (λ bytes. bytes) (pages_in image p.volume.table) p.changes.items, length-map p.volume.table (page_at image), sound.count, sound.maps_count, sound.most),
+      omega (
+        arith,
+        length-applied (λ bytes. bytes) (pages_in image p.volume.table) p.changes.items,
+        length-map p.volume.table (page_at image),
+        sound.count,
+        sound.maps_count,
+        sound.most,
+      ),
     )

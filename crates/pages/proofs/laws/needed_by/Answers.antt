@@ -13,4 +13,6 @@ returns-clause-needed c = λ p ready unspent. (
 
 pub returns-clause-short : goal.returns-clause-short
 returns-clause-short c = λ p ready unspent full.
-    ⊎_elim (λ few. inl (omega (arith, few, needed_le (committed_of p) p.changes.items, (ready unspent).sound.maps_count))) (λ last. inr last) full.1
+    ⊎_elim
+    (λ few. inl (omega (arith, few, needed_le (committed_of p) p.changes.items, (ready unspent).sound.maps_count)))
+    (λ last. inr last) full.1

@@ -5,4 +5,5 @@ use Rattle.pages.proofs.Opened.{start_marks}
 use Rattle.pages.proofs.open.fresh_use.Goals as goal
 
 pub returns-clause-marked : goal.returns-clause-marked
-returns-clause-marked c = subst (λ (l : List Bool). IsMarked [] (set (set l 0 true) 1 true)) (search rules) (start_marks c.args.sectors c.requires)
+returns-clause-marked c = subst (λ (l : List Bool). IsMarked [] (set (set l 0 true) 1 true)) (search rules)
+    (start_marks c.args.sectors c.requires)

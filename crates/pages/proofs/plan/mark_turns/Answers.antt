@@ -11,7 +11,10 @@ loop-turn-preserved c =
     let turns = c.args.turns.now in
     let t : UseChange = get_or turns i (record { sector = 0; used = false }) in
     record {
-      count = ap length c.mark_turn.ensures.used ∙ length-set c.loop-turn.used t.sector t.used ∙ c.loop-turn.invariant.count;
-      marked = c.mark_turn.ensures.used ∙ ap (λ (l : List Bool). set l t.sector t.used) c.loop-turn.invariant.marked ∙ sym (ap (use_after c.args.used.now) (take_more turns i (record { sector = 0; used = false }) (omega arith)) ∙ turned_more c.args.used.now (take i turns) (t ∷ []));
+      count = ap length c.mark_turn.ensures.used ∙ length-set c.loop-turn.used t.sector t.used
+          ∙ c.loop-turn.invariant.count;
+      marked = c.mark_turn.ensures.used ∙ ap (λ (l : List Bool). set l t.sector t.used) c.loop-turn.invariant.marked
+          ∙ sym (ap (use_after c.args.used.now) (take_more turns i (record { sector = 0; used = false }) (omega arith))
+          ∙ turned_more c.args.used.now (take i turns) (t ∷ []));
       free = c.mark_turn.ensures.free;
     }

@@ -13,9 +13,14 @@ loop-map-preserved g c =
     let here = c.in_ok-entries.ensures in
     let lt : c.loop-map.map-index < length c.args.maps.now = omega (arith, c.loop-map-test.true) in
     record {
-      only = reads_then g.D.Device ⊥ (Ok c.in_ok-entries.entries ≡ Err Device) ⊥ c.args.device.now c.loop-map.device c.read_map.new.device (λ e. absurd e) before.only here.only;
-      count = ap length c.in_ok-extend_from_slice.ensures.items ∙ omega (arith, before.count, here.count, length-append c.loop-map.table.items c.in_ok-entries.entries);
-      entries = λ h. table_next (g.D.Device.state c.args.device.now).disk.present c.args.maps.now c.loop-map.table.items c.in_ok-entries.entries c.extend_from_slice.new.self.items c.loop-map.map-index 0
+      only = reads_then g.D.Device ⊥ (Ok c.in_ok-entries.entries ≡ Err Device) ⊥ c.args.device.now c.loop-map.device
+          c.read_map.new.device (λ e. absurd e) before.only here.only;
+      count = ap length c.in_ok-extend_from_slice.ensures.items
+          ∙ omega (arith, before.count, here.count, length-append c.loop-map.table.items c.in_ok-entries.entries);
+      entries = λ h. table_next (g.D.Device.state c.args.device.now).disk.present c.args.maps.now c.loop-map.table.items
+          c.in_ok-entries.entries c.extend_from_slice.new.self.items c.loop-map.map-index 0
           before.count here.count lt (before.entries h)
-          (here.entries (before.only.honest.0 h) ∙ ap (λ (s : State). map_at s.disk.present (get_or c.args.maps.now c.loop-map.map-index 0)) (before.only.state h)) c.in_ok-extend_from_slice.ensures.items;
+          (here.entries (before.only.honest.0 h)
+          ∙ ap (λ (s : State). map_at s.disk.present (get_or c.args.maps.now c.loop-map.map-index 0))
+          (before.only.state h)) c.in_ok-extend_from_slice.ensures.items;
     }

@@ -1,4 +1,5 @@
-use Rattle.std.proofs.Common.{Bool, ◌≡◌, ◌+◌, ◌++◌, ◌∷◌, [], true, get_or, ap, ◌∙◌, ◌<◌, List, take, take_all, length, subst, sym, arith}
+use Rattle.std.proofs.Common.{Bool, ◌≡◌, ◌+◌, ◌++◌, ◌∷◌, [], true, get_or, ap, ◌∙◌, ◌<◌, List, take, take_all, length}
+use Rattle.std.proofs.Common.{subst, sym, arith}
 use Rattle.std.proofs.lemmas.List.{take_more}
 use Rattle.std.specs.Prelude.{is_some}
 use Rattle.pages.specs.Volumes.{unused_below, IsDraft, IsCounted}
@@ -19,30 +20,39 @@ loop-change-preserved c =
     let is : item ≡ get_or changes i item = c.change-item.is in
     let lt : i < length changes = omega arith in
     let some : 0 < item.page = omega (arith, ap (λ (x : Change). x.page) is, (c.requires.pages i item lt).0) in
-    let next : take i changes ++ item ∷ [] ≡ take (i + 1) changes = ap (λ (x : Change). take i changes ++ x ∷ []) is ∙ sym (take_more changes i item lt) in
+    let next : take i changes ++ item ∷ [] ≡ take (i + 1) changes =
+    ap (λ (x : Change). take i changes ++ x ∷ []) is ∙ sym (take_more changes i item lt) in
     record {
       size = same_size_then c.args.volume.now c.loop-change.volume c.stage_change.new.volume before.size here.size;
       maps = here.maps ∙ before.maps;
       start = here.start ∙ before.start;
       changed_maps = here.changed_maps ∙ before.changed_maps;
-      staged = λ v draft. subst (λ (l : List Change). IsDraft v c.stage_change.new.volume c.stage_change.new.draft l) next
+      staged =
+          λ v draft. subst (λ (l : List Change). IsDraft v c.stage_change.new.volume c.stage_change.new.draft l) next
           (here.staged v (take i changes) some (before.staged v draft));
-      counted = λ v once start. subst (λ (l : List Change). IsCounted v c.stage_change.new.volume c.stage_change.new.draft l 0) next
-          (here.counted v (take i changes) 0 (subst (λ (x : Change). Away x.page (take i changes)) (sym is) (front_away changes i item once (c.requires.pages i item lt).0 lt)) (before.counted v once start));
+      counted = λ v once start.
+          subst (λ (l : List Change). IsCounted v c.stage_change.new.volume c.stage_change.new.draft l 0) next
+          (here.counted v (take i changes) 0 (subst (λ (x : Change). Away x.page (take i changes)) (sym is)
+          (front_away changes i item once (c.requires.pages i item lt).0 lt)) (before.counted v once start));
     }
 
 pub returns-clause-counted : goal.returns-clause-counted
 returns-clause-counted c = λ v once start.
-    subst (λ (l : List Change). IsCounted v c.loop-change.volume c.loop-change.draft l 0) (take_all c.loop-change.change-index c.args.changes.now (omega arith)) (c.loop-change.invariant.counted v once start)
+    subst (λ (l : List Change). IsCounted v c.loop-change.volume c.loop-change.draft l 0) (take_all
+    c.loop-change.change-index c.args.changes.now (omega arith)) (c.loop-change.invariant.counted v once start)
 
 pub returns-in_err-stage_change-clause-full : goal.returns-in_err-stage_change-clause-full
 returns-in_err-stage_change-clause-full c = λ v once start full.
     let told = rw full at c.from_residual.ensures.1 in
     let i = c.loop-change.change-index in
     let lt : i < length c.args.changes.now = omega arith in
-    let here = c.in_err-stage_change.ensures.full v (take i c.args.changes.now) 0 (c.loop-change.invariant.counted v once start) (cc (told)) in
+    let here = c.in_err-stage_change.ensures.full v (take i c.args.changes.now) 0
+    (c.loop-change.invariant.counted v once start) (cc (told)) in
     let item = c.change-item.result in
-    let filled_here : is_some (get_or c.args.changes.now i item).bytes ≡ true = subst (λ (x : Change). is_some x.bytes ≡ true) c.change-item.is here.0 in
-    let begun : unused_below c.loop-change.volume.used c.loop-change.draft.start ≡ unused_below c.args.volume.now.used c.args.draft.now.start =
-    ap (λ (u : List Bool). unused_below u c.loop-change.draft.start) c.loop-change.invariant.size.used ∙ ap (unused_below c.args.volume.now.used) c.loop-change.invariant.start in
+    let filled_here : is_some (get_or c.args.changes.now i item).bytes ≡ true =
+    subst (λ (x : Change). is_some x.bytes ≡ true) c.change-item.is here.0 in
+    let begun : unused_below c.loop-change.volume.used c.loop-change.draft.start
+    ≡ unused_below c.args.volume.now.used c.args.draft.now.start =
+    ap (λ (u : List Bool). unused_below u c.loop-change.draft.start) c.loop-change.invariant.size.used
+    ∙ ap (unused_below c.args.volume.now.used) c.loop-change.invariant.start in
     omega (arith, here.1, begun, front_lt (λ (x : Change). is_some x.bytes) c.args.changes.now i item lt filled_here)

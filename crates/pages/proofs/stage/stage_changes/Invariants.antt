@@ -10,6 +10,8 @@ invariant-loop-change l = record {
   maps : l.volume.maps ≡ l.initial.volume.maps;
   start : l.draft.start ≡ l.initial.draft.start;
   changed_maps : length l.draft.changed_maps.items ≡ length l.initial.draft.changed_maps.items;
-  staged : (v : Volume) → IsDraft v l.initial.volume l.initial.draft [] → IsDraft v l.volume l.draft (take l.change-index l.changes);
-  counted : (v : Volume) → NamesOnce (changed_pages l.changes) → IsCounted v l.initial.volume l.initial.draft [] 0 → IsCounted v l.volume l.draft (take l.change-index l.changes) 0;
+  staged : (v : Volume) → IsDraft v l.initial.volume l.initial.draft []
+      → IsDraft v l.volume l.draft (take l.change-index l.changes);
+  counted : (v : Volume) → NamesOnce (changed_pages l.changes) → IsCounted v l.initial.volume l.initial.draft [] 0
+      → IsCounted v l.volume l.draft (take l.change-index l.changes) 0;
 }

@@ -10,6 +10,8 @@ invariant-loop-map l = record {
   size : SameSize l.initial.volume l.volume;
   start : l.draft.start ≡ l.initial.draft.start;
   changed_maps : length l.draft.changed_maps.items ≡ length l.initial.draft.changed_maps.items;
-  mapped : (v : Volume) (changes : List Change) → IsMappedDraft v l.initial.volume l.initial.draft changes 0 → IsMappedDraft v l.volume l.draft changes l.map;
-  counted : (v : Volume) (changes : List Change) → IsCounted v l.initial.volume l.initial.draft changes 0 → IsCounted v l.volume l.draft changes (written_below v changes l.map);
+  mapped : (v : Volume) (changes : List Change) → IsMappedDraft v l.initial.volume l.initial.draft changes 0
+      → IsMappedDraft v l.volume l.draft changes l.map;
+  counted : (v : Volume) (changes : List Change) → IsCounted v l.initial.volume l.initial.draft changes 0
+      → IsCounted v l.volume l.draft changes (written_below v changes l.map);
 }

@@ -7,7 +7,8 @@ use Rattle.run_unit.proofs.compiling.image_of_tree.Goals as goal
 pub returns-in_err-checked-clause-only : goal.returns-in_err-checked-clause-only
 returns-in_err-checked-clause-only c =
     let p = err_from_is_err_and c.from_residual.result c.from_residual.ensures.1 in
-    rw (p.1, p.2) (λ kept order. rules_refusal c.one_answer.ensures c.args.tree.now kept order c.in_err-checked.field-0.0 c.in_err-checked.ensures.exact)
+    rw (p.1, p.2) (λ kept order. rules_refusal c.one_answer.ensures c.args.tree.now kept order
+    c.in_err-checked.field-0.0 c.in_err-checked.ensures.exact)
 
 pub returns-in_err-checked-clause-fault : goal.returns-in_err-checked-clause-fault
 returns-in_err-checked-clause-fault c =
@@ -15,10 +16,12 @@ returns-in_err-checked-clause-fault c =
     rw (p.1, p.2) (rules_fault c.args.tree.now c.in_err-checked.field-0.0 c.in_err-checked.ensures.exact)
 
 pub returns-clause-image : goal.returns-clause-image
-returns-clause-image c = subst (λ t. MeansAs t c.in_ok-make_image.field-0.items) c.in_ok-checked.ensures.tree c.in_ok-make_image.ensures
+returns-clause-image c =
+    subst (λ t. MeansAs t c.in_ok-make_image.field-0.items) c.in_ok-checked.ensures.tree c.in_ok-make_image.ensures
 
 pub returns-clause-only : goal.returns-clause-only
-returns-clause-only c = λ kept order. subst (λ t. MeansAs t c.in_ok-make_image.field-0.items) c.in_ok-checked.ensures.tree c.in_ok-make_image.ensures
+returns-clause-only c = λ kept order.
+    subst (λ t. MeansAs t c.in_ok-make_image.field-0.items) c.in_ok-checked.ensures.tree c.in_ok-make_image.ensures
 
 pub returns-in_err-make_image-clause-only : goal.returns-in_err-make_image-clause-only
 returns-in_err-make_image-clause-only c =

@@ -25,4 +25,5 @@ pub returns-then-is_empty-clause-unwritten : goal.returns-then-is_empty-clause-u
 returns-then-is_empty-clause-unwritten g c = λ honest is. absurd (c.run_alone.ensures.sound is)
 
 pub returns-in-Err-clause-unwritten : goal.returns-in-Err-clause-unwritten
-returns-in-Err-clause-unwritten g c = λ honest is. absurd (no_damage c.in-Err.refusal c.args.image.now c.in-Err.ensures.cause is)
+returns-in-Err-clause-unwritten g c =
+    λ honest is. absurd (no_damage c.in-Err.refusal c.args.image.now c.in-Err.ensures.cause is)

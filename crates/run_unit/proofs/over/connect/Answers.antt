@@ -16,9 +16,11 @@ loop-file-preserved g c =
     let files = c.as_slice-file-items.result.now in
     let so_far = c.loop-file.invariant in
     record {
-      entries = entries_grow c.args.code.now.tables files c.loop-file.file-index c.file-item.result _ _ _ c.loop-file-test.true c.file-item.is
+      entries = entries_grow c.args.code.now.tables files c.loop-file.file-index c.file-item.result _ _ _
+          c.loop-file-test.true c.file-item.is
           so_far.entries c.in_ok-select.ensures c.in-Ok.ensures.entries;
-      connectors = connectors_grow files c.loop-file.file-index c.file-item.result _ _ c.loop-file-test.true c.file-item.is
+      connectors =
+          connectors_grow files c.loop-file.file-index c.file-item.result _ _ c.loop-file-test.true c.file-item.is
           so_far.connectors c.in-Ok.ensures.connectors;
       needs = c.add.ensures.wider.needs ∙ so_far.needs;
       spent = c.add.ensures.wider.spent ∙ so_far.spent;

@@ -17,5 +17,6 @@ invariant-loop-file g l =
       connectors : files.connectors l.connectors ≡ closed_ones (take l.file-index l.file-items);
       needs : kept.needs l.connectors ≡ g.T.Keeps.needs l.fn.store;
       spent : kept.is_spent l.connectors ≡ g.T.Keeps.is_spent l.fn.store;
-      stands : (disk : Disk) (files : Files) → g.T.Keeps.stands l.fn.store disk files → kept.stands l.connectors disk files;
+      stands : (disk : Disk) (files : Files) → g.T.Keeps.stands l.fn.store disk files
+          → kept.stands l.connectors disk files;
     }

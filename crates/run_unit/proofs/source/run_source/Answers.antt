@@ -38,4 +38,5 @@ returns-clause-runs g c = λ honest.
     c.compiled_bytes.ensures.runs source image _ compiled (c.run_image.ensures.runs honest)
 
 pub returns-clause-unwritten : goal.returns-clause-unwritten
-returns-clause-unwritten g c = λ honest is. c.run_image.ensures.unwritten honest (value {r = Ok c.run_image.result} refl is)
+returns-clause-unwritten g c =
+    λ honest is. c.run_image.ensures.unwritten honest (value {r = Ok c.run_image.result} refl is)

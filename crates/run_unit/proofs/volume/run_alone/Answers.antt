@@ -15,7 +15,8 @@ returns-clause-alone g c = λ honest run runs.
     let new = g.S.Device.state c.run.new.station in
     let none = c.run_law.ensures.quiet c.args.code (given_on s c.args.day c.args.budget) run c.requires.files runs in
     let own = c.run.ensures.fileless (ap (λ (code : Code). code.files) c.in-Ok-new.ensures.code ∙ c.requires.files) in
-    let has = runs_as c.in-Ok-new.machine c.args.code c.args.day [] s c.args.budget run c.in-Ok-new.ensures.code c.in-Ok-new.ensures.day
+    let has = runs_as c.in-Ok-new.machine c.args.code c.args.day [] s c.args.budget run c.in-Ok-new.ensures.code
+    c.in-Ok-new.ensures.day
     (subst (λ (given : RunInput). Runs c.args.code given run) (given_none s c.args.day c.args.budget) runs) in
     let there = c.in-Ok.ensures.stands s.disk [] refl in
     subst (λ (ended : Ended). RunsAlone run past s ended later new) (sym c.of.ensures)

@@ -14,7 +14,8 @@ use Rattle.run_unit.specs.declared.ended.Ended.TheVariants.{Refused}
 use Rattle.run_unit.specs.Volume.{Unopened, NotOpened, lacks_half, lacks_either}
 use Rattle.run_unit.proofs.Moments.{room_under}
 use Rattle.run_unit.proofs.Opening.{read_cause, left_closed, no_layout}
-use Rattle.run_unit.proofs.Opening.{given_after, given_later, present_after, unwritten_then, lacks_trees, ran_on, on_volume_then, on_halves_then, on_either}
+use Rattle.run_unit.proofs.Opening.{given_after, given_later, present_after, unwritten_then, lacks_trees, ran_on}
+use Rattle.run_unit.proofs.Opening.{on_volume_then, on_halves_then, on_either}
 use Rattle.run_unit.proofs.volume.run_on_volume.Goals as goal
 
 pub returns-in-Ok-clause-volume : goal.returns-in-Ok-clause-volume
@@ -24,25 +25,34 @@ returns-in-Ok-clause-volume g c = λ honest files held run runs.
     let same = given_after files s mid c.args.day c.args.budget (c.in-Ok.ensures.state honest) in
     ⊎_elim
     (λ trees.
-    on_either HoldsTrees HoldsFiles (λ image files is. inl is) run (LacksRoomForChange lacks_trees (entries_of c.args.code.tables c.args.code.files)) (LacksRoomForChange lacks_either (entries_of c.args.code.tables c.args.code.files))
-    (room_under lacks_trees lacks_either (λ image is_new name before after lacks. inl lacks) (entries_of c.args.code.tables c.args.code.files) run) (g.S.Device.history c.args.station.now) s c.run_over.result
+    on_either HoldsTrees HoldsFiles
+    (λ image files is. inl is) run (LacksRoomForChange lacks_trees (entries_of c.args.code.tables c.args.code.files))
+    (LacksRoomForChange lacks_either (entries_of c.args.code.tables c.args.code.files))
+    (room_under lacks_trees lacks_either (λ image is_new name before after lacks. inl lacks) (entries_of
+    c.args.code.tables c.args.code.files) run) (g.S.Device.history c.args.station.now) s c.run_over.result
     (g.S.Device.history c.run_over.new.station) (g.S.Device.state c.run_over.new.station)
-    (ran_on HoldsTrees (LacksRoomForChange lacks_trees (entries_of c.args.code.tables c.args.code.files)) run (g.S.Device.history c.args.station.now) (g.S.Device.history c.open.new.device) (g.S.Device.history c.run_over.new.station)
-    s mid (g.S.Device.state c.run_over.new.station) c.run_over.result (c.open.ensures.moments honest) (c.in-Ok.ensures.state honest)
-    (c.run_over.ensures.runs files (record { honest = c.open.ensures.honest.0 honest; there = c.in-Ok.ensures.stands honest files trees }) run
+    (ran_on HoldsTrees (LacksRoomForChange lacks_trees (entries_of c.args.code.tables c.args.code.files))
+    run (g.S.Device.history c.args.station.now) (g.S.Device.history c.open.new.device)
+    (g.S.Device.history c.run_over.new.station)
+    s mid (g.S.Device.state c.run_over.new.station) c.run_over.result (c.open.ensures.moments honest)
+    (c.in-Ok.ensures.state honest)
+    (c.run_over.ensures.runs files
+    (record { honest = c.open.ensures.honest.0 honest; there = c.in-Ok.ensures.stands honest files trees }) run
     (subst (λ (given : RunInput). Runs c.args.code given run) same runs))))
     (λ half. absurd (c.in-Ok.ensures.foreign honest (half_is_foreign s.disk.present files half)))
     held
 
 pub returns-in-Ok-clause-halves : goal.returns-in-Ok-clause-halves
 returns-in-Ok-clause-halves g c = λ honest halves run runs.
-    absurd (c.in-Ok.ensures.foreign honest (half_foreign (g.S.Device.state c.args.station.now).disk.present halves.0 halves.1))
+    absurd
+    (c.in-Ok.ensures.foreign honest (half_foreign (g.S.Device.state c.args.station.now).disk.present halves.0 halves.1))
 
 pub returns-in-Ok-clause-sound : goal.returns-in-Ok-clause-sound
 returns-in-Ok-clause-sound g c = λ honest files held.
     let s = g.S.Device.state c.args.station.now in
     ⊎_elim
-    (λ trees. c.run_over.ensures.sound files (record { honest = c.open.ensures.honest.0 honest; there = c.in-Ok.ensures.stands honest files trees }))
+    (λ trees. c.run_over.ensures.sound files
+    (record { honest = c.open.ensures.honest.0 honest; there = c.in-Ok.ensures.stands honest files trees }))
     (λ half. absurd (c.in-Ok.ensures.foreign honest (half_is_foreign s.disk.present files half)))
     held
 
@@ -56,13 +66,20 @@ returns-in-Layout-clause-volume g c = λ honest files held run runs.
     ⊎_elim
     (λ trees. absurd (no_layout (subst IsReadCause c.in-Layout.is (c.in-Err.ensures.opens honest files trees))))
     (λ half.
-    on_either HoldsHalf HoldsFiles (λ image files is. inr is) run (LacksRoomForChange lacks_half (entries_of c.args.code.tables c.args.code.files)) (LacksRoomForChange lacks_either (entries_of c.args.code.tables c.args.code.files))
-    (room_under lacks_half lacks_either (λ image is_new name before after lacks. inr lacks) (entries_of c.args.code.tables c.args.code.files) run) (g.S.Device.history c.args.station.now) s c.run_on_halves.result
+    on_either HoldsHalf HoldsFiles
+    (λ image files is. inr is) run (LacksRoomForChange lacks_half (entries_of c.args.code.tables c.args.code.files))
+    (LacksRoomForChange lacks_either (entries_of c.args.code.tables c.args.code.files))
+    (room_under lacks_half lacks_either (λ image is_new name before after lacks. inr lacks) (entries_of
+    c.args.code.tables c.args.code.files) run) (g.S.Device.history c.args.station.now) s c.run_on_halves.result
     (g.S.Device.history c.run_on_halves.new.station) (g.S.Device.state c.run_on_halves.new.station)
-    (on_volume_then HoldsHalf (LacksRoomForChange lacks_half (entries_of c.args.code.tables c.args.code.files)) run (g.S.Device.history c.args.station.now) (g.S.Device.history c.open.new.device) (g.S.Device.history c.run_on_halves.new.station)
+    (on_volume_then HoldsHalf (LacksRoomForChange lacks_half (entries_of c.args.code.tables c.args.code.files))
+    run (g.S.Device.history c.args.station.now) (g.S.Device.history c.open.new.device)
+    (g.S.Device.history c.run_on_halves.new.station)
     s mid (g.S.Device.state c.run_on_halves.new.station) c.run_on_halves.result (c.open.ensures.moments honest) as_was
-    (c.run_on_halves.ensures.volume (c.open.ensures.honest.0 honest) files (subst (λ (image : List Sector). HoldsHalf image files) (sym (present_after s mid as_was)) half) run
-    (subst (λ (given : RunInput). Runs c.args.code given run) (given_later files s mid c.args.day c.args.budget as_was) runs))))
+    (c.run_on_halves.ensures.volume (c.open.ensures.honest.0 honest) files
+    (subst (λ (image : List Sector). HoldsHalf image files) (sym (present_after s mid as_was)) half) run
+    (subst (λ (given : RunInput). Runs c.args.code given run) (given_later files s mid c.args.day c.args.budget as_was)
+    runs))))
     held
 
 pub returns-in-Layout-clause-halves : goal.returns-in-Layout-clause-halves
@@ -70,10 +87,12 @@ returns-in-Layout-clause-halves g c = λ honest halves run runs.
     let s = g.S.Device.state c.args.station.now in
     let mid = g.S.Device.state c.open.new.device in
     let as_was = c.in-Err.ensures.unwritten honest in
-    on_halves_then (entries_of c.args.code.tables c.args.code.files) run (g.S.Device.history c.args.station.now) (g.S.Device.history c.open.new.device) (g.S.Device.history c.run_on_halves.new.station)
+    on_halves_then (entries_of c.args.code.tables c.args.code.files) run (g.S.Device.history c.args.station.now)
+    (g.S.Device.history c.open.new.device) (g.S.Device.history c.run_on_halves.new.station)
     s mid (g.S.Device.state c.run_on_halves.new.station) c.run_on_halves.result (c.open.ensures.moments honest) as_was
     (c.run_on_halves.ensures.halves (c.open.ensures.honest.0 honest) run
-    (λ files. subst (λ (given : RunInput). Runs c.args.code given (run files)) (given_later files s mid c.args.day c.args.budget as_was) (runs files)))
+    (λ files. subst (λ (given : RunInput). Runs c.args.code given (run files))
+    (given_later files s mid c.args.day c.args.budget as_was) (runs files)))
 
 pub returns-in-Layout-clause-sound : goal.returns-in-Layout-clause-sound
 returns-in-Layout-clause-sound g c = λ honest files held.
@@ -83,7 +102,8 @@ returns-in-Layout-clause-sound g c = λ honest files held.
     (λ trees. absurd (no_layout (subst IsReadCause c.in-Layout.is (c.in-Err.ensures.opens honest files trees))))
     (λ half.
     c.run_on_halves.ensures.sound (c.open.ensures.honest.0 honest) files
-    (subst (λ (image : List Sector). HoldsHalf image files) (sym (present_after s mid (c.in-Err.ensures.unwritten honest))) half))
+    (subst (λ (image : List Sector). HoldsHalf image files)
+    (sym (present_after s mid (c.in-Err.ensures.unwritten honest))) half))
     held
 
 -- ---- a volume that isn't opened
@@ -92,16 +112,19 @@ pub returns-in_default-clause-sound : goal.returns-in_default-clause-sound
 returns-in_default-clause-sound g c = λ honest files held is.
     let image = (g.S.Device.state c.args.station.now).disk.present in
     read_cause c.in-Err.fault
-    (either_cause image c.in-Err.fault files c.in_default.not-Layout (c.in-Err.ensures.opens honest files) (c.in-Err.ensures.foreign honest) held)
+    (either_cause image c.in-Err.fault files c.in_default.not-Layout (c.in-Err.ensures.opens honest files)
+    (c.in-Err.ensures.foreign honest) held)
     (ap Refused (sym c.of_opening.ensures) ∙ is)
 
 pub returns-in_default-clause-volume : goal.returns-in_default-clause-volume
 returns-in_default-clause-volume g c = λ honest files held run runs.
-    Unopened (left_closed c.in-Err.fault c.of_opening.result _ _ _ _ c.of_opening.ensures (c.open.ensures.moments honest) (c.in-Err.ensures.unwritten honest))
+    Unopened (left_closed c.in-Err.fault c.of_opening.result _ _ _ _ c.of_opening.ensures
+    (c.open.ensures.moments honest) (c.in-Err.ensures.unwritten honest))
 
 pub returns-in_default-clause-halves : goal.returns-in_default-clause-halves
 returns-in_default-clause-halves g c = λ honest halves run runs.
-    NotOpened (left_closed c.in-Err.fault c.of_opening.result _ _ _ _ c.of_opening.ensures (c.open.ensures.moments honest) (c.in-Err.ensures.unwritten honest))
+    NotOpened (left_closed c.in-Err.fault c.of_opening.result _ _ _ _ c.of_opening.ensures
+    (c.open.ensures.moments honest) (c.in-Err.ensures.unwritten honest))
 
 -- ---- damage
 
@@ -110,7 +133,8 @@ returns-in-Ok-clause-unwritten g c = λ honest is. inr (c.in-Ok.ensures.map hone
 
 pub returns-in-Layout-clause-unwritten : goal.returns-in-Layout-clause-unwritten
 returns-in-Layout-clause-unwritten g c = λ honest is.
-    inl (unwritten_then (g.S.Device.state c.args.station.now) (g.S.Device.state c.open.new.device) (g.S.Device.state c.run_on_halves.new.station)
+    inl (unwritten_then (g.S.Device.state c.args.station.now) (g.S.Device.state c.open.new.device)
+    (g.S.Device.state c.run_on_halves.new.station)
     (c.in-Err.ensures.unwritten honest) (c.run_on_halves.ensures.unwritten (c.open.ensures.honest.0 honest) is))
 
 pub returns-in_default-clause-unwritten : goal.returns-in_default-clause-unwritten

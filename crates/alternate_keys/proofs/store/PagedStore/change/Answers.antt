@@ -13,7 +13,10 @@ returns-then-self-clause-turns g c = λ files held stands has.
     let old = g.D.Device.state c.args.device.now in
     record {
       there = tt;
-      moments = stays (g.D.Device.history c.args.device.now) old _ (record { events = refl; images = λ image crash. inl (held_law c.args.self.now.pages old.disk image files stands.there crash) });
+      moments = stays (g.D.Device.history c.args.device.now) old _ (record {
+        events = refl;
+        images = λ image crash. inl (held_law c.args.self.now.pages old.disk image files stands.there crash);
+      });
       sound = λ e. absurd cc;
       room = λ e. absurd cc;
     }
@@ -21,8 +24,10 @@ returns-then-self-clause-turns g c = λ files held stands has.
 pub returns-in-Err-clause-turns : goal.returns-in-Err-clause-turns
 returns-in-Err-clause-turns g c = λ files held stands has.
     let name = c.args.file.now.name.items in
-    let after : Files = files_after name files (changed_by c.args.verb c.args.file.now.organization c.args.number c.args.bytes.now held) in
-    let there = subst (λ (s : OpenedVolume). Represents s.pages (g.D.Device.state c.args.device.now).disk files) (sym c.self.view_is) stands.there in
+    let after : Files =
+    files_after name files (changed_by c.args.verb c.args.file.now.organization c.args.number c.args.bytes.now held) in
+    let there = subst (λ (s : OpenedVolume). Represents s.pages (g.D.Device.state c.args.device.now).disk files)
+    (sym c.self.view_is) stands.there in
     let turned = c.in-Err.ensures.turned stands.honest files held there has in
     record {
       there = tt;
@@ -33,5 +38,6 @@ returns-in-Err-clause-turns g c = λ files held stands has.
 
 pub returns-in-Err-clause-full : goal.returns-in-Err-clause-full
 returns-in-Err-clause-full g c = λ files held stands has is.
-    let there = subst (λ (s : OpenedVolume). Represents s.pages (g.D.Device.state c.args.device.now).disk files) (sym c.self.view_is) stands.there in
+    let there = subst (λ (s : OpenedVolume). Represents s.pages (g.D.Device.state c.args.device.now).disk files)
+    (sym c.self.view_is) stands.there in
     c.in-Err.ensures.full stands.honest files held there has is

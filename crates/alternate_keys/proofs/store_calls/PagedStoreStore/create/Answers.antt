@@ -12,7 +12,10 @@ returns-then-self-clause-turns g c = λ files stands.
     let old = g.D.Device.state c.args.device.now in
     record {
       there = tt;
-      moments = stays (g.D.Device.history c.args.device.now) old _ (record { events = refl; images = λ image crash. inl (held_law c.args.self.now.pages old.disk image files stands.there crash) });
+      moments = stays (g.D.Device.history c.args.device.now) old _ (record {
+        events = refl;
+        images = λ image crash. inl (held_law c.args.self.now.pages old.disk image files stands.there crash);
+      });
       sound = λ e. absurd cc;
       room = λ e. absurd cc;
     }
@@ -21,7 +24,8 @@ pub returns-in-Err-clause-turns : goal.returns-in-Err-clause-turns
 returns-in-Err-clause-turns g c = λ files stands.
     let name = c.args.file.now.name.items in
     let after : Files = with_file name (empty_file (spec_of c.args.file.now)) files in
-    let there = subst (λ (s : OpenedVolume). Represents s.pages (g.D.Device.state c.args.device.now).disk files) (sym c.self.view_is) stands.there in
+    let there = subst (λ (s : OpenedVolume). Represents s.pages (g.D.Device.state c.args.device.now).disk files)
+    (sym c.self.view_is) stands.there in
     let turned = c.in-Err.ensures.turned stands.honest files there in
     record {
       there = tt;

@@ -5,64 +5,87 @@ use Rattle.source_tree.specs.Recursion.{each_performs, selected_performs, statem
 use Rattle.declarations.specs.Named.{procedures_in}
 use Rattle.check_rules.specs.Performs.{AppendsPerforms, in_paragraph}
 use Rattle.declarations.proofs.PerformLayers.{statement_is}
-use Rattle.check_rules.proofs.Adding.{adds_next, nothing_performed, adds_ways, adds_phrases, adds_behind, phrase_none, phrase_some}
+use Rattle.check_rules.proofs.Adding.{adds_next, nothing_performed, adds_ways, adds_phrases, adds_behind, phrase_none}
+use Rattle.check_rules.proofs.Adding.{phrase_some}
 use Rattle.check_rules.proofs.checker.Checker.+performs.Goals as goal
 
 pub phrase_performs-statements_performs-requires : goal.phrase_performs-statements_performs-requires
 phrase_performs-statements_performs-requires t c =
-    let e : c.args.phrase.now ≡ Some c.as_slice.result.now = c.in-Some.is ∙ ap (λ (l : List Statement). Some l) (sym c.as_slice.ensures) in
+    let e : c.args.phrase.now ≡ Some c.as_slice.result.now =
+    c.in-Some.is ∙ ap (λ (l : List Statement). Some l) (sym c.as_slice.ensures) in
     let d = rw e at c.decreases in (omega (arith, d), c.requires)
 
-pub statement_performs-returns-in_ok-phrase_performs-in-Arithmetic : goal.statement_performs-returns-in_ok-phrase_performs-in-Arithmetic
+pub statement_performs-returns-in_ok-phrase_performs-in-Arithmetic :
+    goal.statement_performs-returns-in_ok-phrase_performs-in-Arithmetic
 statement_performs-returns-in_ok-phrase_performs-in-Arithmetic t c =
-    adds_phrases c.args.all.now c.phrase_performs.new.all c.phrase_performs-in-Arithmetic.new.all (procedures_in c.args.self.now.declarations.now) c.args.number c.args.one.now c.phrase_performs-in-Arithmetic.result _ _
+    adds_phrases c.args.all.now c.phrase_performs.new.all c.phrase_performs-in-Arithmetic.new.all (procedures_in
+    c.args.self.now.declarations.now) c.args.number c.args.one.now c.phrase_performs-in-Arithmetic.result _ _
     c.in_ok-phrase_performs-in-Arithmetic.ensures c.phrase_performs-in-Arithmetic.ensures (grind (arith, statement_is))
 
-pub statement_performs-returns-in_ok-statements_performs-in-Branching-If : goal.statement_performs-returns-in_ok-statements_performs-in-Branching-If
+pub statement_performs-returns-in_ok-statements_performs-in-Branching-If :
+    goal.statement_performs-returns-in_ok-statements_performs-in-Branching-If
 statement_performs-returns-in_ok-statements_performs-in-Branching-If t c =
-    adds_ways c.args.all.now c.statements_performs.new.all c.phrase_performs-in-Branching-If.new.all (procedures_in c.args.self.now.declarations.now) c.args.number c.args.one.now c.phrase_performs-in-Branching-If.result _ c.as_slice.result.now
-    c.in_ok-statements_performs-in-Branching-If.ensures c.phrase_performs-in-Branching-If.ensures (grind (arith, statement_is))
+    adds_ways c.args.all.now c.statements_performs.new.all c.phrase_performs-in-Branching-If.new.all
+    (procedures_in c.args.self.now.declarations.now) c.args.number c.args.one.now
+    c.phrase_performs-in-Branching-If.result _ c.as_slice.result.now
+    c.in_ok-statements_performs-in-Branching-If.ensures c.phrase_performs-in-Branching-If.ensures
+    (grind (arith, statement_is))
 
 pub statement_performs-returns-in-DataStatement : goal.statement_performs-returns-in-DataStatement
-statement_performs-returns-in-DataStatement t c = nothing_performed (procedures_in c.args.self.now.declarations.now) c.args.number c.args.one.now c.args.all.now c.in-DataStatement.is
+statement_performs-returns-in-DataStatement t c = nothing_performed (procedures_in c.args.self.now.declarations.now)
+    c.args.number c.args.one.now c.args.all.now c.in-DataStatement.is
 
 pub statement_performs-returns-in-DataStatement-2 : goal.statement_performs-returns-in-DataStatement-2
-statement_performs-returns-in-DataStatement-2 t c = nothing_performed (procedures_in c.args.self.now.declarations.now) c.args.number c.args.one.now c.args.all.now c.in-DataStatement.is
+statement_performs-returns-in-DataStatement-2 t c = nothing_performed (procedures_in c.args.self.now.declarations.now)
+    c.args.number c.args.one.now c.args.all.now c.in-DataStatement.is
 
 pub statement_performs-returns-in-DataStatement-3 : goal.statement_performs-returns-in-DataStatement-3
-statement_performs-returns-in-DataStatement-3 t c = nothing_performed (procedures_in c.args.self.now.declarations.now) c.args.number c.args.one.now c.args.all.now c.in-DataStatement.is
+statement_performs-returns-in-DataStatement-3 t c = nothing_performed (procedures_in c.args.self.now.declarations.now)
+    c.args.number c.args.one.now c.args.all.now c.in-DataStatement.is
 
 pub statements_performs-loop-one-preserved : goal.statements_performs-loop-one-preserved
 statements_performs-loop-one-preserved t c =
-    adds_next (statement_performs (procedures_in c.args.self.now.declarations.now)) c.args.number c.args.statements.now c.loop-one.one-index c.one-item.result c.loop-one-test.true c.one-item.is
+    adds_next (statement_performs (procedures_in c.args.self.now.declarations.now)) c.args.number c.args.statements.now
+    c.loop-one.one-index c.one-item.result c.loop-one-test.true c.one-item.is
     c.loop-one.invariant c.in_ok-statement_performs.ensures
 
 pub selections_performs-loop-one-preserved : goal.selections_performs-loop-one-preserved
 selections_performs-loop-one-preserved t c =
     let performs = statement_performs (procedures_in c.args.self.now.declarations.now) in
-    adds_next (selected_performs performs) c.args.number c.args.selections.now c.loop-one.one-index c.one-item.result c.loop-one-test.true c.one-item.is
+    adds_next (selected_performs performs) c.args.number c.args.selections.now c.loop-one.one-index c.one-item.result
+    c.loop-one-test.true c.one-item.is
     c.loop-one.invariant
-    (subst (λ (l : List Statement). AppendsPerforms c.loop-one.all c.statements_performs.new.all (in_paragraph c.args.number (each_performs performs l))) c.as_slice.ensures
+    (subst (λ (l : List Statement). AppendsPerforms c.loop-one.all c.statements_performs.new.all
+    (in_paragraph c.args.number (each_performs performs l))) c.as_slice.ensures
     c.in_ok-statements_performs.ensures)
 
 pub evaluate_performs-returns : goal.evaluate_performs-returns
 evaluate_performs-returns t c =
     let performs = statement_performs (procedures_in c.args.self.now.declarations.now) in
-    adds_behind c.args.all.now c.selections_performs.new.all c.phrase_performs.new.all (procedures_in c.args.self.now.declarations.now) c.args.number c.phrase_performs.result
+    adds_behind c.args.all.now c.selections_performs.new.all c.phrase_performs.new.all
+    (procedures_in c.args.self.now.declarations.now) c.args.number c.phrase_performs.result
     (each_performs (selected_performs performs) c.args.one.now.selected) c.args.one.now.other
-    (subst (λ (l : List (Selected Statement)). AppendsPerforms c.args.all.now c.selections_performs.new.all (in_paragraph c.args.number (each_performs (selected_performs performs) l)))
+    (subst (λ (l : List (Selected Statement)). AppendsPerforms c.args.all.now c.selections_performs.new.all
+    (in_paragraph c.args.number (each_performs (selected_performs performs) l)))
     c.as_slice.ensures c.in_ok-selections_performs.ensures)
     c.phrase_performs.ensures
 
 pub phrase_performs-returns-in-None : goal.phrase_performs-returns-in-None
-phrase_performs-returns-in-None t c = phrase_none (procedures_in c.args.self.now.declarations.now) c.args.number c.args.all.now c.args.phrase.now c.in-None.is
+phrase_performs-returns-in-None t c = phrase_none (procedures_in c.args.self.now.declarations.now) c.args.number
+    c.args.all.now c.args.phrase.now c.in-None.is
 
 pub phrase_performs-returns-in-Some : goal.phrase_performs-returns-in-Some
 phrase_performs-returns-in-Some t c =
-    let e : c.args.phrase.now ≡ Some c.as_slice.result.now = c.in-Some.is ∙ ap (λ (l : List Statement). Some l) (sym c.as_slice.ensures) in
-    phrase_some (procedures_in c.args.self.now.declarations.now) c.args.number c.args.all.now c.statements_performs.new.all c.statements_performs.result c.args.phrase.now c.as_slice.result.now e c.statements_performs.ensures
+    let e : c.args.phrase.now ≡ Some c.as_slice.result.now =
+    c.in-Some.is ∙ ap (λ (l : List Statement). Some l) (sym c.as_slice.ensures) in
+    phrase_some (procedures_in c.args.self.now.declarations.now) c.args.number
+    c.args.all.now c.statements_performs.new.all c.statements_performs.result c.args.phrase.now c.as_slice.result.now e
+    c.statements_performs.ensures
 
-pub statement_performs-returns-in_ok-phrase_performs-in-Stringing : goal.statement_performs-returns-in_ok-phrase_performs-in-Stringing
+pub statement_performs-returns-in_ok-phrase_performs-in-Stringing :
+    goal.statement_performs-returns-in_ok-phrase_performs-in-Stringing
 statement_performs-returns-in_ok-phrase_performs-in-Stringing t c =
-    adds_phrases c.args.all.now c.phrase_performs-in-Stringing.new.all c.phrase_performs-in-Stringing-2.new.all (procedures_in c.args.self.now.declarations.now) c.args.number c.args.one.now c.phrase_performs-in-Stringing-2.result _ _
+    adds_phrases c.args.all.now c.phrase_performs-in-Stringing.new.all c.phrase_performs-in-Stringing-2.new.all
+    (procedures_in c.args.self.now.declarations.now) c.args.number c.args.one.now
+    c.phrase_performs-in-Stringing-2.result _ _
     c.in_ok-phrase_performs-in-Stringing.ensures c.phrase_performs-in-Stringing-2.ensures (grind (arith, statement_is))

@@ -6,13 +6,16 @@ use Rattle.check_rules.proofs.checker.Checker.+performs.Given as goal
 
 abbrev pub invariant-statements_performs-loop-one : goal.invariant-statements_performs-loop-one
 invariant-statements_performs-loop-one l =
-    AppendsPerforms l.initial.all l.all (in_paragraph l.number (each_performs (statement_performs (procedures_in l.self.declarations.now)) (take l.one-index l.statements)))
+    AppendsPerforms l.initial.all l.all (in_paragraph l.number
+    (each_performs (statement_performs (procedures_in l.self.declarations.now)) (take l.one-index l.statements)))
 
 abbrev pub invariant-selections_performs-loop-one : goal.invariant-selections_performs-loop-one
 invariant-selections_performs-loop-one l =
-    AppendsPerforms l.initial.all l.all (in_paragraph l.number (each_performs (selected_performs (statement_performs (procedures_in l.self.declarations.now))) (take l.one-index l.selections)))
+    AppendsPerforms l.initial.all l.all (in_paragraph l.number (each_performs
+    (selected_performs (statement_performs (procedures_in l.self.declarations.now))) (take l.one-index l.selections)))
 
--- Each goes down by the depth of the statements in it; a phrase, what a PERFORM performs and the WHENs of an EVALUATE stand above the statements that they have.
+-- Each goes down by the depth of the statements in it; a phrase, what a PERFORM performs and the WHENs of an EVALUATE
+-- stand above the statements that they have.
 abbrev pub decreases-statement_performs : goal.decreases-statement_performs
 decreases-statement_performs l = 8 * goal.size-statement_performs l
 

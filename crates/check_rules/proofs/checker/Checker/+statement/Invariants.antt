@@ -6,14 +6,18 @@ use Rattle.declarations.specs.Named.{items_in, scope_in}
 use Rattle.check_rules.proofs.checker.Checker.+statement.Given as goal
 
 abbrev pub invariant-statements_rules-loop-one : goal.invariant-statements_rules-loop-one
-invariant-statements_rules-loop-one l = each (statement_rules (scope_in l.self.declarations.now) all_permitted) l.all ≡ each (statement_rules (scope_in l.self.declarations.now) all_permitted) (drop l.one-index l.all)
+invariant-statements_rules-loop-one l = each (statement_rules (scope_in l.self.declarations.now) all_permitted) l.all
+    ≡ each (statement_rules (scope_in l.self.declarations.now) all_permitted) (drop l.one-index l.all)
 
 abbrev pub invariant-selections_rules-loop-one : goal.invariant-selections_rules-loop-one
 invariant-selections_rules-loop-one l =
-    each (selected_rules (items_in l.self.declarations.now) (statement_rules (scope_in l.self.declarations.now) all_permitted) l.subjects) l.all
-    ≡ each (selected_rules (items_in l.self.declarations.now) (statement_rules (scope_in l.self.declarations.now) all_permitted) l.subjects) (drop l.one-index l.all)
+    each (selected_rules (items_in l.self.declarations.now)
+    (statement_rules (scope_in l.self.declarations.now) all_permitted) l.subjects) l.all
+    ≡ each (selected_rules (items_in l.self.declarations.now)
+    (statement_rules (scope_in l.self.declarations.now) all_permitted) l.subjects) (drop l.one-index l.all)
 
--- Each goes down by the depth of the statements in it; a phrase and the WHENs of an EVALUATE stand above the statements that they have.
+-- Each goes down by the depth of the statements in it; a phrase and the WHENs of an EVALUATE stand above the statements
+-- that they have.
 abbrev pub decreases-statement_rules : goal.decreases-statement_rules
 decreases-statement_rules l = 8 * goal.size-statement_rules l
 

@@ -10,4 +10,5 @@ pub returns-in-Err : goal.returns-in-Err
 returns-in-Err c =
     let items = items_in c.args.self.now.declarations.now in
     let reference = c.args.sender.now in
-    sym (ap asked_by (sends_nothing reference.item.name.place (items_named items reference.item) (broken_of c.in-Err.field-0) c.in-Err.ensures))
+    sym (ap asked_by (sends_nothing reference.item.name.place (items_named items reference.item)
+    (broken_of c.in-Err.field-0) c.in-Err.ensures))

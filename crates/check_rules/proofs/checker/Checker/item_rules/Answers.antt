@@ -12,5 +12,6 @@ pub returns-in_err-named_rules : goal.returns-in_err-named_rules
 returns-in_err-named_rules c =
     let p = err_from_is_err_and c.from_residual.result c.from_residual.ensures.1 in
     let items = items_in c.args.self.now.declarations.now in
-    rw (p.1, p.2) (first_front (named_rules items (asks c.args.asked) c.args.one.now) (each (subscript_rules items) c.args.one.now.subscripts)
+    rw (p.1, p.2) (first_front (named_rules items (asks c.args.asked) c.args.one.now)
+    (each (subscript_rules items) c.args.one.now.subscripts)
     (broken_of c.in_err-named_rules.field-0.0) c.in_err-named_rules.ensures)

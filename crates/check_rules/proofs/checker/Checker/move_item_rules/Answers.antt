@@ -18,5 +18,6 @@ returns c =
     subst (λ l. IsFirstBreach c.receivers_rules.result l)
     (ap (λ s. each (reference_rules items (asks s)) receivers) c.asked_by_item.ensures
     ∙ ap (λ a. each (reference_rules items a) receivers) (asks_receives (spec.sent_by items sender))
-    ∙ sym (front_none (operand_rules items sender) (each (reference_rules items (spec.receives (spec.sent_by items sender))) receivers) c.in_ok-item_rules.ensures))
+    ∙ sym (front_none (operand_rules items sender)
+    (each (reference_rules items (spec.receives (spec.sent_by items sender))) receivers) c.in_ok-item_rules.ensures))
     c.receivers_rules.ensures

@@ -16,5 +16,6 @@ returns c =
     subst (λ l. IsFirstBreach c.receivers_rules.result l)
     (ap (λ s. each (reference_rules items (asks s)) receivers) c.asked_by.ensures
     ∙ ap (λ a. each (reference_rules items a) receivers) (asks_receives (spec.sent_by items c.args.sender.now))
-    ∙ sym (front_none (operand_rules items c.args.sender.now) (each (reference_rules items (spec.receives (spec.sent_by items c.args.sender.now))) receivers) c.in_ok-operand_rules.ensures))
+    ∙ sym (front_none (operand_rules items c.args.sender.now) (each (reference_rules items
+    (spec.receives (spec.sent_by items c.args.sender.now))) receivers) c.in_ok-operand_rules.ensures))
     c.receivers_rules.ensures

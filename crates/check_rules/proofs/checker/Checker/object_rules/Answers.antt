@@ -17,9 +17,14 @@ returns c =
     let place = c.args.object.now.place in
     let subject = c.args.subject.now in
     let choice = c.args.object.now.choice in
-    let unfit : c.is_unfit.result ≡ not (fits items subject choice) = c.is_unfit.ensures ∙ ap not c.question-question.ensures.fit in
-    let kept : where_so (not (fits items subject choice)) 53 place ≡ [] = subst (λ (b : Bool). where_so b 53 place ≡ []) unfit c.in_ok-broken_if.ensures in
-    let told = finds_at place c.question_rules.result c.told_at.result (condition_rules items (selection_condition items subject choice)) c.told_at.ensures
-    (subst (λ (one : Condition). IsFirstBreach c.question_rules.result (condition_rules items one)) c.question-question.ensures.asked c.question_rules.ensures) in
+    let unfit : c.is_unfit.result ≡ not (fits items subject choice) =
+    c.is_unfit.ensures ∙ ap not c.question-question.ensures.fit in
+    let kept : where_so (not (fits items subject choice)) 53 place ≡ [] =
+    subst (λ (b : Bool). where_so b 53 place ≡ []) unfit c.in_ok-broken_if.ensures in
+    let told = finds_at place c.question_rules.result c.told_at.result
+    (condition_rules items (selection_condition items subject choice)) c.told_at.ensures
+    (subst (λ (one : Condition). IsFirstBreach c.question_rules.result (condition_rules items one))
+    c.question-question.ensures.asked c.question_rules.ensures) in
     subst (λ l. IsFirstBreach c.told_at.result l)
-    (sym (front_none (where_so (not (fits items subject choice)) 53 place) (map (at_object place) (condition_rules items (selection_condition items subject choice))) kept)) told
+    (sym (front_none (where_so (not (fits items subject choice)) 53 place)
+    (map (at_object place) (condition_rules items (selection_condition items subject choice))) kept)) told

@@ -6,4 +6,5 @@ use Rattle.check_rules.proofs.checker.Checker.openings_rules.Given as goal
 
 abbrev pub invariant-loop-one : goal.invariant-loop-one
 invariant-loop-one l =
-    each (open_rules (items_in l.self.declarations.now) (files_in l.self.declarations.now)) l.all ≡ each (open_rules (items_in l.self.declarations.now) (files_in l.self.declarations.now)) (drop l.one-index l.all)
+    each (open_rules (items_in l.self.declarations.now) (files_in l.self.declarations.now)) l.all
+    ≡ each (open_rules (items_in l.self.declarations.now) (files_in l.self.declarations.now)) (drop l.one-index l.all)

@@ -12,4 +12,5 @@ returns-in-Err c =
     let items = items_in c.args.self.now.declarations.now in
     let reference = c.in-Item.reference in
     sym (ap (λ (o : Operand). compared_alone items (Some o)) c.in-Item.is
-    ∙ either_unnamed reference.item.name.place (items_named items reference.item) (broken_of c.in-Err.field-0) c.in-Err.ensures)
+    ∙ either_unnamed reference.item.name.place (items_named items reference.item) (broken_of c.in-Err.field-0)
+    c.in-Err.ensures)

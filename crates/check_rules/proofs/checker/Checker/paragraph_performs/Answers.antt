@@ -9,7 +9,9 @@ use Rattle.check_rules.proofs.checker.Checker.paragraph_performs.Goals as goal
 pub loop-one-preserved : goal.loop-one-preserved
 loop-one-preserved c =
     let procedures = procedures_in c.args.self.now.declarations.now in
-    adds_next (sentence_performs procedures) c.args.number c.args.sentences.now c.loop-one.one-index c.one-item.result c.loop-one-test.true c.one-item.is
+    adds_next (sentence_performs procedures) c.args.number c.args.sentences.now c.loop-one.one-index c.one-item.result
+    c.loop-one-test.true c.one-item.is
     c.loop-one.invariant
-    (subst (λ (l : List Statement). AppendsPerforms c.loop-one.all c.statements_performs.new.all (in_paragraph c.args.number (each_performs (statement_performs procedures) l)))
+    (subst (λ (l : List Statement). AppendsPerforms c.loop-one.all c.statements_performs.new.all
+    (in_paragraph c.args.number (each_performs (statement_performs procedures) l)))
     c.as_slice.ensures c.in_ok-statements_performs.ensures)

@@ -9,7 +9,9 @@ use Rattle.check_rules.proofs.checker.Checker.paragraphs_performs.Goals as goal
 pub loop-i-preserved : goal.loop-i-preserved
 loop-i-preserved c =
     let procedures = procedures_in c.args.self.now.declarations.now in
-    paragraph_next procedures c.args.first c.args.paragraphs.now c.loop-i.i c.index-paragraphs-i.result c.loop-i-test.true c.index-paragraphs-i.is
+    paragraph_next procedures c.args.first c.args.paragraphs.now c.loop-i.i c.index-paragraphs-i.result
+    c.loop-i-test.true c.index-paragraphs-i.is
     c.loop-i.invariant
-    (subst (λ (l : List Sentence). AppendsPerforms c.loop-i.all c.paragraph_performs.new.all (in_paragraph (c.args.first + c.loop-i.i) (each_performs (sentence_performs procedures) l)))
+    (subst (λ (l : List Sentence). AppendsPerforms c.loop-i.all c.paragraph_performs.new.all
+    (in_paragraph (c.args.first + c.loop-i.i) (each_performs (sentence_performs procedures) l)))
     c.as_slice.ensures c.in_ok-paragraph_performs.ensures)

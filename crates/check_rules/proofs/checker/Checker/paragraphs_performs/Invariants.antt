@@ -5,4 +5,5 @@ use Rattle.check_rules.specs.Performs.{AppendsPerforms}
 use Rattle.check_rules.proofs.checker.Checker.paragraphs_performs.Given as goal
 
 abbrev pub invariant-loop-i : goal.invariant-loop-i
-invariant-loop-i l = AppendsPerforms l.initial.all l.all (performs_from (procedures_in l.self.declarations.now) l.first (take l.i l.paragraphs))
+invariant-loop-i l = AppendsPerforms l.initial.all l.all
+    (performs_from (procedures_in l.self.declarations.now) l.first (take l.i l.paragraphs))

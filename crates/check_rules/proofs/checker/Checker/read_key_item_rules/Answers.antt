@@ -19,6 +19,8 @@ returns c =
     let place = key.item.name.place in
     let found = c.in_ok-number.ensures in
     let called = slice_get (calls_in c.args.self.now.declarations.now.names) c.in_ok-number.number in
-    subst (λ (l : List LocatedItem). IsFirstBreach c.broken_if.result (unique_name_rules place (read_key_item (file_in items file) key) l)) (sym found.1)
+    subst (λ (l : List LocatedItem).
+    IsFirstBreach c.broken_if.result (unique_name_rules place (read_key_item (file_in items file) key) l)) (sym found.1)
     (subst (λ (b : Bool). IsFirstBreach c.broken_if.result (where_so (not b) 62 place))
-    (c.is_key_item-is_key.ensures ∙ key_found items file key found.0 c.in_ok-number.found.now called found.2 found.3) c.broken_if.ensures)
+    (c.is_key_item-is_key.ensures ∙ key_found items file key found.0 c.in_ok-number.found.now called found.2 found.3)
+    c.broken_if.ensures)

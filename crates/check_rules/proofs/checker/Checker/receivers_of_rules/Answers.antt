@@ -15,5 +15,6 @@ returns-in_err-item_rules-in-DivideRemainder c =
     let p = err_from_is_err_and c.from_residual.result c.from_residual.ensures.1 in
     let items = items_in c.args.self.now.declarations.now in
     rw (p.1, p.2) (ap (λ (one : Operation). first (receivers_rules items one)) c.in-DivideRemainder.is
-    ∙ first_front (reference_rules items number_receiver c.in-DivideRemainder.quotient.item) (reference_rules items number_receiver c.in-DivideRemainder.remainder)
+    ∙ first_front (reference_rules items number_receiver c.in-DivideRemainder.quotient.item)
+    (reference_rules items number_receiver c.in-DivideRemainder.remainder)
     (broken_of c.in_err-item_rules-in-DivideRemainder.field-0.0) c.in_err-item_rules-in-DivideRemainder.ensures)

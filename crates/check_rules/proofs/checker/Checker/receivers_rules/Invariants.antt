@@ -6,4 +6,5 @@ use Rattle.check_rules.specs.Asking.{asks}
 use Rattle.check_rules.proofs.checker.Checker.receivers_rules.Given as goal
 
 abbrev pub invariant-loop-one : goal.invariant-loop-one
-invariant-loop-one l = each (reference_rules (items_in l.self.declarations.now) (asks l.asked)) l.all ≡ each (reference_rules (items_in l.self.declarations.now) (asks l.asked)) (drop l.one-index l.all)
+invariant-loop-one l = each (reference_rules (items_in l.self.declarations.now) (asks l.asked)) l.all
+    ≡ each (reference_rules (items_in l.self.declarations.now) (asks l.asked)) (drop l.one-index l.all)

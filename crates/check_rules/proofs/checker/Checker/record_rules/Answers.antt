@@ -18,4 +18,5 @@ returns-in_err-record_named_rules c =
     let broken = broken_of c.in_err-record_named_rules.field-0.0 in
     let own = named_rules items (record_item items files c.args.phrases.now) one in
     let subscripts = each (subscript_rules items) one.subscripts in
-    rw (p.1, p.2) (first_front (own ++ subscripts) (from_rules items files one c.args.from.now) broken (first_front own subscripts broken c.in_err-record_named_rules.ensures))
+    rw (p.1, p.2) (first_front (own ++ subscripts) (from_rules items files one c.args.from.now) broken
+    (first_front own subscripts broken c.in_err-record_named_rules.ensures))

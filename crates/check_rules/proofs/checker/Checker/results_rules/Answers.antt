@@ -11,6 +11,9 @@ use Rattle.check_rules.proofs.checker.Checker.results_rules.Goals as goal
 pub returns-in_err-item_rules : goal.returns-in_err-item_rules
 returns-in_err-item_rules c =
     let p = err_from_is_err_and c.from_residual.result c.from_residual.ensures.1 in
-    rw (p.1, p.2) (each_found (receiver_rules (items_in c.args.self.now.declarations.now) c.args.asked) c.args.all.now c.loop-one.one-index c.one-item.result (each (receiver_rules (items_in c.args.self.now.declarations.now) c.args.asked) c.args.all.now) (broken_of c.in_err-item_rules.field-0.0)
+    rw (p.1, p.2) (each_found (receiver_rules (items_in c.args.self.now.declarations.now) c.args.asked) c.args.all.now
+    c.loop-one.one-index c.one-item.result (each (receiver_rules (items_in c.args.self.now.declarations.now)
+    c.args.asked) c.args.all.now) (broken_of c.in_err-item_rules.field-0.0)
     c.loop-one-test.true c.loop-one.invariant
-    (ap (λ r. first (receiver_rules (items_in c.args.self.now.declarations.now) c.args.asked r)) (sym c.one-item.is) ∙ c.in_err-item_rules.ensures))
+    (ap (λ r. first (receiver_rules (items_in c.args.self.now.declarations.now) c.args.asked r)) (sym c.one-item.is)
+    ∙ c.in_err-item_rules.ensures))

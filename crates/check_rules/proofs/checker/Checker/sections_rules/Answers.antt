@@ -11,6 +11,9 @@ use Rattle.check_rules.proofs.checker.Checker.sections_rules.Goals as goal
 pub returns-in_err-section_rules : goal.returns-in_err-section_rules
 returns-in_err-section_rules c =
     let p = err_from_is_err_and c.from_residual.result c.from_residual.ensures.1 in
-    rw (p.1, p.2) (each_found (section_rules (scope_in c.args.self.now.declarations.now) all_permitted) c.args.all.now c.loop-one.one-index c.one-item.result (each (section_rules (scope_in c.args.self.now.declarations.now) all_permitted) c.args.all.now) (broken_of c.in_err-section_rules.field-0.0)
+    rw (p.1, p.2) (each_found (section_rules (scope_in c.args.self.now.declarations.now) all_permitted) c.args.all.now
+    c.loop-one.one-index c.one-item.result (each (section_rules (scope_in c.args.self.now.declarations.now)
+    all_permitted) c.args.all.now) (broken_of c.in_err-section_rules.field-0.0)
     c.loop-one-test.true c.loop-one.invariant
-    (ap (λ r. first (section_rules (scope_in c.args.self.now.declarations.now) all_permitted r)) (sym c.one-item.is) ∙ c.in_err-section_rules.ensures))
+    (ap (λ r. first (section_rules (scope_in c.args.self.now.declarations.now) all_permitted r)) (sym c.one-item.is)
+    ∙ c.in_err-section_rules.ensures))

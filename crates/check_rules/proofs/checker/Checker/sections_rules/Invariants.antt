@@ -5,4 +5,5 @@ use Rattle.declarations.specs.Named.{scope_in}
 use Rattle.check_rules.proofs.checker.Checker.sections_rules.Given as goal
 
 abbrev pub invariant-loop-one : goal.invariant-loop-one
-invariant-loop-one l = each (section_rules (scope_in l.self.declarations.now) all_permitted) l.all ≡ each (section_rules (scope_in l.self.declarations.now) all_permitted) (drop l.one-index l.all)
+invariant-loop-one l = each (section_rules (scope_in l.self.declarations.now) all_permitted) l.all
+    ≡ each (section_rules (scope_in l.self.declarations.now) all_permitted) (drop l.one-index l.all)

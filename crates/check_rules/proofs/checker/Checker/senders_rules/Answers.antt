@@ -11,6 +11,9 @@ use Rattle.check_rules.proofs.checker.Checker.senders_rules.Goals as goal
 pub returns-in_err-sent_rules : goal.returns-in_err-sent_rules
 returns-in_err-sent_rules c =
     let p = err_from_is_err_and c.from_residual.result c.from_residual.ensures.1 in
-    rw (p.1, p.2) (each_found (sent_rules (items_in c.args.self.now.declarations.now)) c.args.all.now c.loop-one.one-index c.one-item.result (each (sent_rules (items_in c.args.self.now.declarations.now)) c.args.all.now) (broken_of c.in_err-sent_rules.field-0.0)
+    rw (p.1, p.2) (each_found (sent_rules (items_in c.args.self.now.declarations.now))
+    c.args.all.now c.loop-one.one-index c.one-item.result (each (sent_rules (items_in c.args.self.now.declarations.now))
+    c.args.all.now) (broken_of c.in_err-sent_rules.field-0.0)
     c.loop-one-test.true c.loop-one.invariant
-    (ap (λ r. first (sent_rules (items_in c.args.self.now.declarations.now) r)) (sym c.one-item.is) ∙ c.in_err-sent_rules.ensures))
+    (ap (λ r. first (sent_rules (items_in c.args.self.now.declarations.now) r)) (sym c.one-item.is)
+    ∙ c.in_err-sent_rules.ensures))

@@ -11,6 +11,9 @@ use Rattle.check_rules.proofs.checker.Checker.sentences_rules.Goals as goal
 pub returns-in_err-sentence_rules : goal.returns-in_err-sentence_rules
 returns-in_err-sentence_rules c =
     let p = err_from_is_err_and c.from_residual.result c.from_residual.ensures.1 in
-    rw (p.1, p.2) (each_found (sentence_rules (scope_in c.args.self.now.declarations.now) all_permitted) c.args.all.now c.loop-one.one-index c.one-item.result (each (sentence_rules (scope_in c.args.self.now.declarations.now) all_permitted) c.args.all.now) (broken_of c.in_err-sentence_rules.field-0.0)
+    rw (p.1, p.2) (each_found (sentence_rules (scope_in c.args.self.now.declarations.now) all_permitted) c.args.all.now
+    c.loop-one.one-index c.one-item.result (each (sentence_rules (scope_in c.args.self.now.declarations.now)
+    all_permitted) c.args.all.now) (broken_of c.in_err-sentence_rules.field-0.0)
     c.loop-one-test.true c.loop-one.invariant
-    (ap (λ r. first (sentence_rules (scope_in c.args.self.now.declarations.now) all_permitted r)) (sym c.one-item.is) ∙ c.in_err-sentence_rules.ensures))
+    (ap (λ r. first (sentence_rules (scope_in c.args.self.now.declarations.now) all_permitted r)) (sym c.one-item.is)
+    ∙ c.in_err-sentence_rules.ensures))

@@ -5,4 +5,5 @@ use Rattle.declarations.specs.Named.{scope_in}
 use Rattle.check_rules.proofs.checker.Checker.sentences_rules.Given as goal
 
 abbrev pub invariant-loop-one : goal.invariant-loop-one
-invariant-loop-one l = each (sentence_rules (scope_in l.self.declarations.now) all_permitted) l.all ≡ each (sentence_rules (scope_in l.self.declarations.now) all_permitted) (drop l.one-index l.all)
+invariant-loop-one l = each (sentence_rules (scope_in l.self.declarations.now) all_permitted) l.all
+    ≡ each (sentence_rules (scope_in l.self.declarations.now) all_permitted) (drop l.one-index l.all)

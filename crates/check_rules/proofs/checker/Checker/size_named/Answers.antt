@@ -6,4 +6,6 @@ use Rattle.check_rules.proofs.Parts.{no_size}
 use Rattle.check_rules.proofs.checker.Checker.size_named.Goals as goal
 
 pub returns-in-Err : goal.returns-in-Err
-returns-in-Err c = sym (no_size c.args.name.now.name.place (items_named (items_in c.args.self.now.declarations.now) c.args.name.now) (broken_of c.in-Err.field-0) c.in-Err.ensures)
+returns-in-Err c =
+    sym (no_size c.args.name.now.name.place (items_named (items_in c.args.self.now.declarations.now) c.args.name.now)
+    (broken_of c.in-Err.field-0) c.in-Err.ensures)

@@ -17,11 +17,13 @@ returns-in_err-start_file_rules c =
     let broken = broken_of c.in_err-start_file_rules.field-0.0 in
     let own = start_file_rules c.args.place file in
     let keys = start_key_rules items files file c.args.key.now in
-    rw (p.1, p.2) (first_front (own ++ keys) (phrase_kind_rules items files c.args.place c.args.phrases.now file) broken (first_front own keys broken c.in_err-start_file_rules.ensures))
+    rw (p.1, p.2) (first_front (own ++ keys) (phrase_kind_rules items files c.args.place c.args.phrases.now file) broken
+    (first_front own keys broken c.in_err-start_file_rules.ensures))
 
 pub returns-in_err-start_key_rules : goal.returns-in_err-start_key_rules
 returns-in_err-start_key_rules c =
-    let p = err_from_is_err_and c.from_residual-in_err-start_key_rules.result c.from_residual-in_err-start_key_rules.ensures.1 in
+    let p = err_from_is_err_and c.from_residual-in_err-start_key_rules.result
+    c.from_residual-in_err-start_key_rules.ensures.1 in
     let items = items_in c.args.self.now.declarations.now in
     let files = files_in c.args.self.now.declarations.now in
     let file = file_in items c.args.file.now in

@@ -14,4 +14,5 @@ returns-in_err-subscript_item_rules-in-Item c =
     let p = err_from_is_err_and c.from_residual.result c.from_residual.ensures.1 in
     let items = items_in c.args.self.now.declarations.now in
     rw (p.1, p.2) (ap (λ (one : written.Subscript). first (subscript_rules items one)) c.in-Item.is
-    ∙ first_front (subscript_rules_of items c.in-Item.item) (adjustment_rules c.in-Item.adjustment) (broken_of c.in_err-subscript_item_rules-in-Item.field-0.0) c.in_err-subscript_item_rules-in-Item.ensures)
+    ∙ first_front (subscript_rules_of items c.in-Item.item) (adjustment_rules c.in-Item.adjustment)
+    (broken_of c.in_err-subscript_item_rules-in-Item.field-0.0) c.in_err-subscript_item_rules-in-Item.ensures)

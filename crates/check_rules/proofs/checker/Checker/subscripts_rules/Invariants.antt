@@ -5,4 +5,5 @@ use Rattle.declarations.specs.Named.{items_in}
 use Rattle.check_rules.proofs.checker.Checker.subscripts_rules.Given as goal
 
 abbrev pub invariant-loop-one : goal.invariant-loop-one
-invariant-loop-one l = each (subscript_rules (items_in l.self.declarations.now)) l.all ≡ each (subscript_rules (items_in l.self.declarations.now)) (drop l.one-index l.all)
+invariant-loop-one l = each (subscript_rules (items_in l.self.declarations.now)) l.all
+    ≡ each (subscript_rules (items_in l.self.declarations.now)) (drop l.one-index l.all)

@@ -5,4 +5,5 @@ use Rattle.declarations.specs.Named.{items_in}
 use Rattle.check_rules.proofs.checker.Checker.tallied_texts_rules.Given as goal
 
 abbrev pub invariant-loop-one : goal.invariant-loop-one
-invariant-loop-one l = each (tallied_text_rules (items_in l.self.declarations.now)) l.all ≡ each (tallied_text_rules (items_in l.self.declarations.now)) (drop l.one-index l.all)
+invariant-loop-one l = each (tallied_text_rules (items_in l.self.declarations.now)) l.all
+    ≡ each (tallied_text_rules (items_in l.self.declarations.now)) (drop l.one-index l.all)

@@ -8,13 +8,17 @@ use Rattle.codegen.proofs.emitter.Emitter.+condition.Given as goal
 -- what is there, and what is still to come, are the whole
 abbrev pub invariant-emit_each_and-loop-one : goal.invariant-emit_each_and-loop-one
 invariant-emit_each_and-loop-one l =
-    append l.code (in_order (λ (one : Condition). and_fragment (condition_fragment (items_in l.self.declarations.now) one)) (drop l.one-index l.more) l.code)
-    ≡ append l.initial.code (in_order (λ (one : Condition). and_fragment (condition_fragment (items_in l.self.declarations.now) one)) l.more l.initial.code)
+    append l.code (in_order (λ (one : Condition).
+    and_fragment (condition_fragment (items_in l.self.declarations.now) one)) (drop l.one-index l.more) l.code)
+    ≡ append l.initial.code (in_order (λ (one : Condition).
+    and_fragment (condition_fragment (items_in l.self.declarations.now) one)) l.more l.initial.code)
 
 abbrev pub invariant-emit_each_or-loop-one : goal.invariant-emit_each_or-loop-one
 invariant-emit_each_or-loop-one l =
-    append l.code (in_order (λ (one : Condition). or_fragment (condition_fragment (items_in l.self.declarations.now) one)) (drop l.one-index l.more) l.code)
-    ≡ append l.initial.code (in_order (λ (one : Condition). or_fragment (condition_fragment (items_in l.self.declarations.now) one)) l.more l.initial.code)
+    append l.code (in_order (λ (one : Condition).
+    or_fragment (condition_fragment (items_in l.self.declarations.now) one)) (drop l.one-index l.more) l.code)
+    ≡ append l.initial.code (in_order (λ (one : Condition).
+    or_fragment (condition_fragment (items_in l.self.declarations.now) one)) l.more l.initial.code)
 
 -- Each goes down by the depth of the conditions in it, and a caller stands above what it hands the same ones to.
 abbrev pub decreases-emit_condition : goal.decreases-emit_condition

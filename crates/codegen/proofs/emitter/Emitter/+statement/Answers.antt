@@ -1,4 +1,5 @@
-use Rattle.std.proofs.Common.{rules, ◌≡◌, ◌+◌, true, List, [], ◌∷◌, ◌++◌, length, drop, Some, refl, sym, ap, subst, arith, ◌∙◌, length-append}
+use Rattle.std.proofs.Common.{rules, ◌≡◌, ◌+◌, true, List, [], ◌∷◌, ◌++◌, length, drop, Some, refl, sym, ap, subst}
+use Rattle.std.proofs.Common.{arith, ◌∙◌, length-append}
 use Rattle.std.specs.List.{AllByRecursion}
 use Rattle.std.proofs.lemmas.Grind.{common_steps}
 use Rattle.records.specs.declared.verb.Verb.{Verb}
@@ -18,10 +19,13 @@ use Rattle.source_tree.specs.Evaluate.{object_conditions, when_conditions, selec
 use Rattle.source_tree.specs.EvaluateRules.{when_rules, selected_rules}
 use Rattle.source_tree.specs.Filing as meaning
 use Rattle.source_tree.specs.Filing.{file_with_record, phrases_of}
-use Rattle.source_tree.specs.FilingRules.{delete_rules, file_named_rules, filing_rules, read_rules, record_rules, start_rules}
+use Rattle.source_tree.specs.FilingRules.{delete_rules, file_named_rules, filing_rules, read_rules, record_rules}
+use Rattle.source_tree.specs.FilingRules.{start_rules}
 use Rattle.source_tree.specs.NameRules.{reference_rules}
 use Rattle.source_tree.specs.ConditionRules.{varying_rules, condition_rules, until_rules}
-use Rattle.source_tree.specs.Rules.{all_permitted, integer_item, verb_rules, arithmetic_rules, stringing_rules, branching_rules, performing_rules, phrases_rules, phrase_rules, file_phrases_rules, performed_rules, turns_rules, evaluate_rules, statement_rules}
+use Rattle.source_tree.specs.Rules.{all_permitted, integer_item, verb_rules, arithmetic_rules, stringing_rules}
+use Rattle.source_tree.specs.Rules.{branching_rules, performing_rules, phrases_rules, phrase_rules, file_phrases_rules}
+use Rattle.source_tree.specs.Rules.{performed_rules, turns_rules, evaluate_rules, statement_rules}
 use Rattle.source_tree.specs.ArithmeticRules.{operation_rules}
 use Rattle.source_tree.specs.LookUp.{first, items_named}
 use Rattle.source_tree.specs.ProgramFiles.{ProgramFile, files_named}
@@ -39,10 +43,15 @@ use Rattle.codegen.specs.Meeting.{branch_code, jump_code, either_fragment, nothi
 use Rattle.codegen.specs.DataCode.{work_fragment, take_fragment}
 use Rattle.codegen.specs.ConditionCode.{condition_fragment}
 use Rattle.codegen.specs.StringCode.{string_fragment}
-use Rattle.codegen.specs.UntilCode.{tick_fragment, repetition_fragment, until_before_fragment, until_after_fragment, until_from_fragment, vary_begin_fragment, vary_on_fragment, until_fragment}
-use Rattle.codegen.specs.FileCode.{file_fragment, test_fragment, unheard_fragment, on_file_fragment, into_fragment, from_fragment, on_name_fragment}
+use Rattle.codegen.specs.UntilCode.{tick_fragment, repetition_fragment, until_before_fragment, until_after_fragment}
+use Rattle.codegen.specs.UntilCode.{until_from_fragment, vary_begin_fragment, vary_on_fragment, until_fragment}
+use Rattle.codegen.specs.FileCode.{file_fragment, test_fragment, unheard_fragment, on_file_fragment, into_fragment}
+use Rattle.codegen.specs.FileCode.{from_fragment, on_name_fragment}
 use Rattle.codegen.specs.SubjectCode.{first_object, subjects_fragment}
-use Rattle.codegen.specs.Layout.{turn_end, count_begin, counted_turn, counted_fragment, turn_fragment, phrase_fragment, phrases_fragment, selection_fragment, conditional_fragment, taken_fragment, success_fragment, failure_fragment, status_fragment, statement_on_fragment, alone_fragment, file_statement_fragment, statement_fragment}
+use Rattle.codegen.specs.Layout.{turn_end, count_begin, counted_turn, counted_fragment, turn_fragment, phrase_fragment}
+use Rattle.codegen.specs.Layout.{phrases_fragment, selection_fragment, conditional_fragment, taken_fragment}
+use Rattle.codegen.specs.Layout.{success_fragment, failure_fragment, status_fragment, statement_on_fragment}
+use Rattle.codegen.specs.Layout.{alone_fragment, file_statement_fragment, statement_fragment}
 use Rattle.codegen.specs.Phrases.{patched_code, IsWay, met_all}
 use Rattle.codegen.proofs.EvaluateKept.{subjects_of, groups_of, other_of}
 use Rattle.codegen.proofs.Opening.{opened_way, opened_longer, with_last, still_ways, groups_go_on, groups_done}
@@ -52,36 +61,56 @@ use Rattle.codegen.proofs.Fragments.{joined_nothing}
 use Rattle.codegen.proofs.Sequences.{then_piece, is_so, ends_so, on_ok}
 use Rattle.codegen.proofs.Meeting.{meeting, phrases_stand}
 use Rattle.codegen.proofs.Kept.{front_kept, back_kept, one_kept, item_kept}
-use Rattle.codegen.proofs.FilingKept.{first_kept, read_key_kept, read_into_kept, start_key_kept, record_names_one, record_from_kept}
+use Rattle.codegen.proofs.FilingKept.{first_kept, read_key_kept, read_into_kept, start_key_kept, record_names_one}
+use Rattle.codegen.proofs.FilingKept.{record_from_kept}
 use Rattle.codegen.proofs.OnFiles.{none_found, one_found}
 use Rattle.codegen.proofs.emitter.Emitter.+statement.Goals as goal
 
 pub emit_statement-emit_moving-requires-clause-rules : goal.emit_statement-emit_moving-requires-clause-rules
 emit_statement-emit_moving-requires-clause-rules t c =
     let scope = scope_in c.args.self.now.declarations.now in
-    sym (ap (verb_rules scope all_permitted (statement_rules scope all_permitted)) c.in-DataStatement.is) ∙ sym (layers.statement_is scope all_permitted c.args.one.now) ∙ c.requires.rules
+    sym (ap (verb_rules scope all_permitted (statement_rules scope all_permitted)) c.in-DataStatement.is)
+    ∙ sym (layers.statement_is scope all_permitted c.args.one.now) ∙ c.requires.rules
 
 pub emit_statement-emit_calculating-requires : goal.emit_statement-emit_calculating-requires
 emit_statement-emit_calculating-requires t c =
     let scope = scope_in c.args.self.now.declarations.now in
     let one = c.in-Arithmetic.arithmetic in
-    let r : arithmetic_rules scope.items (statement_rules scope all_permitted) one ≡ [] = sym (ap (verb_rules scope all_permitted (statement_rules scope all_permitted)) c.in-Arithmetic.is) ∙ sym (layers.statement_is scope all_permitted c.args.one.now) ∙ c.requires.rules in
+    let r : arithmetic_rules scope.items (statement_rules scope all_permitted) one ≡ [] =
+    sym (ap (verb_rules scope all_permitted (statement_rules scope all_permitted)) c.in-Arithmetic.is)
+    ∙ sym (layers.statement_is scope all_permitted c.args.one.now) ∙ c.requires.rules in
     let first = phrase_rules (statement_rules scope all_permitted) one.phrases.arose in
     let second = phrase_rules (statement_rules scope all_permitted) one.phrases.did_not in
-    let front = front_kept (operation_rules scope.items one.operation) (phrases_rules (statement_rules scope all_permitted) one.phrases) r in
-    let phrases = back_kept (operation_rules scope.items one.operation) (phrases_rules (statement_rules scope all_permitted) one.phrases) r in
-    (search (rules, the_lemmas), (c.requires.declared, (c.requires.entries, (front, (front_kept first second phrases, back_kept first second phrases)))))
+    let front = front_kept (operation_rules scope.items one.operation)
+    (phrases_rules (statement_rules scope all_permitted) one.phrases) r in
+    let phrases = back_kept (operation_rules scope.items one.operation)
+    (phrases_rules (statement_rules scope all_permitted) one.phrases) r in (
+      search (rules, the_lemmas),
+      (
+        c.requires.declared,
+        (c.requires.entries, (front, (front_kept first second phrases, back_kept first second phrases))),
+      ),
+    )
 
 pub emit_statement-emit_stringing-requires : goal.emit_statement-emit_stringing-requires
 emit_statement-emit_stringing-requires t c =
     let scope = scope_in c.args.self.now.declarations.now in
     let one = c.in-Stringing.stringing in
-    let r : stringing_rules scope.items (statement_rules scope all_permitted) one ≡ [] = sym (ap (verb_rules scope all_permitted (statement_rules scope all_permitted)) c.in-Stringing.is) ∙ sym (layers.statement_is scope all_permitted c.args.one.now) ∙ c.requires.rules in
+    let r : stringing_rules scope.items (statement_rules scope all_permitted) one ≡ [] =
+    sym (ap (verb_rules scope all_permitted (statement_rules scope all_permitted)) c.in-Stringing.is)
+    ∙ sym (layers.statement_is scope all_permitted c.args.one.now) ∙ c.requires.rules in
     let first = phrase_rules (statement_rules scope all_permitted) one.phrases.arose in
     let second = phrase_rules (statement_rules scope all_permitted) one.phrases.did_not in
-    let front = front_kept (string_rules scope.items one) (phrases_rules (statement_rules scope all_permitted) one.phrases) r in
-    let phrases = back_kept (string_rules scope.items one) (phrases_rules (statement_rules scope all_permitted) one.phrases) r in
-    (search (rules, the_lemmas), (c.requires.declared, (c.requires.entries, (front, (front_kept first second phrases, back_kept first second phrases)))))
+    let front =
+    front_kept (string_rules scope.items one) (phrases_rules (statement_rules scope all_permitted) one.phrases) r in
+    let phrases =
+    back_kept (string_rules scope.items one) (phrases_rules (statement_rules scope all_permitted) one.phrases) r in (
+      search (rules, the_lemmas),
+      (
+        c.requires.declared,
+        (c.requires.entries, (front, (front_kept first second phrases, back_kept first second phrases))),
+      ),
+    )
 
 pub emit_statement-emit_filing-requires : goal.emit_statement-emit_filing-requires
 emit_statement-emit_filing-requires t c =
@@ -90,14 +119,18 @@ emit_statement-emit_filing-requires t c =
     let own = filing_rules scope.items scope.files one in
     let inner = file_phrases_rules (statement_rules scope all_permitted) (phrases_of one) in
     let r : own ++ inner ≡ [] =
-    sym (ap (verb_rules scope all_permitted (statement_rules scope all_permitted)) c.in-Filing.is) ∙ sym (layers.statement_is scope all_permitted c.args.one.now) ∙ c.requires.rules in
-    (search (rules, the_lemmas), (c.requires.declared, (c.requires.entries, (front_kept own inner r, back_kept own inner r))))
+    sym (ap (verb_rules scope all_permitted (statement_rules scope all_permitted)) c.in-Filing.is)
+    ∙ sym (layers.statement_is scope all_permitted c.args.one.now) ∙ c.requires.rules in (
+      search (rules, the_lemmas),
+      (c.requires.declared, (c.requires.entries, (front_kept own inner r, back_kept own inner r))),
+    )
 
 pub emit_statement-emit_branching-requires : goal.emit_statement-emit_branching-requires
 emit_statement-emit_branching-requires t c =
     let scope = scope_in c.args.self.now.declarations.now in
     let r : branching_rules scope.items (statement_rules scope all_permitted) c.in-Branching.branching ≡ [] =
-    sym (ap (verb_rules scope all_permitted (statement_rules scope all_permitted)) c.in-Branching.is) ∙ sym (layers.statement_is scope all_permitted c.args.one.now) ∙ c.requires.rules in
+    sym (ap (verb_rules scope all_permitted (statement_rules scope all_permitted)) c.in-Branching.is)
+    ∙ sym (layers.statement_is scope all_permitted c.args.one.now) ∙ c.requires.rules in
     (search (rules, the_lemmas), (c.requires.declared, (c.requires.entries, r)))
 
 pub emit_phrases-returns : goal.emit_phrases-returns
@@ -112,24 +145,32 @@ emit_phrases-returns t c =
     let so : c.has_phrase.result ≡ true = first_of (search rules, grind (arith, common_steps)) in
     on_ok c.emit_meeting.result c.emit_meeting.ensures
     (λ (e : c.emit_meeting.new.code ≡ patched_code branch other c.emit_phrase-2.new.code).
-    meeting first second old c.emit_branch.new.code c.emit_phrase.new.code c.emit_jump.new.code c.emit_phrase-2.new.code c.emit_meeting.new.code branch other
-    c.in_ok-branch.ensures.code c.in_ok-branch.ensures.address c.in_ok-emit_phrase.ensures c.in_ok-other.ensures.code c.in_ok-other.ensures.other c.in_ok-emit_phrase-2.ensures e
-    ∙ ap (append old) (phrases_stand scope inside c.args.one.now.arose c.args.one.now.did_not old (sym c.has_phrase.ensures ∙ so)))
+    meeting first second old c.emit_branch.new.code c.emit_phrase.new.code c.emit_jump.new.code c.emit_phrase-2.new.code
+    c.emit_meeting.new.code branch other
+    c.in_ok-branch.ensures.code c.in_ok-branch.ensures.address c.in_ok-emit_phrase.ensures c.in_ok-other.ensures.code
+    c.in_ok-other.ensures.other c.in_ok-emit_phrase-2.ensures e
+    ∙ ap (append old)
+    (phrases_stand scope inside c.args.one.now.arose c.args.one.now.did_not old (sym c.has_phrase.ensures ∙ so)))
 
 pub emit_phrase-emit_statements-requires : goal.emit_phrase-emit_statements-requires
 emit_phrase-emit_statements-requires t c =
     let scope = scope_in c.args.self.now.declarations.now in
-    let e : c.args.one.now ≡ Some c.as_slice.result.now = c.in-Some.is ∙ ap (λ (l : List Statement). Some l) (sym c.as_slice.ensures) in
+    let e : c.args.one.now ≡ Some c.as_slice.result.now =
+    c.in-Some.is ∙ ap (λ (l : List Statement). Some l) (sym c.as_slice.ensures) in
     let d = rw e at c.decreases in (
       omega (arith, d),
-      (c.requires.declared, (c.requires.entries, sym (ap (phrase_rules (statement_rules scope all_permitted)) e) ∙ c.requires.rules)),
+      (
+        c.requires.declared,
+        (c.requires.entries, sym (ap (phrase_rules (statement_rules scope all_permitted)) e) ∙ c.requires.rules),
+      ),
     )
 
 pub emit_statement-emit_performing-requires : goal.emit_statement-emit_performing-requires
 emit_statement-emit_performing-requires t c =
     let scope = scope_in c.args.self.now.declarations.now in
     let r : performing_rules scope all_permitted (statement_rules scope all_permitted) c.in-Performing.performing ≡ [] =
-    sym (ap (verb_rules scope all_permitted (statement_rules scope all_permitted)) c.in-Performing.is) ∙ sym (layers.statement_is scope all_permitted c.args.one.now) ∙ c.requires.rules in
+    sym (ap (verb_rules scope all_permitted (statement_rules scope all_permitted)) c.in-Performing.is)
+    ∙ sym (layers.statement_is scope all_permitted c.args.one.now) ∙ c.requires.rules in
     (search (rules, the_lemmas), (c.requires.declared, (c.requires.entries, r)))
 
 pub emit_performing-emit_until-requires : goal.emit_performing-emit_until-requires
@@ -138,8 +179,11 @@ emit_performing-emit_until-requires t c =
     let one = c.args.one.now in
     let often = turns_rules scope.items one.turns in
     let behind = performed_rules scope.procedures all_permitted (statement_rules scope all_permitted) one.performed in
-    let turns : until_rules scope.items c.in-Until.until ≡ [] = sym (ap (turns_rules scope.items) c.in-Until.is) ∙ front_kept often behind c.requires.rules in
-    (search (rules, the_lemmas), (c.requires.declared, (c.requires.entries, (turns, back_kept often behind c.requires.rules))))
+    let turns : until_rules scope.items c.in-Until.until ≡ [] =
+    sym (ap (turns_rules scope.items) c.in-Until.is) ∙ front_kept often behind c.requires.rules in (
+      search (rules, the_lemmas),
+      (c.requires.declared, (c.requires.entries, (turns, back_kept often behind c.requires.rules))),
+    )
 
 pub emit_performing-emit_counted-requires : goal.emit_performing-emit_counted-requires
 emit_performing-emit_counted-requires t c =
@@ -147,11 +191,15 @@ emit_performing-emit_counted-requires t c =
     let one = c.args.one.now in
     let often = turns_rules scope.items one.turns in
     let behind = performed_rules scope.procedures all_permitted (statement_rules scope all_permitted) one.performed in
-    let item : reference_rules scope.items integer_item c.in-CountedBy.item ≡ [] = sym (ap (turns_rules scope.items) c.in-CountedBy.is) ∙ front_kept often behind c.requires.rules in
-    (search (rules, the_lemmas), (c.requires.declared, (c.requires.entries, (item, back_kept often behind c.requires.rules))))
+    let item : reference_rules scope.items integer_item c.in-CountedBy.item ≡ [] =
+    sym (ap (turns_rules scope.items) c.in-CountedBy.is) ∙ front_kept often behind c.requires.rules in (
+      search (rules, the_lemmas),
+      (c.requires.declared, (c.requires.entries, (item, back_kept often behind c.requires.rules))),
+    )
 
 pub emit_counted-emit_taking-requires-clause-rules : goal.emit_counted-emit_taking-requires-clause-rules
-emit_counted-emit_taking-requires-clause-rules t c = item_kept (scope_in c.args.self.now.declarations.now).items integer_item c.args.item.now c.requires.item
+emit_counted-emit_taking-requires-clause-rules t c =
+    item_kept (scope_in c.args.self.now.declarations.now).items integer_item c.args.item.now c.requires.item
 
 pub emit_counted-returns : goal.emit_counted-returns
 emit_counted-returns t c =
@@ -168,13 +216,15 @@ emit_counted-returns t c =
     let branch = c.in_ok-branch.branch in
     let other = c.in_ok-other.other in
     let inner : c.emit_counted_turn.new.code ≡ append branched (first branched) =
-    c.in_ok-emit_counted_turn.ensures ∙ ap (λ n. append branched (counted_turn n turn branched)) c.in_ok-begin.ensures.begin in
+    c.in_ok-emit_counted_turn.ensures
+    ∙ ap (λ n. append branched (counted_turn n turn branched)) c.in_ok-begin.ensures.begin in
     on_ok c.emit_meeting.result c.emit_meeting.ensures
     (λ (m : new ≡ patched_code branch other middle).
     then_piece number (counted_fragment turn) old found new c.in_ok-emit_taking.ensures
     (then_piece count_begin (either_fragment first nothing_fragment) found begun new c.in_ok-begin.ensures.code
     (meeting first nothing_fragment begun branched c.emit_counted_turn.new.code middle middle new branch other
-    c.in_ok-branch.ensures.code c.in_ok-branch.ensures.address inner c.in_ok-other.ensures.code c.in_ok-other.ensures.other (sym (joined_nothing middle)) m)))
+    c.in_ok-branch.ensures.code c.in_ok-branch.ensures.address inner c.in_ok-other.ensures.code
+    c.in_ok-other.ensures.other (sym (joined_nothing middle)) m)))
 
 pub emit_counted_turn-returns : goal.emit_counted_turn-returns
 emit_counted_turn-returns t c =
@@ -184,19 +234,24 @@ emit_counted_turn-returns t c =
     let new = c.emit_turn_end.new.code in
     let begin = c.args.begin in
     let turn = turn_fragment scope (statement_fragment scope) c.args.line c.args.one.now in
-    is_so result new (append old (sequence turn (λ b. turn_end begin c.len-to.result) old)) (append old (counted_turn begin turn old))
-    (ends_so result turn (λ b. turn_end begin c.len-to.result) old c.emit_turn.new.code new c.in_ok-emit_turn.ensures c.emit_turn_end.ensures)
+    is_so result new (append old (sequence turn (λ b. turn_end begin c.len-to.result) old))
+    (append old (counted_turn begin turn old))
+    (ends_so result turn (λ b. turn_end begin c.len-to.result) old c.emit_turn.new.code new c.in_ok-emit_turn.ensures
+    c.emit_turn_end.ensures)
     (ap (λ n. append old (sequence turn (λ b. turn_end begin n) old)) c.len-to.ensures)
 
 pub emit_statement-emit_texts-requires-clause-rules : goal.emit_statement-emit_texts-requires-clause-rules
 emit_statement-emit_texts-requires-clause-rules t c =
     let scope = scope_in c.args.self.now.declarations.now in
-    sym (ap (verb_rules scope all_permitted (statement_rules scope all_permitted)) c.in-TextStatement.is) ∙ sym (layers.statement_is scope all_permitted c.args.one.now) ∙ c.requires.rules
+    sym (ap (verb_rules scope all_permitted (statement_rules scope all_permitted)) c.in-TextStatement.is)
+    ∙ sym (layers.statement_is scope all_permitted c.args.one.now) ∙ c.requires.rules
 
 pub emit_statements-emit_statement-requires : goal.emit_statements-emit_statement-requires
 emit_statements-emit_statement-requires t c =
     let scope = scope_in c.args.self.now.declarations.now in
-    let r : statement_rules scope all_permitted c.one-item.result ≡ [] = ap (statement_rules scope all_permitted) c.one-item.is ∙ one_kept (statement_rules scope all_permitted) c.args.all.now c.loop-one.one-index c.one-item.result c.loop-one-test.true c.requires.rules in
+    let r : statement_rules scope all_permitted c.one-item.result ≡ [] =
+    ap (statement_rules scope all_permitted) c.one-item.is ∙ one_kept (statement_rules scope all_permitted)
+    c.args.all.now c.loop-one.one-index c.one-item.result c.loop-one-test.true c.requires.rules in
     (search (rules, the_lemmas), (c.requires.declared, (c.requires.entries, r)))
 
 pub emit_branching-emit_condition-requires-clause-rules : goal.emit_branching-emit_condition-requires-clause-rules
@@ -205,7 +260,8 @@ emit_branching-emit_condition-requires-clause-rules t c =
     let test = condition_rules scope.items c.in-If.condition in
     let first = each (statement_rules scope all_permitted) c.in-If.statements in
     let second = phrase_rules (statement_rules scope all_permitted) c.in-If.otherwise in
-    let r : test ++ first ++ second ≡ [] = sym (ap (branching_rules scope.items (statement_rules scope all_permitted)) c.in-If.is) ∙ c.requires.rules in
+    let r : test ++ first ++ second ≡ [] =
+    sym (ap (branching_rules scope.items (statement_rules scope all_permitted)) c.in-If.is) ∙ c.requires.rules in
     front_kept test first (front_kept (test ++ first) second r)
 
 pub emit_branching-emit_statements-requires : goal.emit_branching-emit_statements-requires
@@ -216,9 +272,12 @@ emit_branching-emit_statements-requires t c =
     let second = phrase_rules (statement_rules scope all_permitted) c.in-If.otherwise in
     let e : c.args.one.now ≡ If c.in-If.condition c.as_slice.result.now c.in-If.otherwise =
     c.in-If.is ∙ ap (λ (l : List Statement). If c.in-If.condition l c.in-If.otherwise) (sym c.as_slice.ensures) in
-    let r : test ++ first ++ second ≡ [] = sym (ap (branching_rules scope.items (statement_rules scope all_permitted)) e) ∙ c.requires.rules in
-    let d = rw e at c.decreases in
-    (omega (arith, d), (c.requires.declared, (c.requires.entries, back_kept test first (front_kept (test ++ first) second r))))
+    let r : test ++ first ++ second ≡ [] =
+    sym (ap (branching_rules scope.items (statement_rules scope all_permitted)) e) ∙ c.requires.rules in
+    let d = rw e at c.decreases in (
+      omega (arith, d),
+      (c.requires.declared, (c.requires.entries, back_kept test first (front_kept (test ++ first) second r))),
+    )
 
 pub emit_branching-emit_phrase-requires : goal.emit_branching-emit_phrase-requires
 emit_branching-emit_phrase-requires t c =
@@ -226,7 +285,8 @@ emit_branching-emit_phrase-requires t c =
     let test = condition_rules scope.items c.in-If.condition in
     let first = each (statement_rules scope all_permitted) c.in-If.statements in
     let second = phrase_rules (statement_rules scope all_permitted) c.in-If.otherwise in
-    let r : test ++ first ++ second ≡ [] = sym (ap (branching_rules scope.items (statement_rules scope all_permitted)) c.in-If.is) ∙ c.requires.rules in
+    let r : test ++ first ++ second ≡ [] =
+    sym (ap (branching_rules scope.items (statement_rules scope all_permitted)) c.in-If.is) ∙ c.requires.rules in
     let d = rw c.in-If.is at c.decreases in
     (omega (arith, d), (c.requires.declared, (c.requires.entries, back_kept (test ++ first) second r)))
 
@@ -257,20 +317,25 @@ emit_branching-returns-in_ok-emit_phrase-in-If t c =
     (λ (m : new ≡ patched_code branch other c.emit_phrase.new.code).
     then_piece tick (sequence test ways) old c.emit_tick.new.code new c.in_ok-emit_tick.ensures
     (then_piece test ways c.emit_tick.new.code c.emit_condition.new.code new c.in_ok-emit_condition-in-If.ensures
-    (meeting first second c.emit_condition.new.code c.emit_branch.new.code c.emit_statements.new.code c.emit_jump.new.code c.emit_phrase.new.code new branch other
-    c.in_ok-branch-in-If.ensures.code c.in_ok-branch-in-If.ensures.address c.in_ok-emit_statements-in-If.ensures c.in_ok-other-in-If.ensures.code
+    (meeting first second c.emit_condition.new.code c.emit_branch.new.code c.emit_statements.new.code
+    c.emit_jump.new.code c.emit_phrase.new.code new branch other
+    c.in_ok-branch-in-If.ensures.code c.in_ok-branch-in-If.ensures.address c.in_ok-emit_statements-in-If.ensures
+    c.in_ok-other-in-If.ensures.code
     c.in_ok-other-in-If.ensures.other c.in_ok-emit_phrase-in-If.ensures m))
-    ∙ sym (ap (λ (b : ConditionalStatement Statement). append old (conditional_fragment scope inside c.args.line b old)) e))
+    ∙ sym
+    (ap (λ (b : ConditionalStatement Statement). append old (conditional_fragment scope inside c.args.line b old)) e))
 
 pub emit_selected-emit_whens-requires-clause-rules : goal.emit_selected-emit_whens-requires-clause-rules
 emit_selected-emit_whens-requires-clause-rules t c =
     let scope = scope_in c.args.self.now.declarations.now in
     let subjects = c.args.subjects.now in
     let whens = c.args.one.now.whens in
-    let kept = λ (one : When). each (condition_rules scope.items) (object_conditions scope.items subjects one.objects) in
+    let kept =
+    λ (one : When). each (condition_rules scope.items) (object_conditions scope.items subjects one.objects) in
     ap (each kept) c.as_slice.ensures
     ∙ whens_rules scope.items subjects whens
-    (front_kept (each (when_rules scope.items subjects) whens) (each (statement_rules scope all_permitted) c.args.one.now.statements) c.requires.rules)
+    (front_kept (each (when_rules scope.items subjects) whens)
+    (each (statement_rules scope all_permitted) c.args.one.now.statements) c.requires.rules)
 
 pub emit_selected-emit_statements-requires : goal.emit_selected-emit_statements-requires
 emit_selected-emit_statements-requires t c =
@@ -278,7 +343,8 @@ emit_selected-emit_statements-requires t c =
     let inside = each (statement_rules scope all_permitted) in
     let one = c.args.one.now in
     let r : inside c.as_slice-2.result.now ≡ [] =
-    ap inside c.as_slice-2.ensures ∙ back_kept (each (when_rules scope.items c.args.subjects.now) one.whens) (inside one.statements) c.requires.rules in
+    ap inside c.as_slice-2.ensures ∙ back_kept (each (when_rules scope.items c.args.subjects.now) one.whens)
+    (inside one.statements) c.requires.rules in
     (search (rules, the_lemmas), (c.requires.declared, (c.requires.entries, r)))
 
 pub emit_selected-returns : goal.emit_selected-returns
@@ -294,13 +360,16 @@ emit_selected-returns t c =
     let branch_piece : Fragment = λ now. branch_code 0 in
     let jump_piece : Fragment = λ now. jump_code 0 in
     let begun : asks ≡ append old (test old) =
-    c.in_ok-emit_whens.ensures ∙ ap (λ (l : List When). append old (condition_fragment scope.items (Any (when_conditions scope.items c.args.subjects.now l)) old)) c.as_slice.ensures in
+    c.in_ok-emit_whens.ensures ∙ ap (λ (l : List When). append old (condition_fragment scope.items
+    (Any (when_conditions scope.items c.args.subjects.now l)) old)) c.as_slice.ensures in
     let inner : done ≡ append c.emit_branch.new.code (first c.emit_branch.new.code) =
     c.in_ok-emit_statements.ensures
-    ∙ ap (λ (l : List Statement). append c.emit_branch.new.code (in_order (statement_fragment scope) l c.emit_branch.new.code)) c.as_slice-2.ensures in
+    ∙ ap (λ (l : List Statement). append c.emit_branch.new.code
+    (in_order (statement_fragment scope) l c.emit_branch.new.code)) c.as_slice-2.ensures in
     record {
       code = then_piece test (sequence branch_piece (sequence first jump_piece)) old asks after begun
-          (then_piece branch_piece (sequence first jump_piece) asks c.emit_branch.new.code after c.in_ok-branch.ensures.code
+          (then_piece branch_piece (sequence first jump_piece) asks c.emit_branch.new.code after
+          c.in_ok-branch.ensures.code
           (then_piece first jump_piece c.emit_branch.new.code done after inner c.in_ok-other.ensures.code));
       branch = c.in_ok-branch.ensures.address ∙ ap (λ (k : Code). length k.instructions) begun;
       other = c.in_ok-other.ensures.other ∙ sym (length-append done.instructions (Jump 0 ∷ Join ∷ []))
@@ -311,7 +380,8 @@ pub emit_groups-emit_selected-requires : goal.emit_groups-emit_selected-requires
 emit_groups-emit_selected-requires t c =
     let scope = scope_in c.args.self.now.declarations.now in
     let kept = selected_rules scope.items (statement_rules scope all_permitted) c.args.subjects.now in
-    let r : kept c.one-item.result ≡ [] = ap kept c.one-item.is ∙ one_kept kept c.args.selected.now c.loop-one.one-index c.one-item.result c.loop-one-test.true c.requires.rules in
+    let r : kept c.one-item.result ≡ [] = ap kept c.one-item.is
+    ∙ one_kept kept c.args.selected.now c.loop-one.one-index c.one-item.result c.loop-one-test.true c.requires.rules in
     (search (rules, the_lemmas), (c.requires.declared, (c.requires.entries, r)))
 
 pub emit_groups-loop-one-preserved : goal.emit_groups-loop-one-preserved
@@ -332,11 +402,13 @@ emit_groups-loop-one-preserved t c =
       same = λ other.
           let rest = selection_fragment scope inside subjects (drop (c.loop-one.one-index + 1) groups) other in
           ap (λ (l : List Way). met_all l (append next (rest next))) pushed
-          ∙ groups_go_on scope inside subjects other ways groups c.loop-one.one-index one one now next _ way c.loop-one-test.true c.one-item.is c.in_ok-way.ensures
+          ∙ groups_go_on scope inside subjects other ways groups c.loop-one.one-index one one now next _ way
+          c.loop-one-test.true c.one-item.is c.in_ok-way.ensures
           (c.loop-one.invariant.same other);
       within = subst (λ (l : List Way). AllByRecursion (IsWay (length next.instructions)) l) (sym pushed)
           (with_last (IsWay (length next.instructions)) ways way
-          (still_ways ways (length now.instructions) (length next.instructions) (opened_longer test first now next way c.in_ok-way.ensures) c.loop-one.invariant.within)
+          (still_ways ways (length now.instructions) (length next.instructions)
+          (opened_longer test first now next way c.in_ok-way.ensures) c.loop-one.invariant.within)
           (opened_way test first now next way c.in_ok-way.ensures));
     }
 
@@ -347,8 +419,10 @@ emit_groups-returns t c =
     let now = c.loop-one.code in
     record {
       same = λ other.
-          groups_done scope inside c.args.subjects.now other c.loop-one.ways.items c.args.selected.now c.loop-one.one-index now
-          (append now (phrase_fragment scope inside other now)) _ c.loop-one-test.false refl (c.loop-one.invariant.same other);
+          groups_done scope inside c.args.subjects.now other c.loop-one.ways.items c.args.selected.now
+          c.loop-one.one-index now
+          (append now (phrase_fragment scope inside other now)) _ c.loop-one-test.false refl
+          (c.loop-one.invariant.same other);
       within = c.loop-one.invariant.within;
     }
 
@@ -364,13 +438,22 @@ emit_evaluate-emit_groups-requires t c =
     let one = c.args.one.now in
     let r : each (selected_rules scope.items inside c.as_slice.result.now) c.as_slice-2.result.now ≡ [] =
     ap (λ (l : List Subject). each (selected_rules scope.items inside l) c.as_slice-2.result.now) c.as_slice.ensures
-    ∙ ap (each (selected_rules scope.items inside one.subjects)) c.as_slice-2.ensures ∙ groups_of scope.items inside one c.requires.rules in
+    ∙ ap (each (selected_rules scope.items inside one.subjects)) c.as_slice-2.ensures
+    ∙ groups_of scope.items inside one c.requires.rules in
     (search (rules, the_lemmas), (c.requires.declared, (c.requires.entries, r)))
 
 pub emit_evaluate-emit_phrase-requires : goal.emit_evaluate-emit_phrase-requires
 emit_evaluate-emit_phrase-requires t c =
-    let scope = scope_in c.args.self.now.declarations.now in
-    (search (rules, the_lemmas), (c.requires.declared, (c.requires.entries, other_of scope.items (statement_rules scope all_permitted) c.args.one.now c.requires.rules)))
+    let scope = scope_in c.args.self.now.declarations.now in (
+      search (rules, the_lemmas),
+      (
+        c.requires.declared,
+        (
+          c.requires.entries,
+          other_of scope.items (statement_rules scope all_permitted) c.args.one.now c.requires.rules,
+        ),
+      ),
+    )
 
 pub emit_evaluate-emit_meetings-requires : goal.emit_evaluate-emit_meetings-requires
 emit_evaluate-emit_meetings-requires t c =
@@ -379,8 +462,10 @@ emit_evaluate-emit_meetings-requires t c =
     let new = c.emit_phrase.new.code in
     let part = phrase_fragment scope (statement_fragment scope) c.args.one.now.other now in
     let longer : length new.instructions ≡ length now.instructions + length part.instructions =
-    ap (λ (k : Code). length k.instructions) c.in_ok-emit_phrase.ensures ∙ length-append now.instructions part.instructions in
-    still_ways c.in_ok-ways.ways.items (length now.instructions) (length new.instructions) (omega (arith, longer)) c.in_ok-ways.ensures.within
+    ap (λ (k : Code). length k.instructions) c.in_ok-emit_phrase.ensures
+    ∙ length-append now.instructions part.instructions in
+    still_ways c.in_ok-ways.ways.items (length now.instructions) (length new.instructions) (omega (arith, longer))
+    c.in_ok-ways.ensures.within
 
 pub emit_evaluate-returns : goal.emit_evaluate-returns
 emit_evaluate-returns t c =
@@ -392,16 +477,20 @@ emit_evaluate-returns t c =
     let ways = c.in_ok-ways.ways.items in
     on_ok c.emit_meetings.result c.emit_meetings.ensures
     (λ (e : c.emit_meetings.new.code ≡ met_all ways c.emit_phrase.new.code).
-    then_piece (subjects_fragment scope.items one.subjects (first_object one.selected)) (selection_fragment scope inside one.subjects one.selected one.other) old now
+    then_piece (subjects_fragment scope.items one.subjects (first_object one.selected))
+    (selection_fragment scope inside one.subjects one.selected one.other) old now
     c.emit_meetings.new.code c.in_ok-emit_subjects.ensures
     (e ∙ ap (met_all ways) c.in_ok-emit_phrase.ensures ∙ c.in_ok-ways.ensures.same one.other
-    ∙ ap (λ (l : List Subject). append now (selection_fragment scope inside l c.as_slice-2.result.now one.other now)) c.as_slice.ensures
-    ∙ ap (λ (l : List (Selected Statement)). append now (selection_fragment scope inside one.subjects l one.other now)) c.as_slice-2.ensures))
+    ∙ ap (λ (l : List Subject). append now (selection_fragment scope inside l c.as_slice-2.result.now one.other now))
+    c.as_slice.ensures
+    ∙ ap (λ (l : List (Selected Statement)). append now (selection_fragment scope inside one.subjects l one.other now))
+    c.as_slice-2.ensures))
 
 pub emit_until-emit_vary_begin-requires-clause-rules : goal.emit_until-emit_vary_begin-requires-clause-rules
 emit_until-emit_vary_begin-requires-clause-rules t c =
     let scope = scope_in c.args.self.now.declarations.now in
-    front_kept (varying_rules scope.items c.args.one.now.varying) (condition_rules scope.items c.args.one.now.condition) c.requires.turns
+    front_kept (varying_rules scope.items c.args.one.now.varying) (condition_rules scope.items c.args.one.now.condition)
+    c.requires.turns
 
 pub emit_until-returns-in-Before : goal.emit_until-returns-in-Before
 emit_until-returns-in-Before t c =
@@ -413,9 +502,12 @@ emit_until-returns-in-Before t c =
     let onward = vary_on_fragment scope.items one.varying in
     let turn = turn_fragment scope (statement_fragment scope) c.args.line c.args.performed.now in
     let turns = until_before_fragment test onward turn in
-    is_so c.emit_until_before.result c.emit_until_before.new.code (append old (sequence begin turns old)) (append old (until_fragment scope.items one turn old))
-    (ends_so c.emit_until_before.result begin turns old c.emit_vary_begin.new.code c.emit_until_before.new.code c.in_ok-emit_vary_begin.ensures c.emit_until_before.ensures)
-    (sym (ap (λ (w : TestTime). append old (sequence begin (until_from_fragment w test onward turn) old)) c.in-Before.is))
+    is_so c.emit_until_before.result c.emit_until_before.new.code (append old (sequence begin turns old))
+    (append old (until_fragment scope.items one turn old))
+    (ends_so c.emit_until_before.result begin turns old c.emit_vary_begin.new.code c.emit_until_before.new.code
+    c.in_ok-emit_vary_begin.ensures c.emit_until_before.ensures)
+    (sym (ap (λ (w : TestTime). append old (sequence begin (until_from_fragment w test onward turn) old))
+    c.in-Before.is))
 
 pub emit_until-returns-in-After : goal.emit_until-returns-in-After
 emit_until-returns-in-After t c =
@@ -427,14 +519,18 @@ emit_until-returns-in-After t c =
     let onward = vary_on_fragment scope.items one.varying in
     let turn = turn_fragment scope (statement_fragment scope) c.args.line c.args.performed.now in
     let turns = until_after_fragment test onward turn in
-    is_so c.emit_until_after.result c.emit_until_after.new.code (append old (sequence begin turns old)) (append old (until_fragment scope.items one turn old))
-    (ends_so c.emit_until_after.result begin turns old c.emit_vary_begin.new.code c.emit_until_after.new.code c.in_ok-emit_vary_begin.ensures c.emit_until_after.ensures)
-    (sym (ap (λ (w : TestTime). append old (sequence begin (until_from_fragment w test onward turn) old)) c.in-After.is))
+    is_so c.emit_until_after.result c.emit_until_after.new.code (append old (sequence begin turns old))
+    (append old (until_fragment scope.items one turn old))
+    (ends_so c.emit_until_after.result begin turns old c.emit_vary_begin.new.code c.emit_until_after.new.code
+    c.in_ok-emit_vary_begin.ensures c.emit_until_after.ensures)
+    (sym
+    (ap (λ (w : TestTime). append old (sequence begin (until_from_fragment w test onward turn) old)) c.in-After.is))
 
 pub emit_until_before-emit_condition-requires-clause-rules : goal.emit_until_before-emit_condition-requires-clause-rules
 emit_until_before-emit_condition-requires-clause-rules t c =
     let scope = scope_in c.args.self.now.declarations.now in
-    back_kept (varying_rules scope.items c.args.one.now.varying) (condition_rules scope.items c.args.one.now.condition) c.requires.turns
+    back_kept (varying_rules scope.items c.args.one.now.varying) (condition_rules scope.items c.args.one.now.condition)
+    c.requires.turns
 
 pub emit_until_before-returns : goal.emit_until_before-returns
 emit_until_before-returns t c =
@@ -442,24 +538,30 @@ emit_until_before-returns t c =
     let one = c.args.one.now in
     let old = c.args.code.now in
     let test = condition_fragment scope.items one.condition in
-    let turn = repetition_fragment (turn_fragment scope (statement_fragment scope) c.args.line c.args.performed.now) (sequence (vary_on_fragment scope.items one.varying) test) in
+    let turn = repetition_fragment (turn_fragment scope (statement_fragment scope) c.args.line c.args.performed.now)
+    (sequence (vary_on_fragment scope.items one.varying) test) in
     let branch = c.in_ok-branch.branch in
     let other = c.in_ok-other.other in
     on_ok c.emit_meeting.result c.emit_meeting.ensures
     (λ (e : c.emit_meeting.new.code ≡ patched_code branch other c.emit_turn_before.new.code).
-    then_piece test (either_fragment nothing_fragment turn) old c.emit_condition.new.code c.emit_meeting.new.code c.in_ok-emit_condition.ensures
-    (meeting nothing_fragment turn c.emit_condition.new.code c.emit_branch.new.code c.emit_branch.new.code c.emit_jump.new.code c.emit_turn_before.new.code c.emit_meeting.new.code branch other
-    c.in_ok-branch.ensures.code c.in_ok-branch.ensures.address (sym (joined_nothing c.emit_branch.new.code)) c.in_ok-other.ensures.code c.in_ok-other.ensures.other c.in_ok-emit_turn_before.ensures e))
+    then_piece test (either_fragment nothing_fragment turn) old c.emit_condition.new.code c.emit_meeting.new.code
+    c.in_ok-emit_condition.ensures
+    (meeting nothing_fragment turn c.emit_condition.new.code c.emit_branch.new.code c.emit_branch.new.code
+    c.emit_jump.new.code c.emit_turn_before.new.code c.emit_meeting.new.code branch other
+    c.in_ok-branch.ensures.code c.in_ok-branch.ensures.address (sym (joined_nothing c.emit_branch.new.code))
+    c.in_ok-other.ensures.code c.in_ok-other.ensures.other c.in_ok-emit_turn_before.ensures e))
 
 pub emit_turn_before-emit_vary_on-requires-clause-rules : goal.emit_turn_before-emit_vary_on-requires-clause-rules
 emit_turn_before-emit_vary_on-requires-clause-rules t c =
     let scope = scope_in c.args.self.now.declarations.now in
-    front_kept (varying_rules scope.items c.args.one.now.varying) (condition_rules scope.items c.args.one.now.condition) c.requires.turns
+    front_kept (varying_rules scope.items c.args.one.now.varying) (condition_rules scope.items c.args.one.now.condition)
+    c.requires.turns
 
 pub emit_turn_before-emit_condition-requires-clause-rules : goal.emit_turn_before-emit_condition-requires-clause-rules
 emit_turn_before-emit_condition-requires-clause-rules t c =
     let scope = scope_in c.args.self.now.declarations.now in
-    back_kept (varying_rules scope.items c.args.one.now.varying) (condition_rules scope.items c.args.one.now.condition) c.requires.turns
+    back_kept (varying_rules scope.items c.args.one.now.varying) (condition_rules scope.items c.args.one.now.condition)
+    c.requires.turns
 
 pub emit_turn_before-returns : goal.emit_turn_before-returns
 emit_turn_before-returns t c =
@@ -472,22 +574,26 @@ emit_turn_before-returns t c =
     let onward = vary_on_fragment scope.items one.varying in
     let turn = turn_fragment scope (statement_fragment scope) c.args.line c.args.performed.now in
     let behind = sequence onward test in
-    is_so result new (append old (sequence (sequence turn behind) (λ b. branch_code c.len-begin.result) old)) (append old (repetition_fragment turn behind old))
+    is_so result new (append old (sequence (sequence turn behind) (λ b. branch_code c.len-begin.result) old))
+    (append old (repetition_fragment turn behind old))
     (ends_so result (sequence turn behind) (λ b. branch_code c.len-begin.result) old c.emit_condition.new.code new
     (then_piece turn behind old c.emit_turn.new.code c.emit_condition.new.code c.in_ok-emit_turn.ensures
-    (then_piece onward test c.emit_turn.new.code c.emit_vary_on.new.code c.emit_condition.new.code c.in_ok-emit_vary_on.ensures c.in_ok-emit_condition.ensures))
+    (then_piece onward test c.emit_turn.new.code c.emit_vary_on.new.code c.emit_condition.new.code
+    c.in_ok-emit_vary_on.ensures c.in_ok-emit_condition.ensures))
     c.emit_way_back.ensures)
     (ap (λ n. append old (sequence (sequence turn behind) (λ b. branch_code n) old)) c.len-begin.ensures)
 
 pub emit_until_after-emit_condition-requires-clause-rules : goal.emit_until_after-emit_condition-requires-clause-rules
 emit_until_after-emit_condition-requires-clause-rules t c =
     let scope = scope_in c.args.self.now.declarations.now in
-    back_kept (varying_rules scope.items c.args.one.now.varying) (condition_rules scope.items c.args.one.now.condition) c.requires.turns
+    back_kept (varying_rules scope.items c.args.one.now.varying) (condition_rules scope.items c.args.one.now.condition)
+    c.requires.turns
 
 pub emit_until_after-emit_onward-requires-clause-rules : goal.emit_until_after-emit_onward-requires-clause-rules
 emit_until_after-emit_onward-requires-clause-rules t c =
     let scope = scope_in c.args.self.now.declarations.now in
-    front_kept (varying_rules scope.items c.args.one.now.varying) (condition_rules scope.items c.args.one.now.condition) c.requires.turns
+    front_kept (varying_rules scope.items c.args.one.now.varying) (condition_rules scope.items c.args.one.now.condition)
+    c.requires.turns
 
 pub emit_until_after-returns : goal.emit_until_after-returns
 emit_until_after-returns t c =
@@ -497,13 +603,16 @@ emit_until_after-returns t c =
     let result = c.emit_way_back.result in
     let new = c.emit_way_back.new.code in
     let test = condition_fragment scope.items one.condition in
-    let way = either_fragment nothing_fragment (sequence (vary_on_fragment scope.items one.varying) (work_fragment i.ClearTruth)) in
+    let way = either_fragment nothing_fragment
+    (sequence (vary_on_fragment scope.items one.varying) (work_fragment i.ClearTruth)) in
     let turn = turn_fragment scope (statement_fragment scope) c.args.line c.args.performed.now in
     let behind = sequence test way in
-    is_so result new (append old (sequence (sequence turn behind) (λ b. branch_code c.len-begin.result) old)) (append old (repetition_fragment turn behind old))
+    is_so result new (append old (sequence (sequence turn behind) (λ b. branch_code c.len-begin.result) old))
+    (append old (repetition_fragment turn behind old))
     (ends_so result (sequence turn behind) (λ b. branch_code c.len-begin.result) old c.emit_onward.new.code new
     (then_piece turn behind old c.emit_turn.new.code c.emit_onward.new.code c.in_ok-emit_turn.ensures
-    (then_piece test way c.emit_turn.new.code c.emit_condition.new.code c.emit_onward.new.code c.in_ok-emit_condition.ensures c.in_ok-emit_onward.ensures))
+    (then_piece test way c.emit_turn.new.code c.emit_condition.new.code c.emit_onward.new.code
+    c.in_ok-emit_condition.ensures c.in_ok-emit_onward.ensures))
     c.emit_way_back.ensures)
     (ap (λ n. append old (sequence (sequence turn behind) (λ b. branch_code n) old)) c.len-begin.ensures)
 
@@ -520,16 +629,20 @@ emit_stringing-emit_string-requires-clause-receiver t c =
 pub emit_stringing-emit_string-requires-clause-pointer : goal.emit_stringing-emit_string-requires-clause-pointer
 emit_stringing-emit_string-requires-clause-pointer t c =
     let items = (scope_in c.args.self.now.declarations.now).items in
-    pointer_kept items (only_length (items_named items c.args.one.now.receiver.item)) c.args.one.now.pointer (keeps_string items c.args.one.now c.requires.string).pointer
+    pointer_kept items (only_length (items_named items c.args.one.now.receiver.item)) c.args.one.now.pointer
+    (keeps_string items c.args.one.now c.requires.string).pointer
 
 pub emit_filing-emit_read-requires : goal.emit_filing-emit_read-requires
 emit_filing-emit_read-requires t c =
     let scope = scope_in c.args.self.now.declarations.now in
     let phrases = c.in-Read.phrases in
     let d = rw c.in-Read.is at c.decreases in
-    let own : file_named_rules scope.items scope.files c.in-Read.file (read_rules scope.items scope.files c.in-Read.file.place c.in-Read.next c.in-Read.into c.in-Read.key phrases) ≡ [] = sym (ap (filing_rules scope.items scope.files) c.in-Read.is) ∙ c.requires.rules in
+    let own : file_named_rules scope.items scope.files c.in-Read.file
+    (read_rules scope.items scope.files c.in-Read.file.place c.in-Read.next c.in-Read.into c.in-Read.key phrases) ≡ [] =
+    sym (ap (filing_rules scope.items scope.files) c.in-Read.is) ∙ c.requires.rules in
     let inner : file_phrases_rules (statement_rules scope all_permitted) phrases ≡ [] =
-    sym (ap (λ (f : FileStatement Statement). file_phrases_rules (statement_rules scope all_permitted) (phrases_of f)) c.in-Read.is) ∙ c.requires.phrases in
+    sym (ap (λ (f : FileStatement Statement). file_phrases_rules (statement_rules scope all_permitted) (phrases_of f))
+    c.in-Read.is) ∙ c.requires.phrases in
     (omega (arith, d), (c.requires.declared, (c.requires.entries, (own, inner))))
 
 pub emit_filing-emit_record-requires : goal.emit_filing-emit_record-requires
@@ -537,9 +650,11 @@ emit_filing-emit_record-requires t c =
     let scope = scope_in c.args.self.now.declarations.now in
     let phrases = c.in-Write.phrases in
     let d = rw c.in-Write.is at c.decreases in
-    let own : record_rules scope.items scope.files c.in-Write.record c.in-Write.from phrases ≡ [] = sym (ap (filing_rules scope.items scope.files) c.in-Write.is) ∙ c.requires.rules in
+    let own : record_rules scope.items scope.files c.in-Write.record c.in-Write.from phrases ≡ [] =
+    sym (ap (filing_rules scope.items scope.files) c.in-Write.is) ∙ c.requires.rules in
     let inner : file_phrases_rules (statement_rules scope all_permitted) phrases ≡ [] =
-    sym (ap (λ (f : FileStatement Statement). file_phrases_rules (statement_rules scope all_permitted) (phrases_of f)) c.in-Write.is) ∙ c.requires.phrases in
+    sym (ap (λ (f : FileStatement Statement). file_phrases_rules (statement_rules scope all_permitted) (phrases_of f))
+    c.in-Write.is) ∙ c.requires.phrases in
     (omega (arith, d), (c.requires.declared, (c.requires.entries, (own, inner))))
 
 pub emit_filing-emit_record-requires-in-Rewrite : goal.emit_filing-emit_record-requires-in-Rewrite
@@ -547,9 +662,11 @@ emit_filing-emit_record-requires-in-Rewrite t c =
     let scope = scope_in c.args.self.now.declarations.now in
     let phrases = c.in-Rewrite.phrases in
     let d = rw c.in-Rewrite.is at c.decreases in
-    let own : record_rules scope.items scope.files c.in-Rewrite.record c.in-Rewrite.from phrases ≡ [] = sym (ap (filing_rules scope.items scope.files) c.in-Rewrite.is) ∙ c.requires.rules in
+    let own : record_rules scope.items scope.files c.in-Rewrite.record c.in-Rewrite.from phrases ≡ [] =
+    sym (ap (filing_rules scope.items scope.files) c.in-Rewrite.is) ∙ c.requires.rules in
     let inner : file_phrases_rules (statement_rules scope all_permitted) phrases ≡ [] =
-    sym (ap (λ (f : FileStatement Statement). file_phrases_rules (statement_rules scope all_permitted) (phrases_of f)) c.in-Rewrite.is) ∙ c.requires.phrases in
+    sym (ap (λ (f : FileStatement Statement). file_phrases_rules (statement_rules scope all_permitted) (phrases_of f))
+    c.in-Rewrite.is) ∙ c.requires.phrases in
     (omega (arith, d), (c.requires.declared, (c.requires.entries, (own, inner))))
 
 pub emit_filing-emit_delete-requires : goal.emit_filing-emit_delete-requires
@@ -557,9 +674,12 @@ emit_filing-emit_delete-requires t c =
     let scope = scope_in c.args.self.now.declarations.now in
     let phrases = c.in-Delete.phrases in
     let d = rw c.in-Delete.is at c.decreases in
-    let own : file_named_rules scope.items scope.files c.in-Delete.file (delete_rules scope.items scope.files c.in-Delete.file.place phrases) ≡ [] = sym (ap (filing_rules scope.items scope.files) c.in-Delete.is) ∙ c.requires.rules in
+    let own : file_named_rules scope.items
+    scope.files c.in-Delete.file (delete_rules scope.items scope.files c.in-Delete.file.place phrases) ≡ [] =
+    sym (ap (filing_rules scope.items scope.files) c.in-Delete.is) ∙ c.requires.rules in
     let inner : file_phrases_rules (statement_rules scope all_permitted) phrases ≡ [] =
-    sym (ap (λ (f : FileStatement Statement). file_phrases_rules (statement_rules scope all_permitted) (phrases_of f)) c.in-Delete.is) ∙ c.requires.phrases in
+    sym (ap (λ (f : FileStatement Statement). file_phrases_rules (statement_rules scope all_permitted) (phrases_of f))
+    c.in-Delete.is) ∙ c.requires.phrases in
     (omega (arith, d), (c.requires.declared, (c.requires.entries, inner)))
 
 pub emit_filing-emit_starting-requires : goal.emit_filing-emit_starting-requires
@@ -567,9 +687,12 @@ emit_filing-emit_starting-requires t c =
     let scope = scope_in c.args.self.now.declarations.now in
     let phrases = c.in-Start.phrases in
     let d = rw c.in-Start.is at c.decreases in
-    let own : file_named_rules scope.items scope.files c.in-Start.file (start_rules scope.items scope.files c.in-Start.file.place c.in-Start.key phrases) ≡ [] = sym (ap (filing_rules scope.items scope.files) c.in-Start.is) ∙ c.requires.rules in
+    let own : file_named_rules scope.items scope.files
+    c.in-Start.file (start_rules scope.items scope.files c.in-Start.file.place c.in-Start.key phrases) ≡ [] =
+    sym (ap (filing_rules scope.items scope.files) c.in-Start.is) ∙ c.requires.rules in
     let inner : file_phrases_rules (statement_rules scope all_permitted) phrases ≡ [] =
-    sym (ap (λ (f : FileStatement Statement). file_phrases_rules (statement_rules scope all_permitted) (phrases_of f)) c.in-Start.is) ∙ c.requires.phrases in
+    sym (ap (λ (f : FileStatement Statement). file_phrases_rules (statement_rules scope all_permitted) (phrases_of f))
+    c.in-Start.is) ∙ c.requires.phrases in
     (omega (arith, d), (c.requires.declared, (c.requires.entries, (own, inner))))
 
 pub emit_filing-returns-in-Read : goal.emit_filing-returns-in-Read
@@ -579,19 +702,23 @@ emit_filing-returns-in-Read t c =
     let old = c.args.code.now in
     let tick = tick_fragment c.args.line in
     let verb = λ (file : ProgramFile). meaning.read_verb scope.items file c.in-Read.next c.in-Read.key in
-    let piece = on_name_fragment scope.items scope.files c.in-Read.file (statement_on_fragment scope inside c.in-Read.phrases (into_fragment scope.items c.in-Read.into) verb) in
+    let piece = on_name_fragment scope.items scope.files c.in-Read.file
+    (statement_on_fragment scope inside c.in-Read.phrases (into_fragment scope.items c.in-Read.into) verb) in
     let result = c.emit_read.result in
     let new = c.emit_read.new.code in
-    is_so result new (append old (sequence tick piece old)) (append old (sequence tick (file_statement_fragment scope inside c.args.one.now) old))
+    is_so result new (append old (sequence tick piece old))
+    (append old (sequence tick (file_statement_fragment scope inside c.args.one.now) old))
     (ends_so result tick piece old c.emit_tick.new.code new c.in_ok-emit_tick.ensures c.emit_read.ensures)
-    (sym (ap (λ (one : FileStatement Statement). append old (sequence tick (file_statement_fragment scope inside one) old)) c.in-Read.is))
+    (sym (ap (λ (one : FileStatement Statement).
+    append old (sequence tick (file_statement_fragment scope inside one) old)) c.in-Read.is))
 
 pub emit_read-read_verb-requires-clause-rules : goal.emit_read-read_verb-requires-clause-rules
 emit_read-read_verb-requires-clause-rules t c =
     let scope = scope_in c.args.self.now.declarations.now in
     let name = c.args.name.now in
     let known = file_in scope.items c.in-Some.file.now in
-    let asked = read_rules scope.items scope.files name.place c.args.next c.args.into.now c.args.key.now c.args.phrases.now in
+    let asked =
+    read_rules scope.items scope.files name.place c.args.next c.args.into.now c.args.key.now c.args.phrases.now in
     read_key_kept scope.items scope.files name.place c.args.next c.args.into.now c.args.key.now c.args.phrases.now known
     (first_kept name.place asked (files_named scope.files name) known c.requires.rules c.in-Some.ensures)
 
@@ -600,8 +727,10 @@ emit_read-emit_on_file-requires t c =
     let scope = scope_in c.args.self.now.declarations.now in
     let name = c.args.name.now in
     let known = file_in scope.items c.in-Some.file.now in
-    let asked = read_rules scope.items scope.files name.place c.args.next c.args.into.now c.args.key.now c.args.phrases.now in
-    let into = read_into_kept scope.items scope.files name.place c.args.next c.args.into.now c.args.key.now c.args.phrases.now known
+    let asked =
+    read_rules scope.items scope.files name.place c.args.next c.args.into.now c.args.key.now c.args.phrases.now in
+    let into = read_into_kept scope.items scope.files name.place c.args.next c.args.into.now c.args.key.now
+    c.args.phrases.now known
     (first_kept name.place asked (files_named scope.files name) known c.requires.rules c.in-Some.ensures) in
     (omega (arith, c.decreases), (c.requires.declared, (c.requires.entries, (into, c.requires.phrases))))
 
@@ -609,7 +738,8 @@ pub emit_read-returns-in_default : goal.emit_read-returns-in_default
 emit_read-returns-in_default t c =
     let scope = scope_in c.args.self.now.declarations.now in
     let verb = λ (file : ProgramFile). meaning.read_verb scope.items file c.args.next c.args.key.now in
-    none_found (first (files_named scope.files c.args.name.now)) (statement_on_fragment scope (statement_fragment scope) c.args.phrases.now (into_fragment scope.items c.args.into.now) verb)
+    none_found (first (files_named scope.files c.args.name.now)) (statement_on_fragment scope (statement_fragment scope)
+    c.args.phrases.now (into_fragment scope.items c.args.into.now) verb)
     c.args.code.now c.in_default.ensures
 
 pub emit_read-returns : goal.emit_read-returns
@@ -620,11 +750,15 @@ emit_read-returns t c =
     let phrases = c.args.phrases.now in
     let known = file_in scope.items c.in-Some.file.now in
     let found = first (files_named scope.files c.args.name.now) in
-    let piece = statement_on_fragment scope inside phrases (into_fragment scope.items c.args.into.now) (λ (file : ProgramFile). meaning.read_verb scope.items file c.args.next c.args.key.now) in
-    let behind = status_fragment scope inside known.places.status phrases (into_fragment scope.items c.args.into.now known) in
+    let piece = statement_on_fragment scope inside phrases (into_fragment scope.items c.args.into.now)
+    (λ (file : ProgramFile). meaning.read_verb scope.items file c.args.next c.args.key.now) in
+    let behind =
+    status_fragment scope inside known.places.status phrases (into_fragment scope.items c.args.into.now known) in
     let made = sequence (file_fragment c.in_ok-verb.verb known) behind in
-    is_so c.emit_on_file.result c.emit_on_file.new.code (append old (made old)) (append old (on_file_fragment found piece old)) c.emit_on_file.ensures
-    (one_found found piece known made old c.in-Some.ensures (ap (λ (verb : Verb). sequence (file_fragment verb known) behind old) c.in_ok-verb.ensures))
+    is_so c.emit_on_file.result c.emit_on_file.new.code (append old (made old))
+    (append old (on_file_fragment found piece old)) c.emit_on_file.ensures
+    (one_found found piece known made old c.in-Some.ensures
+    (ap (λ (verb : Verb). sequence (file_fragment verb known) behind old) c.in_ok-verb.ensures))
 
 pub emit_record-emit_from-requires-clause-rules : goal.emit_record-emit_from-requires-clause-rules
 emit_record-emit_from-requires-clause-rules t c =
@@ -642,8 +776,10 @@ emit_record-returns-in_default t c =
     let one = c.args.one.now in
     let now = c.emit_from.new.code in
     let found = file_with_record scope.files (first (items_named scope.items one.item)) in
-    let piece = alone_fragment scope (statement_fragment scope) c.args.phrases.now (λ (file : ProgramFile). c.args.verb) in
-    then_piece (from_fragment scope.items one c.args.from.now) (on_file_fragment found piece) c.args.code.now now now c.in_ok-emit_from.ensures
+    let piece =
+    alone_fragment scope (statement_fragment scope) c.args.phrases.now (λ (file : ProgramFile). c.args.verb) in
+    then_piece (from_fragment scope.items one c.args.from.now) (on_file_fragment found piece) c.args.code.now now now
+    c.in_ok-emit_from.ensures
     (none_found found piece now c.in_default.ensures)
 
 pub emit_record-returns : goal.emit_record-returns
@@ -661,13 +797,15 @@ emit_record-returns t c =
     let piece = alone_fragment scope inside phrases (λ (file : ProgramFile). c.args.verb) in
     let from = from_fragment scope.items one c.args.from.now in
     ends_so result from (on_file_fragment found piece) old now new c.in_ok-emit_from.ensures
-    (is_so result new (append now (piece known now)) (append now (on_file_fragment found piece now)) c.emit_on_file.ensures
+    (is_so result new (append now (piece known now)) (append now (on_file_fragment found piece now))
+    c.emit_on_file.ensures
     (one_found found piece known (piece known) now c.in-Some.ensures refl))
 
 pub emit_delete-returns-in_default : goal.emit_delete-returns-in_default
 emit_delete-returns-in_default t c =
     let scope = scope_in c.args.self.now.declarations.now in
-    none_found (first (files_named scope.files c.args.name.now)) (alone_fragment scope (statement_fragment scope) c.args.phrases.now (λ (file : ProgramFile). file_verb.Delete))
+    none_found (first (files_named scope.files c.args.name.now))
+    (alone_fragment scope (statement_fragment scope) c.args.phrases.now (λ (file : ProgramFile). file_verb.Delete))
     c.args.code.now c.in_default.ensures
 
 pub emit_delete-returns : goal.emit_delete-returns
@@ -676,8 +814,10 @@ emit_delete-returns t c =
     let old = c.args.code.now in
     let known = file_in scope.items c.in-Some.file.now in
     let found = first (files_named scope.files c.args.name.now) in
-    let piece = alone_fragment scope (statement_fragment scope) c.args.phrases.now (λ (file : ProgramFile). file_verb.Delete) in
-    is_so c.emit_on_file.result c.emit_on_file.new.code (append old (piece known old)) (append old (on_file_fragment found piece old)) c.emit_on_file.ensures
+    let piece =
+    alone_fragment scope (statement_fragment scope) c.args.phrases.now (λ (file : ProgramFile). file_verb.Delete) in
+    is_so c.emit_on_file.result c.emit_on_file.new.code (append old (piece known old))
+    (append old (on_file_fragment found piece old)) c.emit_on_file.ensures
     (one_found found piece known (piece known) old c.in-Some.ensures refl)
 
 pub emit_starting-start_verb-requires-clause-rules : goal.emit_starting-start_verb-requires-clause-rules
@@ -693,7 +833,8 @@ pub emit_starting-returns-in_default : goal.emit_starting-returns-in_default
 emit_starting-returns-in_default t c =
     let scope = scope_in c.args.self.now.declarations.now in
     let verb = λ (file : ProgramFile). meaning.start_verb scope.items file c.args.key.now in
-    none_found (first (files_named scope.files c.args.name.now)) (alone_fragment scope (statement_fragment scope) c.args.phrases.now verb) c.args.code.now c.in_default.ensures
+    none_found (first (files_named scope.files c.args.name.now))
+    (alone_fragment scope (statement_fragment scope) c.args.phrases.now verb) c.args.code.now c.in_default.ensures
 
 pub emit_starting-returns : goal.emit_starting-returns
 emit_starting-returns t c =
@@ -703,11 +844,14 @@ emit_starting-returns t c =
     let phrases = c.args.phrases.now in
     let known = file_in scope.items c.in-Some.file.now in
     let found = first (files_named scope.files c.args.name.now) in
-    let piece = alone_fragment scope inside phrases (λ (file : ProgramFile). meaning.start_verb scope.items file c.args.key.now) in
+    let piece =
+    alone_fragment scope inside phrases (λ (file : ProgramFile). meaning.start_verb scope.items file c.args.key.now) in
     let behind = status_fragment scope inside known.places.status phrases nothing_fragment in
     let made = sequence (file_fragment c.in_ok-verb.verb known) behind in
-    is_so c.emit_on_file.result c.emit_on_file.new.code (append old (made old)) (append old (on_file_fragment found piece old)) c.emit_on_file.ensures
-    (one_found found piece known made old c.in-Some.ensures (ap (λ (verb : Verb). sequence (file_fragment verb known) behind old) c.in_ok-verb.ensures))
+    is_so c.emit_on_file.result c.emit_on_file.new.code (append old (made old))
+    (append old (on_file_fragment found piece old)) c.emit_on_file.ensures
+    (one_found found piece known made old c.in-Some.ensures
+    (ap (λ (verb : Verb). sequence (file_fragment verb known) behind old) c.in_ok-verb.ensures))
 
 pub emit_on_file-returns : goal.emit_on_file-returns
 emit_on_file-returns t c =
@@ -743,32 +887,56 @@ emit_success-emit_phrase-requires t c =
     let inside = statement_rules (scope_in c.args.self.now.declarations.now) all_permitted in
     let pair = c.in-AtEnd.pair in
     let d = rw c.in-AtEnd.is at c.decreases in
-    let r : phrases_rules inside pair ≡ [] = sym (ap (file_phrases_rules inside) c.in-AtEnd.is) ∙ c.requires.phrases in
-    (omega (arith, d), (c.requires.declared, (c.requires.entries, back_kept (phrase_rules inside pair.arose) (phrase_rules inside pair.did_not) r)))
+    let r : phrases_rules inside pair ≡ [] =
+    sym (ap (file_phrases_rules inside) c.in-AtEnd.is) ∙ c.requires.phrases in (
+      omega (arith, d),
+      (
+        c.requires.declared,
+        (c.requires.entries, back_kept (phrase_rules inside pair.arose) (phrase_rules inside pair.did_not) r),
+      ),
+    )
 
 pub emit_success-emit_phrase-requires-in-InvalidKey : goal.emit_success-emit_phrase-requires-in-InvalidKey
 emit_success-emit_phrase-requires-in-InvalidKey t c =
     let inside = statement_rules (scope_in c.args.self.now.declarations.now) all_permitted in
     let pair = c.in-InvalidKey.pair in
     let d = rw c.in-InvalidKey.is at c.decreases in
-    let r : phrases_rules inside pair ≡ [] = sym (ap (file_phrases_rules inside) c.in-InvalidKey.is) ∙ c.requires.phrases in
-    (omega (arith, d), (c.requires.declared, (c.requires.entries, back_kept (phrase_rules inside pair.arose) (phrase_rules inside pair.did_not) r)))
+    let r : phrases_rules inside pair ≡ [] =
+    sym (ap (file_phrases_rules inside) c.in-InvalidKey.is) ∙ c.requires.phrases in (
+      omega (arith, d),
+      (
+        c.requires.declared,
+        (c.requires.entries, back_kept (phrase_rules inside pair.arose) (phrase_rules inside pair.did_not) r),
+      ),
+    )
 
 pub emit_failure-emit_class_phrase-requires : goal.emit_failure-emit_class_phrase-requires
 emit_failure-emit_class_phrase-requires t c =
     let inside = statement_rules (scope_in c.args.self.now.declarations.now) all_permitted in
     let pair = c.in-AtEnd.pair in
     let d = rw c.in-AtEnd.is at c.decreases in
-    let r : phrases_rules inside pair ≡ [] = sym (ap (file_phrases_rules inside) c.in-AtEnd.is) ∙ c.requires.phrases in
-    (omega (arith, d), (c.requires.declared, (c.requires.entries, front_kept (phrase_rules inside pair.arose) (phrase_rules inside pair.did_not) r)))
+    let r : phrases_rules inside pair ≡ [] =
+    sym (ap (file_phrases_rules inside) c.in-AtEnd.is) ∙ c.requires.phrases in (
+      omega (arith, d),
+      (
+        c.requires.declared,
+        (c.requires.entries, front_kept (phrase_rules inside pair.arose) (phrase_rules inside pair.did_not) r),
+      ),
+    )
 
 pub emit_failure-emit_class_phrase-requires-in-InvalidKey : goal.emit_failure-emit_class_phrase-requires-in-InvalidKey
 emit_failure-emit_class_phrase-requires-in-InvalidKey t c =
     let inside = statement_rules (scope_in c.args.self.now.declarations.now) all_permitted in
     let pair = c.in-InvalidKey.pair in
     let d = rw c.in-InvalidKey.is at c.decreases in
-    let r : phrases_rules inside pair ≡ [] = sym (ap (file_phrases_rules inside) c.in-InvalidKey.is) ∙ c.requires.phrases in
-    (omega (arith, d), (c.requires.declared, (c.requires.entries, front_kept (phrase_rules inside pair.arose) (phrase_rules inside pair.did_not) r)))
+    let r : phrases_rules inside pair ≡ [] =
+    sym (ap (file_phrases_rules inside) c.in-InvalidKey.is) ∙ c.requires.phrases in (
+      omega (arith, d),
+      (
+        c.requires.declared,
+        (c.requires.entries, front_kept (phrase_rules inside pair.arose) (phrase_rules inside pair.did_not) r),
+      ),
+    )
 
 pub emit_class_phrase-returns : goal.emit_class_phrase-returns
 emit_class_phrase-returns t c =
@@ -785,17 +953,23 @@ emit_class_phrase-returns t c =
     on_ok c.emit_meeting.result c.emit_meeting.ensures
     (λ (m : new ≡ patched_code branch other c.emit_unheard.new.code).
     then_piece test (either_fragment first_way unheard) old tested new c.in_ok-emit_test.ensures
-    (meeting first_way unheard tested c.emit_branch.new.code c.emit_phrase_taken.new.code c.emit_jump.new.code c.emit_unheard.new.code new branch other
-    c.in_ok-branch.ensures.code c.in_ok-branch.ensures.address c.in_ok-emit_phrase_taken.ensures c.in_ok-other.ensures.code c.in_ok-other.ensures.other
+    (meeting first_way unheard tested c.emit_branch.new.code c.emit_phrase_taken.new.code c.emit_jump.new.code
+    c.emit_unheard.new.code new branch other
+    c.in_ok-branch.ensures.code c.in_ok-branch.ensures.address c.in_ok-emit_phrase_taken.ensures
+    c.in_ok-other.ensures.code c.in_ok-other.ensures.other
     c.in_ok-emit_unheard.ensures m))
 
 pub emit_phrase_taken-emit_statements-requires : goal.emit_phrase_taken-emit_statements-requires
 emit_phrase_taken-emit_statements-requires t c =
     let scope = scope_in c.args.self.now.declarations.now in
-    let e : c.args.phrase.now ≡ Some c.as_slice.result.now = c.in-Some.is ∙ ap (λ (l : List Statement). Some l) (sym c.as_slice.ensures) in
+    let e : c.args.phrase.now ≡ Some c.as_slice.result.now =
+    c.in-Some.is ∙ ap (λ (l : List Statement). Some l) (sym c.as_slice.ensures) in
     let d = rw e at c.decreases in (
       omega (arith, d),
-      (c.requires.declared, (c.requires.entries, sym (ap (phrase_rules (statement_rules scope all_permitted)) e) ∙ c.requires.rules)),
+      (
+        c.requires.declared,
+        (c.requires.entries, sym (ap (phrase_rules (statement_rules scope all_permitted)) e) ∙ c.requires.rules),
+      ),
     )
 
 pub emit_stringing-returns : goal.emit_stringing-returns
@@ -811,5 +985,7 @@ emit_stringing-returns t c =
     let text = string_fragment scope.items one.sendings one.receiver one.pointer in
     let phrases = phrases_fragment scope (statement_fragment scope) one.phrases in
     let is : put ≡ append ticked (text ticked) =
-    c.in_ok-emit_string.ensures ∙ ap (λ (all : List Sending). append ticked (string_fragment scope.items all one.receiver one.pointer ticked)) c.as_slice.ensures in
-    ends_so result tick (sequence text phrases) old ticked new c.in_ok-emit_tick.ensures (ends_so result text phrases ticked put new is c.emit_phrases.ensures)
+    c.in_ok-emit_string.ensures ∙ ap (λ (all : List Sending).
+    append ticked (string_fragment scope.items all one.receiver one.pointer ticked)) c.as_slice.ensures in
+    ends_so result tick (sequence text phrases) old ticked new c.in_ok-emit_tick.ensures
+    (ends_so result text phrases ticked put new is c.emit_phrases.ensures)

@@ -9,13 +9,18 @@ use Rattle.codegen.proofs.emitter.Emitter.+statement.Given as goal
 
 -- what is there, and what is still to come, are the whole
 abbrev pub invariant-emit_statements-loop-one : goal.invariant-emit_statements-loop-one
-invariant-emit_statements-loop-one l = append l.code (in_order (statement_fragment (scope_in l.self.declarations.now)) (drop l.one-index l.all) l.code) ≡ append l.initial.code (in_order (statement_fragment (scope_in l.self.declarations.now)) l.all l.initial.code)
+invariant-emit_statements-loop-one l =
+    append l.code (in_order (statement_fragment (scope_in l.self.declarations.now)) (drop l.one-index l.all) l.code)
+    ≡ append l.initial.code (in_order (statement_fragment (scope_in l.self.declarations.now)) l.all l.initial.code)
 
 -- the same once all ways meet, whatever OTHER has
 abbrev pub invariant-emit_groups-loop-one : goal.invariant-emit_groups-loop-one
 invariant-emit_groups-loop-one l = record {
-  same : (other : Option (List Statement)) → met_all l.ways.items (append l.code (selection_fragment (scope_in l.self.declarations.now) (statement_fragment (scope_in l.self.declarations.now)) l.subjects (drop l.one-index l.selected) other l.code))
-      ≡ append l.initial.code (selection_fragment (scope_in l.self.declarations.now) (statement_fragment (scope_in l.self.declarations.now)) l.subjects l.selected other l.initial.code);
+  same : (other : Option (List Statement))
+      → met_all l.ways.items (append l.code (selection_fragment (scope_in l.self.declarations.now)
+      (statement_fragment (scope_in l.self.declarations.now)) l.subjects (drop l.one-index l.selected) other l.code))
+      ≡ append l.initial.code (selection_fragment (scope_in l.self.declarations.now)
+      (statement_fragment (scope_in l.self.declarations.now)) l.subjects l.selected other l.initial.code);
   within : AllByRecursion (IsWay (length l.code.instructions)) l.ways.items;
 }
 

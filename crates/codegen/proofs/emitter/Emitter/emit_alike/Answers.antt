@@ -29,7 +29,9 @@ returns c =
     on_ok c.emit_meeting.result c.emit_meeting.ensures
     (λ (e : new ≡ patched_code branch second c.emit_both_told-2.new.code).
     then_piece first (or_fragment behind) old c.emit_both_told.new.code new c.in_ok-emit_both_told.ensures
-    (meeting nothing_fragment behind c.emit_both_told.new.code c.emit_branch.new.code c.emit_branch.new.code c.emit_jump.new.code c.emit_both_told-2.new.code new branch second
-    c.in_ok-branch.ensures.code c.in_ok-branch.ensures.address (sym (joined_nothing c.emit_branch.new.code)) c.in_ok-second.ensures.code c.in_ok-second.ensures.other
+    (meeting nothing_fragment behind c.emit_both_told.new.code c.emit_branch.new.code c.emit_branch.new.code
+    c.emit_jump.new.code c.emit_both_told-2.new.code new branch second
+    c.in_ok-branch.ensures.code c.in_ok-branch.ensures.address (sym (joined_nothing c.emit_branch.new.code))
+    c.in_ok-second.ensures.code c.in_ok-second.ensures.other
     c.in_ok-emit_both_told-2.ensures e)
     ∙ ap (append old) (either_is items both_true both_false old))

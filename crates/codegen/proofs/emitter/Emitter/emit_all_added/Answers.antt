@@ -7,4 +7,5 @@ use Rattle.codegen.proofs.emitter.Emitter.emit_all_added.Goals as goal
 pub emit_added-requires-clause-rules : goal.emit_added-requires-clause-rules
 emit_added-requires-clause-rules c =
     ap (number_rules (items_in c.args.self.now.declarations.now)) c.one-item.is
-    ∙ one_kept (number_rules (items_in c.args.self.now.declarations.now)) c.args.all.now c.loop-one.one-index c.one-item.result c.loop-one-test.true c.requires.rules
+    ∙ one_kept (number_rules (items_in c.args.self.now.declarations.now)) c.args.all.now c.loop-one.one-index
+    c.one-item.result c.loop-one-test.true c.requires.rules

@@ -15,6 +15,9 @@ returns c =
     let place = reference_fragment items c.args.delimiter.now in
     let parts = in_order (up_to_place_fragment items) c.args.all.now in
     let last = work_fragment i.DropPlace in
-    ends_so result found (sequence place (sequence parts last)) c.args.code.now c.emit_all_found.new.code new c.in_ok-emit_all_found.ensures
-    (ends_so result place (sequence parts last) c.emit_all_found.new.code c.emit_reference.new.code new c.in_ok-emit_reference.ensures
-    (ends_so result parts last c.emit_reference.new.code c.emit_all_up_to_place.new.code new c.in_ok-emit_all_up_to_place.ensures c.emit_work.ensures))
+    ends_so result found (sequence place (sequence parts last)) c.args.code.now c.emit_all_found.new.code new
+    c.in_ok-emit_all_found.ensures
+    (ends_so result place (sequence parts last) c.emit_all_found.new.code c.emit_reference.new.code new
+    c.in_ok-emit_reference.ensures
+    (ends_so result parts last c.emit_reference.new.code c.emit_all_up_to_place.new.code new
+    c.in_ok-emit_all_up_to_place.ensures c.emit_work.ensures))

@@ -23,7 +23,9 @@ returns c =
     let other = c.in_ok-other.other in
     on_ok c.emit_meeting.result c.emit_meeting.ensures
     (λ (e : c.emit_meeting.new.code ≡ patched_code branch other c.emit_unheard.new.code).
-    alone_made scope (statement_fragment scope) verb file old c.emit_file.new.code c.emit_test.new.code c.emit_branch.new.code c.emit_jump.new.code c.emit_unheard.new.code c.emit_meeting.new.code branch other
-    c.in_ok-emit_file.ensures c.in_ok-emit_test.ensures c.in_ok-branch.ensures.code c.in_ok-branch.ensures.address c.in_ok-other.ensures.code c.in_ok-other.ensures.other
+    alone_made scope (statement_fragment scope) verb file old c.emit_file.new.code c.emit_test.new.code
+    c.emit_branch.new.code c.emit_jump.new.code c.emit_unheard.new.code c.emit_meeting.new.code branch other
+    c.in_ok-emit_file.ensures c.in_ok-emit_test.ensures c.in_ok-branch.ensures.code c.in_ok-branch.ensures.address
+    c.in_ok-other.ensures.code c.in_ok-other.ensures.other
     c.in_ok-emit_unheard.ensures e
     ∙ ap (λ (found : Option ProgramFile). append old (on_file_fragment found piece old)) (sym c.in-Some.ensures))

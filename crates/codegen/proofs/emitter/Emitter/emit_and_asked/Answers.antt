@@ -18,6 +18,8 @@ returns c =
     let other = c.in_ok-other.other in
     on_ok c.emit_meeting.result c.emit_meeting.ensures
     (λ (e : c.emit_meeting.new.code ≡ patched_code branch other c.emit_jump.new.code).
-    meeting one nothing_fragment old c.emit_branch.new.code c.emit_asked.new.code c.emit_jump.new.code c.emit_jump.new.code c.emit_meeting.new.code branch other
-    c.in_ok-branch.ensures.code c.in_ok-branch.ensures.address c.in_ok-emit_asked.ensures c.in_ok-other.ensures.code c.in_ok-other.ensures.other
+    meeting one nothing_fragment old c.emit_branch.new.code c.emit_asked.new.code c.emit_jump.new.code
+    c.emit_jump.new.code c.emit_meeting.new.code branch other
+    c.in_ok-branch.ensures.code c.in_ok-branch.ensures.address c.in_ok-emit_asked.ensures c.in_ok-other.ensures.code
+    c.in_ok-other.ensures.other
     (sym (joined_nothing c.emit_jump.new.code)) e)

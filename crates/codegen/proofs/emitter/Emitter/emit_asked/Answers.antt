@@ -10,12 +10,16 @@ use Rattle.codegen.proofs.Sequences.{is_so}
 use Rattle.codegen.proofs.emitter.Emitter.emit_asked.Goals as goal
 
 pub emit_question-requires-clause-rules : goal.emit_question-requires-clause-rules
-emit_question-requires-clause-rules c = ap (condition_rules (items_in c.args.self.now.declarations.now)) c.question-question.ensures.asked ∙ c.requires.rules
+emit_question-requires-clause-rules c =
+    ap (condition_rules (items_in c.args.self.now.declarations.now)) c.question-question.ensures.asked
+    ∙ c.requires.rules
 
 pub returns : goal.returns
 returns c =
     let items = items_in c.args.self.now.declarations.now in
     let old = c.args.code.now in
-    is_so c.emit_question.result c.emit_question.new.code (append old (condition_fragment items (question_meant c.question-question.result) old))
-    (append old (condition_fragment items (selection_condition items c.args.subject.now c.args.choice.now) old)) c.emit_question.ensures
+    is_so c.emit_question.result c.emit_question.new.code
+    (append old (condition_fragment items (question_meant c.question-question.result) old))
+    (append old (condition_fragment items (selection_condition items c.args.subject.now c.args.choice.now) old))
+    c.emit_question.ensures
     (ap (λ (one : Condition). append old (condition_fragment items one old)) c.question-question.ensures.asked)

@@ -31,8 +31,10 @@ returns-in_ok-emit_condition_name-in-Name c =
     let test = condition_fragment items (Name named) in
     let behind = works_fragment (negation c.in-Name.negated) in
     let begun : c.emit_condition_name.new.code ≡ append old (test old) =
-    c.in_ok-emit_condition_name-in-Name.ensures ∙ ap (λ (p : Fragment). append old (p old)) (sym (name_is items named)) in
-    is_so result new (append old (sequence test behind old)) (append old (condition_fragment items (condition_meant c.args.one) old))
+    c.in_ok-emit_condition_name-in-Name.ensures
+    ∙ ap (λ (p : Fragment). append old (p old)) (sym (name_is items named)) in
+    is_so result new (append old (sequence test behind old))
+    (append old (condition_fragment items (condition_meant c.args.one) old))
     (ends_so result test behind old c.emit_condition_name.new.code new begun c.emit_negation.ensures)
     (ap (append old) (unless_is items (Name named) c.in-Name.negated old)
     ∙ sym (ap (λ (one : AskedCondition). append old (condition_fragment items (condition_meant one) old)) c.in-Name.is))

@@ -21,6 +21,8 @@ returns c =
     on_ok c.emit_meeting.result c.emit_meeting.ensures
     (λ (e : new ≡ patched_code branch other c.emit_jump.new.code).
     then_piece above (and_fragment below) old c.emit_relation.new.code new c.in_ok-emit_relation.ensures
-    (meeting below nothing_fragment c.emit_relation.new.code c.emit_branch.new.code c.emit_relation-2.new.code c.emit_jump.new.code c.emit_jump.new.code new branch other
-    c.in_ok-branch.ensures.code c.in_ok-branch.ensures.address c.in_ok-emit_relation-2.ensures c.in_ok-other.ensures.code c.in_ok-other.ensures.other
+    (meeting below nothing_fragment c.emit_relation.new.code c.emit_branch.new.code c.emit_relation-2.new.code
+    c.emit_jump.new.code c.emit_jump.new.code new branch other
+    c.in_ok-branch.ensures.code c.in_ok-branch.ensures.address c.in_ok-emit_relation-2.ensures
+    c.in_ok-other.ensures.code c.in_ok-other.ensures.other
     (sym (joined_nothing c.emit_jump.new.code)) e))

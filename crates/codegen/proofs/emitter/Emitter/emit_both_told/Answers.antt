@@ -26,7 +26,9 @@ returns c =
     on_ok c.emit_meeting.result c.emit_meeting.ensures
     (λ (e : new ≡ patched_code branch second c.emit_jump.new.code).
     then_piece first (and_fragment behind) old c.emit_told.new.code new c.in_ok-emit_told.ensures
-    (meeting behind nothing_fragment c.emit_told.new.code c.emit_branch.new.code c.emit_told-2.new.code c.emit_jump.new.code c.emit_jump.new.code new branch second
-    c.in_ok-branch.ensures.code c.in_ok-branch.ensures.address c.in_ok-emit_told-2.ensures c.in_ok-second.ensures.code c.in_ok-second.ensures.other
+    (meeting behind nothing_fragment c.emit_told.new.code c.emit_branch.new.code c.emit_told-2.new.code
+    c.emit_jump.new.code c.emit_jump.new.code new branch second
+    c.in_ok-branch.ensures.code c.in_ok-branch.ensures.address c.in_ok-emit_told-2.ensures c.in_ok-second.ensures.code
+    c.in_ok-second.ensures.other
     (sym (joined_nothing c.emit_jump.new.code)) e)
     ∙ ap (append old) (both_are items one further old))

@@ -5,9 +5,11 @@ use Rattle.codegen.proofs.Kept.{item_kept}
 use Rattle.codegen.proofs.emitter.Emitter.emit_bytes.Goals as goal
 
 pub emit_taking-requires-clause-rules : goal.emit_taking-requires-clause-rules
-emit_taking-requires-clause-rules c = item_kept (items_in c.args.self.now.declarations.now) inspected_item c.args.one.now c.requires.rules
+emit_taking-requires-clause-rules c =
+    item_kept (items_in c.args.self.now.declarations.now) inspected_item c.args.one.now c.requires.rules
 
 pub returns : goal.returns
 returns c =
-    bytes_made (items_in c.args.self.now.declarations.now) c.args.one.now c.args.code.now c.emit_taking.new.code c.args.at c.length_of.result c.requires.rules c.in_ok-emit_taking.ensures
+    bytes_made (items_in c.args.self.now.declarations.now) c.args.one.now c.args.code.now c.emit_taking.new.code
+    c.args.at c.length_of.result c.requires.rules c.in_ok-emit_taking.ensures
     c.length_of.ensures

@@ -20,7 +20,8 @@ use Rattle.codegen.proofs.emitter.Emitter.emit_condition_name.Goals as goal
 
 pub emit_subscripts-requires-clause-rules : goal.emit_subscripts-requires-clause-rules
 emit_subscripts-requires-clause-rules c =
-    ap (each (subscript_rules (items_in c.args.self.now.declarations.now))) c.as_slice.ensures ∙ back_kept _ _ c.requires.rules
+    ap (each (subscript_rules (items_in c.args.self.now.declarations.now))) c.as_slice.ensures
+    ∙ back_kept _ _ c.requires.rules
 
 pub emit_values-requires : goal.emit_values-requires
 emit_values-requires c =
@@ -46,11 +47,18 @@ returns c =
     let named_index = condition_item items c.args.one.now.item in
     let named = work_fragment (i.Place named_index) in
     let named_dimensions = dimensions_of (slice_get items named_index.number) in
-    is_so result new (append old (sequence place (sequence subscripts behind) old)) (append old (condition_name_fragment items c.args.one.now old))
+    is_so result new (append old (sequence place (sequence subscripts behind) old))
+    (append old (condition_name_fragment items c.args.one.now old))
     (ends_so result place (sequence subscripts behind) old c.emit_work.new.code new c.in_ok-emit_work.ensures
-    (ends_so result subscripts behind c.emit_work.new.code c.emit_subscripts.new.code new c.in_ok-emit_subscripts.ensures
-    (ends_so result taking (values_fragment values) c.emit_subscripts.new.code c.emit_works.new.code new c.in_ok-emit_works.ensures c.emit_values.ensures)))
-    (ap (λ (d : List Dimension). append old (sequence place (sequence (subscripts_fragment items d written) behind) old)) c.dimensions_at-dimensions.ensures
-    ∙ ap (λ (x : ItemIndex). append old (sequence (work_fragment (i.Place x)) (sequence (subscripts_fragment items (dimensions_of (slice_get items x.number)) written) behind) old)) c.in_ok-item.ensures
-    ∙ ap (λ (l : List Subscript). append old (sequence named (sequence (subscripts_fragment items named_dimensions l) behind) old)) c.as_slice.ensures
-    ∙ ap (λ (v : List ValueRange). append old (sequence named (sequence (subscripts_fragment items named_dimensions c.args.one.now.subscripts) (sequence taking (values_fragment v))) old)) c.values_named.ensures)
+    (ends_so result subscripts behind c.emit_work.new.code c.emit_subscripts.new.code new
+    c.in_ok-emit_subscripts.ensures
+    (ends_so result taking (values_fragment values) c.emit_subscripts.new.code c.emit_works.new.code new
+    c.in_ok-emit_works.ensures c.emit_values.ensures)))
+    (ap (λ (d : List Dimension). append old
+    (sequence place (sequence (subscripts_fragment items d written) behind) old)) c.dimensions_at-dimensions.ensures
+    ∙ ap (λ (x : ItemIndex). append old (sequence (work_fragment (i.Place x)) (sequence
+    (subscripts_fragment items (dimensions_of (slice_get items x.number)) written) behind) old)) c.in_ok-item.ensures
+    ∙ ap (λ (l : List Subscript).
+    append old (sequence named (sequence (subscripts_fragment items named_dimensions l) behind) old)) c.as_slice.ensures
+    ∙ ap (λ (v : List ValueRange). append old (sequence named (sequence (subscripts_fragment items named_dimensions
+    c.args.one.now.subscripts) (sequence taking (values_fragment v))) old)) c.values_named.ensures)

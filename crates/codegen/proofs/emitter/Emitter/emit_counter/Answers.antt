@@ -13,12 +13,15 @@ use Rattle.codegen.proofs.emitter.Emitter.emit_counter.Goals as goal
 pub emit_reference-requires-clause-rules : goal.emit_reference-requires-clause-rules
 emit_reference-requires-clause-rules c =
     let items = items_in c.args.self.now.declarations.now in
-    item_kept items counter_item c.args.one.now.counter (front_kept (reference_rules items counter_item c.args.one.now.counter) (each (tallied_rules items) c.args.one.now.tallied) c.requires.rules)
+    item_kept items counter_item c.args.one.now.counter (front_kept (reference_rules items counter_item
+    c.args.one.now.counter) (each (tallied_rules items) c.args.one.now.tallied) c.requires.rules)
 
 pub emit_all_tallied-requires-clause-rules : goal.emit_all_tallied-requires-clause-rules
 emit_all_tallied-requires-clause-rules c =
     let items = items_in c.args.self.now.declarations.now in
-    ap (each (tallied_rules items)) c.as_slice.ensures ∙ back_kept (reference_rules items counter_item c.args.one.now.counter) (each (tallied_rules items) c.args.one.now.tallied) c.requires.rules
+    ap (each (tallied_rules items)) c.as_slice.ensures
+    ∙ back_kept (reference_rules items counter_item c.args.one.now.counter)
+    (each (tallied_rules items) c.args.one.now.tallied) c.requires.rules
 
 pub returns : goal.returns
 returns c =
@@ -28,9 +31,12 @@ returns c =
     let b = c.emit_all_tallied.new.code in
     let old = c.args.made.now in
     let new = c.emit_all_tallied.new.made in
-    let made = subst (λ l. Puts items (all_inspected tallied_entries l) a b old.size old.entries new.size new.entries) c.as_slice.ensures c.in_ok-emit_all_tallied.ensures in
+    let made = subst (λ l. Puts items (all_inspected tallied_entries l) a b old.size old.entries new.size new.entries)
+    c.as_slice.ensures c.in_ok-emit_all_tallied.ensures in
     let count = put_count items (counter_entries one) a b old.size new.size old.entries new.entries made in
-    let number : c.in_ok-entry_number.field-0 ≡ length (counter_entries one) = omega (arith, c.in_ok-entry_number.ensures, c.len.ensures, c.len-before.ensures, count) in
+    let number : c.in_ok-entry_number.field-0 ≡ length (counter_entries one) =
+    omega (arith, c.in_ok-entry_number.ensures, c.len.ensures, c.len-before.ensures, count) in
     on_ok c.push.result c.push.ensures.ok
-    (λ e. counter_put items one c.args.code.now a b old.size new.size old.entries new.entries c.args.counters.now c.push.new.self c.in_ok-emit_reference.ensures made
+    (λ e. counter_put items one c.args.code.now a b old.size new.size old.entries new.entries c.args.counters.now
+    c.push.new.self c.in_ok-emit_reference.ensures made
     (e ∙ ap (λ n. c.args.counters.now ++ n ∷ []) number))

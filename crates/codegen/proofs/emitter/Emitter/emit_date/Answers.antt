@@ -7,4 +7,5 @@ use Rattle.codegen.proofs.emitter.Emitter.emit_date.Goals as goal
 
 pub emit_reference-requires-clause-rules : goal.emit_reference-requires-clause-rules
 emit_reference-requires-clause-rules c =
-    item_kept (items_in c.args.self.now.declarations.now) (receives (Some (date_sender []).taken)) c.args.receiver.now c.requires.rules
+    item_kept (items_in c.args.self.now.declarations.now) (receives (Some (date_sender []).taken)) c.args.receiver.now
+    c.requires.rules

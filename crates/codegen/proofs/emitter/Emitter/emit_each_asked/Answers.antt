@@ -31,11 +31,14 @@ pairs-preserved c =
     let kept = each (condition_rules items) in
     record {
       same = pairs_go_on items subject more object others now c.emit_and_asked.new.code c.in_ok-emit_and_asked.ensures
-          ∙ sym (ap (λ (l : List Subject). append now (in_order (further_piece items) (object_conditions items l c.pairs.rest.now) now)) c.in-Some.ensures.cases.0
-          ∙ ap (λ (l : List Object). append now (in_order (further_piece items) (object_conditions items (subject ∷ more) l) now)) c.in-Some-split_first.ensures.cases.0)
+          ∙ sym (ap (λ (l : List Subject). append now
+          (in_order (further_piece items) (object_conditions items l c.pairs.rest.now) now)) c.in-Some.ensures.cases.0
+          ∙ ap (λ (l : List Object). append now (in_order (further_piece items)
+          (object_conditions items (subject ∷ more) l) now)) c.in-Some-split_first.ensures.cases.0)
           ∙ c.pairs.invariant.same;
       rules = pairs_rules items subject more object others
           (sym (ap (λ (l : List Subject). kept (object_conditions items l c.pairs.rest.now)) c.in-Some.ensures.cases.0
-          ∙ ap (λ (l : List Object). kept (object_conditions items (subject ∷ more) l)) c.in-Some-split_first.ensures.cases.0)
+          ∙ ap (λ (l : List Object). kept (object_conditions items (subject ∷ more) l))
+          c.in-Some-split_first.ensures.cases.0)
           ∙ c.pairs.invariant.rules);
     }

@@ -11,7 +11,8 @@ use Rattle.codegen.proofs.emitter.Emitter.emit_each_subject.Goals as goal
 pub emit_subject-requires-clause-rules : goal.emit_subject-requires-clause-rules
 emit_subject-requires-clause-rules c =
     let kept = subject_rules (items_in c.args.self.now.declarations.now) in
-    ap kept c.one-item.is ∙ one_kept kept c.args.all.now c.loop-one.one-index c.one-item.result c.loop-one-test.true c.requires.rules
+    ap kept c.one-item.is
+    ∙ one_kept kept c.args.all.now c.loop-one.one-index c.one-item.result c.loop-one-test.true c.requires.rules
 
 pub loop-one-preserved : goal.loop-one-preserved
 loop-one-preserved c =
@@ -19,4 +20,5 @@ loop-one-preserved c =
     let old = c.loop-one.code in
     goes_on piece c.args.all.now c.loop-one.one-index c.one-item.result old c.emit_subject.new.code
     (append c.args.code.now (in_order piece c.args.all.now c.args.code.now)) c.loop-one-test.true
-    (c.in_ok-emit_subject.ensures ∙ ap (λ (one : Subject). append old (piece one old)) c.one-item.is) c.loop-one.invariant
+    (c.in_ok-emit_subject.ensures ∙ ap (λ (one : Subject). append old (piece one old)) c.one-item.is)
+    c.loop-one.invariant

@@ -14,12 +14,14 @@ pub emit_or_when-requires-clause-rules : goal.emit_or_when-requires-clause-rules
 emit_or_when-requires-clause-rules c =
     let items = items_in c.args.self.now.declarations.now in
     let kept = λ (one : When). each (condition_rules items) (object_conditions items c.args.subjects.now one.objects) in
-    ap kept c.one-item.is ∙ one_kept kept c.args.more.now c.loop-one.one-index c.one-item.result c.loop-one-test.true c.requires.rules
+    ap kept c.one-item.is
+    ∙ one_kept kept c.args.more.now c.loop-one.one-index c.one-item.result c.loop-one-test.true c.requires.rules
 
 pub loop-one-preserved : goal.loop-one-preserved
 loop-one-preserved c =
     let items = items_in c.args.self.now.declarations.now in
-    let when_piece = λ (one : When). or_fragment (condition_fragment items (when_condition items c.args.subjects.now one)) in
+    let when_piece =
+    λ (one : When). or_fragment (condition_fragment items (when_condition items c.args.subjects.now one)) in
     let all = c.args.more.now in
     let i = c.loop-one.one-index in
     let one = c.one-item.result in

@@ -9,5 +9,7 @@ use Rattle.codegen.proofs.emitter.Emitter.emit_each_when.Given as goal
 -- what is there, and what is still to come, are the whole
 abbrev pub invariant-loop-one : goal.invariant-loop-one
 invariant-loop-one l =
-    append l.code (in_order (λ (one : When). or_fragment (condition_fragment (items_in l.self.declarations.now) (when_condition (items_in l.self.declarations.now) l.subjects one))) (drop l.one-index l.more) l.code)
-    ≡ append l.initial.code (in_order (λ (one : When). or_fragment (condition_fragment (items_in l.self.declarations.now) (when_condition (items_in l.self.declarations.now) l.subjects one))) l.more l.initial.code)
+    append l.code (in_order (λ (one : When). or_fragment (condition_fragment (items_in l.self.declarations.now)
+    (when_condition (items_in l.self.declarations.now) l.subjects one))) (drop l.one-index l.more) l.code)
+    ≡ append l.initial.code (in_order (λ (one : When). or_fragment (condition_fragment (items_in
+    l.self.declarations.now) (when_condition (items_in l.self.declarations.now) l.subjects one))) l.more l.initial.code)

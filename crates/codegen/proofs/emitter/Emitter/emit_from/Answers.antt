@@ -15,8 +15,10 @@ emit_taking-requires-clause-rules c =
     let files = files_in c.args.self.now.declarations.now in
     let from = c.in-Some.from in
     let to = c.args.to.now in
-    let r : move_rules items (Item from) (to ∷ []) ≡ [] = sym (ap (from_rules items files to) c.in-Some.is) ∙ c.requires.rules in
-    item_kept items any_item from (front_kept (operand_rules items (Item from)) (each (reference_rules items (receives (sent_by items (Item from)))) (to ∷ [])) r)
+    let r : move_rules items (Item from) (to ∷ []) ≡ [] =
+    sym (ap (from_rules items files to) c.in-Some.is) ∙ c.requires.rules in
+    item_kept items any_item from (front_kept (operand_rules items (Item from))
+    (each (reference_rules items (receives (sent_by items (Item from)))) (to ∷ [])) r)
 
 pub emit_receivers-requires-clause-rules : goal.emit_receivers-requires-clause-rules
 emit_receivers-requires-clause-rules c =
@@ -25,6 +27,8 @@ emit_receivers-requires-clause-rules c =
     let from = c.in-Some.from in
     let to = c.args.to.now in
     let asked = receives (sent_by items (Item from)) in
-    let r : move_rules items (Item from) (to ∷ []) ≡ [] = sym (ap (from_rules items files to) c.in-Some.is) ∙ c.requires.rules in
+    let r : move_rules items (Item from) (to ∷ []) ≡ [] =
+    sym (ap (from_rules items files to) c.in-Some.is) ∙ c.requires.rules in
     ap (each (λ (one : Reference). each (subscript_rules items) one.subscripts)) c.from_ref.ensures.value
-    ∙ subscripts_kept items asked (to ∷ []) (back_kept (operand_rules items (Item from)) (each (reference_rules items asked) (to ∷ [])) r)
+    ∙ subscripts_kept items asked (to ∷ [])
+    (back_kept (operand_rules items (Item from)) (each (reference_rules items asked) (to ∷ [])) r)

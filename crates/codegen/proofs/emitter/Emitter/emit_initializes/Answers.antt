@@ -8,4 +8,5 @@ pub emit_initialize-requires-clause-rules : goal.emit_initialize-requires-clause
 emit_initialize-requires-clause-rules c =
     let items = items_in c.args.self.now.declarations.now in
     ap (reference_rules items any_item) c.one-item.is
-    ∙ one_kept (reference_rules items any_item) c.args.all.now c.loop-one.one-index c.one-item.result c.loop-one-test.true c.requires.rules
+    ∙ one_kept (reference_rules items any_item) c.args.all.now c.loop-one.one-index c.one-item.result
+    c.loop-one-test.true c.requires.rules

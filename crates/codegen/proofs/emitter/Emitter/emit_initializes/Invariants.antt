@@ -6,4 +6,6 @@ use Rattle.codegen.proofs.emitter.Emitter.emit_initializes.Given as goal
 
 -- what is there, and what is still to come, are the whole
 abbrev pub invariant-loop-one : goal.invariant-loop-one
-invariant-loop-one l = append l.code (in_order (initialize_fragment (items_in l.self.declarations.now)) (drop l.one-index l.all) l.code) ≡ append l.initial.code (in_order (initialize_fragment (items_in l.self.declarations.now)) l.all l.initial.code)
+invariant-loop-one l =
+    append l.code (in_order (initialize_fragment (items_in l.self.declarations.now)) (drop l.one-index l.all) l.code)
+    ≡ append l.initial.code (in_order (initialize_fragment (items_in l.self.declarations.now)) l.all l.initial.code)

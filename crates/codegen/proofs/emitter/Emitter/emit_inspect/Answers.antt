@@ -23,7 +23,8 @@ emit_counters-requires-clause-rules c =
 pub emit_all_replaced-requires-clause-rules : goal.emit_all_replaced-requires-clause-rules
 emit_all_replaced-requires-clause-rules c =
     let items = items_in c.args.self.now.declarations.now in
-    ap (each (replacing_rules items)) c.as_slice-2.ensures ∙ (keeps_inspect items c.args.one.now c.requires.rules).replacing
+    ap (each (replacing_rules items)) c.as_slice-2.ensures
+    ∙ (keeps_inspect items c.args.one.now c.requires.rules).replacing
 
 pub returns : goal.returns
 returns c =
@@ -34,8 +35,12 @@ returns c =
     let tallied = c.emit_counters.new.made in
     let replaced = c.emit_all_replaced.new.made in
     let counters = c.emit_counters.new.counters in
-    let counts = subst (λ l. Counts items l a b 0 c.new.result tallied.size tallied.entries c.new-counters.result counters) c.as_slice.ensures c.in_ok-emit_counters.ensures in
-    let puts = subst (λ l. Puts items (all_inspected (replacing_entries items) l) b d tallied.size c.new-2.result replaced.size replaced.entries) c.as_slice-2.ensures c.in_ok-emit_all_replaced.ensures in
+    let counts =
+    subst (λ l. Counts items l a b 0 c.new.result tallied.size tallied.entries c.new-counters.result counters)
+    c.as_slice.ensures c.in_ok-emit_counters.ensures in
+    let puts = subst (λ l. Puts items (all_inspected (replacing_entries items) l) b d tallied.size c.new-2.result
+    replaced.size replaced.entries) c.as_slice-2.ensures c.in_ok-emit_all_replaced.ensures in
     on_ok c.emit_inspection.result c.emit_inspection.ensures
-    (λ e. inspect_made items c.args.one.now c.args.code.now a b d c.emit_inspection.new.code tallied.size replaced.size counters c.new-counters.result c.new.result tallied.entries c.new-2.result replaced.entries
+    (λ e. inspect_made items c.args.one.now c.args.code.now a b d c.emit_inspection.new.code tallied.size replaced.size
+    counters c.new-counters.result c.new.result tallied.entries c.new-2.result replaced.entries
     c.in_ok-emit_reference.ensures c.new-counters.ensures c.new.ensures c.new-2.ensures counts puts e)

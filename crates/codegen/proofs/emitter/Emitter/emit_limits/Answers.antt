@@ -28,5 +28,6 @@ returns c =
     let items = items_in c.args.self.now.declarations.now in
     let before = c.in_ok-before-2.before in
     let after = c.in_ok-after-2.after in
-    limits_straight items c.args.one.now c.args.code.now c.emit_limit-2.new.code c.emit_limit-3.new.code c.args.at before.end after.end before.span after.span
+    limits_straight items c.args.one.now c.args.code.now c.emit_limit-2.new.code c.emit_limit-3.new.code c.args.at
+    before.end after.end before.span after.span
     c.if-one.false c.in_ok-before-2.ensures c.in_ok-after-2.ensures

@@ -20,6 +20,9 @@ returns c =
     let other = c.in_ok-other.other in
     on_ok c.emit_meeting.result c.emit_meeting.ensures
     (λ (e : c.emit_meeting.new.code ≡ patched_code branch other c.emit_work.new.code).
-    meeting nothing_fragment (sequence onward clear) old c.emit_branch.new.code c.emit_branch.new.code c.emit_jump.new.code c.emit_work.new.code c.emit_meeting.new.code branch other
-    c.in_ok-branch.ensures.code c.in_ok-branch.ensures.address (sym (joined_nothing c.emit_branch.new.code)) c.in_ok-other.ensures.code c.in_ok-other.ensures.other
-    (then_piece onward clear c.emit_jump.new.code c.emit_vary_on.new.code c.emit_work.new.code c.in_ok-emit_vary_on.ensures c.in_ok-emit_work.ensures) e)
+    meeting nothing_fragment (sequence onward clear) old c.emit_branch.new.code c.emit_branch.new.code
+    c.emit_jump.new.code c.emit_work.new.code c.emit_meeting.new.code branch other
+    c.in_ok-branch.ensures.code c.in_ok-branch.ensures.address (sym (joined_nothing c.emit_branch.new.code))
+    c.in_ok-other.ensures.code c.in_ok-other.ensures.other
+    (then_piece onward clear c.emit_jump.new.code c.emit_vary_on.new.code c.emit_work.new.code
+    c.in_ok-emit_vary_on.ensures c.in_ok-emit_work.ensures) e)

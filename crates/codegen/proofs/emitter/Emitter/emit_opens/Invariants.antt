@@ -7,5 +7,7 @@ use Rattle.codegen.proofs.emitter.Emitter.emit_opens.Given as goal
 -- what is there, and what is still to come, are the whole
 abbrev pub invariant-loop-one : goal.invariant-loop-one
 invariant-loop-one l =
-    append l.code (in_order (open_fragment (scope_in l.self.declarations.now) (statement_fragment (scope_in l.self.declarations.now))) (drop l.one-index l.all) l.code)
-    ≡ append l.initial.code (in_order (open_fragment (scope_in l.self.declarations.now) (statement_fragment (scope_in l.self.declarations.now))) l.all l.initial.code)
+    append l.code (in_order (open_fragment (scope_in l.self.declarations.now)
+    (statement_fragment (scope_in l.self.declarations.now))) (drop l.one-index l.all) l.code)
+    ≡ append l.initial.code (in_order (open_fragment (scope_in l.self.declarations.now)
+    (statement_fragment (scope_in l.self.declarations.now))) l.all l.initial.code)

@@ -8,10 +8,12 @@ use Rattle.codegen.proofs.Sequences.{is_so, ends_so}
 use Rattle.codegen.proofs.emitter.Emitter.emit_operation.Goals as goal
 
 pub emit_values-requires-clause-rules : goal.emit_values-requires-clause-rules
-emit_values-requires-clause-rules c = values_kept (items_in c.args.self.now.declarations.now) c.args.one.now c.requires.rules
+emit_values-requires-clause-rules c =
+    values_kept (items_in c.args.self.now.declarations.now) c.args.one.now c.requires.rules
 
 pub emit_results-requires-clause-rules : goal.emit_results-requires-clause-rules
-emit_results-requires-clause-rules c = results_kept (items_in c.args.self.now.declarations.now) c.args.one.now c.requires.rules
+emit_results-requires-clause-rules c =
+    results_kept (items_in c.args.self.now.declarations.now) c.args.one.now c.requires.rules
 
 pub returns : goal.returns
 returns c =
@@ -22,6 +24,7 @@ returns c =
     let new = c.emit_results.new.code in
     let values = values_fragment items one in
     let results = results_fragment items c.args.keep one in
-    is_so result new (append old (sequence values results old)) (append old (operation_fragment items c.args.keep one old))
+    is_so result new (append old (sequence values results old))
+    (append old (operation_fragment items c.args.keep one old))
     (ends_so result values results old c.emit_values.new.code new c.in_ok-emit_values.ensures c.emit_results.ensures)
     (ap (append old) (sym (operation_parts items c.args.keep one old)))

@@ -17,7 +17,8 @@ use Rattle.codegen.proofs.emitter.Emitter.emit_or_when.Goals as goal
 pub emit_when-requires-clause-rules : goal.emit_when-requires-clause-rules
 emit_when-requires-clause-rules c =
     let items = items_in c.args.self.now.declarations.now in
-    ap (λ (l : List Object). each (condition_rules items) (object_conditions items c.args.subjects.now l)) c.as_slice.ensures ∙ c.requires.rules
+    ap (λ (l : List Object). each (condition_rules items) (object_conditions items c.args.subjects.now l))
+    c.as_slice.ensures ∙ c.requires.rules
 
 pub returns : goal.returns
 returns c =
@@ -28,8 +29,11 @@ returns c =
     let branch = c.in_ok-branch.branch in
     let other = c.in_ok-other.other in
     let met_one : c.emit_when.new.code ≡ append jumped (one jumped) =
-    c.in_ok-emit_when.ensures ∙ ap (λ (l : List Object). append jumped (condition_fragment items (All (object_conditions items c.args.subjects.now l)) jumped)) c.as_slice.ensures in
+    c.in_ok-emit_when.ensures ∙ ap (λ (l : List Object). append jumped
+    (condition_fragment items (All (object_conditions items c.args.subjects.now l)) jumped)) c.as_slice.ensures in
     on_ok c.emit_meeting.result c.emit_meeting.ensures
     (λ (e : c.emit_meeting.new.code ≡ patched_code branch other c.emit_when.new.code).
-    meeting nothing_fragment one old c.emit_branch.new.code c.emit_branch.new.code jumped c.emit_when.new.code c.emit_meeting.new.code branch other
-    c.in_ok-branch.ensures.code c.in_ok-branch.ensures.address (sym (joined_nothing c.emit_branch.new.code)) c.in_ok-other.ensures.code c.in_ok-other.ensures.other met_one e)
+    meeting nothing_fragment one old c.emit_branch.new.code c.emit_branch.new.code jumped c.emit_when.new.code
+    c.emit_meeting.new.code branch other
+    c.in_ok-branch.ensures.code c.in_ok-branch.ensures.address (sym (joined_nothing c.emit_branch.new.code))
+    c.in_ok-other.ensures.code c.in_ok-other.ensures.other met_one e)

@@ -7,4 +7,5 @@ use Rattle.codegen.proofs.emitter.Emitter.emit_paragraphs.Goals as goal
 pub emit_paragraph-requires-clause-rules : goal.emit_paragraph-requires-clause-rules
 emit_paragraph-requires-clause-rules c =
     ap (paragraph_rules (scope_in c.args.self.now.declarations.now) all_permitted) c.one-item.is
-    ∙ one_kept (paragraph_rules (scope_in c.args.self.now.declarations.now) all_permitted) c.args.all.now c.loop-one.one-index c.one-item.result c.loop-one-test.true c.requires.rules
+    ∙ one_kept (paragraph_rules (scope_in c.args.self.now.declarations.now) all_permitted) c.args.all.now
+    c.loop-one.one-index c.one-item.result c.loop-one-test.true c.requires.rules

@@ -32,7 +32,8 @@ pub returns-in-Nothing : goal.returns-in-Nothing
 returns-in-Nothing c =
     let items = items_in c.args.self.now.declarations.now in
     let old = c.args.code.now in
-    is_so c.emit_constant.result c.emit_constant.new.code (append old (constant_fragment true old)) (append old (condition_fragment items (question_meant c.args.one) old))
+    is_so c.emit_constant.result c.emit_constant.new.code (append old (constant_fragment true old))
+    (append old (condition_fragment items (question_meant c.args.one) old))
     c.emit_constant.ensures
     (ap (λ (p : Fragment). append old (p old)) (sym (constant_is items true))
     ∙ sym (ap (λ (q : Question). append old (condition_fragment items (question_meant q) old)) c.in-Nothing.is))

@@ -8,5 +8,7 @@ use Rattle.codegen.proofs.emitter.Emitter.emit_receivers.Goals as goal
 
 pub emit_taking-requires-clause-rules : goal.emit_taking-requires-clause-rules
 emit_taking-requires-clause-rules c =
-    ap (λ (r : Reference). each (subscript_rules (items_in c.args.self.now.declarations.now)) r.subscripts) c.one-item.is
-    ∙ one_kept (λ (r : Reference). each (subscript_rules (items_in c.args.self.now.declarations.now)) r.subscripts) c.args.all.now c.loop-one.one-index c.one-item.result c.loop-one-test.true c.requires.rules
+    ap (λ (r : Reference). each (subscript_rules (items_in c.args.self.now.declarations.now)) r.subscripts)
+    c.one-item.is
+    ∙ one_kept (λ (r : Reference). each (subscript_rules (items_in c.args.self.now.declarations.now)) r.subscripts)
+    c.args.all.now c.loop-one.one-index c.one-item.result c.loop-one-test.true c.requires.rules

@@ -7,4 +7,6 @@ use Rattle.codegen.proofs.emitter.Emitter.emit_receivers.Given as goal
 
 -- what is there, and what is still to come, are the whole
 abbrev pub invariant-loop-one : goal.invariant-loop-one
-invariant-loop-one l = append l.code (in_order (take_fragment (items_in l.self.declarations.now) i.Move) (drop l.one-index l.all) l.code) ≡ append l.initial.code (in_order (take_fragment (items_in l.self.declarations.now) i.Move) l.all l.initial.code)
+invariant-loop-one l =
+    append l.code (in_order (take_fragment (items_in l.self.declarations.now) i.Move) (drop l.one-index l.all) l.code)
+    ≡ append l.initial.code (in_order (take_fragment (items_in l.self.declarations.now) i.Move) l.all l.initial.code)

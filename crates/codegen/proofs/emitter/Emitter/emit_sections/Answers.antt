@@ -7,4 +7,5 @@ use Rattle.codegen.proofs.emitter.Emitter.emit_sections.Goals as goal
 pub emit_section-requires-clause-rules : goal.emit_section-requires-clause-rules
 emit_section-requires-clause-rules c =
     ap (section_rules (scope_in c.args.self.now.declarations.now) all_permitted) c.one-item.is
-    ∙ one_kept (section_rules (scope_in c.args.self.now.declarations.now) all_permitted) c.args.all.now c.loop-one.one-index c.one-item.result c.loop-one-test.true c.requires.rules
+    ∙ one_kept (section_rules (scope_in c.args.self.now.declarations.now) all_permitted) c.args.all.now
+    c.loop-one.one-index c.one-item.result c.loop-one-test.true c.requires.rules

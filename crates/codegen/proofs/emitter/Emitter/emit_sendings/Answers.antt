@@ -10,11 +10,13 @@ emit_sending-requires-clause-senders c =
     let items = items_in c.args.self.now.declarations.now in
     front_kept (each (sent_rules items) c.one-item.result.senders) (delimiter_rules items c.one-item.result.delimiter)
     (ap (sending_rules items) c.one-item.is
-    ∙ one_kept (sending_rules items) c.args.all.now c.loop-one.one-index c.one-item.result c.loop-one-test.true c.requires.rules)
+    ∙ one_kept (sending_rules items) c.args.all.now c.loop-one.one-index c.one-item.result c.loop-one-test.true
+    c.requires.rules)
 
 pub emit_sending-requires-clause-delimiter : goal.emit_sending-requires-clause-delimiter
 emit_sending-requires-clause-delimiter c =
     let items = items_in c.args.self.now.declarations.now in
     back_kept (each (sent_rules items) c.one-item.result.senders) (delimiter_rules items c.one-item.result.delimiter)
     (ap (sending_rules items) c.one-item.is
-    ∙ one_kept (sending_rules items) c.args.all.now c.loop-one.one-index c.one-item.result c.loop-one-test.true c.requires.rules)
+    ∙ one_kept (sending_rules items) c.args.all.now c.loop-one.one-index c.one-item.result c.loop-one-test.true
+    c.requires.rules)

@@ -7,4 +7,5 @@ use Rattle.codegen.proofs.emitter.Emitter.emit_sentences.Goals as goal
 pub emit_sentence-requires-clause-rules : goal.emit_sentence-requires-clause-rules
 emit_sentence-requires-clause-rules c =
     ap (sentence_rules (scope_in c.args.self.now.declarations.now) all_permitted) c.one-item.is
-    ∙ one_kept (sentence_rules (scope_in c.args.self.now.declarations.now) all_permitted) c.args.all.now c.loop-one.one-index c.one-item.result c.loop-one-test.true c.requires.rules
+    ∙ one_kept (sentence_rules (scope_in c.args.self.now.declarations.now) all_permitted) c.args.all.now
+    c.loop-one.one-index c.one-item.result c.loop-one-test.true c.requires.rules

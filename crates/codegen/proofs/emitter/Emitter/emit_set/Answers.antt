@@ -21,7 +21,8 @@ use Rattle.codegen.proofs.emitter.Emitter.emit_set.Goals as goal
 pub emit_subscripts-requires-clause-rules : goal.emit_subscripts-requires-clause-rules
 emit_subscripts-requires-clause-rules c =
     let items = items_in c.args.self.now.declarations.now in
-    ap (each (subscript_rules items)) c.as_slice.ensures ∙ back_kept _ _ (set_kept items c.args.one.now c.requires.rules)
+    ap (each (subscript_rules items)) c.as_slice.ensures
+    ∙ back_kept _ _ (set_kept items c.args.one.now c.requires.rules)
 
 pub returns : goal.returns
 returns c =
@@ -41,11 +42,18 @@ returns c =
     let named = work_fragment (i.Place named_index) in
     let named_dimensions = dimensions_of (slice_get items named_index.number) in
     let named_subscripts = subscripts_fragment items named_dimensions c.args.one.now.subscripts in
-    is_so result new (append old (sequence place (sequence subscripts overlay) old)) (append old (set_fragment items c.args.one.now old))
+    is_so result new (append old (sequence place (sequence subscripts overlay) old))
+    (append old (set_fragment items c.args.one.now old))
     (ends_so result place (sequence subscripts overlay) old c.emit_work.new.code new c.in_ok-emit_work.ensures
-    (ends_so result subscripts overlay c.emit_work.new.code c.emit_subscripts.new.code new c.in_ok-emit_subscripts.ensures c.emit_overlay.ensures))
-    (ap (λ (d : List Dimension). append old (sequence place (sequence (subscripts_fragment items d written) overlay) old)) c.dimensions_at-dimensions.ensures
-    ∙ ap (λ (x : ItemIndex). append old (sequence (work_fragment (i.Place x)) (sequence (subscripts_fragment items (dimensions_of (slice_get items x.number)) written) overlay) old)) c.in_ok-item.ensures
-    ∙ ap (λ (l : List Subscript). append old (sequence named (sequence (subscripts_fragment items named_dimensions l) overlay) old)) c.as_slice.ensures
-    ∙ ap (λ (b : List ℕ). append old (sequence named (sequence named_subscripts (overlay_fragment b made.marks)) old)) c.in_ok-made.ensures.bytes
-    ∙ ap (λ (m : List ℕ). append old (sequence named (sequence named_subscripts (overlay_fragment (map new_byte pattern) m)) old)) c.in_ok-made.ensures.marks)
+    (ends_so result subscripts overlay c.emit_work.new.code c.emit_subscripts.new.code new
+    c.in_ok-emit_subscripts.ensures c.emit_overlay.ensures))
+    (ap (λ (d : List Dimension). append old (sequence place (sequence (subscripts_fragment items d written) overlay)
+    old)) c.dimensions_at-dimensions.ensures
+    ∙ ap (λ (x : ItemIndex). append old (sequence (work_fragment (i.Place x)) (sequence
+    (subscripts_fragment items (dimensions_of (slice_get items x.number)) written) overlay) old)) c.in_ok-item.ensures
+    ∙ ap (λ (l : List Subscript). append old
+    (sequence named (sequence (subscripts_fragment items named_dimensions l) overlay) old)) c.as_slice.ensures
+    ∙ ap (λ (b : List ℕ). append old (sequence named (sequence named_subscripts (overlay_fragment b made.marks)) old))
+    c.in_ok-made.ensures.bytes
+    ∙ ap (λ (m : List ℕ). append old (sequence named
+    (sequence named_subscripts (overlay_fragment (map new_byte pattern) m)) old)) c.in_ok-made.ensures.marks)

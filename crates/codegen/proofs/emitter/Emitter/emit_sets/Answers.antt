@@ -7,4 +7,5 @@ use Rattle.codegen.proofs.emitter.Emitter.emit_sets.Goals as goal
 pub emit_set-requires-clause-rules : goal.emit_set-requires-clause-rules
 emit_set-requires-clause-rules c =
     ap (set_one (items_in c.args.self.now.declarations.now)) c.one-item.is
-    ∙ one_kept (set_one (items_in c.args.self.now.declarations.now)) c.args.all.now c.loop-one.one-index c.one-item.result c.loop-one-test.true c.requires.rules
+    ∙ one_kept (set_one (items_in c.args.self.now.declarations.now)) c.args.all.now c.loop-one.one-index
+    c.one-item.result c.loop-one-test.true c.requires.rules

@@ -15,6 +15,8 @@ returns-in-Some c =
     let items = items_in c.args.self.now.declarations.now in
     let old = c.args.code.now in
     let one = operand_of c.in-Some.one in
-    let told : alone_side c.args.side.now ≡ Some one = sym c.alone_side.ensures ∙ ap (option_map operand_of) c.in-Some.is in
-    is_so c.emit_number_alone.result c.emit_number_alone.new.code (append old (value_fragment items one old)) (append old (side_fragment items c.args.side.now old)) c.emit_number_alone.ensures
+    let told : alone_side c.args.side.now ≡ Some one =
+    sym c.alone_side.ensures ∙ ap (option_map operand_of) c.in-Some.is in
+    is_so c.emit_number_alone.result c.emit_number_alone.new.code (append old (value_fragment items one old))
+    (append old (side_fragment items c.args.side.now old)) c.emit_number_alone.ensures
     (ap (append old) (sym (alone_piece items c.args.side.now one old told)))

@@ -21,8 +21,11 @@ returns c =
     let so : c.is_asked_first.result ≡ false = first_of (search rules, grind (arith, common_steps)) in
     let asks : is_asked_first items one.subjects object ≡ false =
     sym (ap (λ (l : List Subject). is_asked_first items l object) c.as_slice-subjects.ensures)
-    ∙ sym (ap (is_asked_first items c.as_slice-subjects.result.now) (c.first_object.ensures ∙ ap (λ (l : List (Selected Statement)). first_object l) c.as_slice.ensures))
+    ∙ sym (ap (is_asked_first items c.as_slice-subjects.result.now)
+    (c.first_object.ensures ∙ ap (λ (l : List (Selected Statement)). first_object l) c.as_slice.ensures))
     ∙ sym c.is_asked_first.ensures ∙ so in
-    is_so c.emit_each_subject.result c.emit_each_subject.new.code (append old (each_subject_fragment items c.as_slice-subjects.result.now old))
+    is_so c.emit_each_subject.result c.emit_each_subject.new.code
+    (append old (each_subject_fragment items c.as_slice-subjects.result.now old))
     (append old (subjects_fragment items one.subjects object old)) c.emit_each_subject.ensures
-    (ap (λ (l : List Subject). append old (each_subject_fragment items l old)) c.as_slice-subjects.ensures ∙ ap (append old) (all_looks items one.subjects object old asks))
+    (ap (λ (l : List Subject). append old (each_subject_fragment items l old)) c.as_slice-subjects.ensures
+    ∙ ap (append old) (all_looks items one.subjects object old asks))

@@ -19,6 +19,8 @@ returns c =
     let new = c.emit_negation.new.code in
     let one = condition_meant c.args.one in
     let behind = works_fragment (negation (not c.args.truth)) in
-    is_so result new (append old (sequence (condition_fragment items one) behind old)) (append old (condition_fragment items (condition_or_opposite c.args.truth one) old))
-    (ends_so result (condition_fragment items one) behind old c.emit_asked_condition.new.code new c.in_ok-emit_asked_condition.ensures c.emit_negation.ensures)
+    is_so result new (append old (sequence (condition_fragment items one) behind old))
+    (append old (condition_fragment items (condition_or_opposite c.args.truth one) old))
+    (ends_so result (condition_fragment items one) behind old c.emit_asked_condition.new.code new
+    c.in_ok-emit_asked_condition.ensures c.emit_negation.ensures)
     (ap (append old) (told_is items one c.args.truth (not c.args.truth) old refl))

@@ -8,9 +8,11 @@ use Rattle.codegen.proofs.emitter.Emitter.emit_total.Goals as goal
 pub emit_value-requires-clause-rules : goal.emit_value-requires-clause-rules
 emit_value-requires-clause-rules c =
     let kept = number_rules (items_in c.args.self.now.declarations.now) in
-    front_kept (kept c.in-Some.first.now) (each kept c.in-Some.more.now) (sym (ap (each kept) c.in-Some.ensures.cases.0) ∙ c.requires.rules)
+    front_kept (kept c.in-Some.first.now) (each kept c.in-Some.more.now) (sym (ap (each kept) c.in-Some.ensures.cases.0)
+    ∙ c.requires.rules)
 
 pub emit_all_added-requires-clause-rules : goal.emit_all_added-requires-clause-rules
 emit_all_added-requires-clause-rules c =
     let kept = number_rules (items_in c.args.self.now.declarations.now) in
-    back_kept (kept c.in-Some.first.now) (each kept c.in-Some.more.now) (sym (ap (each kept) c.in-Some.ensures.cases.0) ∙ c.requires.rules)
+    back_kept (kept c.in-Some.first.now) (each kept c.in-Some.more.now) (sym (ap (each kept) c.in-Some.ensures.cases.0)
+    ∙ c.requires.rules)

@@ -20,6 +20,7 @@ returns c =
     let behind = works_fragment (negation (not c.args.one)) in
     let begun : c.emit_constant.new.code ≡ append old (test old) =
     c.in_ok-emit_constant.ensures ∙ ap (λ (p : Fragment). append old (p old)) (sym (constant_is items c.args.other)) in
-    is_so result new (append old (sequence test behind old)) (append old (condition_fragment items (condition_or_opposite c.args.one (constant c.args.other)) old))
+    is_so result new (append old (sequence test behind old))
+    (append old (condition_fragment items (condition_or_opposite c.args.one (constant c.args.other)) old))
     (ends_so result test behind old c.emit_constant.new.code new begun c.emit_negation.ensures)
     (ap (append old) (told_is items (constant c.args.other) c.args.one (not c.args.one) old refl))

@@ -11,4 +11,5 @@ pub emit_update-requires-clause-rules : goal.emit_update-requires-clause-rules
 emit_update-requires-clause-rules c =
     let items = items_in c.args.self.now.declarations.now in
     ap (λ (r : Receiver). each (subscript_rules items) r.item.subscripts) c.one-item.is
-    ∙ receiver_kept items numeric_item c.args.all.now c.loop-one.one-index c.one-item.result c.loop-one-test.true c.requires.rules
+    ∙ receiver_kept items numeric_item c.args.all.now c.loop-one.one-index c.one-item.result c.loop-one-test.true
+    c.requires.rules

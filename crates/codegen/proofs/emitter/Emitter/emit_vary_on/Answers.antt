@@ -34,9 +34,14 @@ returns c =
     let value = value_fragment items one.by in
     let update = update_fragment items false operator.Add (varied one) in
     let last = work_fragment c.discard.result in
-    is_so result new (append old (sequence clear (sequence value (sequence update last)) old)) (append old (vary_on_fragment items c.args.one.now old))
+    is_so result new (append old (sequence clear (sequence value (sequence update last)) old))
+    (append old (vary_on_fragment items c.args.one.now old))
     (ends_so result clear (sequence value (sequence update last)) old c.emit_work.new.code new c.in_ok-emit_work.ensures
-    (ends_so result value (sequence update last) c.emit_work.new.code c.emit_value.new.code new c.in_ok-emit_value.ensures
-    (ends_so result update last c.emit_value.new.code c.emit_update.new.code new c.in_ok-emit_update.ensures c.emit_work-2.ensures)))
-    (ap (λ (d : DataInstruction). append old (sequence clear (sequence value (sequence update (work_fragment d))) old)) c.discard.ensures
-    ∙ ap (append old) (vary_on_is items one old) ∙ sym (ap (λ (o : Option Varying). append old (vary_on_fragment items o old)) c.in-Some.is))
+    (ends_so result value (sequence update last) c.emit_work.new.code c.emit_value.new.code new
+    c.in_ok-emit_value.ensures
+    (ends_so result update last c.emit_value.new.code c.emit_update.new.code new c.in_ok-emit_update.ensures
+    c.emit_work-2.ensures)))
+    (ap (λ (d : DataInstruction). append old (sequence clear (sequence value (sequence update (work_fragment d))) old))
+    c.discard.ensures
+    ∙ ap (append old) (vary_on_is items one old)
+    ∙ sym (ap (λ (o : Option Varying). append old (vary_on_fragment items o old)) c.in-Some.is))

@@ -14,7 +14,8 @@ pub emit_within-requires-clause-rules : goal.emit_within-requires-clause-rules
 emit_within-requires-clause-rules c =
     let items = items_in c.args.self.now.declarations.now in
     let wanted = c.args.wanted in
-    sym (told_rules items (not wanted.negated) (value_within c.args.value.now wanted.first.now wanted.last.now)) ∙ c.requires.rules
+    sym (told_rules items (not wanted.negated) (value_within c.args.value.now wanted.first.now wanted.last.now))
+    ∙ c.requires.rules
 
 pub returns : goal.returns
 returns c =
@@ -25,6 +26,8 @@ returns c =
     let wanted = c.args.wanted in
     let inner = value_within c.args.value.now wanted.first.now wanted.last.now in
     let behind = works_fragment (negation wanted.negated) in
-    is_so result new (append old (sequence (condition_fragment items inner) behind old)) (append old (condition_fragment items (condition_or_opposite (not wanted.negated) inner) old))
-    (ends_so result (condition_fragment items inner) behind old c.emit_within.new.code new c.in_ok-emit_within.ensures c.emit_negation.ensures)
+    is_so result new (append old (sequence (condition_fragment items inner) behind old))
+    (append old (condition_fragment items (condition_or_opposite (not wanted.negated) inner) old))
+    (ends_so result (condition_fragment items inner) behind old c.emit_within.new.code new c.in_ok-emit_within.ensures
+    c.emit_negation.ensures)
     (ap (append old) (unless_is items inner wanted.negated old))

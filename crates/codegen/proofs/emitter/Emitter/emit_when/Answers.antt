@@ -22,9 +22,11 @@ returns-in_default c =
     let old = c.args.code.now in
     let none : length c.args.subjects.now ≡ 0 = first_of (search rules, grind (arith, common_steps)) in
     is_so c.emit_constant.result c.emit_constant.new.code (append old (constant_fragment true old))
-    (append old (condition_fragment items (All (object_conditions items c.args.subjects.now c.args.objects.now)) old)) c.emit_constant.ensures
+    (append old (condition_fragment items (All (object_conditions items c.args.subjects.now c.args.objects.now)) old))
+    c.emit_constant.ensures
     (ap (λ (p : Fragment). append old (p old)) (sym (constant_is items true))
-    ∙ sym (ap (λ (l : List Condition). append old (condition_fragment items (All l) old)) (no_subjects items c.args.subjects.now c.args.objects.now none)))
+    ∙ sym (ap (λ (l : List Condition). append old (condition_fragment items (All l) old))
+    (no_subjects items c.args.subjects.now c.args.objects.now none)))
 
 pub returns-in_default-split_first : goal.returns-in_default-split_first
 returns-in_default-split_first c =
@@ -34,9 +36,11 @@ returns-in_default-split_first c =
     let result = c.emit_constant-in_default-split_first.result in
     let new = c.emit_constant-in_default-split_first.new.code in
     is_so result new (append old (constant_fragment true old))
-    (append old (condition_fragment items (All (object_conditions items c.args.subjects.now c.args.objects.now)) old)) c.emit_constant-in_default-split_first.ensures
+    (append old (condition_fragment items (All (object_conditions items c.args.subjects.now c.args.objects.now)) old))
+    c.emit_constant-in_default-split_first.ensures
     (ap (λ (p : Fragment). append old (p old)) (sym (constant_is items true))
-    ∙ sym (ap (λ (l : List Condition). append old (condition_fragment items (All l) old)) (no_objects items c.args.subjects.now c.args.objects.now none)))
+    ∙ sym (ap (λ (l : List Condition). append old (condition_fragment items (All l) old))
+    (no_objects items c.args.subjects.now c.args.objects.now none)))
 
 pub emit_asked-requires-clause-rules : goal.emit_asked-requires-clause-rules
 emit_asked-requires-clause-rules c =
@@ -48,7 +52,8 @@ emit_asked-requires-clause-rules c =
     let kept = each (condition_rules items) in
     pair_rules items subject subjects object objects
     (sym (ap (λ (l : List Subject). kept (object_conditions items l c.args.objects.now)) c.in-Some.ensures.cases.0
-    ∙ ap (λ (l : List Object). kept (object_conditions items (subject ∷ subjects) l)) c.in-Some-split_first.ensures.cases.0)
+    ∙ ap (λ (l : List Object). kept (object_conditions items (subject ∷ subjects) l))
+    c.in-Some-split_first.ensures.cases.0)
     ∙ c.requires.rules)
 
 pub emit_each_asked-requires-clause-rules : goal.emit_each_asked-requires-clause-rules
@@ -61,7 +66,8 @@ emit_each_asked-requires-clause-rules c =
     let kept = each (condition_rules items) in
     pairs_rules items subject subjects object objects
     (sym (ap (λ (l : List Subject). kept (object_conditions items l c.args.objects.now)) c.in-Some.ensures.cases.0
-    ∙ ap (λ (l : List Object). kept (object_conditions items (subject ∷ subjects) l)) c.in-Some-split_first.ensures.cases.0)
+    ∙ ap (λ (l : List Object). kept (object_conditions items (subject ∷ subjects) l))
+    c.in-Some-split_first.ensures.cases.0)
     ∙ c.requires.rules)
 
 pub returns : goal.returns
@@ -79,8 +85,11 @@ returns c =
     let further = in_order (further_piece items) others in
     is_so result new (append old (sequence (condition_fragment items one) further old))
     (append old (condition_fragment items (All (object_conditions items c.args.subjects.now c.args.objects.now)) old))
-    (ends_so result (condition_fragment items one) further old c.emit_asked.new.code new c.in_ok-emit_asked.ensures c.emit_each_asked.ensures)
+    (ends_so result (condition_fragment items one) further old c.emit_asked.new.code new c.in_ok-emit_asked.ensures
+    c.emit_each_asked.ensures)
     (ap (append old) (all_parts items one others old)
     ∙ ap (λ (p : Fragment). append old (p old)) (sym (all_is items (one ∷ others)))
-    ∙ sym (ap (λ (l : List Subject). append old (condition_fragment items (All (object_conditions items l c.args.objects.now)) old)) c.in-Some.ensures.cases.0
-    ∙ ap (λ (l : List Object). append old (condition_fragment items (All (object_conditions items (subject ∷ subjects) l)) old)) c.in-Some-split_first.ensures.cases.0))
+    ∙ sym (ap (λ (l : List Subject). append old
+    (condition_fragment items (All (object_conditions items l c.args.objects.now)) old)) c.in-Some.ensures.cases.0
+    ∙ ap (λ (l : List Object). append old (condition_fragment items
+    (All (object_conditions items (subject ∷ subjects) l)) old)) c.in-Some-split_first.ensures.cases.0))

@@ -22,22 +22,27 @@ returns-in_default c =
     let old = c.args.code.now in
     let none : length c.args.whens.now ≡ 0 = first_of (search rules, grind (arith, common_steps)) in
     is_so c.emit_constant.result c.emit_constant.new.code (append old (constant_fragment false old))
-    (append old (condition_fragment items (Any (when_conditions items c.args.subjects.now c.args.whens.now)) old)) c.emit_constant.ensures
+    (append old (condition_fragment items (Any (when_conditions items c.args.subjects.now c.args.whens.now)) old))
+    c.emit_constant.ensures
     (ap (λ (p : Fragment). append old (p old)) (sym (constant_is items false))
-    ∙ sym (ap (λ (l : List Condition). append old (condition_fragment items (Any l) old)) (no_whens items c.args.subjects.now c.args.whens.now none)))
+    ∙ sym (ap (λ (l : List Condition). append old (condition_fragment items (Any l) old))
+    (no_whens items c.args.subjects.now c.args.whens.now none)))
 
 pub emit_when-requires-clause-rules : goal.emit_when-requires-clause-rules
 emit_when-requires-clause-rules c =
     let items = items_in c.args.self.now.declarations.now in
     let kept = λ (one : When). each (condition_rules items) (object_conditions items c.args.subjects.now one.objects) in
-    ap (λ (l : List Object). each (condition_rules items) (object_conditions items c.args.subjects.now l)) c.as_slice.ensures
-    ∙ front_kept (kept c.in-Some.first.now) (each kept c.in-Some.more.now) (sym (ap (each kept) c.in-Some.ensures.cases.0) ∙ c.requires.rules)
+    ap (λ (l : List Object). each (condition_rules items) (object_conditions items c.args.subjects.now l))
+    c.as_slice.ensures
+    ∙ front_kept (kept c.in-Some.first.now) (each kept c.in-Some.more.now)
+    (sym (ap (each kept) c.in-Some.ensures.cases.0) ∙ c.requires.rules)
 
 pub emit_each_when-requires-clause-rules : goal.emit_each_when-requires-clause-rules
 emit_each_when-requires-clause-rules c =
     let items = items_in c.args.self.now.declarations.now in
     let kept = λ (one : When). each (condition_rules items) (object_conditions items c.args.subjects.now one.objects) in
-    back_kept (kept c.in-Some.first.now) (each kept c.in-Some.more.now) (sym (ap (each kept) c.in-Some.ensures.cases.0) ∙ c.requires.rules)
+    back_kept (kept c.in-Some.first.now) (each kept c.in-Some.more.now) (sym (ap (each kept) c.in-Some.ensures.cases.0)
+    ∙ c.requires.rules)
 
 pub returns : goal.returns
 returns c =
@@ -49,10 +54,14 @@ returns c =
     let first = c.in-Some.first.now in
     let more = c.in-Some.more.now in
     let test = condition_fragment items (when_condition items subjects first) in
-    let further = in_order (λ (one : When). or_fragment (condition_fragment items (when_condition items subjects one))) more in
+    let further =
+    in_order (λ (one : When). or_fragment (condition_fragment items (when_condition items subjects one))) more in
     let begun : c.emit_when.new.code ≡ append old (test old) =
-    c.in_ok-emit_when.ensures ∙ ap (λ (l : List Object). append old (condition_fragment items (All (object_conditions items subjects l)) old)) c.as_slice.ensures in
-    is_so result new (append old (sequence test further old)) (append old (condition_fragment items (Any (when_conditions items subjects c.args.whens.now)) old))
+    c.in_ok-emit_when.ensures ∙ ap (λ (l : List Object).
+    append old (condition_fragment items (All (object_conditions items subjects l)) old)) c.as_slice.ensures in
+    is_so result new (append old (sequence test further old))
+    (append old (condition_fragment items (Any (when_conditions items subjects c.args.whens.now)) old))
     (ends_so result test further old c.emit_when.new.code new begun c.emit_each_when.ensures)
     (ap (append old) (whens_are items subjects first more old)
-    ∙ sym (ap (λ (l : List When). append old (condition_fragment items (Any (when_conditions items subjects l)) old)) c.in-Some.ensures.cases.0))
+    ∙ sym (ap (λ (l : List When). append old (condition_fragment items (Any (when_conditions items subjects l)) old))
+    c.in-Some.ensures.cases.0))

@@ -15,20 +15,23 @@ pub emit_relation-requires-clause-rules : goal.emit_relation-requires-clause-rul
 emit_relation-requires-clause-rules c =
     let items = items_in c.args.self.now.declarations.now in
     sym (relation_kept items c.args.value.now Equal c.args.first.now)
-    ∙ sym (ap (λ (o : Option Side). condition_rules items (value_within c.args.value.now c.args.first.now o)) c.in-None.is)
+    ∙ sym
+    (ap (λ (o : Option Side). condition_rules items (value_within c.args.value.now c.args.first.now o)) c.in-None.is)
     ∙ c.requires.rules
 
 pub emit_between-requires-clause-first : goal.emit_between-requires-clause-first
 emit_between-requires-clause-first c =
     let items = items_in c.args.self.now.declarations.now in
     from_rules items c.args.value.now c.args.first.now c.in-Some.last
-    (sym (ap (λ (o : Option Side). condition_rules items (value_within c.args.value.now c.args.first.now o)) c.in-Some.is) ∙ c.requires.rules)
+    (sym (ap (λ (o : Option Side). condition_rules items (value_within c.args.value.now c.args.first.now o))
+    c.in-Some.is) ∙ c.requires.rules)
 
 pub emit_between-requires-clause-last : goal.emit_between-requires-clause-last
 emit_between-requires-clause-last c =
     let items = items_in c.args.self.now.declarations.now in
     last_rules items c.args.value.now c.args.first.now c.in-Some.last
-    (sym (ap (λ (o : Option Side). condition_rules items (value_within c.args.value.now c.args.first.now o)) c.in-Some.is) ∙ c.requires.rules)
+    (sym (ap (λ (o : Option Side). condition_rules items (value_within c.args.value.now c.args.first.now o))
+    c.in-Some.is) ∙ c.requires.rules)
 
 pub returns-in-None : goal.returns-in-None
 returns-in-None c =
@@ -39,7 +42,8 @@ returns-in-None c =
     is_so c.emit_relation.result c.emit_relation.new.code (append old (relation_fragment items value Equal first old))
     (append old (condition_fragment items (value_within value first c.args.last.now) old)) c.emit_relation.ensures
     (ap (λ (p : Fragment). append old (p old)) (sym (relation_is items value Equal first))
-    ∙ sym (ap (λ (o : Option Side). append old (condition_fragment items (value_within value first o) old)) c.in-None.is))
+    ∙ sym
+    (ap (λ (o : Option Side). append old (condition_fragment items (value_within value first o) old)) c.in-None.is))
 
 pub returns-in-Some : goal.returns-in-Some
 returns-in-Some c =
@@ -49,7 +53,9 @@ returns-in-Some c =
     let first = c.args.first.now in
     let last = c.in-Some.last in
     is_so c.emit_between.result c.emit_between.new.code
-    (append old (sequence (relation_fragment items value GreaterOrEqual first) (and_fragment (relation_fragment items value LessOrEqual last)) old))
+    (append old (sequence (relation_fragment items value GreaterOrEqual first)
+    (and_fragment (relation_fragment items value LessOrEqual last)) old))
     (append old (condition_fragment items (value_within value first c.args.last.now) old)) c.emit_between.ensures
     (ap (append old) (between_is items value first last old)
-    ∙ sym (ap (λ (o : Option Side). append old (condition_fragment items (value_within value first o) old)) c.in-Some.is))
+    ∙ sym
+    (ap (λ (o : Option Side). append old (condition_fragment items (value_within value first o) old)) c.in-Some.is))

@@ -12,4 +12,5 @@ key_item-item-requires-clause-named c =
     let files = files_in c.args.self.now.declarations.now in
     let file = file_in items c.args.file.now in
     let in_sequence = is_in_sequence file c.args.next in
-    read_key_names_one items files in_sequence file c.in-Some.key (sym (ap (read_key_rules items files in_sequence file) c.in-Some.is) ∙ c.requires.rules)
+    read_key_names_one items files in_sequence file c.in-Some.key
+    (sym (ap (read_key_rules items files in_sequence file) c.in-Some.is) ∙ c.requires.rules)

@@ -10,4 +10,5 @@ key_item-item-requires-clause-named c =
     let items = items_in c.args.self.now.declarations.now in
     let files = files_in c.args.self.now.declarations.now in
     let file = file_in items c.args.file.now in
-    start_key_names_one items files file c.in-Some.one (sym (ap (start_key_rules items files file) c.in-Some.is) ∙ c.requires.rules)
+    start_key_names_one items files file c.in-Some.one (sym (ap (start_key_rules items files file) c.in-Some.is)
+    ∙ c.requires.rules)

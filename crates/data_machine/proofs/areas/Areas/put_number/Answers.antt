@@ -11,24 +11,34 @@ use Rattle.data_machine.proofs.AreaBytes.{area_set, area_lengths, as_many, seam}
 use Rattle.data_machine.proofs.areas.Areas.put_number.Goals as goal
 
 pub put_number_part-requires-clause-item : goal.put_number_part-requires-clause-item
-put_number_part-requires-clause-item c = (subst (λ (k : Kind). IsOfLength k c.args.one.now.item.length) c.in-Numeric.is c.requires.stands.form).0
+put_number_part-requires-clause-item c =
+    (subst (λ (k : Kind). IsOfLength k c.args.one.now.item.length) c.in-Numeric.is c.requires.stands.form).0
 
 pub returns-in-Numeric-clause-stores : goal.returns-in-Numeric-clause-stores
 returns-in-Numeric-clause-stores c =
     let one = c.args.one.now in
     let item = c.in-Numeric.item in
-    let long : one.item.length ≡ length_of item = (subst (λ (k : Kind). IsOfLength k one.item.length) c.in-Numeric.is c.requires.stands.form).1 in
+    let long : one.item.length ≡ length_of item =
+    (subst (λ (k : Kind). IsOfLength k one.item.length) c.in-Numeric.is c.requires.stands.form).1 in
     let bytes = bytes_of item (record { coefficient = pos (c.args.number % 10 ^ item.digits); scale = 0 }) in
-    area_set c.self.inside.areas.items c.args.self.now one.area c.args.offset one.item.length c.index_mut-area.result.now _ bytes c.self.view_is
-    (omega (arith, as_many c.self.inside.areas.items c.args.self.now c.self.view_is, c.requires.stands.area)) c.index_mut-area.ensures.value
-    (seam c.index_mut-area.result.now.len c.put_number_part.new.area _ (omega (arith, c.as_mut_slice.ensures.len, c.put_number_part.auto.area))
+    area_set c.self.inside.areas.items c.args.self.now one.area c.args.offset one.item.length
+    c.index_mut-area.result.now _ bytes c.self.view_is
+    (omega (arith, as_many c.self.inside.areas.items c.args.self.now c.self.view_is, c.requires.stands.area))
+    c.index_mut-area.ensures.value
+    (seam c.index_mut-area.result.now.len c.put_number_part.new.area _
+    (omega (arith, c.as_mut_slice.ensures.len, c.put_number_part.auto.area))
     ∙ c.put_number_part.ensures
     ∙ ap (λ (v : List ℕ). with_part v c.args.offset (length_of item) bytes) c.as_mut_slice.ensures.value
     ∙ ap (λ n. with_part c.index_mut-area.result.now.items c.args.offset n bytes) (sym long))
-    ∙ ap (λ (k : Kind). number_stored k (item_place one c.args.offset) (c.args.number % 10 ^ digits_in k) c.args.self.now) (sym c.in-Numeric.is)
+    ∙ ap (λ (k : Kind). number_stored k (item_place one c.args.offset) (c.args.number % 10 ^ digits_in k)
+    c.args.self.now) (sym c.in-Numeric.is)
 
 pub returns-in-Numeric-clause-lengths : goal.returns-in-Numeric-clause-lengths
 returns-in-Numeric-clause-lengths c =
-    area_lengths c.self.inside.areas.items c.args.self.now c.args.one.now.area c.index_mut-area.result.now _ c.self.view_is
-    (omega (arith, as_many c.self.inside.areas.items c.args.self.now c.self.view_is, c.requires.stands.area)) c.index_mut-area.ensures.value
-    (ap length (seam c.index_mut-area.result.now.len c.put_number_part.new.area _ (omega (arith, c.as_mut_slice.ensures.len, c.put_number_part.auto.area))) ∙ c.put_number_part.auto.area ∙ ap length c.as_mut_slice.ensures.value)
+    area_lengths c.self.inside.areas.items c.args.self.now c.args.one.now.area c.index_mut-area.result.now _
+    c.self.view_is
+    (omega (arith, as_many c.self.inside.areas.items c.args.self.now c.self.view_is, c.requires.stands.area))
+    c.index_mut-area.ensures.value
+    (ap length (seam c.index_mut-area.result.now.len c.put_number_part.new.area _
+    (omega (arith, c.as_mut_slice.ensures.len, c.put_number_part.auto.area))) ∙ c.put_number_part.auto.area
+    ∙ ap length c.as_mut_slice.ensures.value)

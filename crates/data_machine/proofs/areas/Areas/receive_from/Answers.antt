@@ -6,13 +6,23 @@ use Rattle.data_machine.proofs.areas.Areas.receive_from.Goals as goal
 
 pub returns-clause-stores : goal.returns-clause-stores
 returns-clause-stores c =
-    move_stores c.move_part.result c.self.inside.areas.items c.args.self.now c.args.one.now c.args.offset (record { taken = c.args.taken.now; bytes = c.args.from.now }) c.index_mut-area.result.now _ c.move_part.new.area c.self.view_is
-    (omega (arith, as_many c.self.inside.areas.items c.args.self.now c.self.view_is, c.requires.stands.area)) c.index_mut-area.ensures.value
-    (seam c.index_mut-area.result.now.len c.move_part.new.area _ (omega (arith, c.as_mut_slice.ensures.len, c.move_part.auto.area)))
-    (subst (λ v. WritesPart c.move_part.result v c.move_part.new.area c.args.offset c.args.one.now.item.length (moved_by c.args.one.now.editing c.args.one.now.item (record { taken = c.args.taken.now; bytes = c.args.from.now }))) c.as_mut_slice.ensures.value c.move_part.ensures)
+    move_stores c.move_part.result c.self.inside.areas.items c.args.self.now c.args.one.now c.args.offset
+    (record { taken = c.args.taken.now; bytes = c.args.from.now }) c.index_mut-area.result.now _ c.move_part.new.area
+    c.self.view_is
+    (omega (arith, as_many c.self.inside.areas.items c.args.self.now c.self.view_is, c.requires.stands.area))
+    c.index_mut-area.ensures.value
+    (seam c.index_mut-area.result.now.len c.move_part.new.area _
+    (omega (arith, c.as_mut_slice.ensures.len, c.move_part.auto.area)))
+    (subst (λ v. WritesPart c.move_part.result v c.move_part.new.area c.args.offset c.args.one.now.item.length (moved_by
+    c.args.one.now.editing c.args.one.now.item (record { taken = c.args.taken.now; bytes = c.args.from.now })))
+    c.as_mut_slice.ensures.value c.move_part.ensures)
 
 pub returns-clause-lengths : goal.returns-clause-lengths
 returns-clause-lengths c =
-    area_lengths c.self.inside.areas.items c.args.self.now c.args.one.now.area c.index_mut-area.result.now _ c.self.view_is
-    (omega (arith, as_many c.self.inside.areas.items c.args.self.now c.self.view_is, c.requires.stands.area)) c.index_mut-area.ensures.value
-    (ap length (seam c.index_mut-area.result.now.len c.move_part.new.area _ (omega (arith, c.as_mut_slice.ensures.len, c.move_part.auto.area))) ∙ c.move_part.auto.area ∙ ap length c.as_mut_slice.ensures.value)
+    area_lengths c.self.inside.areas.items c.args.self.now c.args.one.now.area c.index_mut-area.result.now _
+    c.self.view_is
+    (omega (arith, as_many c.self.inside.areas.items c.args.self.now c.self.view_is, c.requires.stands.area))
+    c.index_mut-area.ensures.value
+    (ap length (seam c.index_mut-area.result.now.len c.move_part.new.area
+    _ (omega (arith, c.as_mut_slice.ensures.len, c.move_part.auto.area))) ∙ c.move_part.auto.area
+    ∙ ap length c.as_mut_slice.ensures.value)

@@ -15,82 +15,123 @@ use Rattle.data_machine.specs.Data.{scratch_of}
 use Rattle.data_machine.specs.Comes.{IsStepOf}
 use Rattle.data_machine.specs.Finds.{IsAtOffset}
 use Rattle.data_machine.specs.Inspecting.{there, inspected_with, added_and_stored, IsAddedStorage}
-use Rattle.data_machine.proofs.Inspects.{index_within, stands_one, whole_one, enough_places, subject_stands, counters_stand, inspect_comes}
+use Rattle.data_machine.proofs.Inspects.{index_within, stands_one, whole_one, enough_places, subject_stands}
+use Rattle.data_machine.proofs.Inspects.{counters_stand, inspect_comes}
 use Rattle.data_machine.proofs.data.Data.inspect_by.Goals as goal
 
 pub below-subject-requires : goal.below-subject-requires
 below-subject-requires c =
-    let many = enough_places c.args.tables.now c.args.self.now.areas (length c.args.one.now.counters) c.args.self.now.places.newest_first c.requires.places in
+    let many = enough_places c.args.tables.now c.args.self.now.areas (length c.args.one.now.counters)
+    c.args.self.now.places.newest_first c.requires.places in
     omega (arith, many, ap (λ (xs : List ℕ). length xs) c.as_slice-counters.ensures)
 
 pub newest-places-requires : goal.newest-places-requires
 newest-places-requires c =
-    let many = enough_places c.args.tables.now c.args.self.now.areas (length c.args.one.now.counters) c.args.self.now.places.newest_first c.requires.places in
+    let many = enough_places c.args.tables.now c.args.self.now.areas (length c.args.one.now.counters)
+    c.args.self.now.places.newest_first c.requires.places in
     omega (arith, many, ap (λ (xs : List ℕ). length xs) c.as_slice-counters.ensures)
 
 pub leave-requires : goal.leave-requires
 leave-requires c =
-    let many = enough_places c.args.tables.now c.args.self.now.areas (length c.args.one.now.counters) c.args.self.now.places.newest_first c.requires.places in
+    let many = enough_places c.args.tables.now c.args.self.now.areas (length c.args.one.now.counters)
+    c.args.self.now.places.newest_first c.requires.places in
     omega (arith, many, ap (λ (xs : List ℕ). length xs) c.as_slice-counters.ensures)
 
 pub bounds-as_slice-subject : goal.bounds-as_slice-subject
 bounds-as_slice-subject c =
-    let at = ap (λ (xs : List ℕ). slice_get c.args.self.now.places.newest_first (length xs)) (sym c.as_slice-counters.ensures) ∙ c.below-subject.ensures in
+    let at =
+    ap (λ (xs : List ℕ). slice_get c.args.self.now.places.newest_first (length xs)) (sym c.as_slice-counters.ensures)
+    ∙ c.below-subject.ensures in
     index_within c.args.tables.now c.args.self.now.areas c.below-subject.result c.as_slice.result.now c.as_slice.ensures
-    (subject_stands c.args.tables.now c.args.self.now.areas (length c.args.one.now.counters) c.args.self.now.places.newest_first c.below-subject.result c.requires.places at)
+    (subject_stands c.args.tables.now c.args.self.now.areas (length c.args.one.now.counters)
+    c.args.self.now.places.newest_first c.below-subject.result c.requires.places at)
 
 pub seen-to-requires-clause-whole : goal.seen-to-requires-clause-whole
 seen-to-requires-clause-whole c =
-    let at = ap (λ (xs : List ℕ). slice_get c.args.self.now.places.newest_first (length xs)) (sym c.as_slice-counters.ensures) ∙ c.below-subject.ensures in
-    let stands = subject_stands c.args.tables.now c.args.self.now.areas (length c.args.one.now.counters) c.args.self.now.places.newest_first c.below-subject.result c.requires.places at in
-    let within = index_within c.args.tables.now c.args.self.now.areas c.below-subject.result c.as_slice.result.now c.as_slice.ensures stands in
-    whole_one c.args.tables.now c.args.self.now.areas c.below-subject.result c.as_slice.result.now c.index-as_slice-subject.result c.as_slice.ensures
-    (slice_get_read c.as_slice.result.now _ c.below-subject.result.item.number c.index-as_slice-subject.result refl within c.index-as_slice-subject.is) stands
+    let at =
+    ap (λ (xs : List ℕ). slice_get c.args.self.now.places.newest_first (length xs)) (sym c.as_slice-counters.ensures)
+    ∙ c.below-subject.ensures in
+    let stands = subject_stands c.args.tables.now c.args.self.now.areas (length c.args.one.now.counters)
+    c.args.self.now.places.newest_first c.below-subject.result c.requires.places at in
+    let within = index_within c.args.tables.now c.args.self.now.areas c.below-subject.result c.as_slice.result.now
+    c.as_slice.ensures stands in
+    whole_one c.args.tables.now c.args.self.now.areas c.below-subject.result c.as_slice.result.now
+    c.index-as_slice-subject.result c.as_slice.ensures
+    (slice_get_read c.as_slice.result.now _ c.below-subject.result.item.number c.index-as_slice-subject.result refl
+    within c.index-as_slice-subject.is) stands
 
 pub seen-to-requires-clause-shortened : goal.seen-to-requires-clause-shortened
 seen-to-requires-clause-shortened c =
-    let at = ap (λ (xs : List ℕ). slice_get c.args.self.now.places.newest_first (length xs)) (sym c.as_slice-counters.ensures) ∙ c.below-subject.ensures in
-    let stands = subject_stands c.args.tables.now c.args.self.now.areas (length c.args.one.now.counters) c.args.self.now.places.newest_first c.below-subject.result c.requires.places at in
-    let within = index_within c.args.tables.now c.args.self.now.areas c.below-subject.result c.as_slice.result.now c.as_slice.ensures stands in
+    let at =
+    ap (λ (xs : List ℕ). slice_get c.args.self.now.places.newest_first (length xs)) (sym c.as_slice-counters.ensures)
+    ∙ c.below-subject.ensures in
+    let stands = subject_stands c.args.tables.now c.args.self.now.areas (length c.args.one.now.counters)
+    c.args.self.now.places.newest_first c.below-subject.result c.requires.places at in
+    let within = index_within c.args.tables.now c.args.self.now.areas c.below-subject.result c.as_slice.result.now
+    c.as_slice.ensures stands in
     let to = c.index-as_slice-subject.result in
-    subst (λ n. IsEditing (shortened_item to n).item to.editing) (sym (ap (λ (d : DataItem). d.item.length) c.part_of-part.ensures))
-    (stands_one c.args.tables.now c.args.self.now.areas c.below-subject.result c.as_slice.result.now to c.as_slice.ensures
-    (slice_get_read c.as_slice.result.now _ c.below-subject.result.item.number to refl within c.index-as_slice-subject.is) stands).editing
+    subst (λ n. IsEditing (shortened_item to n).item to.editing)
+    (sym (ap (λ (d : DataItem). d.item.length) c.part_of-part.ensures))
+    (stands_one c.args.tables.now c.args.self.now.areas c.below-subject.result c.as_slice.result.now to
+    c.as_slice.ensures
+    (slice_get_read c.as_slice.result.now _ c.below-subject.result.item.number to refl within
+    c.index-as_slice-subject.is) stands).editing
 
 pub bytes-requires-2 : goal.bytes-requires-2
 bytes-requires-2 c =
-    let at = ap (λ (xs : List ℕ). slice_get c.args.self.now.places.newest_first (length xs)) (sym c.as_slice-counters.ensures) ∙ c.below-subject.ensures in
-    let stands = subject_stands c.args.tables.now c.args.self.now.areas (length c.args.one.now.counters) c.args.self.now.places.newest_first c.below-subject.result c.requires.places at in
-    let within = index_within c.args.tables.now c.args.self.now.areas c.below-subject.result c.as_slice.result.now c.as_slice.ensures stands in
-    let seen_is = c.seen-to.ensures ∙ ap (λ (d : DataItem). shortened_item c.index-as_slice-subject.result d.item.length) c.part_of-part.ensures in
+    let at =
+    ap (λ (xs : List ℕ). slice_get c.args.self.now.places.newest_first (length xs)) (sym c.as_slice-counters.ensures)
+    ∙ c.below-subject.ensures in
+    let stands = subject_stands c.args.tables.now c.args.self.now.areas (length c.args.one.now.counters)
+    c.args.self.now.places.newest_first c.below-subject.result c.requires.places at in
+    let within = index_within c.args.tables.now c.args.self.now.areas c.below-subject.result c.as_slice.result.now
+    c.as_slice.ensures stands in
+    let seen_is = c.seen-to.ensures
+    ∙ ap (λ (d : DataItem). shortened_item c.index-as_slice-subject.result d.item.length) c.part_of-part.ensures in
     subst (λ (o : DataItem). IsAtOffset o c.args.self.now.areas c.below-subject.result.offset) (sym seen_is)
-    (stands_one c.args.tables.now c.args.self.now.areas c.below-subject.result c.as_slice.result.now c.index-as_slice-subject.result c.as_slice.ensures
-    (slice_get_read c.as_slice.result.now _ c.below-subject.result.item.number c.index-as_slice-subject.result refl within c.index-as_slice-subject.is) stands)
+    (stands_one c.args.tables.now c.args.self.now.areas c.below-subject.result c.as_slice.result.now
+    c.index-as_slice-subject.result c.as_slice.ensures
+    (slice_get_read c.as_slice.result.now _ c.below-subject.result.item.number c.index-as_slice-subject.result refl
+    within c.index-as_slice-subject.is) stands)
 
 pub inspect-requires-clause-text : goal.inspect-requires-clause-text
 inspect-requires-clause-text c =
-    let at = ap (λ (xs : List ℕ). slice_get c.args.self.now.places.newest_first (length xs)) (sym c.as_slice-counters.ensures) ∙ c.below-subject.ensures in
-    let stands = subject_stands c.args.tables.now c.args.self.now.areas (length c.args.one.now.counters) c.args.self.now.places.newest_first c.below-subject.result c.requires.places at in
+    let at =
+    ap (λ (xs : List ℕ). slice_get c.args.self.now.places.newest_first (length xs)) (sym c.as_slice-counters.ensures)
+    ∙ c.below-subject.ensures in
+    let stands = subject_stands c.args.tables.now c.args.self.now.areas (length c.args.one.now.counters)
+    c.args.self.now.places.newest_first c.below-subject.result c.requires.places at in
     let room = c.requires.text c.below-subject.result.item.number stands.one stands.here in
-    let seen_is = c.seen-to.ensures ∙ ap (λ (d : DataItem). shortened_item c.index-as_slice-subject.result d.item.length) c.part_of-part.ensures in
-    let size : c.seen-to.result.now.item.length ≡ c.below-subject.result.length = ap (λ (d : DataItem). d.item.length) seen_is in
+    let seen_is = c.seen-to.ensures
+    ∙ ap (λ (d : DataItem). shortened_item c.index-as_slice-subject.result d.item.length) c.part_of-part.ensures in
+    let size : c.seen-to.result.now.item.length ≡ c.below-subject.result.length =
+    ap (λ (d : DataItem). d.item.length) seen_is in
     omega (arith, room, stands.short, size, c.bytes-2.ensures.of.size)
 
 pub add_and_store-done-requires-clause-stands : goal.add_and_store-done-requires-clause-stands
 add_and_store-done-requires-clause-stands c =
-    let at = ap (λ (xs : List ℕ). slice_get c.args.self.now.places.newest_first (length xs)) (sym c.as_slice-counters.ensures) ∙ c.below-subject.ensures in
-    let stands = subject_stands c.args.tables.now c.args.self.now.areas (length c.args.one.now.counters) c.args.self.now.places.newest_first c.below-subject.result c.requires.places at in
-    let within = index_within c.args.tables.now c.args.self.now.areas c.below-subject.result c.as_slice.result.now c.as_slice.ensures stands in
-    let seen_is = c.seen-to.ensures ∙ ap (λ (d : DataItem). shortened_item c.index-as_slice-subject.result d.item.length) c.part_of-part.ensures in
+    let at =
+    ap (λ (xs : List ℕ). slice_get c.args.self.now.places.newest_first (length xs)) (sym c.as_slice-counters.ensures)
+    ∙ c.below-subject.ensures in
+    let stands = subject_stands c.args.tables.now c.args.self.now.areas (length c.args.one.now.counters)
+    c.args.self.now.places.newest_first c.below-subject.result c.requires.places at in
+    let within = index_within c.args.tables.now c.args.self.now.areas c.below-subject.result c.as_slice.result.now
+    c.as_slice.ensures stands in
+    let seen_is = c.seen-to.ensures
+    ∙ ap (λ (d : DataItem). shortened_item c.index-as_slice-subject.result d.item.length) c.part_of-part.ensures in
     subst (λ (o : DataItem). IsAtOffset o c.args.self.now.areas c.below-subject.result.offset) (sym seen_is)
-    (stands_one c.args.tables.now c.args.self.now.areas c.below-subject.result c.as_slice.result.now c.index-as_slice-subject.result c.as_slice.ensures
-    (slice_get_read c.as_slice.result.now _ c.below-subject.result.item.number c.index-as_slice-subject.result refl within c.index-as_slice-subject.is) stands)
+    (stands_one c.args.tables.now c.args.self.now.areas c.below-subject.result c.as_slice.result.now
+    c.index-as_slice-subject.result c.as_slice.ensures
+    (slice_get_read c.as_slice.result.now _ c.below-subject.result.item.number c.index-as_slice-subject.result refl
+    within c.index-as_slice-subject.is) stands)
 
 pub add_and_store-done-requires-clause-stand : goal.add_and_store-done-requires-clause-stand
 add_and_store-done-requires-clause-stand c =
-    counters_stand c.args.tables.now c.args.self.now.areas c.newest-places.result.now c.args.self.now.places.newest_first (length c.args.one.now.counters)
+    counters_stand c.args.tables.now c.args.self.now.areas c.newest-places.result.now
+    c.args.self.now.places.newest_first (length c.args.one.now.counters)
     (c.newest-places.ensures.length ∙ ap (λ (xs : List ℕ). length xs) c.as_slice-counters.ensures)
-    (c.newest-places.ensures.value ∙ ap (λ (xs : List ℕ). reverse c.newest-places.result.now ++ drop (length xs) c.args.self.now.places.newest_first) c.as_slice-counters.ensures)
+    (c.newest-places.ensures.value ∙ ap (λ (xs : List ℕ). reverse c.newest-places.result.now
+    ++ drop (length xs) c.args.self.now.places.newest_first) c.as_slice-counters.ensures)
     c.requires.places
 
 pub returns-clause-does : goal.returns-clause-does
@@ -99,31 +140,53 @@ returns-clause-does c =
     let one = c.args.one.now in
     let to = c.index-as_slice-subject.result in
     let p = c.below-subject.result in
-    let at = ap (λ (xs : List ℕ). slice_get places (length xs)) (sym c.as_slice-counters.ensures) ∙ c.below-subject.ensures in
-    let stands = subject_stands c.args.tables.now c.args.self.now.areas (length one.counters) places p c.requires.places at in
-    let within = index_within c.args.tables.now c.args.self.now.areas p c.as_slice.result.now c.as_slice.ensures stands in
+    let at =
+    ap (λ (xs : List ℕ). slice_get places (length xs)) (sym c.as_slice-counters.ensures) ∙ c.below-subject.ensures in
+    let stands =
+    subject_stands c.args.tables.now c.args.self.now.areas (length one.counters) places p c.requires.places at in
+    let within =
+    index_within c.args.tables.now c.args.self.now.areas p c.as_slice.result.now c.as_slice.ensures stands in
     let here = ap (λ (xs : List DataItem). slice_get xs p.item.number) (sym c.as_slice.ensures)
     ∙ slice_get_read c.as_slice.result.now _ p.item.number to refl within c.index-as_slice-subject.is in
-    let order = c.newest-places.ensures.value ∙ ap (λ (xs : List ℕ). reverse c.newest-places.result.now ++ drop (length xs) places) c.as_slice-counters.ensures in
+    let order = c.newest-places.ensures.value
+    ∙ ap (λ (xs : List ℕ). reverse c.newest-places.result.now ++ drop (length xs) places) c.as_slice-counters.ensures in
     let many = c.newest-places.ensures.length ∙ ap (λ (xs : List ℕ). length xs) c.as_slice-counters.ensures in
-    let stand = counters_stand c.args.tables.now c.args.self.now.areas c.newest-places.result.now places (length one.counters) many order c.requires.places in
+    let stand = counters_stand c.args.tables.now c.args.self.now.areas c.newest-places.result.now places
+    (length one.counters) many order c.requires.places in
     let s : Scratch = scratch_of c.args.self.now in
-    let seen_is : c.seen-to.result.now ≡ shortened_item to p.length = c.seen-to.ensures ∙ ap (λ (d : DataItem). shortened_item to d.item.length) c.part_of-part.ensures in
-    let texts_are : c.bytes.result.now ≡ padded_text one.size s.line = c.bytes.ensures ∙ ap (λ (f : BufferView). f.bytes) c.fit.ensures in
-    let counted : (k : ℕ) → k < length one.tallying → slice_index c.as_slice-counts.result.now k ≡ tally (padded_text one.size s.line) one.tallying (part_of s.storage (item_place (shortened_item to p.length) p.offset)) k =
+    let seen_is : c.seen-to.result.now ≡ shortened_item to p.length =
+    c.seen-to.ensures ∙ ap (λ (d : DataItem). shortened_item to d.item.length) c.part_of-part.ensures in
+    let texts_are : c.bytes.result.now ≡ padded_text one.size s.line =
+    c.bytes.ensures ∙ ap (λ (f : BufferView). f.bytes) c.fit.ensures in
+    let counted : (k : ℕ) → k < length one.tallying
+    → slice_index c.as_slice-counts.result.now k ≡ tally (padded_text one.size s.line) one.tallying
+    (part_of s.storage (item_place (shortened_item to p.length) p.offset)) k =
     λ k h. ap (λ (xs : List ℕ). slice_index xs k) c.as_slice-counts.ensures.value ∙ c.inspect.ensures.counts k h
-    ∙ ap (λ (xs : List ℕ). tally xs one.tallying c.bytes-2.result.now k) texts_are ∙ ap (λ (xs : List ℕ). tally (padded_text one.size s.line) one.tallying xs k) c.bytes-2.ensures.value
-    ∙ ap (λ (o : DataItem). tally (padded_text one.size s.line) one.tallying (part_of s.storage (item_place o p.offset)) k) seen_is in
-    let text_is : c.bytes-text.result.now ≡ replaced_subject (padded_text one.size s.line) one.replacing (part_of s.storage (item_place (shortened_item to p.length) p.offset)) =
-    c.bytes-text.ensures ∙ c.inspect.ensures.text ∙ ap (λ (xs : List ℕ). replaced_subject xs one.replacing c.bytes-2.result.now) texts_are
+    ∙ ap (λ (xs : List ℕ). tally xs one.tallying c.bytes-2.result.now k) texts_are
+    ∙ ap (λ (xs : List ℕ). tally (padded_text one.size s.line) one.tallying xs k) c.bytes-2.ensures.value
+    ∙ ap (λ (o : DataItem).
+    tally (padded_text one.size s.line) one.tallying (part_of s.storage (item_place o p.offset)) k) seen_is in
+    let text_is : c.bytes-text.result.now ≡ replaced_subject (padded_text one.size s.line) one.replacing
+    (part_of s.storage (item_place (shortened_item to p.length) p.offset)) =
+    c.bytes-text.ensures ∙ c.inspect.ensures.text
+    ∙ ap (λ (xs : List ℕ). replaced_subject xs one.replacing c.bytes-2.result.now) texts_are
     ∙ ap (λ (xs : List ℕ). replaced_subject (padded_text one.size s.line) one.replacing xs) c.bytes-2.ensures.value
-    ∙ ap (λ (o : DataItem). replaced_subject (padded_text one.size s.line) one.replacing (part_of s.storage (item_place o p.offset))) seen_is in
+    ∙ ap (λ (o : DataItem).
+    replaced_subject (padded_text one.size s.line) one.replacing (part_of s.storage (item_place o p.offset))) seen_is in
     let adds = subst (λ (o : DataItem). IsAddedStorage c.add_and_store-done.result c.add_and_store-done.new.areas
-    (added_and_stored (map (there c.args.tables.now) c.newest-places.result.now) (layout.counted_fits (slice_index c.as_slice-counts.result.now) 0 one.counters) one.replacing (item_place o p.offset) c.bytes-text.result.now s.storage))
+    (added_and_stored (map (there c.args.tables.now) c.newest-places.result.now)
+    (layout.counted_fits (slice_index c.as_slice-counts.result.now) 0 one.counters) one.replacing
+    (item_place o p.offset) c.bytes-text.result.now s.storage))
     seen_is c.add_and_store-done.ensures.adds in
-    let comes = inspect_comes c.args.tables.now one c.newest-places.result.now p to s c.as_slice-counts.result.now c.bytes-text.result.now c.add_and_store-done.result c.add_and_store-done.new.areas
+    let comes = inspect_comes c.args.tables.now one c.newest-places.result.now p to s c.as_slice-counts.result.now
+    c.bytes-text.result.now c.add_and_store-done.result c.add_and_store-done.new.areas
     many order stand at here counted c.requires.form.counters text_is adds in
-    let left = ap (λ (h : StackView Place). h.newest_first) c.leave.ensures ∙ ap (λ (xs : List ℕ). drop (length xs + 1) places) c.as_slice-counters.ensures in
-    subst (λ (ps : List Place). IsStepOf c.add_and_store-done.result (record s { storage = c.add_and_store-done.new.areas; line = c.clear.new.self.bytes; places = ps }) (inspected_with c.args.tables.now one s)) (sym left)
-    (subst (λ (l : List ℕ). IsStepOf c.add_and_store-done.result (record s { storage = c.add_and_store-done.new.areas; line = l; places = drop (length one.counters + 1) places }) (inspected_with c.args.tables.now one s))
+    let left = ap (λ (h : StackView Place). h.newest_first) c.leave.ensures
+    ∙ ap (λ (xs : List ℕ). drop (length xs + 1) places) c.as_slice-counters.ensures in
+    subst (λ (ps : List Place). IsStepOf c.add_and_store-done.result
+    (record s { storage = c.add_and_store-done.new.areas; line = c.clear.new.self.bytes; places = ps })
+    (inspected_with c.args.tables.now one s)) (sym left)
+    (subst (λ (l : List ℕ). IsStepOf c.add_and_store-done.result (record s
+    { storage = c.add_and_store-done.new.areas; line = l; places = drop (length one.counters + 1) places })
+    (inspected_with c.args.tables.now one s))
     (sym (ap (λ (f : BufferView). f.bytes) c.clear.ensures)) comes)

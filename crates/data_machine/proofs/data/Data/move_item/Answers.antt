@@ -16,20 +16,26 @@ use Rattle.data_machine.proofs.ReadyBehind.{ready_behind}
 use Rattle.data_machine.proofs.data.Data.move_item.Goals as goal
 
 -- behind `place` and `take`
-behind_take : (tables : DataTables) (old new : Data) (from to : ItemIndex) → IsReadyAlong tables old (i.Place from ∷ i.Take ∷ i.Place to ∷ i.Move ∷ [])
-    → at_item tables from take_step (scratch_of old) ≡ Continues (scratch_of new) → KeepsRoom old new → IsReadyAlong tables new (i.Place to ∷ i.Move ∷ [])
+behind_take : (tables : DataTables) (old new : Data) (from to : ItemIndex)
+    → IsReadyAlong tables old (i.Place from ∷ i.Take ∷ i.Place to ∷ i.Move ∷ [])
+    → at_item tables from take_step (scratch_of old) ≡ Continues (scratch_of new) → KeepsRoom old new
+    → IsReadyAlong tables new (i.Place to ∷ i.Move ∷ [])
 behind_take tables old new from to r is keeps =
-    ready_behind tables old new (i.Place from ∷ i.Take ∷ []) (i.Place to ∷ i.Move ∷ []) r (fused_is tables (f.Take from) (scratch_of old) ∙ is) keeps
+    ready_behind tables old new (i.Place from ∷ i.Take ∷ []) (i.Place to ∷ i.Move ∷ []) r
+    (fused_is tables (f.Take from) (scratch_of old) ∙ is) keeps
 
 pub take_item-requires-clause-item : goal.take_item-requires-clause-item
-take_item-requires-clause-item c = item_stands c.args.tables.now c.args.self.now c.args.from (i.Take ∷ i.Place c.args.to ∷ i.Move ∷ []) c.requires
+take_item-requires-clause-item c =
+    item_stands c.args.tables.now c.args.self.now c.args.from (i.Take ∷ i.Place c.args.to ∷ i.Move ∷ []) c.requires
 
 pub receive_first-requires-clause-item : goal.receive_first-requires-clause-item
 receive_first-requires-clause-item c =
     item_stands c.args.tables.now c.take_item.new.self c.args.to (i.Move ∷ [])
-    (behind_take c.args.tables.now c.args.self.now c.take_item.new.self c.args.from c.args.to c.requires c.in_ok-take_item.ensures.does c.in_ok-take_item.ensures.keeps)
+    (behind_take c.args.tables.now c.args.self.now c.take_item.new.self c.args.from c.args.to c.requires
+    c.in_ok-take_item.ensures.does c.in_ok-take_item.ensures.keeps)
 
 pub receive_first-requires-clause-sender : goal.receive_first-requires-clause-sender
 receive_first-requires-clause-sender c =
     move_found c.args.tables.now c.take_item.new.self c.args.to
-    (behind_take c.args.tables.now c.args.self.now c.take_item.new.self c.args.from c.args.to c.requires c.in_ok-take_item.ensures.does c.in_ok-take_item.ensures.keeps)
+    (behind_take c.args.tables.now c.args.self.now c.take_item.new.self c.args.from c.args.to c.requires
+    c.in_ok-take_item.ensures.does c.in_ok-take_item.ensures.keeps)

@@ -6,10 +6,15 @@ use Rattle.data_machine.proofs.Readies.{ready_string_from_first, ready_string_fr
 use Rattle.data_machine.proofs.data.Data.string.Goals as goal
 
 pub string_from_pointer-requires-clause-pointer : goal.string_from_pointer-requires-clause-pointer
-string_from_pointer-requires-clause-pointer c = (ready_string_from_pointer c.args.tables.now c.args.self.now (subst (λ (b : Bool). IsReady c.args.tables.now c.args.self.now (i.String b)) c.if-pointer.true c.requires)).0
+string_from_pointer-requires-clause-pointer c = (ready_string_from_pointer c.args.tables.now c.args.self.now
+    (subst (λ (b : Bool). IsReady c.args.tables.now c.args.self.now (i.String b)) c.if-pointer.true c.requires)).0
 
 pub string_from_pointer-requires-clause-receiver : goal.string_from_pointer-requires-clause-receiver
-string_from_pointer-requires-clause-receiver c = (ready_string_from_pointer c.args.tables.now c.args.self.now (subst (λ (b : Bool). IsReady c.args.tables.now c.args.self.now (i.String b)) c.if-pointer.true c.requires)).1
+string_from_pointer-requires-clause-receiver c = (ready_string_from_pointer c.args.tables.now c.args.self.now
+    (subst (λ (b : Bool). IsReady c.args.tables.now c.args.self.now (i.String b)) c.if-pointer.true c.requires)).1
 
 pub string_from_first-requires : goal.string_from_first-requires
-string_from_first-requires c = record { operand = ready_string_from_first c.args.tables.now c.args.self.now (subst (λ (b : Bool). IsReady c.args.tables.now c.args.self.now (i.String b)) c.if-pointer.false c.requires) }
+string_from_first-requires c = record {
+  operand = ready_string_from_first c.args.tables.now c.args.self.now
+      (subst (λ (b : Bool). IsReady c.args.tables.now c.args.self.now (i.String b)) c.if-pointer.false c.requires);
+}

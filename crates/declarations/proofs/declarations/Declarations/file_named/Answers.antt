@@ -8,7 +8,8 @@ pub returns-in-Some : goal.returns-in-Some
 returns-in-Some c =
     let items = items_in c.args.self.now in
     let program = data_in c.args.self.now in
-    c.files_named_once.ensures items program c.args.name.now (file_in items c.in-Some.file.now) (once items program c.requires.file_rules) (c.in-Some.ensures items program c.requires.files)
+    c.files_named_once.ensures items program c.args.name.now (file_in items c.in-Some.file.now)
+    (once items program c.requires.file_rules) (c.in-Some.ensures items program c.requires.files)
 
 pub returns-in-None : goal.returns-in-None
 returns-in-None c =

@@ -13,7 +13,8 @@ returns-in-Ok c = λ one there.
     let storage = items_among program.storage in
     let all = storage ++ items_of_files program.files in
     let here : slice_get storage c.args.number ≡ Some c.in-Ok.one.now = c.in-Ok.ensures in
-    same_level c.in-Ok.one.now one.entry c.is_outermost.result all c.args.number (in_front storage (items_of_files program.files) c.args.number c.in-Ok.one.now here)
+    same_level c.in-Ok.one.now one.entry c.is_outermost.result all c.args.number
+    (in_front storage (items_of_files program.files) c.args.number c.in-Ok.one.now here)
     (entry_at program c.args.number one there) c.is_outermost.ensures
 
 pub returns-in-Ok-record_among : goal.returns-in-Ok-record_among
@@ -23,7 +24,8 @@ returns-in-Ok-record_among c = λ one there.
     let records = items_of_files program.files in
     let passed : c.args.number ≡ length storage + c.in-Err.behind = c.in-Err.ensures in
     let here : slice_get records c.in-Err.behind ≡ Some c.in-Ok-record_among.one.now = c.in-Ok-record_among.ensures in
-    same_level c.in-Ok-record_among.one.now one.entry c.is_outermost-in-Ok-record_among.result (storage ++ records) c.args.number
+    same_level c.in-Ok-record_among.one.now one.entry c.is_outermost-in-Ok-record_among.result (storage ++ records)
+    c.args.number
     (ap (slice_get (storage ++ records)) passed ∙ past_front storage records c.in-Err.behind ∙ here)
     (entry_at program c.args.number one there) c.is_outermost-in-Ok-record_among.ensures
 
@@ -34,6 +36,7 @@ returns-in-Err-record_among c = λ one there.
     let records = items_of_files program.files in
     let passed : c.args.number ≡ length storage + c.in-Err.behind = c.in-Err.ensures in
     let beyond : c.in-Err.behind ≡ length records + c.in-Err-record_among.field-0 = c.in-Err-record_among.ensures in
-    let within = slice_get_within (storage ++ records) c.args.number one.entry (entry_at program c.args.number one there) in
+    let within =
+    slice_get_within (storage ++ records) c.args.number one.entry (entry_at program c.args.number one there) in
     let both = length-append storage records in
     absurd (omega (arith, within, both, passed, beyond))

@@ -12,4 +12,5 @@ returns-in-None-clause-rules c =
     let procedures = procedures_in c.args.self.now in
     let name = c.args.name.now in
     let none : range_named procedures name ≡ None = sym (c.in-None.ensures procedures c.requires.procedures) in
-    ap (λ (l : List Procedure). first (unique_name_rules name.place no_rules l)) (not_given procedures c.args.self.now.procedures name c.requires.procedures none)
+    ap (λ (l : List Procedure). first (unique_name_rules name.place no_rules l))
+    (not_given procedures c.args.self.now.procedures name c.requires.procedures none)

@@ -21,9 +21,13 @@ returns-clause-declared c =
       descriptions = c.as_slice-descriptions.ensures;
       storage = c.as_slice-storage.ensures;
       procedures = c.in_ok-procedure_list.ensures ∙ ap procedures_of c.as_slice-sections.ensures;
-    }) c.requires.declared.table c.requires.declared.calls c.requires.declared.items c.in_ok-conditions.ensures c.in_ok-files.ensures c.requires.files
-    (subst (λ (l : List Section). AreProcedures (procedures_of l) c.in_ok-procedures.procedures) c.as_slice-sections.ensures c.in_ok-procedures.ensures.procedures)
+    }) c.requires.declared.table c.requires.declared.calls c.requires.declared.items c.in_ok-conditions.ensures
+    c.in_ok-files.ensures c.requires.files
+    (subst (λ (l : List Section). AreProcedures (procedures_of l) c.in_ok-procedures.procedures)
+    c.as_slice-sections.ensures c.in_ok-procedures.ensures.procedures)
 
 pub returns-in_err-procedure_list-clause-names : goal.returns-in_err-procedure_list-clause-names
 returns-in_err-procedure_list-clause-names c =
-    let error = err_from_is_err_and c.from_residual-in_err-procedure_list.result c.from_residual-in_err-procedure_list.ensures.1 in rw (error.1, error.2) tt
+    let error =
+    err_from_is_err_and c.from_residual-in_err-procedure_list.result c.from_residual-in_err-procedure_list.ensures.1 in
+    rw (error.1, error.2) tt

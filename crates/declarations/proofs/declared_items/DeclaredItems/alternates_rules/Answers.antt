@@ -20,6 +20,9 @@ returns-in_err-offset c =
     let before = c.loop-one.before.items in
     let broken = broken_of c.in_err-offset.field-0.0 in
     let split = ap (alternate_rules items there before) (drop-cons all i one c.loop-one-test.true) in
-    let found = ap (λ (x : AlternateKeyClause). first (clause_item items (key_item there before) x.key)) (sym c.one-item.is)
-    ∙ ap (λ (l : List _). first (clause_item items (key_item there l) one.key)) (sym c.deref.ensures.value) ∙ c.in_err-offset.ensures.rules in
-    rw (p.1, p.2) (ap first (c.loop-one.invariant ∙ split) ∙ first_front (clause_item items (key_item there before) (get_or all i one).key) _ broken found)
+    let found =
+    ap (λ (x : AlternateKeyClause). first (clause_item items (key_item there before) x.key)) (sym c.one-item.is)
+    ∙ ap (λ (l : List _). first (clause_item items (key_item there l) one.key)) (sym c.deref.ensures.value)
+    ∙ c.in_err-offset.ensures.rules in
+    rw (p.1, p.2) (ap first (c.loop-one.invariant ∙ split)
+    ∙ first_front (clause_item items (key_item there before) (get_or all i one).key) _ broken found)

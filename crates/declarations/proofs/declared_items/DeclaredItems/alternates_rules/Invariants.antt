@@ -6,4 +6,5 @@ use Rattle.declarations.proofs.declared_items.DeclaredItems.alternates_rules.Giv
 
 abbrev pub invariant-loop-one : goal.invariant-loop-one
 invariant-loop-one l =
-    alternate_rules (items_of l.self) (described_of l.there) (l.first ∷ []) l.all ≡ alternate_rules (items_of l.self) (described_of l.there) l.before.items (drop l.one-index l.all)
+    alternate_rules (items_of l.self) (described_of l.there) (l.first ∷ []) l.all
+    ≡ alternate_rules (items_of l.self) (described_of l.there) l.before.items (drop l.one-index l.all)

@@ -11,5 +11,6 @@ returns-in_err-lengths-clause-rules c =
     let p = err_from_is_err_and c.from_residual.result c.from_residual.ensures.1 in
     let program = c.args.program.now in
     let fault = fault_of c.in_err-lengths.field-0.0 in
-    rw (p.1, p.2) (subst (IsFirst fault) (append_assoc (entry_rules program.storage) (file_rules program) (selects_rules program))
+    rw (p.1, p.2)
+    (subst (IsFirst fault) (append_assoc (entry_rules program.storage) (file_rules program) (selects_rules program))
     (is_first_front fault (data_rules program) (selects_rules program) c.in_err-lengths.ensures.rules))

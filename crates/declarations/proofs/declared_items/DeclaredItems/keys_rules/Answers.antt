@@ -14,5 +14,6 @@ returns-in_err-first c =
     let items = items_of c.args.self.now in
     let there = described_of c.args.there in
     let prime = c.args.prime.now in
-    rw (p.1, p.2) (first_front (clause_item items (key_item there []) prime) (alternate_rules items there ((key_place items prime).offset ∷ []) c.args.alternates.now)
+    rw (p.1, p.2) (first_front (clause_item items (key_item there []) prime)
+    (alternate_rules items there ((key_place items prime).offset ∷ []) c.args.alternates.now)
     (broken_of c.in_err-first.field-0.0) c.in_err-first.ensures.rules)

@@ -14,5 +14,6 @@ returns-in_err-relative_rules c =
     let one = c.args.one.now in
     let broken = broken_of c.in_err-relative_rules.field-0.0 in
     let keys = relative_rules (items_of c.args.self.now) (described_of c.args.there) one one.relative_key in
-    rw (p.1, p.2) (first_front (keys ++ in_clause another_clause one.record_key) (each another_key one.alternate_keys) broken
+    rw (p.1, p.2)
+    (first_front (keys ++ in_clause another_clause one.record_key) (each another_key one.alternate_keys) broken
     (first_front keys (in_clause another_clause one.record_key) broken c.in_err-relative_rules.ensures))

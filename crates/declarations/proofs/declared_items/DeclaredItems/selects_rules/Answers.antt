@@ -34,10 +34,14 @@ returns-in_err-select_rules c =
     let i = c.loop-one.one-index in
     let one = c.one-item.result in
     let same_area = c.storage_areas-areas.ensures.value ∙ ap storage_areas c.as_slice.ensures in
-    let there = c.described-there.ensures ∙ ap (λ (l : List FileDescription). described_file c.storage_areas-areas.result one.name l) c.as_slice-descriptions.ensures
+    let there = c.described-there.ensures ∙ ap (λ (l : List FileDescription).
+    described_file c.storage_areas-areas.result one.name l) c.as_slice-descriptions.ensures
     ∙ ap (λ (n : ℕ). described_file n one.name program.files) same_area in
-    let by_area = subst (λ (n : ℕ). IsFirst fault (select_rules_in items n (described_of c.described-there.result) one)) same_area c.in_err-select_rules.ensures in
+    let by_area = subst (λ (n : ℕ). IsFirst fault (select_rules_in items n (described_of c.described-there.result) one))
+    same_area c.in_err-select_rules.ensures in
     let own = subst (λ (d : DescribedFile). IsFirst fault (select_rules_in items areas d one)) there by_area in
     let here = subst (λ (x : Select). IsFirst fault (rules x)) c.one-item.is own in
-    let all = ap (each rules) (sym c.as_slice-selects.ensures) ∙ c.loop-one.invariant ∙ ap (each rules) (drop-cons selects i one c.loop-one-test.true) in
-    rw (p.1, p.2) (subst (IsFirst fault) (sym all) (is_first_front fault (rules (get_or selects i one)) (each rules (drop (suc i) selects)) here))
+    let all = ap (each rules) (sym c.as_slice-selects.ensures) ∙ c.loop-one.invariant
+    ∙ ap (each rules) (drop-cons selects i one c.loop-one-test.true) in
+    rw (p.1, p.2) (subst (IsFirst fault) (sym all)
+    (is_first_front fault (rules (get_or selects i one)) (each rules (drop (suc i) selects)) here))

@@ -8,4 +8,5 @@ use Rattle.declarations.proofs.declared_items.DeclaredItems.selects_rules.Given 
 abbrev pub invariant-loop-one : goal.invariant-loop-one
 invariant-loop-one l =
     each (select_rules (items_of l.self) (storage_areas l.self.program.now.storage) l.self.program.now.files) l.selects
-    ≡ each (select_rules (items_of l.self) (storage_areas l.self.program.now.storage) l.self.program.now.files) (drop l.one-index l.selects)
+    ≡ each (select_rules (items_of l.self) (storage_areas l.self.program.now.storage) l.self.program.now.files)
+    (drop l.one-index l.selects)

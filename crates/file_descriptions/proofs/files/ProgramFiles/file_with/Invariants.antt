@@ -8,4 +8,5 @@ use Rattle.file_descriptions.proofs.files.ProgramFiles.file_with.Given as goal
 -- those before have other areas
 abbrev pub invariant-loop-file : goal.invariant-loop-file
 invariant-loop-file l = (items : List LocatedItem) →
-    first (files_with (map (file_in items) l.self.files.items) l.area) ≡ first (files_with (map (file_in items) (drop l.file-index l.file-items)) l.area)
+    first (files_with (map (file_in items) l.self.files.items) l.area)
+    ≡ first (files_with (map (file_in items) (drop l.file-index l.file-items)) l.area)

@@ -13,4 +13,5 @@ put_files-requires-clause-descriptions c =
 pub put_files-requires-clause-clauses : goal.put_files-requires-clause-clauses
 put_files-requires-clause-clauses c =
     let program = c.args.program.now in
-    subst (AllByRecursion (KeepsClauses (program_items program))) (sym c.as_slice-selects.ensures) (selects_kept (program_items program) program c.requires.rules)
+    subst (AllByRecursion (KeepsClauses (program_items program))) (sym c.as_slice-selects.ensures)
+    (selects_kept (program_items program) program c.requires.rules)

@@ -15,8 +15,12 @@ returns-then-not-is_done-clause-settles g c = λ before after honest rests memor
     let old = g.D.Device.state c.args.device.now in
     let none : is_change c.args.outcome ≡ false = search rules in
     record {
-      stands = record { rests = subst (Rests c.args.self.now.sectors c.args.self.now.generation old.disk) (sym (idle none)) rests; memory = memory };
-      moments = stays (g.D.Device.history c.args.device.now) old _ (at_rest c.args.self.now.sectors c.args.self.now.generation before after old rests);
+      stands = record {
+        rests = subst (Rests c.args.self.now.sectors c.args.self.now.generation old.disk) (sym (idle none)) rests;
+        memory = memory;
+      };
+      moments = stays (g.D.Device.history c.args.device.now) old _
+          (at_rest c.args.self.now.sectors c.args.self.now.generation before after old rests);
       full = λ e. absurd {0} cc;
     }
 
@@ -27,10 +31,13 @@ returns-clause-settles g c = λ before after honest rests memory are early idle.
     let there = c.in_ok-write.ensures.rests honest before rests are' early' in
     record {
       stands = record {
-        rests = subst (Rests c.write.new.self.sectors c.write.new.self.generation (g.D.Device.state c.write.new.device).disk) memory there;
+        rests = subst (Rests c.write.new.self.sectors c.write.new.self.generation
+            (g.D.Device.state c.write.new.device).disk) memory there;
         memory = ap (λ (s : HalfStore). files_of s.files.items) c.in_ok-write.ensures.rest ∙ memory;
       };
-      moments = subst (λ (l : Files). Through (g.D.Device.history c.args.device.now) (g.D.Device.history c.write.new.device) (g.D.Device.state c.write.new.device)
-          (CrashLeaves (g.D.Device.state c.args.device.now).events (Either Holds before l))) memory (c.write.ensures.moments honest before rests are' early');
+      moments = subst (λ (l : Files). Through (g.D.Device.history c.args.device.now)
+          (g.D.Device.history c.write.new.device) (g.D.Device.state c.write.new.device)
+          (CrashLeaves (g.D.Device.state c.args.device.now).events (Either Holds before l))) memory
+          (c.write.ensures.moments honest before rests are' early');
       full = λ e. absurd {0} cc;
     }

@@ -16,7 +16,9 @@ returns-then-self-clause-turns g c = λ files stands.
     let old = g.D.Device.state c.args.device.now in
     record {
       there = tt;
-      moments = stays (g.D.Device.history c.args.device.now) old _ (at_rest c.args.self.now.sectors c.args.self.now.generation files (with_file c.args.file.now.name.items (empty_file (spec_of c.args.file.now)) files) old stands.there.rests);
+      moments = stays
+          (g.D.Device.history c.args.device.now) old _ (at_rest c.args.self.now.sectors c.args.self.now.generation files
+          (with_file c.args.file.now.name.items (empty_file (spec_of c.args.file.now)) files) old stands.there.rests);
       sound = λ e. absurd cc;
       room = λ e. absurd cc;
     }
@@ -28,11 +30,15 @@ returns-in_err-create_in-clause-turns g c = λ files stands.
     let sound = c.in_err-create_in.ensures.sound in
     record {
       there = search rules;
-      moments = stays (g.D.Device.history c.args.device.now) old _ (at_rest c.args.self.now.sectors c.args.self.now.generation files (with_file name (empty_file (spec_of c.args.file.now)) files) old stands.there.rests);
+      moments =
+          stays (g.D.Device.history c.args.device.now) old _ (at_rest c.args.self.now.sectors c.args.self.now.generation
+          files (with_file name (empty_file (spec_of c.args.file.now)) files) old stands.there.rests);
       sound = search rules;
       room = λ e. let told = rw e at c.from_residual.ensures.1 in
-          lacks_room c.args.self.now.sectors c.args.self.now.generation old.disk files (with_file name (empty_file (spec_of c.args.file.now)) files) stands.there.rests
-          (inr (subst (λ (l : Files). 255 < length (with_file name (empty_file (spec_of c.args.file.now)) l)) stands.there.memory (c.in_err-create_in.ensures.full (cc (told)))));
+          lacks_room c.args.self.now.sectors c.args.self.now.generation old.disk files
+          (with_file name (empty_file (spec_of c.args.file.now)) files) stands.there.rests
+          (inr (subst (λ (l : Files). 255 < length (with_file name (empty_file (spec_of c.args.file.now)) l))
+          stands.there.memory (c.in_err-create_in.ensures.full (cc (told)))));
     }
 
 pub returns-in_err-commit_files-clause-turns : goal.returns-in_err-commit_files-clause-turns
@@ -41,12 +47,18 @@ returns-in_err-commit_files-clause-turns g c = λ files stands.
     let after = with_file name (empty_file (spec_of c.args.file.now)) files in
     let generation = c.args.self.now.generation in
     let sound = stands.there.rests.holds.sound in
-    let memory : files_of c.create_in.new.files.items ≡ after = c.in_ok-create_in.ensures.after ∙ ap (λ (l : Files). with_file name (empty_file (spec_of c.args.file.now)) l) stands.there.memory in
-    let few : length c.args.self.now.files.items ≤ 255 = omega (arith, counted c.args.self.now.files.items, ap length stands.there.memory, sound.count) in
-    let count : length after ≤ 255 = omega (arith, c.in_ok-create_in.ensures.count few, counted c.create_in.new.files.items, ap length memory) in
-    let are : AreFiles after = created_are_files name (spec_of c.args.file.now) files sound c.args.file.now.named c.args.file.now.sound count in
-    let early : AreEarly (generation + 1) after = early_with generation name (empty_file (spec_of c.args.file.now)) files (omega arith) stands.there.rests.holds.early in
-    let settles = c.in_err-commit_files.ensures.settles files after stands.honest stands.there.rests memory are early (λ none. absurd {0} cc) in
+    let memory : files_of c.create_in.new.files.items ≡ after = c.in_ok-create_in.ensures.after
+    ∙ ap (λ (l : Files). with_file name (empty_file (spec_of c.args.file.now)) l) stands.there.memory in
+    let few : length c.args.self.now.files.items ≤ 255 =
+    omega (arith, counted c.args.self.now.files.items, ap length stands.there.memory, sound.count) in
+    let count : length after ≤ 255 =
+    omega (arith, c.in_ok-create_in.ensures.count few, counted c.create_in.new.files.items, ap length memory) in
+    let are : AreFiles after =
+    created_are_files name (spec_of c.args.file.now) files sound c.args.file.now.named c.args.file.now.sound count in
+    let early : AreEarly (generation + 1) after = early_with generation name (empty_file (spec_of c.args.file.now))
+    files (omega arith) stands.there.rests.holds.early in
+    let settles = c.in_err-commit_files.ensures.settles files after stands.honest stands.there.rests memory are early
+    (λ none. absurd {0} cc) in
     let never = cause_sound c.commit_files.result c.commit_files.ensures.cause in
     let was = c.in_err-commit_files.was in
     record {
@@ -54,7 +66,8 @@ returns-in_err-commit_files-clause-turns g c = λ files stands.
       moments = settles.moments;
       sound = search rules;
       room = λ e. let told = rw e at c.from_residual-in_err-commit_files.ensures.1 in
-          lacks_room c.args.self.now.sectors generation (g.D.Device.state c.args.device.now).disk files after stands.there.rests (settles.full (cc (told)));
+          lacks_room c.args.self.now.sectors generation (g.D.Device.state c.args.device.now).disk files after
+          stands.there.rests (settles.full (cc (told)));
     }
 
 pub returns-clause-turns : goal.returns-clause-turns
@@ -63,12 +76,18 @@ returns-clause-turns g c = λ files stands.
     let after = with_file name (empty_file (spec_of c.args.file.now)) files in
     let generation = c.args.self.now.generation in
     let sound = stands.there.rests.holds.sound in
-    let memory : files_of c.create_in.new.files.items ≡ after = c.in_ok-create_in.ensures.after ∙ ap (λ (l : Files). with_file name (empty_file (spec_of c.args.file.now)) l) stands.there.memory in
-    let few : length c.args.self.now.files.items ≤ 255 = omega (arith, counted c.args.self.now.files.items, ap length stands.there.memory, sound.count) in
-    let count : length after ≤ 255 = omega (arith, c.in_ok-create_in.ensures.count few, counted c.create_in.new.files.items, ap length memory) in
-    let are : AreFiles after = created_are_files name (spec_of c.args.file.now) files sound c.args.file.now.named c.args.file.now.sound count in
-    let early : AreEarly (generation + 1) after = early_with generation name (empty_file (spec_of c.args.file.now)) files (omega arith) stands.there.rests.holds.early in
-    let settles = c.in_ok-commit_files.ensures.settles files after stands.honest stands.there.rests memory are early (λ none. absurd {0} cc) in
+    let memory : files_of c.create_in.new.files.items ≡ after = c.in_ok-create_in.ensures.after
+    ∙ ap (λ (l : Files). with_file name (empty_file (spec_of c.args.file.now)) l) stands.there.memory in
+    let few : length c.args.self.now.files.items ≤ 255 =
+    omega (arith, counted c.args.self.now.files.items, ap length stands.there.memory, sound.count) in
+    let count : length after ≤ 255 =
+    omega (arith, c.in_ok-create_in.ensures.count few, counted c.create_in.new.files.items, ap length memory) in
+    let are : AreFiles after =
+    created_are_files name (spec_of c.args.file.now) files sound c.args.file.now.named c.args.file.now.sound count in
+    let early : AreEarly (generation + 1) after = early_with generation name (empty_file (spec_of c.args.file.now))
+    files (omega arith) stands.there.rests.holds.early in
+    let settles = c.in_ok-commit_files.ensures.settles files after stands.honest stands.there.rests memory are early
+    (λ none. absurd {0} cc) in
     record {
       there = record { honest = c.commit_files.ensures.only.honest.0 stands.honest; there = settles.stands };
       moments = settles.moments;

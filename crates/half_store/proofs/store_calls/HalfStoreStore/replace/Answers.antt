@@ -20,7 +20,9 @@ returns-then-self-clause-turns g c = λ files held stands has.
     let old = g.D.Device.state c.args.device.now in
     record {
       there = tt;
-      moments = stays (g.D.Device.history c.args.device.now) old _ (at_rest c.args.self.now.sectors c.args.self.now.generation files (files_after c.args.file.now.name.items files (replacement c.args.number c.args.bytes.now held)) old stands.there.rests);
+      moments = stays (g.D.Device.history c.args.device.now) old _
+          (at_rest c.args.self.now.sectors c.args.self.now.generation files (files_after c.args.file.now.name.items
+          files (replacement c.args.number c.args.bytes.now held)) old stands.there.rests);
       sound = λ e. absurd cc;
       room = λ e. absurd cc;
     }
@@ -35,12 +37,20 @@ returns-in_err-outcome-clause-turns g c = λ files held stands has.
     let full = becomes.full in
     record {
       there = search rules;
-      moments = stays (g.D.Device.history c.args.device.now) old _ (at_rest c.args.self.now.sectors c.args.self.now.generation files (files_after c.args.file.now.name.items files (replacement c.args.number c.args.bytes.now held)) old stands.there.rests);
+      moments = stays (g.D.Device.history c.args.device.now) old _
+          (at_rest c.args.self.now.sectors c.args.self.now.generation files (files_after c.args.file.now.name.items
+          files (replacement c.args.number c.args.bytes.now held)) old stands.there.rests);
       sound = search rules;
       room = λ e. let told = rw e at c.from_residual.ensures.1 in
           let late = full (cc (told)) in
-          lacks_room c.args.self.now.sectors c.args.self.now.generation old.disk files (files_after c.args.file.now.name.items files (replacement c.args.number c.args.bytes.now held)) stands.there.rests
-          (inl (inr (omega (arith, late, early_held c.args.self.now.generation c.args.file.now.name.items files held stands.there.rests.holds.early has.there))));
+          lacks_room c.args.self.now.sectors c.args.self.now.generation old.disk files (files_after
+          c.args.file.now.name.items files (replacement c.args.number c.args.bytes.now held)) stands.there.rests
+          (inl (inr (omega (
+            arith,
+            late,
+            early_held c.args.self.now.generation c.args.file.now.name.items files held stands.there.rests.holds.early
+                has.there,
+          ))));
     }
 
 pub returns-clause-turns : goal.returns-clause-turns
@@ -52,17 +62,27 @@ returns-clause-turns g c = λ files held stands has.
     let changed = replacement c.args.number c.args.bytes.now held in
     let after = files_after name files changed in
     let generation = c.args.self.now.generation in
-    let memory : files_of c.replace_in.new.files.items ≡ after = becomes.after ∙ ap (λ (l : Files). files_after name l changed) stands.there.memory in
-    let are : AreFiles after = replaced_are_files name held files c.args.number c.args.bytes.now stands.there.rests.holds.sound has.there (c.requires.bytes ∙ sym (ap (λ (s : Spec). s.record_length) has.spec)) (all_bytes c.args.bytes.now c.type_inv.bytes) in
+    let memory : files_of c.replace_in.new.files.items ≡ after =
+    becomes.after ∙ ap (λ (l : Files). files_after name l changed) stands.there.memory in
+    let are : AreFiles after = replaced_are_files name held files c.args.number c.args.bytes.now
+    stands.there.rests.holds.sound has.there (c.requires.bytes ∙ sym (ap (λ (s : Spec). s.record_length) has.spec))
+    (all_bytes c.args.bytes.now c.type_inv.bytes) in
     let early : AreEarly (generation + 1) after = early_after generation name files changed
-    (omega (arith, replaced_next c.args.number c.args.bytes.now held, early_held generation name files held stands.there.rests.holds.early has.there)) stands.there.rests.holds.early in
-    let idle : is_change c.in_ok-outcome.outcome ≡ false → after ≡ files = λ none. no_change name files changed (sym (ap is_change becomes.outcome) ∙ none) in
+    (omega (
+      arith,
+      replaced_next c.args.number c.args.bytes.now held,
+      early_held generation name files held stands.there.rests.holds.early has.there,
+    )) stands.there.rests.holds.early in
+    let idle : is_change c.in_ok-outcome.outcome ≡ false → after ≡ files =
+    λ none. no_change name files changed (sym (ap is_change becomes.outcome) ∙ none) in
     let settles = c.commit_files.ensures.settles files after stands.honest stands.there.rests memory are early idle in
     record {
-      there = on_ok c.commit_files.result (λ there. record { honest = c.commit_files.ensures.only.honest.0 stands.honest; there = there }) settles.stands;
+      there = on_ok c.commit_files.result (λ there.
+          record { honest = c.commit_files.ensures.only.honest.0 stands.honest; there = there }) settles.stands;
       moments = settles.moments;
       sound = cause_sound c.commit_files.result c.commit_files.ensures.cause;
-      room = λ e. lacks_room c.args.self.now.sectors generation (g.D.Device.state c.args.device.now).disk files after stands.there.rests (settles.full e);
+      room = λ e. lacks_room c.args.self.now.sectors generation (g.D.Device.state c.args.device.now).disk files after
+          stands.there.rests (settles.full e);
     }
 
 pub returns-in_err-outcome-clause-full : goal.returns-in_err-outcome-clause-full

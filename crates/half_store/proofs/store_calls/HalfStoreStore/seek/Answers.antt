@@ -20,13 +20,19 @@ returns-in-Some-clause-damaged g c = λ files held stands has.
     let old = c.index.result.now in
     let there = c.args.self.now.files.items in
     let name = c.args.file.now.name.items in
-    let here : get_or there c.in-Some.place old ≡ old = sym (get_or_read there c.in-Some.place old (search rules) c.index.ensures old) in
-    let found = found_there there c.deref.result.now name c.deref-2.result.now c.in-Some.place old c.deref.ensures.value c.deref-2.ensures.value (c.in-Some.ensures.found old) in
+    let here : get_or there c.in-Some.place old ≡ old =
+    sym (get_or_read there c.in-Some.place old (search rules) c.index.ensures old) in
+    let found = found_there there c.deref.result.now name c.deref-2.result.now c.in-Some.place old c.deref.ensures.value
+    c.deref-2.ensures.value (c.in-Some.ensures.found old) in
     let has' = subst (λ (l : Files). Has l c.args.file.now held) (sym stands.there.memory) has in
-    let is : held ≡ file_of old = one_file _ held (file_of old) has'.there (found.0 ∙ ap (λ (f : StoredFile). Some (file_of f)) here) in
-    let size : held.spec.record_length ≡ length c.args.bytes.now = ap (λ (s : Spec). s.record_length) has.spec ∙ sym c.requires.bytes in
-    let all : AreRecords (length c.args.bytes.now) held.rows = subst (λ (n : ℕ). AreRecords n held.rows) size (records_held name files held stands.there.rests.holds.sound has.there) in
-    let rows : held.rows ≡ map row_of c.deref-in-Some.result.now = ap (λ (f : File). f.rows) is ∙ ap (λ (l : List StoredRow). map row_of l) (sym c.deref-in-Some.ensures.value) in
+    let is : held ≡ file_of old =
+    one_file _ held (file_of old) has'.there (found.0 ∙ ap (λ (f : StoredFile). Some (file_of f)) here) in
+    let size : held.spec.record_length ≡ length c.args.bytes.now =
+    ap (λ (s : Spec). s.record_length) has.spec ∙ sym c.requires.bytes in
+    let all : AreRecords (length c.args.bytes.now) held.rows = subst (λ (n : ℕ). AreRecords n held.rows) size
+    (records_held name files held stands.there.rests.holds.sound has.there) in
+    let rows : held.rows ≡ map row_of c.deref-in-Some.result.now =
+    ap (λ (f : File). f.rows) is ∙ ap (λ (l : List StoredRow). map row_of l) (sym c.deref-in-Some.ensures.value) in
     let ok = c.seek_in.ensures.sound (subst (λ (l : List Row). AreRecords (length c.args.bytes.now) l) rows all) in
     search rules
 
@@ -35,31 +41,41 @@ returns-in-Some-clause-found g c = λ files held stands has.
     let old = c.index.result.now in
     let there = c.args.self.now.files.items in
     let name = c.args.file.now.name.items in
-    let here : get_or there c.in-Some.place old ≡ old = sym (get_or_read there c.in-Some.place old (search rules) c.index.ensures old) in
-    let found = found_there there c.deref.result.now name c.deref-2.result.now c.in-Some.place old c.deref.ensures.value c.deref-2.ensures.value (c.in-Some.ensures.found old) in
+    let here : get_or there c.in-Some.place old ≡ old =
+    sym (get_or_read there c.in-Some.place old (search rules) c.index.ensures old) in
+    let found = found_there there c.deref.result.now name c.deref-2.result.now c.in-Some.place old c.deref.ensures.value
+    c.deref-2.ensures.value (c.in-Some.ensures.found old) in
     let has' = subst (λ (l : Files). Has l c.args.file.now held) (sym stands.there.memory) has in
-    let is : held ≡ file_of old = one_file _ held (file_of old) has'.there (found.0 ∙ ap (λ (f : StoredFile). Some (file_of f)) here) in
-    let rows : held.rows ≡ map row_of c.deref-in-Some.result.now = ap (λ (f : File). f.rows) is ∙ ap (λ (l : List StoredRow). map row_of l) (sym c.deref-in-Some.ensures.value) in
+    let is : held ≡ file_of old =
+    one_file _ held (file_of old) has'.there (found.0 ∙ ap (λ (f : StoredFile). Some (file_of f)) here) in
+    let rows : held.rows ≡ map row_of c.deref-in-Some.result.now =
+    ap (λ (f : File). f.rows) is ∙ ap (λ (l : List StoredRow). map row_of l) (sym c.deref-in-Some.ensures.value) in
     let own = rows_ascend name files held stands.there.rests.holds.sound has.there in
     let at = subst (λ (t : Spec). RowsAscend t.organization held.rows) has.spec own in
     let ascend = subst (λ (l : List Row). RowsAscend c.args.file.now.organization l) rows at in
     let spec = spec_of c.args.file.now in
     let b = bound_at c.args.side c.args.value.now c.args.number in
-    subst (λ (l : List Row). IfOk c.seek_in.result (λ answer. answer ≡ option_map (told spec c.args.key l) (sought_row spec c.args.key b l))) (sym rows) (c.seek_in.ensures.found ascend)
+    subst (λ (l : List Row). IfOk c.seek_in.result (λ answer. answer
+    ≡ option_map (told spec c.args.key l) (sought_row spec c.args.key b l))) (sym rows) (c.seek_in.ensures.found ascend)
 
 pub returns-in-Some-clause-bytes : goal.returns-in-Some-clause-bytes
 returns-in-Some-clause-bytes g c = λ files held stands has.
     let old = c.index.result.now in
     let there = c.args.self.now.files.items in
     let name = c.args.file.now.name.items in
-    let here : get_or there c.in-Some.place old ≡ old = sym (get_or_read there c.in-Some.place old (search rules) c.index.ensures old) in
-    let found = found_there there c.deref.result.now name c.deref-2.result.now c.in-Some.place old c.deref.ensures.value c.deref-2.ensures.value (c.in-Some.ensures.found old) in
+    let here : get_or there c.in-Some.place old ≡ old =
+    sym (get_or_read there c.in-Some.place old (search rules) c.index.ensures old) in
+    let found = found_there there c.deref.result.now name c.deref-2.result.now c.in-Some.place old c.deref.ensures.value
+    c.deref-2.ensures.value (c.in-Some.ensures.found old) in
     let has' = subst (λ (l : Files). Has l c.args.file.now held) (sym stands.there.memory) has in
-    let is : held ≡ file_of old = one_file _ held (file_of old) has'.there (found.0 ∙ ap (λ (f : StoredFile). Some (file_of f)) here) in
-    let rows : held.rows ≡ map row_of c.deref-in-Some.result.now = ap (λ (f : File). f.rows) is ∙ ap (λ (l : List StoredRow). map row_of l) (sym c.deref-in-Some.ensures.value) in
+    let is : held ≡ file_of old =
+    one_file _ held (file_of old) has'.there (found.0 ∙ ap (λ (f : StoredFile). Some (file_of f)) here) in
+    let rows : held.rows ≡ map row_of c.deref-in-Some.result.now =
+    ap (λ (f : File). f.rows) is ∙ ap (λ (l : List StoredRow). map row_of l) (sym c.deref-in-Some.ensures.value) in
     let own = rows_ascend name files held stands.there.rests.holds.sound has.there in
     let at = subst (λ (t : Spec). RowsAscend t.organization held.rows) has.spec own in
     let ascend = subst (λ (l : List Row). RowsAscend c.args.file.now.organization l) rows at in
     let spec = spec_of c.args.file.now in
     let b = bound_at c.args.side c.args.value.now c.args.number in
-    subst (λ (l : List Row). OnOk c.seek_in.result (c.seek_in.new.bytes ≡ record_of c.args.bytes.now (sought_row spec c.args.key b l))) (sym rows) (c.seek_in.ensures.bytes ascend)
+    subst (λ (l : List Row). OnOk c.seek_in.result (c.seek_in.new.bytes
+    ≡ record_of c.args.bytes.now (sought_row spec c.args.key b l))) (sym rows) (c.seek_in.ensures.bytes ascend)

@@ -13,12 +13,14 @@ use Rattle.initial_storage.proofs.storage.InitialStorage.of.Goals as goal
 pub put_areas-requires : goal.put_areas-requires
 put_areas-requires c =
     let storage = c.args.program.now.storage in
-    subst (λ l. Fits nothing_around (forest_of l)) (sym c.as_slice.ensures) (fits storage c.requires.storage (c.levels_are_told.ensures storage c.requires.storage))
+    subst (λ l. Fits nothing_around (forest_of l)) (sym c.as_slice.ensures)
+    (fits storage c.requires.storage (c.levels_are_told.ensures storage c.requires.storage))
 
 pub put_record_areas-requires : goal.put_record_areas-requires
 put_record_areas-requires c =
     let program = c.args.program.now in
-    subst (AllByRecursion FitsFile) (sym c.as_slice-2.ensures) (files_fit program.storage program.files c.requires.files c.record_levels_are_told.ensures)
+    subst (AllByRecursion FitsFile) (sym c.as_slice-2.ensures)
+    (files_fit program.storage program.files c.requires.files c.record_levels_are_told.ensures)
 
 pub returns-clause-lengths : goal.returns-clause-lengths
 returns-clause-lengths c =

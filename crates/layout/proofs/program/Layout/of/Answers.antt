@@ -38,8 +38,12 @@ returns c =
     let program = c.args.program.now in
     c.from_vec.ensures ∙ c.in_ok-place_files.ensures
     ∙ ap (λ l. l ++ file_items c.storage_areas-areas.result c.as_slice.result.now)
-    (c.in_ok-place_storage.ensures ∙ ap (λ l. l ++ storage_items 0 (forest_of c.as_slice-storage.result.now)) c.new-items.ensures.items)
-    ∙ ap (λ n. storage_items 0 (forest_of c.as_slice-storage.result.now) ++ file_items n c.as_slice.result.now) c.storage_areas-areas.ensures.value
-    ∙ ap (λ l. storage_items 0 (forest_of l) ++ file_items (storage_areas l) c.as_slice.result.now) c.as_slice-storage.ensures
-    ∙ ap (λ l. storage_items 0 (forest_of program.storage) ++ file_items (storage_areas program.storage) l) c.as_slice.ensures
+    (c.in_ok-place_storage.ensures
+    ∙ ap (λ l. l ++ storage_items 0 (forest_of c.as_slice-storage.result.now)) c.new-items.ensures.items)
+    ∙ ap (λ n. storage_items 0 (forest_of c.as_slice-storage.result.now) ++ file_items n c.as_slice.result.now)
+    c.storage_areas-areas.ensures.value
+    ∙ ap (λ l. storage_items 0 (forest_of l) ++ file_items (storage_areas l) c.as_slice.result.now)
+    c.as_slice-storage.ensures
+    ∙ ap (λ l. storage_items 0 (forest_of program.storage) ++ file_items (storage_areas program.storage) l)
+    c.as_slice.ensures
     ∙ sym (of_program program)

@@ -9,5 +9,6 @@ pub returns : goal.returns
 returns c = λ items program h.
     let name = c.args.name.now in
     let found : c.copied.result ≡ first_file name.characters 0 program.selects =
-    c.copied.ensures ∙ c.get.ensures.value ∙ ap (λ (l : List ℕ). get_by (λ k. bytes_eq l k.now) c.args.self.now.numbers) c.as_slice.ensures ∙ h.numbered name.characters in
+    c.copied.ensures ∙ c.get.ensures.value ∙ ap (λ (l : List ℕ). get_by (λ k. bytes_eq l k.now) c.args.self.now.numbers)
+    c.as_slice.ensures ∙ h.numbered name.characters in
     subst (λ o. IsFileNamed (files_of items program) name o) (sym found) (first_named items program name)

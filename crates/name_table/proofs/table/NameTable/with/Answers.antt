@@ -8,5 +8,6 @@ pub returns-clause-table : goal.returns-clause-table
 returns-clause-table c =
     let new : NameTable = record { declared = c.push-2.new.self; last = c.noted.new.last; before = c.push.new.self } in
     let one : Declared = record { name = c.args.name; around = c.args.around } in
-    grown c.args.self new c.requires one c.in_ok-noted.field-0 c.len-number.result c.in_ok-push-2.ensures.items c.in_ok-push.ensures.items
+    grown c.args.self new c.requires one c.in_ok-noted.field-0 c.len-number.result c.in_ok-push-2.ensures.items
+    c.in_ok-push.ensures.items
     (c.len-number.ensures ∙ c.args.self.declared.ok.0) c.in_ok-noted.ensures.before c.in_ok-noted.ensures.last

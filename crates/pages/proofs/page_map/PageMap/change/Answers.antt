@@ -26,6 +26,7 @@ returns-clause-keeps c = record {
       record {
         committed = agrees.committed;
         cache = subst (λ (l : LruCache ℕ Sector). IsCacheOf pages new l.entries) (sym c.forget_page.ensures.entries)
-            (after_removed pages old new c.args.self.now.cache.entries c.args.page c.forget_page.ensures.valid.0 c.in_ok-set_change.ensures.changes_page agrees.cache);
+            (after_removed pages old new c.args.self.now.cache.entries c.args.page c.forget_page.ensures.valid.0
+            c.in_ok-set_change.ensures.changes_page agrees.cache);
       };
 }

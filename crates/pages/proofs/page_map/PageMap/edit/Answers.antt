@@ -6,4 +6,5 @@ use Rattle.pages.proofs.page_map.PageMap.edit.Goals as goal
 
 pub returns-clause-map : goal.returns-clause-map
 returns-clause-map c =
-    subst (λ (b : Sector). OnOk c.change.result ((image : List Sector) → (map_now c.change.new.self image).pages ≡ slice_set (map_now c.args.self.now image).pages c.args.page (Some b))) c.in_ok-kept.ensures c.change.ensures.map
+    subst (λ (b : Sector). OnOk c.change.result ((image : List Sector) → (map_now c.change.new.self image).pages
+    ≡ slice_set (map_now c.args.self.now image).pages c.args.page (Some b))) c.in_ok-kept.ensures c.change.ensures.map

@@ -11,12 +11,14 @@ pub returns-clause-keeps : goal.returns-clause-keeps
 returns-clause-keeps c = record {
   committed = record { volume = refl; spent = refl };
   catalog = refl;
-  is_open = λ before is. let ready = before is in record { sound = ready.sound; pages = ready.pages; once = ready.once; placed = ready.placed };
+  is_open = λ before is. let ready =
+      before is in record { sound = ready.sound; pages = ready.pages; once = ready.once; placed = ready.placed };
   agrees = λ disk agrees.
       let pages = pages_in disk.present c.args.self.now.volume.table in
       let changed = changed_pages c.args.self.now.changes.items in
       record {
         committed = agrees.committed;
-        cache = subst (λ (l : LruCache ℕ Sector). IsCacheOf pages changed l.entries) (sym c.promote_page.ensures) (after_promoted pages changed c.args.self.now.cache.entries c.args.page agrees.cache);
+        cache = subst (λ (l : LruCache ℕ Sector). IsCacheOf pages changed l.entries) (sym c.promote_page.ensures)
+            (after_promoted pages changed c.args.self.now.cache.entries c.args.page agrees.cache);
       };
 }

@@ -17,14 +17,19 @@ returns-clause-agrees g c = λ honest.
     let none : c.in_ok-cache.cache.entries ≡ [] = ap (λ (l : LruCache ℕ Sector). l.entries) c.in_ok-cache.ensures in
     record {
       committed = c.in_ok-volume.ensures.committed honest;
-      cache = subst (IsCacheOf pages (changed_pages c.new.result.items)) (sym none) (record { right = λ e has. absurd (omega (arith, has.1)); unchanged = λ e has. absurd (omega (arith, has.1)) });
+      cache = subst (IsCacheOf pages (changed_pages c.new.result.items)) (sym none) (record {
+        right = λ e has. absurd (omega (arith, has.1));
+        unchanged = λ e has. absurd (omega (arith, has.1));
+      });
     }
 
 -- what is refused with that error is refused as a read is
-refused_so : {T : Type 0} (e : PagesError) (r : Result T PagesError) → (e ≡ Device) ⊎ (e ≡ Memory) → r ≡ Err e → IsReadError r
+refused_so : {T : Type 0} (e : PagesError) (r : Result T PagesError) → (e ≡ Device) ⊎ (e ≡ Memory) → r ≡ Err e
+    → IsReadError r
 refused_so e r told is = rw is told
 
 pub returns-in_err-volume-clause-opens : goal.returns-in_err-volume-clause-opens
 returns-in_err-volume-clause-opens g c = λ honest m holds.
     let told = err_from_is_err_and c.from_residual.result c.from_residual.ensures.1 in
-    refused_so c.in_err-volume.field-0.0 c.from_residual.result (c.in_err-volume.ensures.opens honest m holds) (told.1 ∙ ap Err told.2)
+    refused_so c.in_err-volume.field-0.0 c.from_residual.result (c.in_err-volume.ensures.opens honest m holds)
+    (told.1 ∙ ap Err told.2)

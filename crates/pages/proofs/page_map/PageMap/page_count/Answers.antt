@@ -7,4 +7,5 @@ use Rattle.pages.proofs.page_map.PageMap.page_count.Goals as goal
 pub returns-clause-pages : goal.returns-clause-pages
 returns-clause-pages c = λ image.
     let p = c.args.self.now in
-    length-applied (λ bytes. bytes) (pages_in image p.volume.table) p.changes.items ∙ length-map p.volume.table (page_at image)
+    length-applied (λ bytes. bytes) (pages_in image p.volume.table) p.changes.items
+    ∙ length-map p.volume.table (page_at image)

@@ -21,8 +21,10 @@ returns-clause-keeps c =
           let ready = old is in
           record {
             sound = ready.sound;
-            pages = c.in_ok-set_change.ensures.bounds (length table) c.requires.page.1 (subst (All (λ (x : Change). (0 < x.page) × (x.page < length table))) (sym same) ready.pages);
-            once = c.in_ok-set_change.ensures.once (subst (λ (l : List Change). NamesOnce (changed_pages l)) (sym same) ready.once);
+            pages = c.in_ok-set_change.ensures.bounds (length table) c.requires.page.1
+                (subst (All (λ (x : Change). (0 < x.page) × (x.page < length table))) (sym same) ready.pages);
+            once = c.in_ok-set_change.ensures.once
+                (subst (λ (l : List Change). NamesOnce (changed_pages l)) (sym same) ready.once);
             placed = c.in_ok-set_change.ensures.placed;
           };
       agrees = λ disk agrees.
@@ -30,8 +32,11 @@ returns-clause-keeps c =
           let new = changed_pages c.set_change.new.changes.items in
           record {
             committed = agrees.committed;
-            cache = subst (λ (l : LruCache ℕ Sector). IsCacheOf pages new l.entries) (sym c.take_page-kept.ensures.entries)
-                (after_removed pages (changed_pages before) new c.args.self.now.cache.entries c.args.page c.take_page-kept.ensures.valid.0
-                (subst (λ (l : List Change). ChangesPage (changed_pages l) c.args.page new) same c.in_ok-set_change.ensures.changes_page) agrees.cache);
+            cache =
+                subst (λ (l : LruCache ℕ Sector). IsCacheOf pages new l.entries) (sym c.take_page-kept.ensures.entries)
+                (after_removed pages (changed_pages before) new c.args.self.now.cache.entries c.args.page
+                c.take_page-kept.ensures.valid.0
+                (subst (λ (l : List Change). ChangesPage (changed_pages l) c.args.page new) same
+                c.in_ok-set_change.ensures.changes_page) agrees.cache);
           };
     }

@@ -11,31 +11,38 @@ use Rattle.pages.proofs.Edits.{Away, is_only, only_same, away_same, away_changed
 use Rattle.pages.proofs.Caches.{viewed, held_page}
 use Rattle.pages.proofs.page_map.PageMap.view.Goals as goal
 
-changed_page : (c : goal.After-view) (image : List Sector) → option_copied c.view.result ≡ page_of (map_now c.args.self.now image) c.args.page
+changed_page : (c : goal.After-view) (image : List Sector)
+    → option_copied c.view.result ≡ page_of (map_now c.args.self.now image) c.args.page
 changed_page c image =
     let ready = c.requires c.if-self.false in
     let changes = c.args.self.now.changes.items in
     let table = c.args.self.now.volume.table in
     let i = c.in-Some.i in
-    let low : i < length changes = subst (λ (l : List Change). i < length l) c.deref.ensures.value c.in-Some.ensures.found.0 in
-    let here : HoldsAt (λ (x : Change). x.page ≡ c.args.page) changes i = subst (λ (l : List Change). HoldsAt (λ (x : Change). x.page ≡ c.args.page) l i) c.deref.ensures.value c.in-Some.ensures.found.1 in
+    let low : i < length changes =
+    subst (λ (l : List Change). i < length l) c.deref.ensures.value c.in-Some.ensures.found.0 in
+    let here : HoldsAt (λ (x : Change). x.page ≡ c.args.page) changes i = subst (λ (l : List Change).
+    HoldsAt (λ (x : Change). x.page ≡ c.args.page) l i) c.deref.ensures.value c.in-Some.ensures.found.1 in
     let bounds = ready.pages i c.index.result.now low in
-    let only = is_only changes c.args.page i ready.once (λ e. omega (arith, e, bounds.0, here c.index.result.now)) low here in
+    let only =
+    is_only changes c.args.page i ready.once (λ e. omega (arith, e, bounds.0, here c.index.result.now)) low here in
     c.view.ensures ∙ ap (λ (x : Change). x.bytes) c.index.ensures
-    ∙ sym (only_same (λ (o : Option Sector). o) (pages_in image table) changes c.args.page i None c.index.result.now only (omega (arith, bounds.1, here c.index.result.now, length-map table (page_at image))))
+    ∙ sym (only_same (λ (o : Option Sector). o) (pages_in image table) changes c.args.page i None c.index.result.now
+    only (omega (arith, bounds.1, here c.index.result.now, length-map table (page_at image))))
 
 pub returns-in-Some-clause-changed : goal.returns-in-Some-clause-changed
 returns-in-Some-clause-changed c = λ unspent has image. changed_page c image
 
 pub returns-in-Some-clause-page : goal.returns-in-Some-clause-page
-returns-in-Some-clause-page c = λ disk agrees. viewed c.view.result (page_of (map_now c.args.self.now disk.present) c.args.page) (changed_page c disk.present)
+returns-in-Some-clause-page c = λ disk agrees.
+    viewed c.view.result (page_of (map_now c.args.self.now disk.present) c.args.page) (changed_page c disk.present)
 
 pub returns-in-None-clause-page : goal.returns-in-None-clause-page
 returns-in-None-clause-page c = λ disk agrees.
     let table = c.args.self.now.volume.table in
     let changes = c.args.self.now.changes.items in
     let away : Away c.args.page changes = subst (Away c.args.page) c.deref.ensures.value c.in-None.ensures.absent in
-    held_page (pages_in disk.present table) (changed_pages changes) c.args.self.now.cache.entries c.args.page (page_of (map_now c.args.self.now disk.present) c.args.page) c.seen_page.result agrees.cache c.seen_page.ensures
+    held_page (pages_in disk.present table) (changed_pages changes) c.args.self.now.cache.entries c.args.page
+    (page_of (map_now c.args.self.now disk.present) c.args.page) c.seen_page.result agrees.cache c.seen_page.ensures
     (away_same (λ (o : Option Sector). o) (pages_in disk.present table) changes c.args.page None away)
 
 pub returns-in-None-clause-changed : goal.returns-in-None-clause-changed
