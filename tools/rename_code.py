@@ -70,6 +70,8 @@ class Items:
         for item in self.items:
             self.by_old[item.old].append(item)
         self.callers = collections.defaultdict(dict)
+        self.declaring = {old: {path.split("/")[1] for path, text in self.code.texts.items() if re.search(rf"\bfn {old}\b", text)}
+                          for old, items in self.by_old.items() if any(item.kind == "method" for item in items)}
 
     @staticmethod
     def item(line):
@@ -86,6 +88,13 @@ class Items:
         for item in self.by_old[names[-1]]:
             wanted = (item.owner, item.old) if item.owner else (item.old,)
             if (item.crate, item.module) == (crate, module) and rest == wanted and item.kind != "method":
+                return item
+        return None
+
+    def method(self, crate, word):
+        """The method that a member of this name is in a crate: one of its own, or one of a crate below if no other crate has the name."""
+        for item in self.by_old[word]:
+            if item.kind == "method" and (item.crate == crate or self.declaring[word] == {item.crate} and self.renaming.is_below(crate, [item.crate])):
                 return item
         return None
 
@@ -112,7 +121,7 @@ class Items:
 
     def rename_word(self, path, text, word, declared):
         crate, _ = place_of(path)
-        method = next((i for i in self.by_old[word.text] if i.kind == "method" and i.crate == crate), None)
+        method = self.method(crate, word.text)
         is_declared = re.search(r"\bfn\s+$", text[max(0, word.start - 9):word.start])
         if word.is_member or method and (word.path or is_declared):
             if method and (word.after in ("(", "::") or is_declared):
@@ -139,7 +148,7 @@ class Items:
 
     def put(self, path, start, item):
         self.renaming.replace(path, start, start + len(item.old), item.new)
-        self.callers[item.crate if item.kind == "method" else place_of(path)[0]][item.old] = item
+        self.callers[place_of(path)[0]][item.old] = item
         taken = rf"\b(?:fn|struct|enum|trait|mod|let|let mut)\s+{item.new}\b|[(,]\s*{item.new}\s*:(?!:)"
         if item.kind != "variant" and re.search(taken, self.renaming.texts[path]):
             self.renaming.stop(path, start, f"{item.old} would be {item.new}, which is here already")

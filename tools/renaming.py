@@ -94,7 +94,7 @@ class Renaming:
             start = source.index(line)
             new = self.changed(file, start, start + len(line))
         else:
-            new = re.sub(r"(?<![\w.])\w+", lambda found: words.get(found[0], found[0]), line)
+            new = re.sub(r"(?<![\w.])\w+|(?<=\.)\w+(?=\()", lambda found: words.get(found[0], found[0]), line)
         if new != line:
             self.replace(path, pair.start(2), pair.end(2), new)
 
