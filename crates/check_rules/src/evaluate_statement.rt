@@ -131,7 +131,7 @@ impl<'a> Checker<'a> {
         ensures { IsFirstBreach result
             (spec.subject_rules (items_in self.now.declarations.now) one.now) }
     {
-        match self.declarations.looked_subject(one) {
+        match self.declarations.resolved_subject(one) {
             ResolvedSubject::Value(side) => self.side_rules(side),
             ResolvedSubject::Truth(_) => Ok(()),
             ResolvedSubject::Condition(condition) => self.asked_condition_rules(condition),

@@ -53,8 +53,8 @@ impl<'a> Emitter<'a> {
             (optional_choice (items_in self.now.declarations.now) choice.now) }
     {
         match (
-            self.declarations.looked_subject(subject),
-            self.declarations.looked_object(choice),
+            self.declarations.resolved_subject(subject),
+            self.declarations.resolved_object(choice),
         ) {
             (ResolvedSubject::Value(_), ResolvedObject::Value(wanted)) => self.is_at_hand(
                 wanted.first,
@@ -102,7 +102,7 @@ impl<'a> Emitter<'a> {
         ensures { OnOk result (code.new ≡ append code.old
             (spec.subject_fragment (items_in self.now.declarations.now) one.now code.old)) }
     {
-        match self.declarations.looked_subject(one) {
+        match self.declarations.resolved_subject(one) {
             ResolvedSubject::Value(value) => self.emit_value_look(code, value),
             ResolvedSubject::Truth(_) => Ok(()),
             ResolvedSubject::Condition(condition) => self.emit_asked_condition(code, condition),
