@@ -1,18 +1,18 @@
 //! The cases of a script.
 //!
-//! Lines that are blank or begin with `#` are passed. A case begins with a row `case NAME`. A row that begins with `|` belongs to the one
-//! before. The rows between `repeat ..` and `end` come several times.
+//! Blank lines, and lines that begin with `#`, are skipped. A case begins with a row `case NAME`. A row that begins with `|` belongs to the
+//! row before. The rows between `repeat ..` and `end` are repeated.
 use crate::fault::Fault;
 use crate::repeats::{Row, put_repeated};
 use std::alloc::{AllocError, Global};
 
-/// A case: its rows. Of one that can't be read nothing is left but why.
+/// A case: its rows.
 #[derive(Drop)]
 pub struct Case {
     pub rows: Vec<Row>,
     /// The line of a row that is wrong.
     pub wrong: Option<u32>,
-    /// The row `repeat` whose rows come, and these.
+    /// The row `repeat` that is not ended, and the rows after it.
     repeat: Option<Vec<u8>>,
     body: Vec<Row>,
 }
@@ -27,14 +27,14 @@ impl Case {
         }
     }
 
-    /// Its rows.
+    /// The rows.
     pub fn into_rows(self) -> Vec<Row> {
         let Case { rows, .. } = self;
         rows
     }
 
-    /// A line of what the row before is to show.
-    fn put_shown(&mut self, text: &[u8]) -> Result<(), AllocError> {
+    /// A further line of the row before.
+    fn put_continuation(&mut self, text: &[u8]) -> Result<(), AllocError> {
         if let Some(row) = self.rows.last_mut() {
             row.text.push(b'\n')?;
             row.text.extend_from_slice(text)?;
@@ -66,7 +66,7 @@ impl Case {
     fn put(&mut self, alloc: Global, line: u32, text: &[u8]) -> Result<(), Fault> {
         match text {
             [] | [b'#', ..] => {}
-            [b'|', ..] => self.put_shown(text)?,
+            [b'|', ..] => self.put_continuation(text)?,
             b"end" => self.end_repeat(alloc)?,
             _ if text.starts_with(b"repeat ") => {
                 self.repeat = Some(Vec::from_slice(alloc, text)?);

@@ -5,22 +5,22 @@ use std::alloc::{AllocError, AllocFailed, Global};
 #[derive(Drop)]
 pub enum Fault {
     Memory,
-    /// The row isn't spelled as a row, or asks what can't be done there.
+    /// The row is not spelled as a row, or its call is impossible there.
     Spelling(&'static str),
     /// A call was refused, with this number.
     Refused(u64),
-    /// What was seen instead, in words.
+    /// The answer that was found, in words.
     Differs(String),
 }
 
 impl Fault {
-    /// It, in words.
-    pub fn told(self, alloc: Global) -> Result<String, AllocError> {
+    /// The reason in words.
+    pub fn into_words(self, alloc: Global) -> Result<String, AllocError> {
         match self {
             Fault::Memory => Err(AllocError),
             Fault::Spelling(what) => what.to_string(alloc),
             Fault::Refused(number) => format!(in alloc; "refused {number}"),
-            Fault::Differs(seen) => Ok(seen),
+            Fault::Differs(found) => Ok(found),
         }
     }
 }

@@ -1,4 +1,4 @@
-//! Scripts of rows: their words, texts, repetitions and cases, and what is said of rows that differ.
+//! Scripts of rows: their words, texts, repetitions and cases, and the words for rows that differ.
 #![tactic(auto)]
 
 mod cases;
@@ -13,5 +13,5 @@ pub use cases::{Case, read_cases};
 pub use fault::Fault;
 pub use repeats::Row;
 pub use tally::{Difference, Tally};
-pub use texts::{escape, quoted};
+pub use texts::{escape, unquote};
 pub use words::{Words, number_of};

@@ -38,7 +38,7 @@ fn put_turn(
     Ok(())
 }
 
-/// Puts the rows of a repetition behind others.
+/// Puts the rows of a repetition after others.
 pub fn put_repeated(
     alloc: Global,
     head: &[u8],

@@ -10,18 +10,18 @@ pub struct Tally {
     pub failed: u64,
 }
 
-/// A row that differs: its line, and what was seen.
+/// A row that differs: its line, and the answer that was found.
 #[derive(Drop)]
 pub struct Difference {
     line: u32,
-    seen: String,
+    found: String,
 }
 
 impl Difference {
     /// At a line, for this reason.
     pub fn at(alloc: Global, line: u32, fault: Fault) -> Result<Difference, AllocError> {
-        let seen = fault.told(alloc)?;
-        Ok(Difference { line, seen })
+        let found = fault.into_words(alloc)?;
+        Ok(Difference { line, found })
     }
 }
 
@@ -31,7 +31,7 @@ impl Tally {
         self.passed = self.passed.saturating_add(1);
     }
 
-    /// One more row differs, of a script, over something. It is printed.
+    /// One more row of a script differs, over something. It is printed.
     pub fn fail<R: Print>(
         &mut self,
         rt: &R,
@@ -41,8 +41,8 @@ impl Tally {
     ) -> io::Result<()> {
         self.failed = self.failed.saturating_add(1);
         let line = difference.line;
-        let seen = difference.seen.as_str();
-        println!(rt; "{script}:{line}: over {over}: {seen}")
+        let found = difference.found.as_str();
+        println!(rt; "{script}:{line}: over {over}: {found}")
     }
 
     /// The last line of a program.

@@ -9,8 +9,8 @@ pub fn unescape(alloc: Global, text: &[u8]) -> Result<Vec<u8>, AllocError> {
     for (i, byte) in text.iter().enumerate() {
         if skipped > 0 {
             skipped -= 1;
-        } else if let Some(escaped) = escaped(text, i) {
-            bytes.push(escaped)?;
+        } else if let Some(byte) = byte_of_escape(text, i) {
+            bytes.push(byte)?;
             skipped = 3;
         } else {
             bytes.push(*byte)?;
@@ -34,7 +34,7 @@ pub fn escape(bytes: &[u8], text: &mut Vec<u8>) -> Result<(), AllocError> {
 }
 
 /// What is between the quotation marks of a word.
-pub fn quoted(alloc: Global, word: &[u8]) -> Result<Vec<u8>, Fault> {
+pub fn unquote(alloc: Global, word: &[u8]) -> Result<Vec<u8>, Fault> {
     match word {
         [b'"', text @ .., b'"'] => Ok(unescape(alloc, text)?),
         _ => Err(Fault::Spelling("a text between quotation marks belongs here")),
@@ -50,7 +50,7 @@ fn digit(byte: Option<&u8>) -> Option<u8> {
 }
 
 /// The byte of `\xNN` at a place.
-fn escaped(text: &[u8], at: usize) -> Option<u8> {
+fn byte_of_escape(text: &[u8], at: usize) -> Option<u8> {
     if text.get(at) != Some(&b'\\') || text.get(at.wrapping_add(1)) != Some(&b'x') {
         return None;
     }
