@@ -1,4 +1,4 @@
-//! What a statement answers.
+//! The answer of a statement.
 use std::fmt;
 
 /// A status, or a refusal by its number.
@@ -11,10 +11,10 @@ pub enum Answer {
 /// A refusal by the device.
 pub const DEVICE: Answer = Answer::Refused(80);
 
-/// A refusal since the volume is full.
+/// A refusal because the volume is full.
 pub const FULL: Answer = Answer::Refused(81);
 
-/// A refusal since an earlier change was refused.
+/// A refusal because an earlier change was refused.
 pub const SPENT: Answer = Answer::Refused(84);
 
 impl fmt::Display for Answer {

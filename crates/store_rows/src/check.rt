@@ -1,8 +1,8 @@
 //! A case over each of its volumes.
 use crate::case::Case;
 use crate::connectors::Kind;
-use crate::disturbed::Disturbed;
-use crate::rows::Run;
+use crate::disturbance::Disturbance;
+use crate::run::Run;
 use crate::statement::is_statement;
 use row_scripts::{Difference, Fault, Row, Tally};
 use std::alloc::{AllocError, Global};
@@ -36,7 +36,8 @@ pub fn check_case<R: Print + AllocGlobal>(
     Ok(())
 }
 
-/// Does the row at a place, disturbed at each of its calls if it is behind the row `disturbed`, whose place is told.
+/// Does the row at a place. A statement after the row `disturbed` is also disturbed at each of its calls; `start` is the place after that
+/// row.
 fn do_row(
     run: &mut Run<'_>,
     kind: Kind,
@@ -48,23 +49,23 @@ fn do_row(
         Some(start) if is_statement(&row.text) => start,
         _ => return run.row(&row.text),
     };
-    run.volume.rest();
+    run.volume.forget_calls();
     let before = run.volume.files()?;
     run.row(&row.text)?;
-    run.volume.rest();
+    run.volume.forget_calls();
     let after = run.volume.files()?;
-    let disturbed = Disturbed {
+    let disturbance = Disturbance {
         alloc: run.alloc,
         case: run.case,
         kind,
-        sectors: run.kept(),
+        sectors: run.saved_sectors(),
         start,
         place,
         row: &row.text,
         before,
         after,
     };
-    disturbed.at_each_call()
+    disturbance.at_each_call()
 }
 
 /// Does the rows up to the first that differs.

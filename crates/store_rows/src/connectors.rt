@@ -6,12 +6,12 @@ use crate::statement::Statement;
 use alternate_keys::PagedStore;
 use file_verbs::Connectors;
 use half_store::HalfStore;
-use records::{FileVerbs, Keeps, Select, Store, StoreFault};
+use records::{FileVerbs, Keeps, Select, Store, StoreFault, Verb};
 use row_scripts::Fault;
 use station::{Device, MemoryStation};
 use std::alloc::Global;
 
-/// How a volume is kept: in halves, or in trees with so many pages in memory.
+/// The kind of a volume: halves, or trees with so many pages in memory.
 #[derive(Clone, Copy, PartialEq, Eq)]
 pub enum Kind {
     Halves,
@@ -56,6 +56,15 @@ impl Verbs {
         }
     }
 
+    /// Whether there is a SELECT at this place that the verb suits, with records of so many bytes.
+    pub fn accepts(&self, select: usize, verb: Verb, length: usize) -> bool {
+        match self {
+            Verbs::Closed => false,
+            Verbs::Halves(over) => over.all.accepts(select, verb, length),
+            Verbs::Trees(over) => over.all.accepts(select, verb, length),
+        }
+    }
+
     /// Does a statement on its record and number.
     pub fn perform(
         &mut self,
@@ -81,7 +90,7 @@ impl OverHalves {
         number: &mut u64,
     ) -> Result<Answer, Fault> {
         if self.sectors > station.count() {
-            return Err(refused(StoreFault::Damaged));
+            return Err(refusal(StoreFault::Damaged));
         }
         perform_over(&mut self.all, station, statement, record, number)
     }
@@ -96,14 +105,14 @@ impl OverTrees {
         number: &mut u64,
     ) -> Result<Answer, Fault> {
         if self.sectors > station.count() {
-            return Err(refused(StoreFault::Damaged));
+            return Err(refusal(StoreFault::Damaged));
         }
         perform_over(&mut self.all, station, statement, record, number)
     }
 }
 
-/// Why a volume isn't opened or read.
-pub fn refused(fault: StoreFault) -> Fault {
+/// The refusal to open or read a volume.
+pub fn refusal(fault: StoreFault) -> Fault {
     Fault::Refused(u64::from(fault.number()))
 }
 
@@ -112,7 +121,7 @@ fn open_halves(
     station: &mut MemoryStation,
     selects: Vec<Select>,
 ) -> Result<OverHalves, Fault> {
-    let store = HalfStore::open(alloc, station).map_err(refused)?;
+    let store = HalfStore::open(alloc, station).map_err(refusal)?;
     let sectors = store.sectors();
     let all = connect(alloc, store, selects)?;
     Ok(OverHalves { all, sectors })
@@ -127,7 +136,7 @@ fn open_trees(
     if cached < 1 || cached > 4096 {
         return Err(Fault::Spelling("from 1 to 4096 pages are in memory"));
     }
-    let store = PagedStore::open(alloc, station, cached).map_err(refused)?;
+    let store = PagedStore::open(alloc, station, cached).map_err(refusal)?;
     let sectors = store.sectors();
     let all = connect(alloc, store, selects)?;
     Ok(OverTrees { all, sectors })

@@ -3,26 +3,26 @@ use crate::volume::Volume;
 use row_scripts::Fault;
 use std::alloc::Global;
 
-/// Up to so many sectors all images are made; of more, those with one of the sectors written, all but one, none, all, and drawn ones.
+/// Up to so many sectors, all images are made. Of more, these images are made: one sector written, all but one, none, all, and drawn images.
 const FEW: u32 = 6;
 
-const DRAWN: u32 = 32;
+const RANDOM: u32 = 32;
 
 /// The sectors that waited for a sync at a stop.
 #[derive(Drop)]
 pub struct Images {
-    sectors: Vec<Waiting>,
+    sectors: Vec<UnsyncedSector>,
 }
 
 impl Images {
-    /// The sectors in which two volumes differ that crashed behind the same stop: one left at the stable values, the other at the last.
+    /// The sectors that differ in two volumes after the same stop: the one has the stable values, the other the last values.
     pub fn of(alloc: Global, stable: &mut Volume, last: &mut Volume) -> Result<Images, Fault> {
         let mut sectors = Vec::new(alloc);
         for number in 0..stable.count() {
             let one = stable.sector(number)?;
             let other = last.sector(number)?;
             if one != other {
-                sectors.push(Waiting {
+                sectors.push(UnsyncedSector {
                     number,
                     stable: one,
                     last: other,
@@ -44,7 +44,7 @@ impl Images {
         } else {
             size.saturating_mul(2)
                 .saturating_add(2)
-                .saturating_add(DRAWN)
+                .saturating_add(RANDOM)
         }
     }
 
@@ -84,7 +84,7 @@ impl Images {
 
 /// A sector with its two values.
 #[derive(Drop)]
-struct Waiting {
+struct UnsyncedSector {
     number: u32,
     stable: [u8; 4096],
     last: [u8; 4096],

@@ -1,15 +1,15 @@
-//! Runs scripts of file statements over both stores, and prints each row that differs from what its script says.
+//! Runs scripts of file statements over both stores, and prints the rows that differ from the script.
 #![tactic(auto)]
 
 mod answer;
 mod case;
 mod check;
 mod connectors;
-mod disturbed;
+mod disturbance;
 mod images;
 mod listing;
 mod record;
-mod rows;
+mod run;
 mod select;
 mod statement;
 mod volume;

@@ -1,9 +1,9 @@
 //! Records in pieces: `"text"` from the first byte on, `OFFSET:"text"` from another one on, and dashes elsewhere.
-use row_scripts::{Fault, Words, number_of, quoted};
+use row_scripts::{Fault, Words, number_of, unquote};
 use std::alloc::{AllocError, Global};
 
 /// A record of so many of a byte.
-pub fn filled(alloc: Global, length: usize, byte: u8) -> Result<Vec<u8>, AllocError> {
+pub fn record_of(alloc: Global, length: usize, byte: u8) -> Result<Vec<u8>, AllocError> {
     vec![in alloc; byte; length]
 }
 
@@ -34,7 +34,7 @@ fn put(record: &mut [u8], offset: usize, bytes: &[u8]) -> Result<(), Fault> {
     }
 }
 
-/// The record of the pieces that come next; none where no piece does.
+/// The record of the next pieces, if the next word is a piece.
 pub fn read_record(
     alloc: Global,
     words: &mut Words<'_>,
@@ -47,10 +47,10 @@ pub fn read_record(
         };
         words.word();
         let mut bytes = match record {
-            None => filled(alloc, length, b'-')?,
+            None => record_of(alloc, length, b'-')?,
             Some(bytes) => bytes,
         };
-        put(&mut bytes, offset, &quoted(alloc, text)?)?;
+        put(&mut bytes, offset, &unquote(alloc, text)?)?;
         record = Some(bytes);
     }
     Ok(record)

@@ -1,7 +1,7 @@
-//! What a row `select` says of a file: `NAME FILE ORGANIZATION LENGTH ACCESS`, and then `key OFFSET LENGTH`, the alternate keys by
+//! The SELECT of a row `select`: `NAME FILE ORGANIZATION LENGTH ACCESS`, and then `key OFFSET LENGTH`, the alternate keys by
 //! `unique OFFSET LENGTH` and `repeated OFFSET LENGTH`, `optional`, and `digits COUNT`.
 use records::{Access, AlternateKey, FileSpec, KeyPlace, Organization, Select};
-use row_scripts::{Fault, Words, quoted};
+use row_scripts::{Fault, Words, unquote};
 use std::alloc::Global;
 
 /// The name by which rows call a SELECT.
@@ -13,10 +13,10 @@ pub fn name_of(row: &[u8]) -> Option<&[u8]> {
 pub fn read_select(alloc: Global, row: &[u8]) -> Result<Select, Fault> {
     let mut words = Words::of(row);
     words.word();
-    let name = quoted(alloc, wrong(words.word())?)?;
-    let organization = wrong(organization(wrong(words.word())?))?;
-    let length = wrong(words.number())?;
-    let access = wrong(access(wrong(words.word())?))?;
+    let name = unquote(alloc, required(words.word())?)?;
+    let organization = required(organization(required(words.word())?))?;
+    let length = required(words.number())?;
+    let access = required(access(required(words.word())?))?;
     let mut clauses = Clauses {
         organization,
         alternates: Vec::new(alloc),
@@ -27,7 +27,7 @@ pub fn read_select(alloc: Global, row: &[u8]) -> Result<Select, Fault> {
         let Some(word) = words.word() else { break };
         clauses.clause(&mut words, word)?;
     }
-    let record_length = wrong(u16::try_from(length).ok())?;
+    let record_length = required(u16::try_from(length).ok())?;
     let file = FileSpec::new(
         name,
         clauses.organization,
@@ -35,21 +35,21 @@ pub fn read_select(alloc: Global, row: &[u8]) -> Result<Select, Fault> {
         clauses.alternates,
     );
     Ok(Select {
-        file: wrong(file)?,
+        file: required(file)?,
         access,
         optional: clauses.optional,
         key_digits: clauses.key_digits,
     })
 }
 
-fn wrong<T: Drop>(found: Option<T>) -> Result<T, Fault> {
+fn required<T: Drop>(found: Option<T>) -> Result<T, Fault> {
     match found {
         Some(found) => Ok(found),
         None => Err(Fault::Spelling("this is no SELECT")),
     }
 }
 
-fn place(words: &mut Words<'_>) -> Option<KeyPlace> {
+fn key_place(words: &mut Words<'_>) -> Option<KeyPlace> {
     let offset = u16::try_from(words.number()?).ok()?;
     let length = u16::try_from(words.number()?).ok()?;
     Some(KeyPlace { offset, length })
@@ -76,7 +76,7 @@ fn access(word: &[u8]) -> Option<Access> {
     }
 }
 
-/// What follows the access.
+/// The clauses after the access.
 #[derive(Drop)]
 struct Clauses {
     organization: Organization,
@@ -87,19 +87,19 @@ struct Clauses {
 
 impl Clauses {
     fn alternate(&mut self, words: &mut Words<'_>, duplicates: bool) -> Result<(), Fault> {
-        let place = wrong(place(words))?;
+        let place = required(key_place(words))?;
         self.alternates.push(AlternateKey { place, duplicates })?;
         Ok(())
     }
 
     fn clause(&mut self, words: &mut Words<'_>, word: &[u8]) -> Result<(), Fault> {
         match word {
-            b"key" => self.organization = Organization::Indexed(wrong(place(words))?),
+            b"key" => self.organization = Organization::Indexed(required(key_place(words))?),
             b"unique" => return self.alternate(words, false),
             b"repeated" => return self.alternate(words, true),
             b"optional" => self.optional = true,
             b"digits" => {
-                let digits = wrong(words.number())?;
+                let digits = required(words.number())?;
                 self.key_digits = u8::try_from(digits).ok();
             }
             _ => return Err(Fault::Spelling("this is no SELECT")),

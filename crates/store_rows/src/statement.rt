@@ -1,14 +1,14 @@
 //! A row of a file statement: `VERB SELECT [NUMBER] [key K] [bytes N] [RECORD] -> STATUS [NUMBER] [RECORD]`.
 //!
-//! Before it, the number is that of the RELATIVE KEY item, 0 if none is given, and the record is the record area, all `?` if none is
-//! given. Behind the arrow they are those that it leaves, if they are others.
+//! Before the arrow, the number is that of the RELATIVE KEY item (0 if it is left out), and the record is the record area (all `?` if it
+//! is left out). After the arrow they are the number and the record that the statement leaves, if they change.
 use crate::answer::Answer;
-use crate::record::{filled, read_record};
+use crate::record::{read_record, record_of};
 use records::{FileSpec, KeyOfReference, OpenMode, Relation, Verb};
 use row_scripts::{Fault, Words, number_of};
 use std::alloc::Global;
 
-/// A file statement, and what it is to answer and to leave.
+/// A file statement, with the answer, the record and the number that are expected.
 #[derive(Drop)]
 pub struct Statement {
     pub select: usize,
@@ -16,12 +16,12 @@ pub struct Statement {
     pub record: Vec<u8>,
     pub number: u64,
     pub answer: Answer,
-    pub left: Vec<u8>,
-    pub number_left: u64,
+    pub record_after: Vec<u8>,
+    pub number_after: u64,
 }
 
-/// The verb of a word, with the prime key; of START it compares no byte yet.
-fn verb_of(word: &[u8]) -> Option<Verb> {
+/// The verb of a word, with the prime key. A START compares no byte yet.
+pub fn verb_of(word: &[u8]) -> Option<Verb> {
     let prime = KeyOfReference::Prime;
     Some(match word {
         b"open-input" => Verb::Open(OpenMode::Input),
@@ -41,7 +41,7 @@ fn verb_of(word: &[u8]) -> Option<Verb> {
     })
 }
 
-/// Whether a row is one of a statement.
+/// Whether a row is a statement.
 pub fn is_statement(row: &[u8]) -> bool {
     Words::of(row).word().and_then(verb_of).is_some()
 }
@@ -78,7 +78,7 @@ fn key_length(file: &FileSpec, number: u64) -> u8 {
     u8::try_from(length).unwrap_or(0)
 }
 
-/// What a row says of a key.
+/// The key of a row: its number, and how many bytes a START compares.
 #[derive(Clone, Copy)]
 struct Key {
     number: u64,
@@ -135,7 +135,7 @@ fn read_answer(words: &mut Words<'_>) -> Option<Answer> {
     }
 }
 
-fn or_wrong<T: Drop>(found: Option<T>) -> Result<T, Fault> {
+fn required<T: Drop>(found: Option<T>) -> Result<T, Fault> {
     match found {
         Some(found) => Ok(found),
         None => Err(Fault::Spelling("this is no file statement")),
@@ -150,7 +150,7 @@ pub fn read_verb(words: &mut Words<'_>, names: &[&[u8]]) -> Option<(Verb, usize)
     Some((verb, select))
 }
 
-/// What follows the verb and the SELECT.
+/// The statement of the words after the verb and the SELECT.
 pub fn read_rest(
     alloc: Global,
     words: &mut Words<'_>,
@@ -160,20 +160,20 @@ pub fn read_rest(
 ) -> Result<Statement, Fault> {
     let length = file.record_length as usize;
     let number = number_ahead(words).unwrap_or(0);
-    let key = or_wrong(read_key(words))?;
-    let verb = or_wrong(with_key(verb, key, file))?;
+    let key = required(read_key(words))?;
+    let verb = required(with_key(verb, key, file))?;
     let record = match read_record(alloc, words, length)? {
         Some(record) => record,
-        None => filled(alloc, length, b'?')?,
+        None => record_of(alloc, length, b'?')?,
     };
-    let answer = or_wrong(read_answer(words))?;
-    let number_left = number_ahead(words).unwrap_or(number);
-    let left = match read_record(alloc, words, length)? {
-        Some(left) => left,
+    let answer = required(read_answer(words))?;
+    let number_after = number_ahead(words).unwrap_or(number);
+    let record_after = match read_record(alloc, words, length)? {
+        Some(record) => record,
         None => record.clone()?,
     };
     if !words.is_done() {
-        return Err(Fault::Spelling("there is more behind the statement"));
+        return Err(Fault::Spelling("there is more after the statement"));
     }
     Ok(Statement {
         select,
@@ -181,7 +181,7 @@ pub fn read_rest(
         record,
         number,
         answer,
-        left,
-        number_left,
+        record_after,
+        number_after,
     })
 }

@@ -1,11 +1,11 @@
 //! A volume on a station in memory, with the connectors of a program over it.
 use crate::answer::Answer;
-use crate::connectors::{Kind, Verbs, refused};
+use crate::connectors::{Kind, Verbs, refusal};
 use crate::listing::list;
 use crate::statement::Statement;
 use alternate_keys::PagedStore;
 use file_recovery::recover;
-use records::Select;
+use records::{Select, Verb};
 use row_scripts::Fault;
 use station::{Device, DeviceError, MemoryStation};
 use std::alloc::Global;
@@ -19,8 +19,8 @@ pub struct Volume {
     station: MemoryStation,
 }
 
-/// Why a sector isn't read or written.
-fn failed(error: DeviceError) -> Fault {
+/// The refusal to read or write a sector.
+fn device_refusal(error: DeviceError) -> Fault {
     Fault::Refused(u64::from(error.number()))
 }
 
@@ -92,6 +92,11 @@ impl Volume {
         Ok(())
     }
 
+    /// Whether there is a SELECT at this place that the verb suits, with records of so many bytes.
+    pub fn accepts(&self, select: usize, verb: Verb, length: usize) -> bool {
+        self.verbs.accepts(select, verb, length)
+    }
+
     /// Does a statement on its record and number.
     pub fn perform(
         &mut self,
@@ -103,7 +108,7 @@ impl Volume {
             .perform(&mut self.station, statement, record, number)
     }
 
-    /// Makes the n-th call from now on fail, and all later ones too where it is a stop.
+    /// Makes the n-th call from now on fail, and all later calls too if it is a stop.
     pub fn disturb(&mut self, n: u64, is_stop: bool) {
         if is_stop {
             self.station.stop_at(n);
@@ -112,21 +117,22 @@ impl Volume {
         }
     }
 
-    /// Stops the program. What waits for a sync is left as the choices say.
+    /// Stops the program. Each sector that waits for a sync gets the value of its choice.
     pub fn crash(&mut self, choices: &[u32]) {
         self.verbs = Verbs::Closed;
         self.station.crash(choices);
     }
 
-    /// Forgets the calls on the station. What waits for a sync is gone.
-    pub fn rest(&mut self) {
+    /// Ends the record of calls on the station. Writes that wait for a sync are lost.
+    pub fn forget_calls(&mut self) {
         self.station.crash(&[]);
     }
 
-    /// Lets go of the record of calls. What waits for a sync is durable then.
+    /// Ends the record of calls on the station. Writes that wait for a sync are durable then.
     pub fn renew(&mut self) -> Result<(), Fault> {
         let count = self.station.count();
         let mut sectors = Vec::new(self.alloc);
+        sectors.reserve(count as usize)?;
         for number in 0..count {
             sectors.push(self.sector(number)?)?;
         }
@@ -144,13 +150,13 @@ impl Volume {
 
     /// The files as text.
     pub fn files(&mut self) -> Result<Vec<u8>, Fault> {
-        let files = recover(self.alloc, &mut self.station).map_err(refused)?;
+        let files = recover(self.alloc, &mut self.station).map_err(refusal)?;
         Ok(list(self.alloc, &files)?)
     }
 
     /// How many sectors a commit may use, of a volume of trees.
     pub fn free(&mut self) -> Result<u64, Fault> {
-        let store = PagedStore::open(self.alloc, &mut self.station, 8).map_err(refused)?;
+        let store = PagedStore::open(self.alloc, &mut self.station, 8).map_err(refusal)?;
         Ok(u64::from(store.free_sectors()))
     }
 
@@ -165,7 +171,9 @@ impl Volume {
             return Err(Fault::Spelling("there is no such sector"));
         }
         let mut bytes = [0; 4096];
-        self.station.read(number, &mut bytes).map_err(failed)?;
+        self.station
+            .read(number, &mut bytes)
+            .map_err(device_refusal)?;
         Ok(bytes)
     }
 
@@ -174,7 +182,7 @@ impl Volume {
         if number >= self.station.count() {
             return Err(Fault::Spelling("there is no such sector"));
         }
-        self.station.write(number, bytes).map_err(failed)?;
-        self.station.sync().map_err(failed)
+        self.station.write(number, bytes).map_err(device_refusal)?;
+        self.station.sync().map_err(device_refusal)
     }
 }

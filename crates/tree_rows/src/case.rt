@@ -1,7 +1,9 @@
-//! A case over a tree. It begins with a row `tree KEY VALUE CACHED`: the bytes of its keys and values, and how many pages are in memory.
-use crate::rows::Run;
-use btree_pages::RowLayout;
-use row_scripts::{Case, Difference, Fault, Row, Tally, Words};
+//! A case over a tree or over a page. Its first row is `tree KEY VALUE CACHED`: the bytes of keys and values, and how many pages are in
+//! memory. Or it is `page KEY VALUE KIND`, and KIND is `leaf` or `inner`.
+use crate::page_run::PageRun;
+use crate::tree_run::TreeRun;
+use btree_pages::{Kind, RowLayout};
+use row_scripts::{Case, Difference, Fault, Row, Tally, Words, number_of};
 use std::alloc::{AllocError, Global};
 use std::io;
 
@@ -14,27 +16,53 @@ pub fn check_case<R: Print + AllocGlobal>(
 ) -> io::Result<()> {
     if let Some(line) = case.wrong {
         let wrong = Difference::at(rt.alloc(), line, Fault::Spelling("this is no row"))?;
-        tally.fail(rt, script, "a tree", &wrong)?;
+        tally.fail(rt, script, "its case", &wrong)?;
     }
     if let Some(difference) = do_rows(rt.alloc(), case, tally)? {
-        tally.fail(rt, script, "a tree", &difference)?;
+        tally.fail(rt, script, "its case", &difference)?;
     }
     Ok(())
 }
 
-/// The tree of a row `tree`, without entries.
-fn read_tree(alloc: Global, row: &Row) -> Result<Run, Fault> {
-    let mut words = Words::of(&row.text);
-    let is_tree = words.takes(b"tree");
-    match (words.number(), words.number(), words.number()) {
-        (Some(key), Some(value), Some(cached)) if is_tree => {
-            let layout = RowLayout {
-                key_length: key as usize,
-                value_length: value as usize,
-            };
-            Run::new(alloc, layout, cached as usize)
+/// The subject of a case.
+#[derive(Drop)]
+enum Subject {
+    Tree(TreeRun),
+    Page(PageRun),
+}
+
+impl Subject {
+    fn row(&mut self, row: &[u8]) -> Result<(), Fault> {
+        match self {
+            Subject::Tree(run) => run.row(row),
+            Subject::Page(run) => run.row(row),
         }
-        _ => Err(Fault::Spelling("a case begins with its tree")),
+    }
+}
+
+fn no_subject() -> Fault {
+    Fault::Spelling("a case begins with its tree or its page")
+}
+
+/// The subject of a first row.
+fn read_subject(alloc: Global, row: &Row) -> Result<Subject, Fault> {
+    let mut words = Words::of(&row.text);
+    let subject = words.word().unwrap_or(b"");
+    let (Some(key), Some(value)) = (words.number(), words.number()) else {
+        return Err(no_subject());
+    };
+    let layout = RowLayout {
+        key_length: key as usize,
+        value_length: value as usize,
+    };
+    match (subject, words.word().unwrap_or(b"")) {
+        (b"page", b"leaf") => Ok(Subject::Page(PageRun::new(alloc, layout, Kind::Leaf)?)),
+        (b"page", b"inner") => Ok(Subject::Page(PageRun::new(alloc, layout, Kind::Inner)?)),
+        (b"tree", cached) => {
+            let cached = number_of(cached).unwrap_or(0) as usize;
+            Ok(Subject::Tree(TreeRun::new(alloc, layout, cached)?))
+        }
+        _ => Err(no_subject()),
     }
 }
 
@@ -47,12 +75,12 @@ fn do_rows(
     let Some((first, rows)) = case.rows.as_slice().split_first() else {
         return Ok(None);
     };
-    let mut run = match read_tree(alloc, first) {
-        Ok(run) => run,
+    let mut subject = match read_subject(alloc, first) {
+        Ok(subject) => subject,
         Err(fault) => return Ok(Some(Difference::at(alloc, first.line, fault)?)),
     };
     for row in rows.iter() {
-        if let Err(fault) = run.row(&row.text) {
+        if let Err(fault) = subject.row(&row.text) {
             return Ok(Some(Difference::at(alloc, row.line, fault)?));
         }
         tally.pass();

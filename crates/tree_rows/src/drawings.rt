@@ -1,5 +1,5 @@
 //! Trees by their drawing: how many rows each page has, from left to right, the leaves first and then each level above them, as in
-//! `1213/22/2`. A number is the character so far behind 0, so that `D` is 20 and `W` 39. Their entries are 10, 20, 30 and so on.
+//! `1213/22/2`. A number is the character so far after 0, so `D` is 20 and `W` is 39. Their entries are 10, 20, 30 and so on.
 use crate::volume::{Volume, key_of, tree_of, value_of};
 use btree::Tree;
 use btree_pages::{Kind, RowLayout, TreePage};
@@ -71,7 +71,7 @@ pub fn draw(alloc: Global, volume: &mut Volume, tree: &Tree) -> Result<Vec<u8>, 
 
 /// A page of a tree, and the number of the least key below it.
 #[derive(Clone, Copy)]
-struct Planted {
+struct PlacedPage {
     least: u32,
     page: u32,
 }
@@ -94,7 +94,7 @@ fn new_page(layout: RowLayout, kind: Kind) -> Result<TreePage, Fault> {
     }
 }
 
-/// A row comes behind the last one of a page.
+/// Adds a row after the last row of a page.
 fn push_row(alloc: Global, page: &mut TreePage, number: u32, rest: &[u8]) -> Result<(), Fault> {
     let key = key_of(alloc, page.layout(), number)?;
     let rest_length = match page.kind() {
@@ -116,7 +116,7 @@ fn plant_leaf(
     layout: RowLayout,
     first: usize,
     count: usize,
-) -> Result<Planted, Fault> {
+) -> Result<PlacedPage, Fault> {
     let mut leaf = new_page(layout, Kind::Leaf)?;
     for place in 0..count {
         let number = number_at(first.wrapping_add(place));
@@ -125,7 +125,7 @@ fn plant_leaf(
     }
     let page = volume.allocate()?;
     volume.edit(page, &leaf.bytes())?;
-    Ok(Planted {
+    Ok(PlacedPage {
         least: number_at(first),
         page,
     })
@@ -143,8 +143,8 @@ fn plant_inner(
     alloc: Global,
     volume: &mut Volume,
     layout: RowLayout,
-    children: &[Planted],
-) -> Result<Planted, Fault> {
+    children: &[PlacedPage],
+) -> Result<PlacedPage, Fault> {
     let mut inner = new_page(layout, Kind::Inner)?;
     for child in children.iter() {
         push_row(alloc, &mut inner, child.least, &child.page.to_be_bytes())?;
@@ -152,7 +152,7 @@ fn plant_inner(
     let page = volume.allocate()?;
     volume.edit(page, &inner.bytes())?;
     match children.first() {
-        Some(child) => Ok(Planted {
+        Some(child) => Ok(PlacedPage {
             least: child.least,
             page,
         }),
@@ -165,29 +165,29 @@ fn plant_level(
     alloc: Global,
     volume: &mut Volume,
     layout: RowLayout,
-    below: &[Planted],
+    below: &[PlacedPage],
     drawing: &[u8],
-) -> Result<Vec<Planted>, Fault> {
+) -> Result<Vec<PlacedPage>, Fault> {
     let mut level = Vec::new(alloc);
-    let mut taken = 0usize;
+    let mut start = 0usize;
     for byte in drawing.iter() {
         let count = rows_in(*byte);
-        let end = taken.wrapping_add(count);
+        let end = start.wrapping_add(count);
         let page = if below.is_empty() {
-            plant_leaf(alloc, volume, layout, taken, count)?
+            plant_leaf(alloc, volume, layout, start, count)?
         } else {
-            match below.get(taken..end) {
+            match below.get(start..end) {
                 Some(children) => plant_inner(alloc, volume, layout, children)?,
                 None => return Err(wrong()),
             }
         };
         level.push(page)?;
-        taken = end;
+        start = end;
     }
     Ok(level)
 }
 
-/// The children of an inner page come behind others, from right to left.
+/// Adds the children of an inner page after other pages, from right to left.
 fn push_children(pages: &mut Vec<u32>, page: &TreePage) -> Result<(), AllocError> {
     if page.kind() == Kind::Inner {
         for place in (0..page.count()).rev() {

@@ -1,9 +1,11 @@
-//! Runs scripts of calls on trees of pages, and prints each row that differs from what its script says.
+//! Runs scripts of calls on pages and on trees of pages, and prints the rows whose answer differs from the script.
 #![tactic(auto)]
 
+mod answers;
 mod case;
 mod drawings;
-mod rows;
+mod page_run;
+mod tree_run;
 mod volume;
 
 use case::check_case;

@@ -1,4 +1,4 @@
-//! A volume of pages on a station in memory, with one tree in it whose entries are told by their numbers.
+//! A volume of pages on a station in memory, with trees whose entries have numbers.
 //!
 //! The key of an entry is sevens with its number in the last four bytes, or the last bytes of these, and each byte of its value is a tenth
 //! of its number.
@@ -31,8 +31,8 @@ impl Model for Volume {
     ghost invariant = { λ volume. IsOpen volume.pages };
 }
 
-/// What a call on a tree answers.
-pub type Answered<T> = Result<T, PagesError>;
+/// The answer of a call on a tree.
+pub type Answer<T> = Result<T, PagesError>;
 
 /// The bytes of a key.
 pub fn key_of(alloc: Global, layout: RowLayout, number: u32) -> Result<Vec<u8>, AllocError> {
@@ -74,10 +74,10 @@ impl Volume {
         if format(&mut station).is_err() {
             return Err(small());
         }
-        Volume::opened(alloc, station, cached)
+        Volume::open(alloc, station, cached)
     }
 
-    fn opened(alloc: Global, mut station: MemoryStation, cached: usize) -> Result<Volume, Fault> {
+    fn open(alloc: Global, mut station: MemoryStation, cached: usize) -> Result<Volume, Fault> {
         if cached < 1 || cached > 4096 {
             return Err(Fault::Spelling("from 1 to 4096 pages are in memory"));
         }
@@ -140,7 +140,7 @@ impl Volume {
     }
 
     /// Commits what was changed, with a tree's root.
-    pub fn commit(&mut self, root: u32) -> Result<Answered<()>, Fault> {
+    pub fn commit(&mut self, root: u32) -> Result<Answer<()>, Fault> {
         if self.pages.sectors() > self.station.count() {
             return Err(small());
         }
@@ -190,8 +190,8 @@ impl Volume {
         }
     }
 
-    /// Puts the entry of a number into a tree; tells whether it wasn't there.
-    pub fn insert(&mut self, tree: &mut Tree, number: u32) -> Result<Answered<bool>, Fault> {
+    /// Puts the entry of a number into a tree. The answer is whether it is new.
+    pub fn insert(&mut self, tree: &mut Tree, number: u32) -> Result<Answer<bool>, Fault> {
         let layout = tree.layout();
         let key = key_of(self.alloc, layout, number)?;
         let value = value_of(self.alloc, layout, number)?;
@@ -204,13 +204,13 @@ impl Volume {
         Ok(tree.insert(&mut self.pages, &mut self.station, &key, &value))
     }
 
-    /// Gives the entry of a number the value of another; tells whether it is there.
+    /// Gives the entry of a number the value of another. The answer is whether it is there.
     pub fn replace(
         &mut self,
         tree: &mut Tree,
         number: u32,
         other: u32,
-    ) -> Result<Answered<bool>, Fault> {
+    ) -> Result<Answer<bool>, Fault> {
         let layout = tree.layout();
         let key = key_of(self.alloc, layout, number)?;
         let value = value_of(self.alloc, layout, other)?;
@@ -220,8 +220,8 @@ impl Volume {
         Ok(tree.replace(&mut self.pages, &mut self.station, &key, &value))
     }
 
-    /// Takes the entry of a number out of a tree; tells whether it was there.
-    pub fn remove(&mut self, tree: &mut Tree, number: u32) -> Result<Answered<bool>, Fault> {
+    /// Takes the entry of a number out of a tree. The answer is whether it was there.
+    pub fn remove(&mut self, tree: &mut Tree, number: u32) -> Result<Answer<bool>, Fault> {
         let key = key_of(self.alloc, tree.layout(), number)?;
         if self.pages.sectors() > self.station.count() {
             return Err(small());
@@ -230,7 +230,7 @@ impl Volume {
     }
 
     /// The entry of a number.
-    pub fn get(&mut self, tree: &Tree, number: u32) -> Result<Answered<Option<Entry>>, Fault> {
+    pub fn get(&mut self, tree: &Tree, number: u32) -> Result<Answer<Option<Entry>>, Fault> {
         let key = key_of(self.alloc, tree.layout(), number)?;
         if self.pages.sectors() > self.station.count() {
             return Err(small());
@@ -239,7 +239,7 @@ impl Volume {
     }
 
     /// The first entry from a number on.
-    pub fn seek(&mut self, tree: &Tree, number: u32) -> Result<Answered<Option<Entry>>, Fault> {
+    pub fn seek(&mut self, tree: &Tree, number: u32) -> Result<Answer<Option<Entry>>, Fault> {
         let key = key_of(self.alloc, tree.layout(), number)?;
         if self.pages.sectors() > self.station.count() {
             return Err(small());
@@ -248,7 +248,7 @@ impl Volume {
     }
 
     /// The first entry after a number.
-    pub fn next(&mut self, tree: &Tree, number: u32) -> Result<Answered<Option<Entry>>, Fault> {
+    pub fn next(&mut self, tree: &Tree, number: u32) -> Result<Answer<Option<Entry>>, Fault> {
         let key = key_of(self.alloc, tree.layout(), number)?;
         if self.pages.sectors() > self.station.count() {
             return Err(small());
@@ -257,7 +257,7 @@ impl Volume {
     }
 
     /// The first entry.
-    pub fn first(&mut self, tree: &Tree) -> Result<Answered<Option<Entry>>, Fault> {
+    pub fn first(&mut self, tree: &Tree) -> Result<Answer<Option<Entry>>, Fault> {
         if self.pages.sectors() > self.station.count() {
             return Err(small());
         }
@@ -265,7 +265,7 @@ impl Volume {
     }
 
     /// Checks a tree, and marks its pages.
-    pub fn check(&mut self, tree: &Tree, seen: &mut [bool]) -> Result<Answered<()>, Fault> {
+    pub fn check(&mut self, tree: &Tree, seen: &mut [bool]) -> Result<Answer<()>, Fault> {
         if self.pages.sectors() > self.station.count() {
             return Err(small());
         }
@@ -273,7 +273,7 @@ impl Volume {
     }
 
     /// Gives up all pages of a tree.
-    pub fn clear(&mut self, tree: &mut Tree) -> Result<Answered<()>, Fault> {
+    pub fn clear(&mut self, tree: &mut Tree) -> Result<Answer<()>, Fault> {
         if self.pages.sectors() > self.station.count() {
             return Err(small());
         }

@@ -4,39 +4,40 @@ use crate::case::Case;
 use crate::connectors::Kind;
 use crate::listing::sum_of;
 use crate::select::{name_of, read_select};
-use crate::statement::{Statement, is_statement, read_rest, read_verb};
+use crate::statement::{Statement, is_statement, read_rest, read_verb, verb_of};
 use crate::volume::Volume;
 use records::Select;
-use row_scripts::{Fault, Words, escape, quoted};
+use row_scripts::{Fault, Words, escape, unquote};
 use std::alloc::Global;
 
-/// So many writes come before the station is made anew, which keeps a record of its calls.
-const MOST_WRITES: u64 = 512;
+/// The station keeps a record of its calls. After so many writes it is made anew.
+const MOST_WRITES: u64 = 4096;
 
-/// A case on its way.
+/// A case on its volume.
 #[derive(Drop)]
 pub struct Run<'a> {
     pub alloc: Global,
     pub case: &'a Case,
     pub volume: Volume,
-    kept: Vec<[u8; 4096]>,
+    saved: Vec<[u8; 4096]>,
     writes: u64,
-    filled: u64,
+    row_count: u64,
     is_disturbed: bool,
 }
 
-/// What a statement left.
+/// The effect of a statement.
 #[derive(Drop)]
-pub struct Seen {
+pub struct Effect {
     pub answer: Answer,
     pub record: Vec<u8>,
     pub number: u64,
 }
 
-impl Seen {
-    /// Whether this is as the row says.
-    pub fn is_as(&self, statement: &Statement) -> bool {
-        self.answer == statement.answer && self.leaves(&statement.left, statement.number_left)
+impl Effect {
+    /// Whether the row expects this effect.
+    pub fn is_expected(&self, statement: &Statement) -> bool {
+        self.answer == statement.answer
+            && self.leaves(&statement.record_after, statement.number_after)
     }
 
     /// Whether it left this area.
@@ -44,8 +45,8 @@ impl Seen {
         self.record.as_slice() == record && self.number == number
     }
 
-    /// It, in words.
-    pub fn told(&self, alloc: Global) -> Result<Fault, Fault> {
+    /// The effect, as a difference from its row.
+    pub fn difference(&self, alloc: Global) -> Result<Fault, Fault> {
         let answer = self.answer;
         let number = self.number;
         let mut text = Vec::new(alloc);
@@ -69,7 +70,7 @@ fn sector_number(words: &mut Words<'_>) -> Result<u32, Fault> {
     }
 }
 
-/// The number behind `refused`, if the next word is that.
+/// The number after `refused`, if that is the next word.
 fn refusal(words: &mut Words<'_>) -> Option<u64> {
     if words.takes(b"refused") {
         words.number()
@@ -107,16 +108,16 @@ impl<'a> Run<'a> {
             alloc,
             case,
             volume,
-            kept: Vec::new(alloc),
+            saved: Vec::new(alloc),
             writes: 0,
-            filled: 0,
+            row_count: 0,
             is_disturbed: false,
         }
     }
 
-    /// The sectors that were kept.
-    pub fn kept(&self) -> &[[u8; 4096]] {
-        &self.kept
+    /// The sectors that `keep` saved.
+    pub fn saved_sectors(&self) -> &[[u8; 4096]] {
+        &self.saved
     }
 
     fn selects(&self) -> Result<Vec<Select>, Fault> {
@@ -152,18 +153,18 @@ impl<'a> Run<'a> {
     }
 
     /// Does a statement.
-    pub fn perform(&mut self, statement: &Statement) -> Result<Seen, Fault> {
+    pub fn perform(&mut self, statement: &Statement) -> Result<Effect, Fault> {
         let mut record = statement.record.clone()?;
         let mut number = statement.number;
         let answer = self.volume.perform(statement, &mut record, &mut number)?;
-        Ok(Seen {
+        Ok(Effect {
             answer,
             record,
             number,
         })
     }
 
-    /// Lets go of the record of calls where that is long.
+    /// Ends a long record of calls.
     fn renew(&mut self) -> Result<(), Fault> {
         if self.volume.writes() > MOST_WRITES && !self.is_disturbed {
             return self.volume.renew();
@@ -175,11 +176,11 @@ impl<'a> Run<'a> {
         let statement = self.statement(row)?;
         self.renew()?;
         self.writes = self.volume.writes();
-        let seen = self.perform(&statement)?;
-        if seen.is_as(&statement) {
+        let effect = self.perform(&statement)?;
+        if effect.is_expected(&statement) {
             Ok(())
         } else {
-            Err(seen.told(self.alloc)?)
+            Err(effect.difference(self.alloc)?)
         }
     }
 
@@ -204,7 +205,8 @@ impl<'a> Run<'a> {
             Some(b"turn") => self.turn(words),
             Some(b"disturbed") => self.keep(),
             Some(b"fill") => self.fill(words),
-            Some(b"filled") => self.is_filled(),
+            Some(b"accepts") => self.accepts(words),
+            Some(b"filled") => self.check_row_count(),
             _ => Err(Fault::Spelling("this is no row")),
         }
     }
@@ -213,7 +215,7 @@ impl<'a> Run<'a> {
     fn files(&mut self, mut words: Words<'_>, row: &[u8]) -> Result<(), Fault> {
         let refused = refusal(&mut words);
         if !self.is_disturbed {
-            self.volume.rest();
+            self.volume.forget_calls();
         }
         let writes = self.volume.writes();
         let found = self.volume.files();
@@ -229,39 +231,39 @@ impl<'a> Run<'a> {
             (Ok(_), Some(_)) => return Err(Fault::Spelling("there are files")),
         };
         if words.takes(b"sum") {
-            return self.has_sum(words, &text);
+            return self.check_sum(words, &text);
         }
-        self.is_listed(&text, row)
+        self.check_listing(&text, row)
     }
 
-    fn has_sum(&self, mut words: Words<'_>, text: &[u8]) -> Result<(), Fault> {
+    fn check_sum(&self, mut words: Words<'_>, text: &[u8]) -> Result<(), Fault> {
         let sum = sum_of(text);
-        let told = format!(in self.alloc; "{sum:016x}")?;
-        if words.word() == Some(told.as_bytes()) {
+        let digits = format!(in self.alloc; "{sum:016x}")?;
+        if words.word() == Some(digits.as_bytes()) {
             return Ok(());
         }
-        Err(Fault::Differs(format!(in self.alloc; "sum {told}")?))
+        Err(Fault::Differs(format!(in self.alloc; "sum {digits}")?))
     }
 
-    fn is_listed(&self, text: &[u8], row: &[u8]) -> Result<(), Fault> {
-        let mut told = Vec::from_slice(self.alloc, b"files")?;
+    fn check_listing(&self, text: &[u8], row: &[u8]) -> Result<(), Fault> {
+        let mut listing = Vec::from_slice(self.alloc, b"files")?;
         for line in text.split(|byte| *byte == b'\n') {
             if !line.is_empty() {
-                told.extend_from_slice(b"\n| ")?;
-                told.extend_from_slice(line)?;
+                listing.extend_from_slice(b"\n| ")?;
+                listing.extend_from_slice(line)?;
             }
         }
-        if told.as_slice() == row {
+        if listing.as_slice() == row {
             return Ok(());
         }
-        Err(Fault::Differs(String::from_utf8_lossy(self.alloc, &told)?))
+        Err(Fault::Differs(String::from_utf8_lossy(self.alloc, &listing)?))
     }
 
     /// `reopen`, or `reopen refused N`.
     fn reopen(&mut self, mut words: Words<'_>) -> Result<(), Fault> {
         let refused = refusal(&mut words);
         if !self.is_disturbed {
-            self.volume.rest();
+            self.volume.forget_calls();
         }
         self.is_disturbed = false;
         match (self.open(), refused) {
@@ -297,10 +299,10 @@ impl<'a> Run<'a> {
     /// `written N`: so many sectors by the last statement.
     fn written(&mut self, mut words: Words<'_>) -> Result<(), Fault> {
         let expected = number(&mut words)?;
-        self.has_written(expected)
+        self.check_written(expected)
     }
 
-    fn has_written(&self, expected: u64) -> Result<(), Fault> {
+    fn check_written(&self, expected: u64) -> Result<(), Fault> {
         let written = self.volume.writes().saturating_sub(self.writes);
         if written == expected {
             return Ok(());
@@ -327,24 +329,24 @@ impl<'a> Run<'a> {
         for turn in 0..=most {
             self.renew()?;
             self.writes = self.volume.writes();
-            let seen = self.perform(&statement)?;
-            if seen.answer == FULL && turn >= least {
-                self.filled = turn;
-                return self.has_written(0);
+            let effect = self.perform(&statement)?;
+            if effect.answer == FULL && turn >= least {
+                self.row_count = turn;
+                return self.check_written(0);
             }
-            if !seen.is_as(&statement) {
-                return Err(seen.told(self.alloc)?);
+            if !effect.is_expected(&statement) {
+                return Err(effect.difference(self.alloc)?);
             }
         }
         Err(Fault::Spelling("the volume isn't full"))
     }
 
     /// `filled`: the volume has as many rows as statements were done by `fill`.
-    fn is_filled(&mut self) -> Result<(), Fault> {
+    fn check_row_count(&mut self) -> Result<(), Fault> {
         let files = self.volume.files()?;
         let lines = files.split(|byte| *byte == b'\n');
         let rows = lines.filter(|line| line.starts_with(b" ")).count();
-        if rows as u64 == self.filled {
+        if rows as u64 == self.row_count {
             return Ok(());
         }
         Err(Fault::Differs(format!(in self.alloc; "{rows} rows")?))
@@ -354,7 +356,7 @@ impl<'a> Run<'a> {
     fn put(&mut self, mut words: Words<'_>) -> Result<(), Fault> {
         let sector = sector_number(&mut words)?;
         let place = number(&mut words)? as usize;
-        let text = quoted(self.alloc, words.word().unwrap_or(b""))?;
+        let text = unquote(self.alloc, words.word().unwrap_or(b""))?;
         let mut bytes = self.volume.sector(sector)?;
         match bytes.get_mut(place..) {
             Some(rest) if rest.len() >= text.len() => {
@@ -367,26 +369,40 @@ impl<'a> Run<'a> {
         self.volume.put(sector, &bytes)
     }
 
-    /// `keep`: keeps the sectors.
+    /// `accepts PLACE VERB LENGTH so`, or `.. otherwise`: whether the SELECT at this place has such records, and the verb suits it.
+    fn accepts(&mut self, mut words: Words<'_>) -> Result<(), Fault> {
+        let select = number(&mut words)? as usize;
+        let Some(verb) = words.word().and_then(verb_of) else {
+            return Err(Fault::Spelling("this is no verb"));
+        };
+        let length = number(&mut words)? as usize;
+        let is_expected = words.takes(b"so");
+        if self.volume.accepts(select, verb, length) == is_expected {
+            return Ok(());
+        }
+        Err(Fault::Spelling("the verb is accepted otherwise"))
+    }
+
+    /// `keep`: saves the sectors.
     fn keep(&mut self) -> Result<(), Fault> {
-        self.kept.clear();
+        self.saved.clear();
         for number in 0..self.volume.count() {
             let bytes = self.volume.sector(number)?;
-            self.kept.push(bytes)?;
+            self.saved.push(bytes)?;
         }
         Ok(())
     }
 
-    /// `back`: the sectors that were kept.
+    /// `back`: puts the saved sectors back.
     fn back(&mut self) -> Result<(), Fault> {
         let mut number = 0u32;
-        for kept in self.kept.iter() {
-            if self.volume.sector(number)? != *kept {
-                self.volume.put(number, kept)?;
+        for saved in self.saved.iter() {
+            if self.volume.sector(number)? != *saved {
+                self.volume.put(number, saved)?;
             }
             number = number.saturating_add(1);
         }
-        self.volume.rest();
+        self.volume.forget_calls();
         Ok(())
     }
 
@@ -404,17 +420,17 @@ impl<'a> Run<'a> {
                     *byte ^= mask;
                 }
                 self.volume.put(sector, &turned)?;
-                self.is_turned(words, &before)?;
+                self.check_turn(words, &before)?;
             }
             self.renew()?;
         }
         self.volume.put(sector, &bytes)?;
-        self.volume.rest();
+        self.volume.forget_calls();
         self.open()
     }
 
-    /// What is found of a turned byte.
-    fn is_turned(&mut self, mut words: Words<'_>, before: &[u8]) -> Result<(), Fault> {
+    /// Checks what is found after a byte was turned.
+    fn check_turn(&mut self, mut words: Words<'_>, before: &[u8]) -> Result<(), Fault> {
         let opened = match self.open() {
             Ok(()) => None,
             Err(Fault::Refused(number)) => Some(number),

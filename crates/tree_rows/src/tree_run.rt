@@ -1,16 +1,17 @@
 //! The rows of a case over a tree: `CALL OPERANDS -> ANSWER`. Beside the tree is the list of the numbers that it has to hold.
+use crate::answers::{compare, whether};
 use crate::drawings::{draw, entries_in, leaves_in, plant};
-use crate::volume::{Answered, Volume, key_of, tree_of, value_of};
+use crate::volume::{Answer, Volume, key_of, tree_of, value_of};
 use btree::{Entry, Tree};
 use btree_pages::RowLayout;
 use pages::PagesError;
-use row_scripts::{Fault, Words, quoted};
+use row_scripts::{Fault, Words, unquote};
 use std::alloc::{AllocError, Global};
 use std::mem;
 
-/// A tree on its way.
+/// A tree, and the list of the numbers that it has to hold.
 #[derive(Drop)]
-pub struct Run {
+pub struct TreeRun {
     alloc: Global,
     layout: RowLayout,
     cached: usize,
@@ -35,23 +36,28 @@ fn number(words: &mut Words<'_>) -> Result<u32, Fault> {
     }
 }
 
-fn refused(alloc: Global, error: PagesError) -> Result<String, AllocError> {
+fn refusal(alloc: Global, error: PagesError) -> Result<String, AllocError> {
     let number = error.number();
     format!(in alloc; "refused {number}")
 }
 
-fn told(alloc: Global, answer: Answered<bool>, yes: &str, no: &str) -> Result<String, AllocError> {
+fn answer_words(
+    alloc: Global,
+    answer: Answer<bool>,
+    yes: &str,
+    no: &str,
+) -> Result<String, AllocError> {
     match answer {
         Ok(true) => yes.to_string(alloc),
         Ok(false) => no.to_string(alloc),
-        Err(error) => refused(alloc, error),
+        Err(error) => refusal(alloc, error),
     }
 }
 
-impl Run {
+impl TreeRun {
     /// A new volume, with a tree without entries.
-    pub fn new(alloc: Global, layout: RowLayout, cached: usize) -> Result<Run, Fault> {
-        Ok(Run {
+    pub fn new(alloc: Global, layout: RowLayout, cached: usize) -> Result<TreeRun, Fault> {
+        Ok(TreeRun {
             alloc,
             layout,
             cached,
@@ -69,19 +75,11 @@ impl Run {
     /// Does a row.
     pub fn row(&mut self, row: &[u8]) -> Result<(), Fault> {
         let mut words = Words::of(row);
-        let told = match words.word() {
+        let answer = match words.word() {
             Some(call) => self.call(call, &mut words)?,
             None => return Err(Fault::Spelling("this is no row")),
         };
-        let is_told = words.takes(b"->");
-        let expected = match words.rest() {
-            [b' ', rest @ ..] if is_told => rest,
-            rest => rest,
-        };
-        if told.as_bytes() == expected {
-            return Ok(());
-        }
-        Err(Fault::Differs(told))
+        compare(&mut words, answer)
     }
 
     fn call(&mut self, call: &[u8], words: &mut Words<'_>) -> Result<String, Fault> {
@@ -105,7 +103,7 @@ impl Run {
             b"clear" => self.clear(),
             b"commit" => self.commit(),
             b"try" => self.try_commit(),
-            b"drawn" => self.drawn(),
+            b"drawn" => self.drawing_words(),
             other => self.volume_call(other, words),
         }
     }
@@ -125,24 +123,23 @@ impl Run {
             }
             b"swap" => self.swap(),
             b"count" => self.calls = self.volume.calls(),
-            b"read" => return self.number_told(self.volume.calls().0.saturating_sub(self.calls.0)),
-            b"written" => return self.number_told(
+            b"read" => return self.number_words(self.volume.calls().0.saturating_sub(self.calls.0)),
+            b"written" => return self.number_words(
                 self.volume.calls().1.saturating_sub(self.calls.1),
             ),
-            b"changed" => return self.number_told(self.volume.changed_pages() as u64),
-            b"free" => return self.number_told(u64::from(self.volume.free_sectors())),
+            b"changed" => return self.number_words(self.volume.changed_pages() as u64),
+            b"free" => return self.number_words(u64::from(self.volume.free_sectors())),
             _ => return Err(Fault::Spelling("this is no row")),
         }
         Ok(String::new(self.alloc))
     }
 
-    fn number_told(&self, number: u64) -> Result<String, Fault> {
+    fn number_words(&self, number: u64) -> Result<String, Fault> {
         Ok(format!(in self.alloc; "{number}")?)
     }
 
     fn whether(&self, fact: bool) -> Result<String, Fault> {
-        let told = if fact { "so" } else { "otherwise" };
-        Ok(told.to_string(self.alloc)?)
+        Ok(whether(self.alloc, fact)?)
     }
 
     /// Where a number is among those that have to be there, or where it belongs.
@@ -164,7 +161,7 @@ impl Run {
                 self.there.insert(place, number)?;
             }
         }
-        Ok(told(self.alloc, answer, "new", "there")?)
+        Ok(answer_words(self.alloc, answer, "new", "there")?)
     }
 
     fn remove(&mut self, words: &mut Words<'_>) -> Result<String, Fault> {
@@ -173,7 +170,7 @@ impl Run {
         if answer == Ok(true) {
             self.there.retain(|one| *one != number);
         }
-        Ok(told(self.alloc, answer, "gone", "missing")?)
+        Ok(answer_words(self.alloc, answer, "gone", "missing")?)
     }
 
     /// `drop N`: it goes if it has to be there, and else it isn't there.
@@ -181,8 +178,8 @@ impl Run {
         let mut again = *words;
         let number = number(&mut again)?;
         let is_there = self.from(number) == Some(number);
-        let told = self.remove(words)?;
-        self.whether(told.as_str() == if is_there { "gone" } else { "missing" })
+        let answer = self.remove(words)?;
+        self.whether(answer.as_str() == if is_there { "gone" } else { "missing" })
     }
 
     /// `value N M`: the value of M for the entry N.
@@ -190,7 +187,7 @@ impl Run {
         let one = number(words)?;
         let other = number(words)?;
         let answer = self.volume.replace(&mut self.tree, one, other)?;
-        Ok(told(self.alloc, answer, "new", "missing")?)
+        Ok(answer_words(self.alloc, answer, "new", "missing")?)
     }
 
     /// Whether this is the entry of a number.
@@ -200,14 +197,14 @@ impl Run {
         Ok(entry.key() == key.as_slice() && entry.value() == value.as_slice())
     }
 
-    /// What was found, beside the number that is expected.
-    fn found(
+    /// The number of the entry that was found, if it is the expected one.
+    fn entry_words(
         &self,
-        answer: Answered<Option<Entry>>,
+        answer: Answer<Option<Entry>>,
         expected: Option<u32>,
     ) -> Result<String, Fault> {
         let entry = match answer {
-            Err(error) => return Ok(refused(self.alloc, error)?),
+            Err(error) => return Ok(refusal(self.alloc, error)?),
             Ok(None) => return Ok("none".to_string(self.alloc)?),
             Ok(Some(entry)) => entry,
         };
@@ -218,7 +215,7 @@ impl Run {
         Ok("another".to_string(self.alloc)?)
     }
 
-    /// The number that a row expects behind its arrow.
+    /// The number that a row expects after its arrow.
     fn expected(words: &Words<'_>) -> Option<u32> {
         let mut words = *words;
         words.word();
@@ -239,31 +236,31 @@ impl Run {
     fn get(&mut self, words: &mut Words<'_>) -> Result<String, Fault> {
         let number = number(words)?;
         let answer = self.volume.get(&self.tree, number)?;
-        self.found(answer, Run::expected(words))
+        self.entry_words(answer, TreeRun::expected(words))
     }
 
     fn seek(&mut self, words: &mut Words<'_>) -> Result<String, Fault> {
         let number = number(words)?;
         let answer = self.volume.seek(&self.tree, number)?;
-        self.found(answer, Run::expected(words))
+        self.entry_words(answer, TreeRun::expected(words))
     }
 
     fn next(&mut self, words: &mut Words<'_>) -> Result<String, Fault> {
         let number = number(words)?;
         let answer = self.volume.next(&self.tree, number)?;
-        self.found(answer, Run::expected(words))
+        self.entry_words(answer, TreeRun::expected(words))
     }
 
     fn first(&mut self) -> Result<String, Fault> {
         let expected = self.from(0);
         let answer = self.volume.first(&self.tree)?;
-        self.found(answer, expected)
+        self.entry_words(answer, expected)
     }
 
     /// Whether a search answers the entry of a number, or none.
     fn is_found(
         &self,
-        answer: Answered<Option<Entry>>,
+        answer: Answer<Option<Entry>>,
         expected: Option<u32>,
     ) -> Result<bool, Fault> {
         match (answer, expected) {
@@ -319,9 +316,9 @@ impl Run {
     /// All entries in their order, each by its key, and the pages, which are counted.
     fn right(&mut self) -> Result<String, Fault> {
         let count = self.there.len();
-        let walked = self.walk()?;
-        if walked.as_str() != format!(in self.alloc; "{count} entries")?.as_str() {
-            return Ok(walked);
+        let answer = self.walk()?;
+        if answer.as_str() != format!(in self.alloc; "{count} entries")?.as_str() {
+            return Ok(answer);
         }
         let most = self.there.last().copied().unwrap_or(0) / 10;
         for tenth in 0..=most {
@@ -332,14 +329,14 @@ impl Run {
                 return Ok(format!(in self.alloc; "another at {number}")?);
             }
         }
-        match self.checked(&mut [false; 1024])? {
+        match self.check_marks(&mut [false; 1024])? {
             Ok(_) => Ok("right".to_string(self.alloc)?),
-            Err(error) => Ok(refused(self.alloc, error)?),
+            Err(error) => Ok(refusal(self.alloc, error)?),
         }
     }
 
     /// How many pages a check marks.
-    fn checked(&mut self, seen: &mut [bool]) -> Result<Answered<usize>, Fault> {
+    fn check_marks(&mut self, seen: &mut [bool]) -> Result<Answer<usize>, Fault> {
         let before = seen.iter().filter(|mark| **mark).count();
         match self.volume.check(&self.tree, seen)? {
             Ok(()) => {
@@ -352,9 +349,9 @@ impl Run {
 
     /// How many pages the tree has.
     fn pages(&mut self) -> Result<String, Fault> {
-        match self.checked(&mut [false; 1024])? {
+        match self.check_marks(&mut [false; 1024])? {
             Ok(count) => Ok(format!(in self.alloc; "{count}")?),
-            Err(error) => Ok(refused(self.alloc, error)?),
+            Err(error) => Ok(refusal(self.alloc, error)?),
         }
     }
 
@@ -373,7 +370,7 @@ impl Run {
         if leaves > thin.saturating_add(most) {
             return self.whether(false);
         }
-        self.number_told(thin as u64)
+        self.number_words(thin as u64)
     }
 
     /// `thinner LEAST MOST`: whether no more leaves are thin than before, and the others are MOST at most.
@@ -402,9 +399,9 @@ impl Run {
         let Some(seen) = seen.get_mut(..count) else {
             return Err(Fault::Spelling("there are 1024 marks"));
         };
-        match self.checked(seen)? {
+        match self.check_marks(seen)? {
             Ok(_) => Ok("a tree".to_string(self.alloc)?),
-            Err(error) => Ok(refused(self.alloc, error)?),
+            Err(error) => Ok(refusal(self.alloc, error)?),
         }
     }
 
@@ -414,7 +411,7 @@ impl Run {
                 self.there.clear();
                 Ok("done".to_string(self.alloc)?)
             }
-            Err(error) => Ok(refused(self.alloc, error)?),
+            Err(error) => Ok(refusal(self.alloc, error)?),
         }
     }
 
@@ -426,14 +423,14 @@ impl Run {
                 self.committed.extend_from_slice(&self.there)?;
                 Ok("done".to_string(self.alloc)?)
             }
-            Err(error) => Ok(refused(self.alloc, error)?),
+            Err(error) => Ok(refusal(self.alloc, error)?),
         }
     }
 
     /// `try`: a commit that may be stopped.
     fn try_commit(&mut self) -> Result<String, Fault> {
-        let told = self.commit()?;
-        self.whether(told.as_str() == "done" || told.as_str() == "refused 80")
+        let answer = self.commit()?;
+        self.whether(answer.as_str() == "done" || answer.as_str() == "refused 80")
     }
 
     /// `reopen`, with so many pages in memory if a number follows: the entries of the last commit are there. By `reopen new` they are those
@@ -478,7 +475,7 @@ impl Run {
         Ok(())
     }
 
-    fn drawn(&mut self) -> Result<String, Fault> {
+    fn drawing_words(&mut self) -> Result<String, Fault> {
         let drawing = draw(self.alloc, &mut self.volume, &self.tree)?;
         Ok(String::from_utf8_lossy(self.alloc, &drawing)?)
     }
@@ -495,7 +492,7 @@ impl Run {
     fn page(&mut self, words: &mut Words<'_>) -> Result<(), Fault> {
         let page = number(words)?;
         let place = number(words)? as usize;
-        let text = quoted(self.alloc, words.word().unwrap_or(b""))?;
+        let text = unquote(self.alloc, words.word().unwrap_or(b""))?;
         let mut bytes = self.volume.page(page)?;
         match bytes.get_mut(place..) {
             Some(rest) if rest.len() >= text.len() => {

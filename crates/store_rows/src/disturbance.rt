@@ -1,13 +1,13 @@
 //! A statement of which each call on the device fails in turn. One that changes files is stopped at each call too.
 //!
-//! After a failure the area is as before. Where the statement can't change a file, it answers as its row says when it is done again, and so
-//! do all rows behind it; else the store is spent, and the files that a crash leaves are those before the statement or those after it.
+//! After a failure the area is as before. If the statement cannot change a file, its second attempt answers as its row says, and so do all
+//! rows after it. Otherwise the store is spent, and a crash leaves the files before the statement or those after it.
 //! After a stop each image that it may leave has the files before, or those after; those after if the statement was answered.
 use crate::answer::{Answer, DEVICE, SPENT};
 use crate::case::Case;
 use crate::connectors::Kind;
 use crate::images::Images;
-use crate::rows::{Run, Seen};
+use crate::run::{Effect, Run};
 use crate::statement::{Statement, is_statement};
 use crate::volume::Volume;
 use records::{OpenMode, Verb};
@@ -19,7 +19,7 @@ const MOST_CALLS: u64 = 200;
 
 /// A statement of a case, with the files before it and after it.
 #[derive(Drop)]
-pub struct Disturbed<'a> {
+pub struct Disturbance<'a> {
     pub alloc: Global,
     pub case: &'a Case,
     pub kind: Kind,
@@ -33,7 +33,7 @@ pub struct Disturbed<'a> {
     pub after: Vec<u8>,
 }
 
-/// Whether a failed statement spends the store: it does, it doesn't, or it may.
+/// Whether a failed statement spends the store. `None`: it may.
 fn spends(verb: Verb) -> Option<bool> {
     match verb {
         Verb::Write | Verb::Rewrite | Verb::Delete | Verb::Open(OpenMode::Output) => Some(true),
@@ -46,9 +46,9 @@ fn is_needed(row: &[u8]) -> bool {
     is_statement(row) || row.starts_with(b"reopen") || row.starts_with(b"put ")
 }
 
-impl<'a> Disturbed<'a> {
+impl<'a> Disturbance<'a> {
     /// The case before the statement.
-    fn replayed(&self) -> Result<Run<'a>, Fault> {
+    fn replay(&self) -> Result<Run<'a>, Fault> {
         let mut run = Run::from(self.alloc, self.case, self.kind, self.sectors)?;
         for row in self.case.rows.iter().take(self.place).skip(self.start) {
             if is_needed(&row.text) {
@@ -58,28 +58,37 @@ impl<'a> Disturbed<'a> {
         Ok(run)
     }
 
-    /// The statement, disturbed at a call, and whether it came to its end before that.
-    fn done(&self, n: u64, is_stop: bool) -> Result<(Run<'a>, Statement, bool), Fault> {
-        let mut run = self.replayed()?;
+    /// The statement, disturbed at a call, and whether it ended before that call.
+    fn perform_disturbed(
+        &self,
+        n: u64,
+        is_stop: bool,
+    ) -> Result<(Run<'a>, Statement, bool), Fault> {
+        let mut run = self.replay()?;
         let statement = run.statement(self.row)?;
         run.volume.disturb(n, is_stop);
-        let seen = run.perform(&statement)?;
-        let is_done = seen.is_as(&statement);
+        let effect = run.perform(&statement)?;
+        let is_done = effect.is_expected(&statement);
         if !is_done {
-            self.is_refused(&seen, &statement, DEVICE)?;
+            self.check_refusal(&effect, &statement, DEVICE)?;
         }
         Ok((run, statement, is_done))
     }
 
-    fn is_refused(&self, seen: &Seen, statement: &Statement, answer: Answer) -> Result<(), Fault> {
-        if seen.answer == answer && seen.leaves(&statement.record, statement.number) {
+    fn check_refusal(
+        &self,
+        effect: &Effect,
+        statement: &Statement,
+        answer: Answer,
+    ) -> Result<(), Fault> {
+        if effect.answer == answer && effect.leaves(&statement.record, statement.number) {
             return Ok(());
         }
-        Err(seen.told(self.alloc)?)
+        Err(effect.difference(self.alloc)?)
     }
 
     /// A volume has the files before, or those after.
-    fn has_files(&self, volume: &mut Volume, is_done: bool) -> Result<(), Fault> {
+    fn check_files(&self, volume: &mut Volume, is_done: bool) -> Result<(), Fault> {
         let files = volume.files()?;
         if files.as_slice() == self.after.as_slice() {
             return Ok(());
@@ -91,9 +100,9 @@ impl<'a> Disturbed<'a> {
     }
 
     /// A stop at a call, and each image that it may leave.
-    fn stopped(&self, n: u64) -> Result<(), Fault> {
-        let (stable, _, is_done) = self.done(n, true)?;
-        let (last, _, _) = self.done(n, true)?;
+    fn check_stop(&self, n: u64) -> Result<(), Fault> {
+        let (stable, _, is_done) = self.perform_disturbed(n, true)?;
+        let (last, _, _) = self.perform_disturbed(n, true)?;
         let mut stable = stable.volume;
         let mut last = last.volume;
         stable.crash(&[]);
@@ -101,37 +110,37 @@ impl<'a> Disturbed<'a> {
         let images = Images::of(self.alloc, &mut stable, &mut last)?;
         for image in 0..images.count() {
             images.leave(&mut stable, image)?;
-            self.has_files(&mut stable, is_done)?;
+            self.check_files(&mut stable, is_done)?;
         }
         Ok(())
     }
 
-    /// A failure at a call; tells whether the statement came to its end before that.
-    fn failed(&self, n: u64) -> Result<bool, Fault> {
-        let (mut run, statement, is_done) = self.done(n, false)?;
+    /// A failure at a call. The answer is whether the statement ended before that call.
+    fn check_failure(&self, n: u64) -> Result<bool, Fault> {
+        let (mut run, statement, is_done) = self.perform_disturbed(n, false)?;
         let mut is_after = is_done;
         if !is_done {
-            is_after = self.again(&mut run, &statement)?;
+            is_after = self.perform_again(&mut run, &statement)?;
         }
         if !is_after {
             let choice = u32::try_from(n % 3).unwrap_or(0);
             run.volume.crash(&[choice; 64]);
-            self.has_files(&mut run.volume, is_done)?;
+            self.check_files(&mut run.volume, is_done)?;
         }
         Ok(is_done)
     }
 
-    /// The statement once more behind a failure; tells whether it was done, and all rows behind it.
-    fn again(&self, run: &mut Run<'a>, statement: &Statement) -> Result<bool, Fault> {
-        let seen = run.perform(statement)?;
-        let is_spent = seen.answer == SPENT;
+    /// The second attempt after a failure. The answer is whether the statement was done, and all rows after it.
+    fn perform_again(&self, run: &mut Run<'a>, statement: &Statement) -> Result<bool, Fault> {
+        let effect = run.perform(statement)?;
+        let is_spent = effect.answer == SPENT;
         if spends(statement.verb).unwrap_or(is_spent) {
-            self.is_refused(&seen, statement, SPENT)?;
-            self.is_spent(run, statement)?;
+            self.check_refusal(&effect, statement, SPENT)?;
+            self.check_spent(run, statement)?;
             return Ok(false);
         }
-        if !seen.is_as(statement) {
-            return Err(seen.told(self.alloc)?);
+        if !effect.is_expected(statement) {
+            return Err(effect.difference(self.alloc)?);
         }
         for row in self.case.rows.iter().skip(self.place.saturating_add(1)) {
             run.row(&row.text)?;
@@ -139,8 +148,8 @@ impl<'a> Disturbed<'a> {
         Ok(true)
     }
 
-    /// CLOSE tells whether the connector is open: it is as it was.
-    fn is_spent(&self, run: &mut Run<'a>, statement: &Statement) -> Result<(), Fault> {
+    /// The connector is as before: the status of CLOSE shows whether it is open.
+    fn check_spent(&self, run: &mut Run<'a>, statement: &Statement) -> Result<(), Fault> {
         let status = match statement.verb {
             Verb::Open(_) => Answer::Status(*b"42"),
             _ => Answer::Status(*b"00"),
@@ -151,19 +160,19 @@ impl<'a> Disturbed<'a> {
             record: statement.record.clone()?,
             number: statement.number,
             answer: status,
-            left: statement.record.clone()?,
-            number_left: statement.number,
+            record_after: statement.record.clone()?,
+            number_after: statement.number,
         };
-        let seen = run.perform(&close)?;
-        self.is_refused(&seen, &close, status)
+        let effect = run.perform(&close)?;
+        self.check_refusal(&effect, &close, status)
     }
 
     /// Disturbs the statement at each of its calls.
     pub fn at_each_call(&self) -> Result<(), Fault> {
         for n in 1..MOST_CALLS {
-            let is_done = self.failed(n)?;
+            let is_done = self.check_failure(n)?;
             if self.before != self.after {
-                self.stopped(n)?;
+                self.check_stop(n)?;
             }
             if is_done {
                 return Ok(());
