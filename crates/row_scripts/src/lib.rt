@@ -13,5 +13,5 @@ pub use cases::{Case, read_cases};
 pub use fault::Fault;
 pub use repeats::Row;
 pub use tally::{Difference, Tally};
-pub use texts::{escape, unquote};
+pub use texts::{escape, put_text, unquote};
 pub use words::{Words, number_of};

@@ -41,6 +41,17 @@ pub fn unquote(alloc: Global, word: &[u8]) -> Result<Vec<u8>, Fault> {
     }
 }
 
+/// Puts a text into bytes, from this place on.
+pub fn put_text(bytes: &mut [u8], place: usize, text: &[u8]) -> Result<(), Fault> {
+    if place > bytes.len() || text.len() > bytes.len() - place {
+        return Err(Fault::Spelling("the text is past the end"));
+    }
+    for (byte, new) in bytes[place..].iter_mut().zip(text.iter()) {
+        *byte = *new;
+    }
+    Ok(())
+}
+
 fn digit(byte: Option<&u8>) -> Option<u8> {
     match byte {
         Some(byte @ b'0'..=b'9') => Some(byte.wrapping_sub(b'0')),

@@ -1,5 +1,5 @@
 //! Records in pieces: `"text"` from the first byte on, `OFFSET:"text"` from another one on, and dashes elsewhere.
-use row_scripts::{Fault, Words, number_of, unquote};
+use row_scripts::{Fault, Words, number_of, put_text, unquote};
 use std::alloc::{AllocError, Global};
 
 /// A record of so many of a byte.
@@ -22,18 +22,6 @@ fn piece(word: &[u8]) -> Option<(usize, &[u8])> {
     }
 }
 
-fn put(record: &mut [u8], offset: usize, bytes: &[u8]) -> Result<(), Fault> {
-    match record.get_mut(offset..) {
-        Some(place) if place.len() >= bytes.len() => {
-            for (byte, new) in place.iter_mut().zip(bytes.iter()) {
-                *byte = *new;
-            }
-            Ok(())
-        }
-        _ => Err(Fault::Spelling("the piece is past the record's end")),
-    }
-}
-
 /// The record of the next pieces, if the next word is a piece.
 pub fn read_record(
     alloc: Global,
@@ -50,7 +38,7 @@ pub fn read_record(
             None => record_of(alloc, length, b'-')?,
             Some(bytes) => bytes,
         };
-        put(&mut bytes, offset, &unquote(alloc, text)?)?;
+        put_text(&mut bytes, offset, &unquote(alloc, text)?)?;
         record = Some(bytes);
     }
     Ok(record)

@@ -7,7 +7,7 @@ use crate::select::{name_of, read_select};
 use crate::statement::{Statement, is_statement, read_rest, read_verb, verb_of};
 use crate::volume::Volume;
 use records::Select;
-use row_scripts::{Fault, Words, escape, unquote};
+use row_scripts::{Fault, Words, escape, put_text, unquote};
 use std::alloc::Global;
 
 /// The station keeps a record of its calls. After so many writes it is made anew.
@@ -358,14 +358,7 @@ impl<'a> Run<'a> {
         let place = number(&mut words)? as usize;
         let text = unquote(self.alloc, words.word().unwrap_or(b""))?;
         let mut bytes = self.volume.sector(sector)?;
-        match bytes.get_mut(place..) {
-            Some(rest) if rest.len() >= text.len() => {
-                for (byte, new) in rest.iter_mut().zip(text.iter()) {
-                    *byte = *new;
-                }
-            }
-            _ => return Err(Fault::Spelling("the text is past the sector's end")),
-        }
+        put_text(&mut bytes, place, &text)?;
         self.volume.put(sector, &bytes)
     }
 

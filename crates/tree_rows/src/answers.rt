@@ -1,5 +1,5 @@
 //! What rows of both kinds of cases answer, in words.
-use row_scripts::{Fault, Words, escape, unquote};
+use row_scripts::{Fault, Words, escape, put_text, unquote};
 use std::alloc::{AllocError, Global};
 
 /// Compares an answer with what is expected after the arrow of a row.
@@ -37,9 +37,7 @@ pub fn text_operand(alloc: Global, words: &mut Words<'_>, length: usize) -> Resu
 pub fn page_bytes(alloc: Global, words: &mut Words<'_>) -> Result<[u8; 4096], Fault> {
     let text = unquote(alloc, words.word().unwrap_or(b""))?;
     let mut bytes = [0; 4096];
-    for (byte, new) in bytes.iter_mut().zip(text.iter()) {
-        *byte = *new;
-    }
+    put_text(&mut bytes, 0, &text)?;
     Ok(bytes)
 }
 

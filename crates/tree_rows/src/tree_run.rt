@@ -5,7 +5,7 @@ use crate::volume::{Answer, Volume, key_of, tree_of, value_of};
 use btree::{Entry, Tree};
 use btree_pages::RowLayout;
 use pages::PagesError;
-use row_scripts::{Fault, Words, unquote};
+use row_scripts::{Fault, Words, put_text, unquote};
 use std::alloc::{AllocError, Global};
 use std::mem;
 
@@ -494,14 +494,7 @@ impl TreeRun {
         let place = number(words)? as usize;
         let text = unquote(self.alloc, words.word().unwrap_or(b""))?;
         let mut bytes = self.volume.page(page)?;
-        match bytes.get_mut(place..) {
-            Some(rest) if rest.len() >= text.len() => {
-                for (byte, new) in rest.iter_mut().zip(text.iter()) {
-                    *byte = *new;
-                }
-            }
-            _ => return Err(Fault::Spelling("the text is past the page's end")),
-        }
+        put_text(&mut bytes, place, &text)?;
         self.volume.edit(page, &bytes)
     }
 }
