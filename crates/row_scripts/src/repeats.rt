@@ -38,6 +38,13 @@ fn put_turn(
     Ok(())
 }
 
+/// The counters get the values of the next turn.
+fn go_on(counters: &mut [Counter]) {
+    for counter in counters.iter_mut() {
+        counter.go_on();
+    }
+}
+
 /// Puts the rows of a repetition after others.
 pub fn put_repeated(
     alloc: Global,
@@ -48,9 +55,7 @@ pub fn put_repeated(
     let (count, mut counters) = read_repeat(alloc, head)?;
     for _turn in 0..count {
         put_turn(alloc, body, &counters, rows)?;
-        for counter in counters.iter_mut() {
-            counter.go_on();
-        }
+        go_on(&mut counters);
     }
     Ok(())
 }

@@ -407,19 +407,32 @@ impl<'a> Run<'a> {
         let bytes = self.volume.sector(sector)?;
         let before = self.volume.files()?;
         for place in from..to.min(4096) {
-            for mask in [1u8, 0x80, 0xFF] {
-                let mut turned = bytes;
-                if let Some(byte) = turned.get_mut(place as usize) {
-                    *byte ^= mask;
-                }
-                self.volume.put(sector, &turned)?;
-                self.check_turn(words, &before)?;
-            }
+            self.turn_byte(sector, &bytes, place, words, &before)?;
             self.renew()?;
         }
         self.volume.put(sector, &bytes)?;
         self.volume.forget_calls();
         self.open()
+    }
+
+    /// A byte of a sector, turned in three ways.
+    fn turn_byte(
+        &mut self,
+        sector: u32,
+        bytes: &[u8; 4096],
+        place: u64,
+        words: Words<'_>,
+        before: &[u8],
+    ) -> Result<(), Fault> {
+        for mask in [1u8, 0x80, 0xFF] {
+            let mut turned = *bytes;
+            if let Some(byte) = turned.get_mut(place as usize) {
+                *byte ^= mask;
+            }
+            self.volume.put(sector, &turned)?;
+            self.check_turn(words, before)?;
+        }
+        Ok(())
     }
 
     /// Checks what is found after a byte was turned.

@@ -1,5 +1,6 @@
 //! A case over a tree or over a page. Its first row is `tree KEY VALUE CACHED`: the bytes of keys and values, and how many pages are in
 //! memory. Or it is `page KEY VALUE KIND`, and KIND is `leaf` or `inner`.
+use crate::answers::compare;
 use crate::page_run::PageRun;
 use crate::tree_run::TreeRun;
 use btree_pages::{Kind, RowLayout};
@@ -32,11 +33,21 @@ enum Subject {
 }
 
 impl Subject {
-    fn row(&mut self, row: &[u8]) -> Result<(), Fault> {
+    fn call(&mut self, call: &[u8], words: &mut Words<'_>) -> Result<String, Fault> {
         match self {
-            Subject::Tree(run) => run.row(row),
-            Subject::Page(run) => run.row(row),
+            Subject::Tree(run) => run.call(call, words),
+            Subject::Page(run) => run.call(call, words),
         }
+    }
+
+    /// Does a row.
+    fn row(&mut self, row: &[u8]) -> Result<(), Fault> {
+        let mut words = Words::of(row);
+        let answer = match words.word() {
+            Some(call) => self.call(call, &mut words)?,
+            None => return Err(Fault::Spelling("this is no row")),
+        };
+        compare(&mut words, answer)
     }
 }
 

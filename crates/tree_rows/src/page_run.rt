@@ -2,7 +2,7 @@
 ghost use Rattle.std.specs.Prelude.{◌≡◌};
 ghost use Rattle.btree_pages.specs.RowLayouts.{rest_length};
 
-use crate::answers::{compare, page_bytes, page_words, text_operand, whether};
+use crate::answers::{page_bytes, page_words, text_operand, whether};
 use btree_pages::{Kind, MOST_ROW_BYTES, ROW_BYTES, RowLayout, TreePage};
 use row_scripts::{Fault, Words, escape};
 use std::alloc::{AllocError, Global};
@@ -29,17 +29,8 @@ impl PageRun {
         })
     }
 
-    /// Does a row.
-    pub fn row(&mut self, row: &[u8]) -> Result<(), Fault> {
-        let mut words = Words::of(row);
-        let answer = match words.word() {
-            Some(call) => self.call(call, &mut words)?,
-            None => return Err(Fault::Spelling("this is no row")),
-        };
-        compare(&mut words, answer)
-    }
-
-    fn call(&mut self, call: &[u8], words: &mut Words<'_>) -> Result<String, Fault> {
+    /// Makes a call with the operands of its row, and answers in words.
+    pub fn call(&mut self, call: &[u8], words: &mut Words<'_>) -> Result<String, Fault> {
         match call {
             b"insert" => self.insert(words)?,
             b"child" => self.insert_child(words)?,

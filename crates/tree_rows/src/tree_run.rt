@@ -1,5 +1,5 @@
 //! The rows of a case over a tree: `CALL OPERANDS -> ANSWER`. Beside the tree is the list of the numbers that it has to hold.
-use crate::answers::{compare, whether};
+use crate::answers::whether;
 use crate::drawings::{draw, entries_in, leaves_in, plant};
 use crate::volume::{Answer, Volume, key_of, tree_of, value_of};
 use btree::{Entry, Tree};
@@ -72,17 +72,8 @@ impl TreeRun {
         })
     }
 
-    /// Does a row.
-    pub fn row(&mut self, row: &[u8]) -> Result<(), Fault> {
-        let mut words = Words::of(row);
-        let answer = match words.word() {
-            Some(call) => self.call(call, &mut words)?,
-            None => return Err(Fault::Spelling("this is no row")),
-        };
-        compare(&mut words, answer)
-    }
-
-    fn call(&mut self, call: &[u8], words: &mut Words<'_>) -> Result<String, Fault> {
+    /// Makes a call with the operands of its row, and answers in words.
+    pub fn call(&mut self, call: &[u8], words: &mut Words<'_>) -> Result<String, Fault> {
         match call {
             b"insert" => self.insert(words),
             b"remove" => self.remove(words),
