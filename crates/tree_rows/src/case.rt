@@ -1,7 +1,7 @@
 //! A case over a tree or over a page. Its first row is `tree KEY VALUE CACHED`: the bytes of keys and values, and how many pages are in
 //! memory. Or it is `page KEY VALUE KIND`, and KIND is `leaf` or `inner`.
-use crate::answers::compare;
 use crate::page_run::PageRun;
+use crate::row_answers::compare;
 use crate::tree_run::TreeRun;
 use btree_pages::{Kind, RowLayout};
 use row_scripts::{Case, Difference, Fault, Row, Tally, Words, number_of};

@@ -2,7 +2,7 @@
 ghost use Rattle.std.specs.Prelude.{◌≡◌};
 ghost use Rattle.btree_pages.specs.RowLayouts.{rest_length};
 
-use crate::answers::{page_bytes, page_words, text_operand, whether};
+use crate::row_answers::{page_bytes, page_words, text_operand, whether};
 use btree_pages::{Kind, MOST_ROW_BYTES, ROW_BYTES, RowLayout, TreePage};
 use row_scripts::{Fault, Words, escape};
 use std::alloc::{AllocError, Global};

@@ -1,6 +1,6 @@
 //! The rows of a case over a tree: `CALL OPERANDS -> ANSWER`. Beside the tree is the list of the numbers that it has to hold.
-use crate::answers::whether;
 use crate::drawings::{draw, entries_in, leaves_in, plant};
+use crate::row_answers::whether;
 use crate::volume::{Answer, Volume, key_of, tree_of, value_of};
 use btree::{Entry, Tree};
 use btree_pages::RowLayout;
