@@ -5,6 +5,7 @@ import re
 
 FUNCTION = re.compile(r"(\s*)(?:pub(?:\(\w+\))? )?(?:const )?(?:unsafe )?fn (\w+)")
 HEAD_OF_IMPL = re.compile(r"impl\b")
+TYPE = re.compile(r"^(?:pub(?:\(\w+\))? )?(?:struct|enum) (\w+)", re.M)
 CONSTANT = re.compile(r"\s*(?:pub(?:\(\w+\))? )?(?:const|static) (\w+):")
 CYCLE = re.compile(r"\s*#\[cycle\((\w+)\)\]")
 # What a proof says that names what the body lacks.
@@ -23,18 +24,23 @@ def read(path):
 # ---- functions of a crate, whose files have the layout of `rt fmt`
 
 def functions_of(folder):
-    """The functions of a crate."""
-    found = []
+    """The functions of a crate. A method that is of no trait is named by the module of its type, wherever its impl is."""
+    found, types = [], {}
     for place, _, names in os.walk(f"{folder}/src"):
         for name in sorted(names):
             if name.endswith(".rt"):
                 path = os.path.relpath(f"{place}/{name}", folder)
-                found += functions_in(path, read(f"{folder}/{path}").split("\n"))
-    return found
+                text = read(f"{folder}/{path}")
+                found += functions_in(path, text.split("\n"))
+                types.update((one, module_of(path)) for one in TYPE.findall(text))
+    return [one if one.trait else one._replace(module=types.get(one.type, one.module)) for one in found]
+
+
+def module_of(path):
+    return "::".join(part for part in re.sub(r"^src/|\.rt$", "", path).split("/") if part not in ("lib", "main", "mod"))
 
 
 def functions_in(path, lines):
-    module = [part for part in re.sub(r"^src/|\.rt$", "", path).split("/") if part not in ("lib", "main", "mod")]
     found, kind, trait, cycle = [], "", "", None
     for number, line in enumerate(lines, 1):
         if HEAD_OF_IMPL.match(line):
@@ -45,7 +51,7 @@ def functions_in(path, lines):
         if match := FUNCTION.match(line):
             first, last = begin_of(lines, number), end_of(lines, number, match[1])
             text = "\n".join(lines[number - 1 : last])
-            found.append(Function(path, first, last, "::".join(module), kind, trait, match[2], cycle, text))
+            found.append(Function(path, first, last, module_of(path), kind, trait, match[2], cycle, text))
             cycle = None
     return found
 
