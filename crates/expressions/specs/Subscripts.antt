@@ -13,7 +13,7 @@ use Rattle.source_tree.specs.declared.name.Name.{Name}
 use Rattle.source_tree.specs.declared.literal.Integer.{Integer}
 use Rattle.source_tree.specs.declared.reference.QualifiedName.{QualifiedName}
 use Rattle.source_tree.specs.declared.reference.Adjustment.{Adjustment}
-use Rattle.source_tree.specs.declared.reference.Adjustment.TheVariants as adjustment
+use Rattle.source_tree.specs.declared.reference.Adjustment.TheVariants as adjustment_as
 use Rattle.source_tree.specs.declared.reference.Subscript.{Subscript}
 use Rattle.source_tree.specs.declared.reference.Subscript.TheVariants as subscript_as
 use Rattle.grammar.specs.Parts as g
@@ -86,9 +86,9 @@ integer_reader = one_token integer_in
 
 -- [{+|-} int]
 abbrev pub adjustment : Adjustment → Part
-adjustment adjustment.Nothing = absence_of (lookahead begins_sign)
-adjustment (adjustment.Plus n) = token_with sign_in Plus then integer n
-adjustment (adjustment.Minus n) = token_with sign_in Minus then integer n
+adjustment adjustment_as.Nothing = absence_of (lookahead begins_sign)
+adjustment (adjustment_as.Plus n) = token_with sign_in Plus then integer n
+adjustment (adjustment_as.Minus n) = token_with sign_in Minus then integer n
 
 -- int | n [{IN|OF} n]... [{+|-} int]
 abbrev pub subscript : Subscript → Part
@@ -99,8 +99,8 @@ abbrev pub begins_subscript : List Token → Bool
 begins_subscript i = begins_integer i || begins_name i
 
 abbrev pub adjustment_of : PlusOrMinus → Integer → Adjustment
-adjustment_of Plus n = adjustment.Plus n
-adjustment_of Minus n = adjustment.Minus n
+adjustment_of Plus n = adjustment_as.Plus n
+adjustment_of Minus n = adjustment_as.Minus n
 
 unfoldable pub signed_integer_reader : Parser Adjustment
 signed_integer_reader = do
@@ -109,7 +109,7 @@ signed_integer_reader = do
   pure (adjustment_of sign n)
 
 unfoldable pub adjustment_reader : Parser Adjustment
-adjustment_reader i = if begins_sign i then signed_integer_reader i else Ok (adjustment.Nothing, i)
+adjustment_reader i = if begins_sign i then signed_integer_reader i else Ok (adjustment_as.Nothing, i)
 
 unfoldable pub literal_subscript_reader : Parser Subscript
 literal_subscript_reader = do
