@@ -12,21 +12,21 @@ pub after_statement-returns-in-Arithmetic : goal.after_statement-returns-in-Arit
 after_statement-returns-in-Arithmetic t c =
     after_inside c.args.one.now _ c.args.room _ _ c.in-Arithmetic.is c.after-room.ensures c.after_phrases.ensures
 
-pub after_statement-returns-in-Branching : goal.after_statement-returns-in-Branching
-after_statement-returns-in-Branching t c =
-    after_inside c.args.one.now _ c.args.room _ _ c.in-Branching.is c.after-room.ensures c.after_branching.ensures
+pub after_statement-returns-in-ConditionalStatement : goal.after_statement-returns-in-ConditionalStatement
+after_statement-returns-in-ConditionalStatement t c =
+    after_inside c.args.one.now _ c.args.room _ _ c.in-ConditionalStatement.is c.after-room.ensures c.after_branching.ensures
 
-pub after_statement-returns-in-Performing : goal.after_statement-returns-in-Performing
-after_statement-returns-in-Performing t c =
-    after_inside c.args.one.now _ c.args.room _ _ c.in-Performing.is c.after-room.ensures c.after_performed.ensures
+pub after_statement-returns-in-PerformStatement : goal.after_statement-returns-in-PerformStatement
+after_statement-returns-in-PerformStatement t c =
+    after_inside c.args.one.now _ c.args.room _ _ c.in-PerformStatement.is c.after-room.ensures c.after_performed.ensures
 
-pub after_statement-returns-in-Stringing : goal.after_statement-returns-in-Stringing
-after_statement-returns-in-Stringing t c = after_inside c.args.one.now _ c.args.room _ _ c.in-Stringing.is
-    c.after-room.ensures c.after_phrases-in-Stringing.ensures
+pub after_statement-returns-in-StringStatement : goal.after_statement-returns-in-StringStatement
+after_statement-returns-in-StringStatement t c = after_inside c.args.one.now _ c.args.room _ _ c.in-StringStatement.is
+    c.after-room.ensures c.after_phrases-in-StringStatement.ensures
 
-pub after_statement-returns-in-Filing : goal.after_statement-returns-in-Filing
-after_statement-returns-in-Filing t c =
-    after_inside c.args.one.now _ c.args.room _ _ c.in-Filing.is c.after-room.ensures c.after_filing.ensures
+pub after_statement-returns-in-FileStatement : goal.after_statement-returns-in-FileStatement
+after_statement-returns-in-FileStatement t c =
+    after_inside c.args.one.now _ c.args.room _ _ c.in-FileStatement.is c.after-room.ensures c.after_filing.ensures
 
 pub after_statement-returns-in-DataStatement : goal.after_statement-returns-in-DataStatement
 after_statement-returns-in-DataStatement t c =

@@ -22,13 +22,13 @@ statement_performs-returns-in_ok-phrase_performs-in-Arithmetic t c =
     c.args.self.now.declarations.now) c.args.number c.args.one.now c.phrase_performs-in-Arithmetic.result _ _
     c.in_ok-phrase_performs-in-Arithmetic.ensures c.phrase_performs-in-Arithmetic.ensures (grind (arith, statement_is))
 
-pub statement_performs-returns-in_ok-statements_performs-in-Branching-If :
-    goal.statement_performs-returns-in_ok-statements_performs-in-Branching-If
-statement_performs-returns-in_ok-statements_performs-in-Branching-If t c =
-    adds_ways c.args.all.now c.statements_performs.new.all c.phrase_performs-in-Branching-If.new.all
+pub statement_performs-returns-in_ok-statements_performs-in-ConditionalStatement-If :
+    goal.statement_performs-returns-in_ok-statements_performs-in-ConditionalStatement-If
+statement_performs-returns-in_ok-statements_performs-in-ConditionalStatement-If t c =
+    adds_ways c.args.all.now c.statements_performs.new.all c.phrase_performs-in-ConditionalStatement-If.new.all
     (procedures_in c.args.self.now.declarations.now) c.args.number c.args.one.now
-    c.phrase_performs-in-Branching-If.result _ c.as_slice.result.now
-    c.in_ok-statements_performs-in-Branching-If.ensures c.phrase_performs-in-Branching-If.ensures
+    c.phrase_performs-in-ConditionalStatement-If.result _ c.as_slice.result.now
+    c.in_ok-statements_performs-in-ConditionalStatement-If.ensures c.phrase_performs-in-ConditionalStatement-If.ensures
     (grind (arith, statement_is))
 
 pub statement_performs-returns-in-DataStatement : goal.statement_performs-returns-in-DataStatement
@@ -82,10 +82,10 @@ phrase_performs-returns-in-Some t c =
     c.args.all.now c.statements_performs.new.all c.statements_performs.result c.args.phrase.now c.as_slice.result.now e
     c.statements_performs.ensures
 
-pub statement_performs-returns-in_ok-phrase_performs-in-Stringing :
-    goal.statement_performs-returns-in_ok-phrase_performs-in-Stringing
-statement_performs-returns-in_ok-phrase_performs-in-Stringing t c =
-    adds_phrases c.args.all.now c.phrase_performs-in-Stringing.new.all c.phrase_performs-in-Stringing-2.new.all
+pub statement_performs-returns-in_ok-phrase_performs-in-StringStatement :
+    goal.statement_performs-returns-in_ok-phrase_performs-in-StringStatement
+statement_performs-returns-in_ok-phrase_performs-in-StringStatement t c =
+    adds_phrases c.args.all.now c.phrase_performs-in-StringStatement.new.all c.phrase_performs-in-StringStatement-2.new.all
     (procedures_in c.args.self.now.declarations.now) c.args.number c.args.one.now
-    c.phrase_performs-in-Stringing-2.result _ _
-    c.in_ok-phrase_performs-in-Stringing.ensures c.phrase_performs-in-Stringing-2.ensures (grind (arith, statement_is))
+    c.phrase_performs-in-StringStatement-2.result _ _
+    c.in_ok-phrase_performs-in-StringStatement.ensures c.phrase_performs-in-StringStatement-2.ensures (grind (arith, statement_is))

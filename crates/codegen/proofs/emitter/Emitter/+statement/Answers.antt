@@ -95,9 +95,9 @@ emit_statement-emit_calculating-requires t c =
 pub emit_statement-emit_stringing-requires : goal.emit_statement-emit_stringing-requires
 emit_statement-emit_stringing-requires t c =
     let scope = scope_in c.args.self.now.declarations.now in
-    let one = c.in-Stringing.stringing in
+    let one = c.in-StringStatement.stringing in
     let r : stringing_rules scope.items (statement_rules scope all_permitted) one ≡ [] =
-    sym (ap (verb_rules scope all_permitted (statement_rules scope all_permitted)) c.in-Stringing.is)
+    sym (ap (verb_rules scope all_permitted (statement_rules scope all_permitted)) c.in-StringStatement.is)
     ∙ sym (layers.statement_is scope all_permitted c.args.one.now) ∙ c.requires.rules in
     let first = phrase_rules (statement_rules scope all_permitted) one.phrases.arose in
     let second = phrase_rules (statement_rules scope all_permitted) one.phrases.did_not in
@@ -115,11 +115,11 @@ emit_statement-emit_stringing-requires t c =
 pub emit_statement-emit_filing-requires : goal.emit_statement-emit_filing-requires
 emit_statement-emit_filing-requires t c =
     let scope = scope_in c.args.self.now.declarations.now in
-    let one = c.in-Filing.filing in
+    let one = c.in-FileStatement.filing in
     let own = filing_rules scope.items scope.files one in
     let inner = file_phrases_rules (statement_rules scope all_permitted) (phrases_of one) in
     let r : own ++ inner ≡ [] =
-    sym (ap (verb_rules scope all_permitted (statement_rules scope all_permitted)) c.in-Filing.is)
+    sym (ap (verb_rules scope all_permitted (statement_rules scope all_permitted)) c.in-FileStatement.is)
     ∙ sym (layers.statement_is scope all_permitted c.args.one.now) ∙ c.requires.rules in (
       search (rules, the_lemmas),
       (c.requires.declared, (c.requires.entries, (front_kept own inner r, back_kept own inner r))),
@@ -128,8 +128,8 @@ emit_statement-emit_filing-requires t c =
 pub emit_statement-emit_branching-requires : goal.emit_statement-emit_branching-requires
 emit_statement-emit_branching-requires t c =
     let scope = scope_in c.args.self.now.declarations.now in
-    let r : branching_rules scope.items (statement_rules scope all_permitted) c.in-Branching.branching ≡ [] =
-    sym (ap (verb_rules scope all_permitted (statement_rules scope all_permitted)) c.in-Branching.is)
+    let r : branching_rules scope.items (statement_rules scope all_permitted) c.in-ConditionalStatement.branching ≡ [] =
+    sym (ap (verb_rules scope all_permitted (statement_rules scope all_permitted)) c.in-ConditionalStatement.is)
     ∙ sym (layers.statement_is scope all_permitted c.args.one.now) ∙ c.requires.rules in
     (search (rules, the_lemmas), (c.requires.declared, (c.requires.entries, r)))
 
@@ -168,8 +168,8 @@ emit_phrase-emit_statements-requires t c =
 pub emit_statement-emit_performing-requires : goal.emit_statement-emit_performing-requires
 emit_statement-emit_performing-requires t c =
     let scope = scope_in c.args.self.now.declarations.now in
-    let r : performing_rules scope all_permitted (statement_rules scope all_permitted) c.in-Performing.performing ≡ [] =
-    sym (ap (verb_rules scope all_permitted (statement_rules scope all_permitted)) c.in-Performing.is)
+    let r : performing_rules scope all_permitted (statement_rules scope all_permitted) c.in-PerformStatement.performing ≡ [] =
+    sym (ap (verb_rules scope all_permitted (statement_rules scope all_permitted)) c.in-PerformStatement.is)
     ∙ sym (layers.statement_is scope all_permitted c.args.one.now) ∙ c.requires.rules in
     (search (rules, the_lemmas), (c.requires.declared, (c.requires.entries, r)))
 
