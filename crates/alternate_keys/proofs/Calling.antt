@@ -26,7 +26,7 @@ module _ {D : Type 0} (d : Devices D) where
   }
 
   pub edits_nothing : (p : PageMap) (a : D) → IsOpen p → Edits d ⊥ p a p a
-  edits_nothing p a is = looks_edits ⊥ p p a a (looks_nowhere p a is)
+  edits_nothing p a is = looks_edits ⊥ p p a a (looks_nowhere d p a is)
 
   pub edits_blamed : (A B : Type 0) (p q : PageMap) (a b : D) → (B → A) → Edits d A p a q b → Edits d B p a q b
   edits_blamed A B p q a b from edits = record {
