@@ -482,9 +482,9 @@ module _ (items : List LocatedItem) (whole : Code) (entries : (n : ℕ) (one : L
     both_tested : (one other : ConditionValue) (front back : Fragment) → CodedBy whole (Tested whole.tables one) front
         → CodedBy whole (Tested whole.tables other) back
         → CodedBy whole (Tested whole.tables (λ storage. one storage >>= (λ _. other storage))) (sequence front back)
-    both_tested one other front back =
+    both_tested one other front back before after =
         both_by whole (Tested whole.tables one) (Tested whole.tables other)
-        (Tested whole.tables (λ storage. one storage >>= (λ _. other storage))) front back
+        (Tested whole.tables (λ storage. one storage >>= (λ _. other storage))) front back before after
         (λ a b is also. (both_decide whole.tables one other a b is.0 also.0, both_known whole.tables a b is.1 also.1))
 
     -- two operands alone: whether the left one is taken first, and whether the right one is a number

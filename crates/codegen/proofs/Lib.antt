@@ -54,6 +54,7 @@ pub mod InspectLists
 pub mod InspectMaking
 pub mod InspectKept
 pub mod InspectCodes
+mod RelationPieces
 pub mod Running
 -- The machine does what the tree means
 pub mod Doing

@@ -44,7 +44,7 @@ module _ (whole : Code) where
     where
       moved : (end : Step) → WorksFrom (address + 1) (own_with t own) (state_with t s) count end
           → WorksFrom address own s (suc count) end
-      moved (step.Went u) h = λ k.
+      moved (step.Continues u) h = λ k.
           let more : suc count + k ≡ suc (count + k) = omega arith in
           let behind : address + 1 + count ≡ address + suc count = omega arith in
           ap (λ n. exec_code whole n (at address own s)) more ∙ st (count + k) ∙ h k

@@ -183,7 +183,7 @@ module _ (items : List LocatedItem) where
       → alone_side other ≡ right → IsAtHand one storage
       → take_value items left value storage ≡ Err fault
       → relation_of items left right value by other storage ≡ Err fault
-  sides_fault (Some a) (Some b) value other by storage fault is of h e =
+  sides_fault (Some a) (Some b) one value other by storage fault is of h e =
       ap (λ (taken : Evaluation (Unit {0})).
       taken >>= (λ _. taken_of items a storage >>= (λ x. taken_of items b storage >>= senders_satisfy by x))) e
   sides_fault None (Some b) one value other by storage fault is of h e =

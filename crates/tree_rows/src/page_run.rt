@@ -141,10 +141,14 @@ impl PageRun {
 
     /// `append`: the rows of the other page come after the last one.
     fn append(&mut self) -> Result<(), Fault> {
-        if self.other.layout() != self.page.layout() || self.other.kind() != self.page.kind() {
+        let layout = self.page.layout();
+        if !layout.is_possible()
+            || self.other.layout() != layout
+            || self.other.kind() != self.page.kind()
+        {
             return Err(no_place());
         }
-        let room = self.page.layout().capacity(self.page.kind());
+        let room = layout.capacity(self.page.kind());
         if self.page.count() > room || self.other.count() > room - self.page.count() {
             return Err(no_place());
         }
