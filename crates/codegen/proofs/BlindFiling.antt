@@ -20,14 +20,15 @@ use Rattle.data_instructions.specs.declared.instruction.DataInstruction.TheVaria
 use Rattle.file_image.specs.declared.class.StatusClass.{StatusClass}
 use Rattle.file_image.specs.declared.class.StatusClass.TheVariants as class
 use Rattle.code_image.specs.declared.instruction.Instruction.TheVariants.{File, TestStatus, Unheard}
-use Rattle.codegen.specs.Pieces.{Fragment, sequence, plain_code}
-use Rattle.codegen.specs.Meeting.{either_fragment, nothing_fragment}
-use Rattle.codegen.specs.DataCode.{works_fragment, take_fragment, receivers_fragment}
-use Rattle.codegen.specs.FileCode.{sent_index, file_fragment, test_fragment, unheard_fragment, on_file_fragment, into_fragment, from_fragment, on_record_fragment}
+use Rattle.code_builder.specs.Pieces.{Fragment, sequence, plain_code}
+use Rattle.code_builder.specs.Meeting.{either_fragment, nothing_fragment}
+use Rattle.code_builder.specs.DataCode.{works_fragment, take_fragment, receivers_fragment}
+use Rattle.file_code.specs.FileCode.{sent_index, file_fragment, test_fragment, unheard_fragment, on_file_fragment, into_fragment, from_fragment, on_record_fragment}
 use Rattle.codegen.specs.Layout.{phrase_fragment, taken_fragment, success_fragment, class_fragment, failure_fragment, status_fragment, statement_on_fragment, alone_fragment, open_fragment, close_fragment, record_fragment, file_statement_fragment}
-use Rattle.codegen.proofs.Blind.{Blind, constant_blind, both_blind, in_order_blind, works_blind, taking_blind, moving_blind}
-use Rattle.codegen.proofs.ConditionBlind.{nothing_blind}
-use Rattle.codegen.proofs.Either.{either_blind}
+use Rattle.code_builder.proofs.Blind.{Blind, constant_blind, both_blind, in_order_blind, works_blind, taking_blind}
+use Rattle.data_code.proofs.DataBlind.{moving_blind}
+use Rattle.condition_code.proofs.ConditionBlind.{nothing_blind}
+use Rattle.code_builder.proofs.Either.{either_blind}
 
 test_blind : (one : StatusClass) → Blind (test_fragment one)
 test_blind one = constant_blind (plain_code (TestStatus one ∷ []))

@@ -27,21 +27,23 @@ use Rattle.source_tree.specs.Setting.{Scope}
 use Rattle.data_instructions.specs.declared.instruction.DataInstruction.TheVariants as i
 use Rattle.code_image.specs.declared.code.Code.{Code}
 use Rattle.code_image.specs.declared.instruction.Instruction.TheVariants.{Tick, Stop, Count, CountNumber}
-use Rattle.codegen.specs.Pieces.{Fragment, empty_code, append, sequence, in_order, plain_code}
-use Rattle.codegen.specs.DataCode.{take_fragment}
-use Rattle.codegen.specs.ArithmeticCode.{arithmetic_fragment}
-use Rattle.codegen.specs.Meeting.{either_fragment, nothing_fragment}
-use Rattle.codegen.specs.ConditionCode.{condition_fragment}
-use Rattle.codegen.specs.StringCode.{string_fragment}
-use Rattle.codegen.specs.SubjectCode.{first_object, look, look_fragment, subject_fragment, is_asked_first, taken_from, subjects_fragment}
-use Rattle.codegen.specs.UntilCode.{tick_fragment, until_fragment}
-use Rattle.codegen.specs.Layout.{control_fragment, loop_begin, count_begin, turn_end, counted_turn, times_fragment, counted_fragment, turns_fragment, data_fragment, texts_fragment, range_fragment, turn_fragment, phrase_fragment, phrases_from, selection_fragment, evaluate_fragment, conditional_fragment, file_statement_fragment, verb_fragment, statement_fragment}
-use Rattle.codegen.proofs.Blind.{Blind, blind_as, constant_blind, count_blind, both_blind, in_order_blind, taking_blind, moving_blind, texts_blind}
-use Rattle.codegen.proofs.BlindArithmetic.{arithmetic_blind}
+use Rattle.code_builder.specs.Pieces.{Fragment, empty_code, append, sequence, in_order, plain_code, tick_fragment}
+use Rattle.code_builder.specs.DataCode.{take_fragment}
+use Rattle.arithmetic_code.specs.ArithmeticCode.{arithmetic_fragment}
+use Rattle.code_builder.specs.Meeting.{either_fragment, nothing_fragment}
+use Rattle.condition_code.specs.ConditionCode.{condition_fragment}
+use Rattle.data_code.specs.StringCode.{string_fragment}
+use Rattle.condition_code.specs.SubjectCode.{first_object, look, look_fragment, subject_fragment, is_asked_first, taken_from, subjects_fragment}
+use Rattle.codegen.specs.UntilCode.{until_fragment}
+use Rattle.codegen.specs.Layout.{control_fragment, loop_begin, count_begin, turn_end, counted_turn, times_fragment, counted_fragment, turns_fragment, range_fragment, turn_fragment, phrase_fragment, phrases_from, selection_fragment, evaluate_fragment, conditional_fragment, file_statement_fragment, verb_fragment, statement_fragment}
+use Rattle.data_code.specs.StatementCode.{data_fragment, texts_fragment}
+use Rattle.code_builder.proofs.Blind.{Blind, blind_as, constant_blind, count_blind, both_blind, in_order_blind, taking_blind}
+use Rattle.data_code.proofs.DataBlind.{moving_blind, texts_blind}
+use Rattle.arithmetic_code.proofs.BlindArithmetic.{arithmetic_blind}
 use Rattle.codegen.proofs.BlindFiling.{filing_blind}
-use Rattle.codegen.proofs.BlindStrings.{string_blind}
-use Rattle.codegen.proofs.ConditionBlind.{nothing_blind, condition_blind}
-use Rattle.codegen.proofs.Either.{either_blind}
+use Rattle.data_code.proofs.BlindStrings.{string_blind}
+use Rattle.condition_code.proofs.ConditionBlind.{nothing_blind, condition_blind}
+use Rattle.code_builder.proofs.Either.{either_blind}
 use Rattle.codegen.proofs.Layers.{verb_map, rolled_is}
 use Rattle.codegen.proofs.UntilBlind.{tick_blind, until_blind}
 

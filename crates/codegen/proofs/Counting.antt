@@ -24,21 +24,21 @@ use Rattle.code_image.specs.declared.code.Code.{Code}
 use Rattle.code_image.specs.declared.instruction.Instruction.TheVariants.{CountNumber}
 use Rattle.code_image.specs.Points.{Own, scratch_of}
 use Rattle.code_image.specs.Table.{counted_by, exec_code}
-use Rattle.codegen.specs.Pieces.{Fragment, append, sequence}
-use Rattle.codegen.specs.Meeting.{either_fragment, nothing_fragment}
-use Rattle.codegen.specs.DataCode.{take_fragment}
+use Rattle.code_builder.specs.Pieces.{Fragment, append, sequence}
+use Rattle.code_builder.specs.Meeting.{either_fragment, nothing_fragment}
+use Rattle.code_builder.specs.DataCode.{take_fragment}
 use Rattle.codegen.specs.Layout.{count_begin, counted_turn, counted_fragment}
-use Rattle.codegen.proofs.Pieces.{joined_assoc}
-use Rattle.codegen.proofs.Standing.{front, first_stands, code_stands}
-use Rattle.codegen.proofs.Blind.{Blind}
-use Rattle.codegen.proofs.ConditionBlind.{nothing_blind}
+use Rattle.code_builder.proofs.Pieces.{joined_assoc}
+use Rattle.code_builder.proofs.Standing.{front, first_stands, code_stands}
+use Rattle.code_builder.proofs.Blind.{Blind}
+use Rattle.condition_code.proofs.ConditionBlind.{nothing_blind}
 use Rattle.codegen.proofs.BlindStatements.{counted_turn_blind}
-use Rattle.codegen.proofs.Codes.{taking_coded}
-use Rattle.codegen.proofs.Running.{at, one_step, WorksFrom, works_from}
-use Rattle.codegen.proofs.DataDoing.{behind_code}
-use Rattle.codegen.proofs.Doing.{end_of, setting, Keeps, keeps_set, Comes, Does, PartDoes, Sits, back_sits, IsRoom, after, wider, moved_from, steps_to, behind, nothing_does, Repeats}
-use Rattle.codegen.proofs.Ways.{Ways, ways}
-use Rattle.codegen.proofs.Branching.{first_does, second_does}
+use Rattle.code_builder.proofs.Codes.{taking_coded}
+use Rattle.code_builder.proofs.Running.{at, one_step, WorksFrom, works_from}
+use Rattle.code_builder.proofs.DataDoing.{behind_code}
+use Rattle.code_builder.proofs.Doing.{end_of, setting, Keeps, keeps_set, Comes, Does, PartDoes, Sits, back_sits, IsRoom, after, wider, moved_from, steps_to, behind, nothing_does, Repeats}
+use Rattle.code_builder.proofs.Ways.{Ways, ways}
+use Rattle.code_builder.proofs.Branching.{first_does, second_does}
 use Rattle.codegen.proofs.Turning.{counted_turn_does, own_counter}
 
 -- with a number more

@@ -1,32 +1,23 @@
 -- Code of what a program declares, in the words of the program.
-use Rattle.std.proofs.Common.{◌≡◌, List, [], ap, sym, ◌∙◌}
-use Rattle.source_tree.specs.declared.entry.Entry.{Entry}
+use Rattle.std.proofs.Common.{◌≡◌, List, [], ap, ◌∙◌}
 use Rattle.source_tree.specs.declared.program.Program.{Program}
 use Rattle.source_tree.specs.declared.program.Section.{Section}
-use Rattle.source_tree.specs.declared.select.FileDescription.{FileDescription}
 use Rattle.source_tree.specs.declared.select.Select.{Select}
 use Rattle.source_tree.specs.EntryRules.{entry_rules}
-use Rattle.source_tree.specs.FileRules.{descriptions_rules}
 use Rattle.source_tree.specs.Records.{program_areas}
 use Rattle.source_tree.specs.Rules.{all_permitted, sections_rules}
 use Rattle.source_tree.specs.Setting.{Scope, scope}
 use Rattle.code_image.specs.declared.code.Code.{Code}
 use Rattle.declarations.specs.declared.declarations.Declarations.{Declarations}
-use Rattle.declarations.specs.Named.{Declares, IsDeclared, data_in, files_in, items_in, scope_in}
+use Rattle.declarations.specs.Named.{Declares, files_in, items_in, scope_in}
 use Rattle.declarations.proofs.Declared.{same_scope}
-use Rattle.codegen.specs.Layout.{code_of, end_fragment, section_fragment, storage_code, storage_with}
-use Rattle.codegen.specs.Pieces.{in_order, append}
-use Rattle.codegen.proofs.ConditionValues.{descriptions_kept}
+use Rattle.codegen.specs.Layout.{code_of, end_fragment, section_fragment, storage_code}
+use Rattle.file_code.specs.StorageCode.{storage_with}
+use Rattle.code_builder.specs.Pieces.{in_order, append}
 
 module _ (program : Program) (all : Declarations) (h : Declares program all) where
   pub entries_by : entry_rules program.storage ≡ [] → entry_rules all.storage.now ≡ []
   entries_by kept = ap entry_rules h.storage ∙ kept
-
-  pub descriptions_by : IsDeclared all → descriptions_rules program.storage program.files ≡ []
-  descriptions_by declared =
-      ap (λ (l : List Entry). descriptions_rules l program.files) (sym h.storage)
-      ∙ ap (λ (l : List FileDescription). descriptions_rules all.storage.now l) (sym h.descriptions)
-      ∙ descriptions_kept (items_in all) (data_in all) declared.file_rules
 
   pub sections_by : (sections : List Section) → sections ≡ program.sections → sections_rules (scope program) all_permitted program.sections ≡ []
       → sections_rules (scope_in all) all_permitted sections ≡ []

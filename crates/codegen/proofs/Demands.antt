@@ -51,35 +51,38 @@ use Rattle.code_image.specs.declared.instruction.Instruction.TheVariants.{Tick, 
 use Rattle.code_image.specs.Demands.{UsesBudget, ends_in, JumpsBack}
 use Rattle.declarations.proofs.RuleLayers.{mapped_rules}
 use Rattle.declarations.proofs.PerformLayers.{mapped_performs}
-use Rattle.codegen.specs.Pieces.{Fragment, append, sequence, in_order}
-use Rattle.codegen.specs.Meeting.{branch_code, either_fragment, nothing_fragment}
-use Rattle.codegen.specs.DataCode.{work_fragment, take_fragment}
-use Rattle.codegen.specs.ArithmeticCode.{arithmetic_fragment}
-use Rattle.codegen.specs.StringCode.{string_fragment}
-use Rattle.codegen.specs.ConditionCode.{condition_fragment}
-use Rattle.codegen.specs.UntilCode.{tick_fragment, repetition_fragment, until_before_fragment, until_after_fragment, until_from_fragment, vary_begin_fragment, vary_on_fragment, until_fragment}
-use Rattle.codegen.specs.SubjectCode.{first_object, look, look_fragment, subject_fragment, each_subject_fragment, is_asked_first, taken_from, subjects_fragment}
-use Rattle.codegen.specs.Layout.{loop_begin, count_begin, turn_end, counted_turn, times_fragment, counted_fragment, range_fragment, turn_fragment, turns_fragment, data_fragment, texts_fragment, phrase_fragment, phrases_from, phrases_fragment, selection_fragment, evaluate_fragment, conditional_fragment, stop_run_fragment, file_statement_fragment, verb_fragment, statement_fragment, sentence_fragment}
-use Rattle.codegen.proofs.Codes.{left_none, right_none}
+use Rattle.code_builder.specs.Pieces.{Fragment, append, sequence, in_order, tick_fragment}
+use Rattle.code_builder.specs.Meeting.{branch_code, either_fragment, nothing_fragment}
+use Rattle.code_builder.specs.DataCode.{work_fragment, take_fragment}
+use Rattle.arithmetic_code.specs.ArithmeticCode.{arithmetic_fragment}
+use Rattle.data_code.specs.StringCode.{string_fragment}
+use Rattle.condition_code.specs.ConditionCode.{condition_fragment}
+use Rattle.codegen.specs.UntilCode.{repetition_fragment, until_before_fragment, until_after_fragment, until_from_fragment, vary_begin_fragment, vary_on_fragment, until_fragment}
+use Rattle.condition_code.specs.SubjectCode.{first_object, look, look_fragment, subject_fragment, each_subject_fragment, is_asked_first, taken_from, subjects_fragment}
+use Rattle.codegen.specs.Layout.{loop_begin, count_begin, turn_end, counted_turn, times_fragment, counted_fragment, range_fragment, turn_fragment, turns_fragment, phrase_fragment, phrases_from, phrases_fragment, selection_fragment, evaluate_fragment, conditional_fragment, stop_run_fragment, file_statement_fragment, verb_fragment, statement_fragment, sentence_fragment}
+use Rattle.data_code.specs.StatementCode.{data_fragment, texts_fragment}
+use Rattle.code_builder.proofs.Codes.{left_none, right_none}
 use Rattle.codegen.proofs.Layers.{verb_map, rolled_is}
-use Rattle.codegen.proofs.Standing.{at_seam}
-use Rattle.codegen.proofs.Blind.{Blind, in_order_blind}
-use Rattle.codegen.proofs.ConditionBlind.{nothing_blind, condition_blind}
+use Rattle.code_builder.proofs.Standing.{at_seam}
+use Rattle.code_builder.proofs.Blind.{Blind, in_order_blind}
+use Rattle.condition_code.proofs.ConditionBlind.{nothing_blind, condition_blind}
 use Rattle.codegen.proofs.UntilBlind.{turn_before_blind, onward_blind, vary_on_blind}
-use Rattle.codegen.proofs.SubjectLooks.{look_rules, look_kept}
-use Rattle.codegen.proofs.EvaluateKept.{statements_of, selected_kept, first_group, other_groups, subjects_of, groups_of, other_of}
+use Rattle.condition_code.proofs.SubjectLooks.{look_rules, look_kept}
+use Rattle.condition_code.proofs.EvaluateKept.{statements_of, selected_kept, first_group, other_groups, subjects_of, groups_of, other_of}
 use Rattle.codegen.proofs.BlindStatements.{counted_turn_blind, turn_blind, phrase_blind, selecting_blind, statement_blind}
-use Rattle.codegen.proofs.Straight.{AlwaysStraight, work_straight, taking_straight, moving_straight}
-use Rattle.codegen.proofs.ArithmeticStraight.{arithmetic_straight}
-use Rattle.codegen.proofs.StringStraight.{string_straight}
-use Rattle.codegen.proofs.Inspections.{AreSized}
-use Rattle.codegen.proofs.TextStraight.{texts_straight}
-use Rattle.codegen.proofs.Leading.{none_end, stays_within, plain_names, Asks, Meets, both_meet, nothing_meets, straight_meets, branch_meets, either_meets}
+use Rattle.code_builder.proofs.Straight.{AlwaysStraight, work_straight, taking_straight}
+use Rattle.data_code.proofs.DataStraight.{moving_straight}
+use Rattle.arithmetic_code.proofs.ArithmeticStraight.{arithmetic_straight}
+use Rattle.data_code.proofs.StringStraight.{string_straight}
+use Rattle.data_code.proofs.Inspections.{AreSized}
+use Rattle.data_code.proofs.TextStraight.{texts_straight}
+use Rattle.code_builder.proofs.Leading.{none_end, stays_within, plain_names, Asks, Meets, both_meet, nothing_meets, straight_meets, branch_meets, either_meets}
 use Rattle.codegen.proofs.FileMeets.{PhrasesMeet, filing_meets}
-use Rattle.codegen.proofs.HasFiles.{IsNumbered, IsSuited}
+use Rattle.file_code.proofs.HasFiles.{IsNumbered, IsSuited}
 use Rattle.codegen.proofs.Ranges.{IsWithin, EndsWithin, FoundWithin, range_within}
-use Rattle.codegen.proofs.ConditionValues.{AreFormed}
-use Rattle.codegen.proofs.ConditionMeets.{condition_meets}
+use Rattle.code_builder.proofs.ConditionValues.{AreFormed}
+use Rattle.condition_code.proofs.ConditionMeets.{condition_meets}
+use Rattle.code_builder.proofs.Parts.{all_back, all_front}
 
 -- ---- what begins with what uses one of the budget
 
@@ -140,14 +143,6 @@ turn_begins scope inside line (Statements statements) before =
 
 abbrev pub Asked : (Range → Type 0) → List Performance → Type 0
 Asked asked = AllByRecursion (λ (one : Performance). asked one.range)
-
-pub all_front : {X : Type 0} (P : X → Type 0) (xs ys : List X) → AllByRecursion P (xs ++ ys) → AllByRecursion P xs
-all_front P [] ys h = tt
-all_front P (x ∷ xs) ys h = (h.0, all_front P xs ys h.1)
-
-pub all_back : {X : Type 0} (P : X → Type 0) (xs ys : List X) → AllByRecursion P (xs ++ ys) → AllByRecursion P ys
-all_back P [] ys h = h
-all_back P (x ∷ xs) ys h = all_back P xs ys h.1
 
 -- A range that is performed lies in so many paragraphs, and is so.
 pub record IsPerformed (count : ℕ) (wanted : Range → Type 0) (range : Range) : Type 0 where

@@ -25,17 +25,17 @@ use Rattle.file_image.specs.declared.class.StatusClass.{StatusClass}
 use Rattle.file_image.specs.declared.class.StatusClass.TheVariants as class
 use Rattle.code_image.specs.declared.code.Code.{Code}
 use Rattle.code_image.specs.declared.instruction.Instruction.TheVariants.{File, TestStatus, Unheard}
-use Rattle.codegen.specs.Pieces.{Fragment, append, sequence, in_order}
-use Rattle.codegen.specs.Meeting.{either_fragment, nothing_fragment}
-use Rattle.codegen.specs.DataCode.{works_fragment, sender_fragment, take_fragment, receivers_fragment}
-use Rattle.codegen.specs.FileCode.{sent_index, file_fragment, test_fragment, unheard_fragment, on_file_fragment, into_fragment, from_fragment, on_record_fragment}
+use Rattle.code_builder.specs.Pieces.{Fragment, append, sequence, in_order}
+use Rattle.code_builder.specs.Meeting.{either_fragment, nothing_fragment}
+use Rattle.code_builder.specs.DataCode.{works_fragment, sender_fragment, take_fragment, receivers_fragment}
+use Rattle.file_code.specs.FileCode.{sent_index, file_fragment, test_fragment, unheard_fragment, on_file_fragment, into_fragment, from_fragment, on_record_fragment}
 use Rattle.codegen.specs.Layout.{phrase_fragment, taken_fragment, success_fragment, class_fragment, failure_fragment, status_fragment, statement_on_fragment, alone_fragment, open_fragment, close_fragment, record_fragment, file_statement_fragment}
-use Rattle.codegen.proofs.Blind.{Blind, both_blind}
+use Rattle.code_builder.proofs.Blind.{Blind, both_blind}
 use Rattle.codegen.proofs.BlindFiling.{unheard_blind, into_blind, taken_blind, success_blind, failure_blind}
-use Rattle.codegen.proofs.ConditionBlind.{nothing_blind}
-use Rattle.codegen.proofs.HasFiles.{first_so, IsNumbered, IsSuited, suited}
-use Rattle.codegen.proofs.Leading.{plain_names, Asks, Meets, both_meet, nothing_meets, straight_meets, either_meets}
-use Rattle.codegen.proofs.Straight.{AlwaysStraight, both_straight, nothing_straight, in_order_straight, works_straight, taking_straight}
+use Rattle.condition_code.proofs.ConditionBlind.{nothing_blind}
+use Rattle.file_code.proofs.HasFiles.{first_so, IsNumbered, IsSuited, suited}
+use Rattle.code_builder.proofs.Leading.{plain_names, Asks, Meets, both_meet, nothing_meets, straight_meets, either_meets}
+use Rattle.code_builder.proofs.Straight.{AlwaysStraight, both_straight, nothing_straight, in_order_straight, works_straight, taking_straight}
 
 module _ (items : List LocatedItem) where
   receivers_straight : (all : List Reference) → AlwaysStraight (receivers_fragment items all)

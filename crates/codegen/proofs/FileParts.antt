@@ -6,14 +6,14 @@ use Rattle.source_tree.specs.ProgramFiles.{ProgramFile}
 use Rattle.source_tree.specs.Setting.{Scope}
 use Rattle.file_image.specs.declared.class.StatusClass.TheVariants.{Successful}
 use Rattle.code_image.specs.declared.code.Code.{Code}
-use Rattle.codegen.specs.Pieces.{Fragment, append, sequence}
-use Rattle.codegen.specs.Meeting.{branch_code, jump_code, either_fragment, nothing_fragment}
-use Rattle.codegen.specs.FileCode.{file_fragment, test_fragment, unheard_fragment}
+use Rattle.code_builder.specs.Pieces.{Fragment, append, sequence}
+use Rattle.code_builder.specs.Meeting.{branch_code, jump_code, either_fragment, nothing_fragment}
+use Rattle.file_code.specs.FileCode.{file_fragment, test_fragment, unheard_fragment}
 use Rattle.codegen.specs.Layout.{alone_fragment}
-use Rattle.codegen.specs.Phrases.{patched_code}
-use Rattle.codegen.proofs.Pieces.{joined_nothing}
-use Rattle.codegen.proofs.Meeting.{meeting}
-use Rattle.codegen.proofs.Sequences.{then_piece}
+use Rattle.code_builder.specs.Phrases.{patched_code}
+use Rattle.code_builder.proofs.Pieces.{joined_nothing}
+use Rattle.code_builder.proofs.Meeting.{meeting}
+use Rattle.code_builder.proofs.Sequences.{then_piece}
 
 pub alone_made : (scope : Scope) {S : Type 0} (inside : S → Fragment) (verb : on_files.Verb) (file : ProgramFile) (old filed tested begun middle behind end : Code) (branch other : ℕ)
     → filed ≡ append old (file_fragment verb file old) → tested ≡ append filed (test_fragment Successful filed) → begun ≡ append tested (branch_code 0)

@@ -34,20 +34,21 @@ use Rattle.file_image.specs.declared.class.StatusClass.TheVariants as class
 use Rattle.file_image.specs.Classes.{is_of, has_class}
 use Rattle.code_image.specs.declared.code.Code.{Code}
 use Rattle.code_image.specs.Points.{Own}
-use Rattle.codegen.specs.Pieces.{Fragment, append, sequence}
-use Rattle.codegen.specs.Meeting.{either_fragment, nothing_fragment}
-use Rattle.codegen.specs.FileCode.{file_fragment, test_fragment, unheard_fragment, on_file_fragment, into_fragment, from_fragment, on_name_fragment, on_record_fragment}
+use Rattle.code_builder.specs.Pieces.{Fragment, append, sequence}
+use Rattle.code_builder.specs.Meeting.{either_fragment, nothing_fragment}
+use Rattle.file_code.specs.FileCode.{file_fragment, test_fragment, unheard_fragment, on_file_fragment, into_fragment, from_fragment, on_name_fragment, on_record_fragment}
 use Rattle.codegen.specs.Layout.{phrase_fragment, taken_fragment, success_fragment, class_fragment, failure_fragment, status_fragment, statement_on_fragment, alone_fragment, open_fragment, close_fragment, record_fragment, file_statement_fragment}
-use Rattle.codegen.proofs.Blind.{Blind, both_blind}
+use Rattle.code_builder.proofs.Blind.{Blind, both_blind}
 use Rattle.codegen.proofs.BlindFiling.{unheard_blind, into_blind, taken_blind, success_blind, failure_blind}
-use Rattle.codegen.proofs.ConditionBlind.{nothing_blind}
-use Rattle.codegen.proofs.Codes.{left_none, right_none}
-use Rattle.codegen.proofs.Standing.{Stands}
-use Rattle.codegen.proofs.Branching.{either_at, either_does}
-use Rattle.codegen.proofs.Doing.{end_of, PartDoes, Sits, front_sits, back_sits, IsRoom, parts_do, nothing_does, Follows, in_order_does, Repeats}
-use Rattle.codegen.proofs.FileDoing.{ended, tested, test_then, unheard_does, file_then}
-use Rattle.codegen.proofs.HasFiles.{IsFiled, HasFiles, first_so}
-use Rattle.codegen.proofs.MoveDoing.{move_does, into_does}
+use Rattle.condition_code.proofs.ConditionBlind.{nothing_blind}
+use Rattle.code_builder.proofs.Codes.{left_none, right_none}
+use Rattle.code_builder.proofs.Standing.{Stands}
+use Rattle.code_builder.proofs.Branching.{either_at, either_does}
+use Rattle.code_builder.proofs.Doing.{end_of, PartDoes, Sits, front_sits, back_sits, IsRoom, parts_do, nothing_does, Follows, in_order_does, Repeats}
+use Rattle.file_code.proofs.FileDoing.{ended, tested, test_then, unheard_does, file_then}
+use Rattle.file_code.proofs.HasFiles.{IsFiled, HasFiles, first_so}
+use Rattle.code_builder.proofs.MoveDoing.{move_does}
+use Rattle.file_code.proofs.IntoDoing.{into_does}
 
 -- what is asked of the first that is named
 pub first_asked : {A : Type 0} (place : Place) (asked : A → List RuleBreach) (all : List A) (one : A) → unique_name_rules place asked all ≡ [] → first all ≡ Some one

@@ -19,11 +19,11 @@ use Rattle.file_image.specs.declared.class.StatusClass.{StatusClass}
 use Rattle.file_image.specs.declared.class.StatusClass.TheVariants as class
 use Rattle.code_image.specs.declared.code.Code.{Code}
 use Rattle.declarations.proofs.FilingLayers.{mapped_phrases, mapped_filing}
-use Rattle.codegen.specs.Pieces.{Fragment, append, sequence, in_order}
-use Rattle.codegen.specs.Meeting.{either_fragment, nothing_fragment}
-use Rattle.codegen.specs.FileCode.{file_fragment, test_fragment, unheard_fragment, on_file_fragment, into_fragment, from_fragment}
+use Rattle.code_builder.specs.Pieces.{Fragment, append, sequence, in_order}
+use Rattle.code_builder.specs.Meeting.{either_fragment, nothing_fragment}
+use Rattle.file_code.specs.FileCode.{file_fragment, test_fragment, unheard_fragment, on_file_fragment, into_fragment, from_fragment}
 use Rattle.codegen.specs.Layout.{phrase_fragment, taken_fragment, success_fragment, class_fragment, failure_fragment, status_fragment, statement_on_fragment, alone_fragment, record_fragment, file_statement_fragment}
-use Rattle.codegen.proofs.Either.{either_map}
+use Rattle.code_builder.proofs.Either.{either_map}
 
 module _ (scope : Scope) {A B : Type 0} (f : A → B) (g : B → Fragment) where
   abbrev h : A → Fragment

@@ -66,33 +66,35 @@ use Rattle.code_image.specs.declared.instruction.Instruction.{Instruction}
 use Rattle.code_image.specs.declared.instruction.Instruction.TheVariants as instruction
 use Rattle.code_image.specs.Known.{known_after, known_along}
 use Rattle.declarations.proofs.RuleLayers.{mapped_rules}
-use Rattle.codegen.specs.Pieces.{Fragment, append, sequence, in_order, plain_code}
-use Rattle.codegen.specs.Meeting.{branch_code, either_fragment, nothing_fragment}
-use Rattle.codegen.specs.DataCode.{work_fragment, take_fragment, reference_fragment, operands_fragment, line_end_fragment, show_fragment}
-use Rattle.codegen.specs.ArithmeticCode.{arithmetic_fragment}
-use Rattle.codegen.specs.ConditionCode.{condition_fragment}
-use Rattle.codegen.specs.StringCode.{string_fragment}
-use Rattle.codegen.specs.UntilCode.{tick_fragment, repetition_fragment, until_before_fragment, until_after_fragment, until_from_fragment, vary_begin_fragment, vary_on_fragment, until_fragment}
-use Rattle.codegen.specs.SubjectCode.{first_object, look, look_fragment, subject_fragment, is_asked_first, taken_from, subjects_fragment}
-use Rattle.codegen.specs.Layout.{loop_begin, count_begin, turn_end, counted_turn, times_fragment, counted_fragment, turns_fragment, range_fragment, turn_fragment, data_fragment, texts_fragment, phrase_fragment, phrases_from, phrases_fragment, selection_fragment, evaluate_fragment, conditional_fragment, file_statement_fragment, verb_fragment, statement_fragment, sentence_fragment, start_fragment, back_fragment, paragraph_fragment}
-use Rattle.codegen.proofs.Codes.{left_none, right_none, taking_coded, move_coded, display_coded, accept_coded, date_coded}
-use Rattle.codegen.proofs.ArithmeticCodes.{arithmetic_coded}
-use Rattle.codegen.proofs.PatternCodes.{initializes_codes, sets_codes, lie_each, lie_conditions}
-use Rattle.codegen.proofs.StringCodes.{string_codes, lies_string}
-use Rattle.codegen.proofs.InspectCodes.{inspect_codes, lies_inspect}
-use Rattle.codegen.proofs.Lying.{lies_all, shows_all, sends, receives_one, receive_each, lies_operation}
+use Rattle.code_builder.specs.Pieces.{Fragment, append, sequence, in_order, plain_code, tick_fragment}
+use Rattle.code_builder.specs.Meeting.{branch_code, either_fragment, nothing_fragment}
+use Rattle.code_builder.specs.DataCode.{work_fragment, take_fragment, reference_fragment, operands_fragment, line_end_fragment, show_fragment}
+use Rattle.arithmetic_code.specs.ArithmeticCode.{arithmetic_fragment}
+use Rattle.condition_code.specs.ConditionCode.{condition_fragment}
+use Rattle.data_code.specs.StringCode.{string_fragment}
+use Rattle.codegen.specs.UntilCode.{repetition_fragment, until_before_fragment, until_after_fragment, until_from_fragment, vary_begin_fragment, vary_on_fragment, until_fragment}
+use Rattle.condition_code.specs.SubjectCode.{first_object, look, look_fragment, subject_fragment, is_asked_first, taken_from, subjects_fragment}
+use Rattle.codegen.specs.Layout.{loop_begin, count_begin, turn_end, counted_turn, times_fragment, counted_fragment, turns_fragment, range_fragment, turn_fragment, phrase_fragment, phrases_from, phrases_fragment, selection_fragment, evaluate_fragment, conditional_fragment, file_statement_fragment, verb_fragment, statement_fragment, sentence_fragment, start_fragment, back_fragment, paragraph_fragment}
+use Rattle.data_code.specs.StatementCode.{data_fragment, texts_fragment}
+use Rattle.code_builder.proofs.Codes.{left_none, right_none, taking_coded, move_coded, display_coded, accept_coded, date_coded}
+use Rattle.arithmetic_code.proofs.ArithmeticCodes.{arithmetic_coded}
+use Rattle.data_code.proofs.PatternCodes.{initializes_codes, sets_codes, lie_each, lie_conditions}
+use Rattle.data_code.proofs.StringCodes.{string_codes, lies_string}
+use Rattle.data_code.proofs.InspectCodes.{inspect_codes, lies_inspect}
+use Rattle.code_builder.proofs.Lying.{lies_all, shows_all, sends, receives_one, receive_each}
+use Rattle.arithmetic_code.proofs.ArithmeticLying.{lies_operation}
 use Rattle.codegen.proofs.Layers.{verb_map, rolled_is}
-use Rattle.codegen.proofs.Standing.{Stands, front, back}
-use Rattle.codegen.proofs.Pieces.{joined_assoc}
-use Rattle.codegen.proofs.Blind.{Blind, in_order_blind}
+use Rattle.code_builder.proofs.Standing.{Stands, front, back}
+use Rattle.code_builder.proofs.Pieces.{joined_assoc}
+use Rattle.code_builder.proofs.Blind.{Blind, in_order_blind}
 use Rattle.codegen.proofs.FilingFlows.{filing_flows}
-use Rattle.codegen.proofs.HasFiles.{HasFiles}
-use Rattle.codegen.proofs.Flowing.{rest, along_append, along_data, only_one, Flows, both_flow, nothing_flows, branch_flows, AllFlow, in_order_flows, BodyFlows, either_flows}
-use Rattle.codegen.proofs.ConditionBlind.{nothing_blind, condition_blind}
-use Rattle.codegen.proofs.ConditionFlows.{condition_flows}
+use Rattle.file_code.proofs.HasFiles.{HasFiles}
+use Rattle.code_builder.proofs.Flowing.{rest, along_append, along_data, only_one, Flows, both_flow, nothing_flows, branch_flows, AllFlow, in_order_flows, BodyFlows, either_flows}
+use Rattle.condition_code.proofs.ConditionBlind.{nothing_blind, condition_blind}
+use Rattle.condition_code.proofs.ConditionFlows.{condition_flows}
 use Rattle.codegen.proofs.UntilBlind.{turn_before_blind, onward_blind, vary_on_blind}
-use Rattle.codegen.proofs.SubjectLooks.{look_rules, look_kept}
-use Rattle.codegen.proofs.EvaluateKept.{statements_of, selected_kept, first_group, other_groups, subjects_of, groups_of, other_of}
+use Rattle.condition_code.proofs.SubjectLooks.{look_rules, look_kept}
+use Rattle.condition_code.proofs.EvaluateKept.{statements_of, selected_kept, first_group, other_groups, subjects_of, groups_of, other_of}
 use Rattle.codegen.proofs.BlindStatements.{counted_turn_blind, turn_blind, phrase_blind, selecting_blind, statement_blind}
 
 module _ (tables : DataTables) where

@@ -29,18 +29,20 @@ use Rattle.file_image.specs.declared.file.CodeFile.{CodeFile}
 use Rattle.code_image.specs.declared.code.Code.{Code}
 use Rattle.code_image.specs.Points.{nothing_own, all_closed, start_state}
 use Rattle.code_image.specs.Table.{exec_code, Runs}
-use Rattle.codegen.specs.Pieces.{empty_code, append, in_order}
+use Rattle.code_builder.specs.Pieces.{empty_code, append, in_order}
 use Rattle.codegen.specs.Layout.{section_fragment, paragraph_fragment, end_fragment, storage_code, code_of}
-use Rattle.codegen.proofs.Codes.{left_none, right_none}
-use Rattle.codegen.proofs.CodeFiles.{kept_at}
-use Rattle.codegen.proofs.Demands.{all_front, all_back, paragraph_meets}
-use Rattle.codegen.proofs.Pieces.{joined_assoc, joined_nothing, flat}
+use Rattle.code_builder.proofs.Codes.{left_none, right_none}
+use Rattle.file_code.proofs.CodeFiles.{kept_at}
+use Rattle.code_builder.proofs.Parts.{all_front, all_back}
+use Rattle.codegen.proofs.Demands.{paragraph_meets}
+use Rattle.code_builder.proofs.Pieces.{joined_assoc, joined_nothing}
+use Rattle.codegen.proofs.Sections.{flat}
 use Rattle.codegen.proofs.Procedures.{Laid, AreBare, laid_out, below, below_is}
 use Rattle.codegen.proofs.ProgramDoes.{range_ends}
 use Rattle.codegen.proofs.Ranges.{EndsWithin, FoundWithin, range_within, procedures_end}
-use Rattle.codegen.proofs.Running.{at}
-use Rattle.codegen.proofs.Standing.{Stands}
-use Rattle.codegen.proofs.FileTable.{as_many}
+use Rattle.code_builder.proofs.Running.{at}
+use Rattle.code_builder.proofs.Standing.{Stands}
+use Rattle.file_code.proofs.FileTable.{as_many}
 use Rattle.codegen.proofs.Verified.{paragraphs_keep, sections_kept, formed_conditions, numbered, areas_are, files_are, item_entries, items_sized, has_files, order, lies}
 
 -- ---- rules that ask which ranges may be performed

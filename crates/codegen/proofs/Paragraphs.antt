@@ -17,17 +17,17 @@ use Rattle.code_image.specs.declared.code.Code.{Code}
 use Rattle.code_image.specs.declared.instruction.Instruction.{Instruction}
 use Rattle.code_image.specs.declared.instruction.Instruction.TheVariants.{Tick, Show, Stop, Count, CountNumber, Turn, Accept, Date, Branch, Jump, Join, Perform, Back, File, TestStatus, Unheard, Data}
 use Rattle.code_image.specs.Demands.{NamesParagraph, IsBack, back_count, ends_in, paragraph_at, IsFront, StartsAt, performs, performed_from}
-use Rattle.codegen.specs.Pieces.{empty_code, append, in_order}
+use Rattle.code_builder.specs.Pieces.{empty_code, append, in_order}
 use Rattle.codegen.specs.Layout.{sentence_fragment, start_fragment, back_fragment, paragraph_fragment}
-use Rattle.codegen.proofs.Codes.{left_none, right_none}
-use Rattle.codegen.proofs.ConditionValues.{AreFormed}
-use Rattle.codegen.proofs.Inspections.{AreSized}
+use Rattle.code_builder.proofs.Codes.{left_none, right_none}
+use Rattle.code_builder.proofs.ConditionValues.{AreFormed}
+use Rattle.data_code.proofs.Inspections.{AreSized}
 use Rattle.codegen.proofs.Demands.{Asked, asks_of, paragraph_meets}
-use Rattle.codegen.proofs.HasFiles.{IsNumbered, IsSuited}
-use Rattle.codegen.proofs.Leading.{ends_append, taken_behind, paragraph_stays, paragraph_within, LeadsFrom, found_stays, both_ways, Names, both_name, plain_names, all_weaker, Asks, PerformsOnly, Meets}
+use Rattle.file_code.proofs.HasFiles.{IsNumbered, IsSuited}
+use Rattle.code_builder.proofs.Leading.{ends_append, taken_behind, paragraph_stays, paragraph_within, LeadsFrom, found_stays, both_ways, Names, both_name, plain_names, all_weaker, Asks, PerformsOnly, Meets}
 use Rattle.codegen.proofs.Ranges.{EndsWithin}
-use Rattle.codegen.proofs.Standing.{at_seam}
-use Rattle.codegen.proofs.Straight.{all_both}
+use Rattle.code_builder.proofs.Standing.{at_seam}
+use Rattle.code_builder.proofs.Straight.{all_both}
 
 -- ---- what instructions perform
 

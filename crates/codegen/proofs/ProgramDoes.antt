@@ -24,16 +24,16 @@ use Rattle.code_image.specs.declared.code.Code.{Code}
 use Rattle.code_image.specs.declared.instruction.Instruction.TheVariants.{Stop, Perform, Back}
 use Rattle.code_image.specs.Points.{Return, Own}
 use Rattle.code_image.specs.Table.{over, tick_from, perform_at, back_if, back_from, exec_code}
-use Rattle.codegen.specs.Pieces.{append, in_order}
+use Rattle.code_builder.specs.Pieces.{append, in_order}
 use Rattle.codegen.specs.Layout.{range_fragment, statement_fragment, sentence_fragment, start_fragment, back_fragment}
-use Rattle.codegen.proofs.Pieces.{joined_assoc}
+use Rattle.code_builder.proofs.Pieces.{joined_assoc}
 use Rattle.codegen.proofs.Layers.{statement_is}
 use Rattle.codegen.proofs.BlindStatements.{statement_blind}
-use Rattle.codegen.proofs.Standing.{front, back, first_stands}
-use Rattle.codegen.proofs.Running.{at, one_step}
-use Rattle.codegen.proofs.Doing.{end_of, Keeps, keeps_all, Comes, Does, PartDoes, Sits, IsRoom, still_room, steps_to, wider, moved_from, Follows, in_order_does}
+use Rattle.code_builder.proofs.Standing.{front, back, first_stands}
+use Rattle.code_builder.proofs.Running.{at, one_step}
+use Rattle.code_builder.proofs.Doing.{end_of, Keeps, keeps_all, Comes, Does, PartDoes, Sits, IsRoom, still_room, steps_to, wider, moved_from, Follows, in_order_does}
 use Rattle.codegen.proofs.Simulation.{Performs, verb_does}
-use Rattle.codegen.proofs.HasFiles.{HasFiles}
+use Rattle.file_code.proofs.HasFiles.{HasFiles}
 use Rattle.codegen.proofs.Procedures.{Laid, below, is_below}
 
 -- ---- what is left of a list

@@ -8,8 +8,8 @@ use Rattle.source_tree.specs.declared.program.Section.{Section}
 use Rattle.source_tree.specs.Broken.{where_so}
 use Rattle.source_tree.specs.PerformRules.{procedure_named, last_named, last_place, found_rules, range_rules}
 use Rattle.source_tree.specs.Procedures.{Range, Procedure, paragraphs_or_one, paragraphs_in, paragraph_procedures, procedures_from, is_procedure, procedures_named, only_range, range_named, to_end_of, range_through, range_of}
-use Rattle.codegen.proofs.Codes.{left_none, right_none}
-use Rattle.codegen.proofs.Integers.{kept}
+use Rattle.code_builder.proofs.Codes.{left_none, right_none}
+use Rattle.code_builder.proofs.Integers.{kept}
 
 -- paragraphs of so many, in order
 pub record IsWithin (count : ℕ) (range : Range) : Type 0 where

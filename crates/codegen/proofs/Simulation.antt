@@ -75,44 +75,46 @@ use Rattle.code_image.specs.declared.instruction.Instruction.TheVariants.{Show, 
 use Rattle.code_image.specs.Points.{Own, scratch_of, state_with, own_with}
 use Rattle.code_image.specs.Table.{data_from, exec_code}
 use Rattle.initial_storage.proofs.Pictures.{some_bytes}
-use Rattle.codegen.specs.Pieces.{Fragment, empty_code, append, sequence, in_order, plain_code}
-use Rattle.codegen.specs.DataCode.{reference_fragment, take_fragment, move_fragment, operands_fragment, line_end_fragment, show_fragment}
-use Rattle.codegen.specs.ArithmeticCode.{arithmetic_fragment}
-use Rattle.codegen.specs.PatternCode.{initializes_fragment, sets_fragment}
-use Rattle.codegen.specs.InspectCode.{inspect_fragment}
-use Rattle.codegen.specs.StringCode.{string_fragment}
-use Rattle.codegen.specs.Meeting.{either_fragment}
-use Rattle.codegen.specs.ConditionCode.{condition_fragment}
-use Rattle.codegen.specs.UntilCode.{tick_fragment, until_from_fragment, vary_begin_fragment, vary_on_fragment, until_fragment}
-use Rattle.codegen.specs.SubjectCode.{first_object, is_asked_first, subjects_fragment}
-use Rattle.codegen.specs.Layout.{data_fragment, texts_fragment, times_fragment, counted_fragment, turns_fragment, range_fragment, turn_fragment, phrase_fragment, phrases_from, phrases_fragment, selection_fragment, evaluate_fragment, conditional_fragment, file_statement_fragment, verb_fragment}
-use Rattle.codegen.proofs.Pieces.{joined_assoc}
-use Rattle.codegen.proofs.Blind.{Blind, in_order_blind}
-use Rattle.codegen.proofs.ConditionBlind.{condition_blind}
+use Rattle.code_builder.specs.Pieces.{Fragment, empty_code, append, sequence, in_order, plain_code, tick_fragment}
+use Rattle.code_builder.specs.DataCode.{reference_fragment, take_fragment, move_fragment, operands_fragment, line_end_fragment, show_fragment}
+use Rattle.arithmetic_code.specs.ArithmeticCode.{arithmetic_fragment}
+use Rattle.data_code.specs.PatternCode.{initializes_fragment, sets_fragment}
+use Rattle.data_code.specs.InspectCode.{inspect_fragment}
+use Rattle.data_code.specs.StringCode.{string_fragment}
+use Rattle.code_builder.specs.Meeting.{either_fragment}
+use Rattle.condition_code.specs.ConditionCode.{condition_fragment}
+use Rattle.codegen.specs.UntilCode.{until_from_fragment, vary_begin_fragment, vary_on_fragment, until_fragment}
+use Rattle.condition_code.specs.SubjectCode.{first_object, is_asked_first, subjects_fragment}
+use Rattle.data_code.specs.StatementCode.{data_fragment, texts_fragment}
+use Rattle.codegen.specs.Layout.{times_fragment, counted_fragment, turns_fragment, range_fragment, turn_fragment, phrase_fragment, phrases_from, phrases_fragment, selection_fragment, evaluate_fragment, conditional_fragment, file_statement_fragment, verb_fragment}
+use Rattle.code_builder.proofs.Pieces.{joined_assoc}
+use Rattle.code_builder.proofs.Blind.{Blind, in_order_blind}
+use Rattle.condition_code.proofs.ConditionBlind.{condition_blind}
 use Rattle.codegen.proofs.UntilBlind.{vary_on_blind}
-use Rattle.codegen.proofs.EvaluateKept.{statements_of, selected_kept, first_group, other_groups, subjects_of, groups_of, other_of}
+use Rattle.condition_code.proofs.EvaluateKept.{statements_of, selected_kept, first_group, other_groups, subjects_of, groups_of, other_of}
 use Rattle.codegen.proofs.BlindStatements.{turn_blind, phrase_blind, selecting_blind}
-use Rattle.codegen.proofs.Standing.{Stands, front, back, first_stands, code_stands}
-use Rattle.codegen.proofs.Running.{at, one_step, WorksFrom, works_from}
-use Rattle.codegen.proofs.Codes.{left_none, right_none, Coded, display_coded, accept_coded, date_coded}
-use Rattle.codegen.proofs.ArithmeticCodes.{arithmetic_coded}
-use Rattle.codegen.proofs.PatternCodes.{initializes_codes, sets_codes}
-use Rattle.codegen.proofs.InspectCodes.{inspect_codes}
-use Rattle.codegen.proofs.StringCodes.{string_codes}
-use Rattle.codegen.proofs.Doing.{end_of, Does, PartDoes, Sits, front_sits, back_sits, IsRoom, still_room, moved, stays, behind, parts_do, tick_part, ticks_alone, ending_does, nothing_does, Follows, in_order_does, Repeats, fewer_does}
+use Rattle.code_builder.proofs.Standing.{Stands, front, back, first_stands, code_stands}
+use Rattle.code_builder.proofs.Running.{at, one_step, WorksFrom, works_from}
+use Rattle.code_builder.proofs.Codes.{left_none, right_none, Coded, display_coded, accept_coded, date_coded}
+use Rattle.arithmetic_code.proofs.ArithmeticCodes.{arithmetic_coded}
+use Rattle.data_code.proofs.PatternCodes.{initializes_codes, sets_codes}
+use Rattle.data_code.proofs.InspectCodes.{inspect_codes}
+use Rattle.data_code.proofs.StringCodes.{string_codes}
+use Rattle.code_builder.proofs.Doing.{end_of, Does, PartDoes, Sits, front_sits, back_sits, IsRoom, still_room, moved, stays, behind, parts_do, tick_part, ticks_alone, nothing_does, Follows, in_order_does, Repeats, fewer_does}
+use Rattle.codegen.proofs.Endings.{ending_does}
 use Rattle.codegen.proofs.FilingDoes.{filing_does}
-use Rattle.codegen.proofs.HasFiles.{HasFiles}
-use Rattle.codegen.proofs.MoveDoing.{move_does}
+use Rattle.file_code.proofs.HasFiles.{HasFiles}
+use Rattle.code_builder.proofs.MoveDoing.{move_does}
 use Rattle.codegen.proofs.Turning.{times_does}
 use Rattle.codegen.proofs.Counting.{said_does}
-use Rattle.codegen.proofs.TextDoing.{changed_does, strung_does}
-use Rattle.codegen.proofs.ConditionDoes.{condition_does}
-use Rattle.codegen.proofs.Evaluating.{evaluated_does}
-use Rattle.codegen.proofs.SubjectLooks.{looks_value, looks_are}
-use Rattle.codegen.proofs.SubjectsDo.{taking, taking_then, subjects_do}
+use Rattle.data_code.proofs.TextDoing.{changed_does, strung_does}
+use Rattle.condition_code.proofs.ConditionDoes.{condition_does}
+use Rattle.code_builder.proofs.Evaluating.{evaluated_does}
+use Rattle.condition_code.proofs.SubjectLooks.{looks_value, looks_are}
+use Rattle.condition_code.proofs.SubjectsDo.{taking, taking_then, subjects_do}
 use Rattle.codegen.proofs.UntilTurns.{Tests, until_from_does}
-use Rattle.codegen.proofs.Branching.{either_does}
-use Rattle.codegen.proofs.DataDoing.{behind_code, shown_does, calculated_does, taken_does, accepted_faultless}
+use Rattle.code_builder.proofs.Branching.{either_does}
+use Rattle.code_builder.proofs.DataDoing.{behind_code, shown_does, calculated_does, taken_does, accepted_faultless}
 
 -- a rule that isn't broken
 not_broken : (test : Bool) (rule : ℕ) (place : Place) → where_so test rule place ≡ [] → test ≡ false

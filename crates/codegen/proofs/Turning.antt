@@ -8,11 +8,11 @@ use Rattle.source_tree.specs.Performing.{turns}
 use Rattle.code_image.specs.declared.code.Code.{Code}
 use Rattle.code_image.specs.declared.instruction.Instruction.TheVariants.{Count, Turn}
 use Rattle.code_image.specs.Points.{Own}
-use Rattle.codegen.specs.Pieces.{Fragment, append}
+use Rattle.code_builder.specs.Pieces.{Fragment, append}
 use Rattle.codegen.specs.Layout.{loop_begin, turn_end, counted_turn, times_fragment}
-use Rattle.codegen.proofs.Pieces.{joined_assoc}
-use Rattle.codegen.proofs.Standing.{back, first_stands}
-use Rattle.codegen.proofs.Doing.{end_of, setting, keeps_all, keeps_set, Does, PartDoes, Sits, front_sits, back_sits, IsRoom, still_room, after, spend_then, then_does, moved_from, stays, count_comes, turn_goes_on, turn_goes_back, nothing_does, Repeats}
+use Rattle.code_builder.proofs.Pieces.{joined_assoc}
+use Rattle.code_builder.proofs.Standing.{back, first_stands}
+use Rattle.code_builder.proofs.Doing.{end_of, setting, keeps_all, keeps_set, Does, PartDoes, Sits, front_sits, back_sits, IsRoom, still_room, after, spend_then, then_does, moved_from, stays, count_comes, turn_goes_on, turn_goes_back, nothing_does, Repeats}
 
 module _ (whole : Code) (kept : ℕ → Type 0) where
   -- A loop that begins at an address, and whose turns begin at a later one: each does what uses one of the budget and its body, and keeps

@@ -10,15 +10,16 @@ use Rattle.source_tree.specs.Until.{vary_operation}
 use Rattle.data_instructions.specs.declared.instruction.DataInstruction.TheVariants as i
 use Rattle.code_image.specs.declared.code.Code.{Code}
 use Rattle.code_image.specs.declared.instruction.Instruction.TheVariants.{Tick}
-use Rattle.codegen.specs.Pieces.{Fragment, append, sequence, plain_code}
-use Rattle.codegen.specs.Meeting.{branch_code, either_fragment, nothing_fragment}
-use Rattle.codegen.specs.DataCode.{work_fragment}
-use Rattle.codegen.specs.ConditionCode.{condition_fragment}
-use Rattle.codegen.specs.UntilCode.{tick_fragment, repetition_fragment, until_before_fragment, until_after_fragment, until_from_fragment, vary_begin_fragment, vary_on_fragment, until_fragment}
-use Rattle.codegen.proofs.Blind.{Blind, constant_blind, both_blind, work_blind, moving_blind}
-use Rattle.codegen.proofs.BlindArithmetic.{arithmetic_blind}
-use Rattle.codegen.proofs.Either.{either_blind}
-use Rattle.codegen.proofs.ConditionBlind.{nothing_blind, condition_blind}
+use Rattle.code_builder.specs.Pieces.{Fragment, append, sequence, plain_code, tick_fragment}
+use Rattle.code_builder.specs.Meeting.{branch_code, either_fragment, nothing_fragment}
+use Rattle.code_builder.specs.DataCode.{work_fragment}
+use Rattle.condition_code.specs.ConditionCode.{condition_fragment}
+use Rattle.codegen.specs.UntilCode.{repetition_fragment, until_before_fragment, until_after_fragment, until_from_fragment, vary_begin_fragment, vary_on_fragment, until_fragment}
+use Rattle.code_builder.proofs.Blind.{Blind, constant_blind, both_blind, work_blind}
+use Rattle.data_code.proofs.DataBlind.{moving_blind}
+use Rattle.arithmetic_code.proofs.BlindArithmetic.{arithmetic_blind}
+use Rattle.code_builder.proofs.Either.{either_blind}
+use Rattle.condition_code.proofs.ConditionBlind.{nothing_blind, condition_blind}
 
 pub tick_blind : (line : ℕ) → Blind (tick_fragment line)
 tick_blind line = constant_blind (plain_code (Tick line ∷ []))

@@ -11,21 +11,21 @@ use Rattle.data_instructions.specs.declared.instruction.DataInstruction.TheVaria
 use Rattle.code_image.specs.declared.code.Code.{Code}
 use Rattle.code_image.specs.declared.instruction.Instruction.TheVariants.{Branch, Data}
 use Rattle.code_image.specs.Points.{Own}
-use Rattle.codegen.specs.Pieces.{Fragment, empty_code, append, sequence}
-use Rattle.codegen.specs.Meeting.{branch_code, either_fragment, nothing_fragment}
-use Rattle.codegen.specs.DataCode.{work_fragment}
+use Rattle.code_builder.specs.Pieces.{Fragment, empty_code, append, sequence}
+use Rattle.code_builder.specs.Meeting.{branch_code, either_fragment, nothing_fragment}
+use Rattle.code_builder.specs.DataCode.{work_fragment}
 use Rattle.codegen.specs.UntilCode.{repetition_fragment, until_before_fragment, until_after_fragment, until_from_fragment}
-use Rattle.codegen.proofs.Pieces.{joined_assoc, joined_nothing}
-use Rattle.codegen.proofs.Standing.{Stands, front, back, first_stands}
-use Rattle.codegen.proofs.Blind.{Blind}
+use Rattle.code_builder.proofs.Pieces.{joined_assoc, joined_nothing}
+use Rattle.code_builder.proofs.Standing.{Stands, front, back, first_stands}
+use Rattle.code_builder.proofs.Blind.{Blind}
 use Rattle.codegen.proofs.UntilBlind.{turn_before_blind, onward_blind}
-use Rattle.codegen.proofs.Running.{one_step}
-use Rattle.codegen.proofs.Doing.{end_of, keeps_all, Comes, Does, PartDoes, Sits, within_sits, front_sits, back_sits, IsRoom, still_room, after, spend_does, then_does, moved_from, stays, steps_to, branch_goes_on, branch_goes_to, behind, nothing_does, Repeats}
-use Rattle.codegen.proofs.ConditionBlind.{nothing_blind}
-use Rattle.codegen.proofs.ConditionDoes.{PartEvaluates}
-use Rattle.codegen.proofs.Evaluating.{evaluated_does}
-use Rattle.codegen.proofs.Ways.{Ways, ways}
-use Rattle.codegen.proofs.Branching.{either_does}
+use Rattle.code_builder.proofs.Running.{one_step}
+use Rattle.code_builder.proofs.Doing.{end_of, keeps_all, Comes, Does, PartDoes, Sits, within_sits, front_sits, back_sits, IsRoom, still_room, after, spend_does, then_does, moved_from, stays, steps_to, branch_goes_on, branch_goes_to, behind, nothing_does, Repeats}
+use Rattle.condition_code.proofs.ConditionBlind.{nothing_blind}
+use Rattle.condition_code.proofs.ConditionDoes.{PartEvaluates}
+use Rattle.code_builder.proofs.Evaluating.{evaluated_does}
+use Rattle.code_builder.proofs.Ways.{Ways, ways}
+use Rattle.code_builder.proofs.Branching.{either_does}
 
 module _ (whole : Code) (kept : ℕ → Type 0) where
   -- a test, wherever its code stands

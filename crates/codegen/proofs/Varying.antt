@@ -13,12 +13,13 @@ use Rattle.source_tree.specs.Places.{LocatedItem}
 use Rattle.data_instructions.specs.declared.instruction.DataInstruction.TheVariants as i
 use Rattle.data_instructions.specs.ArithmeticCodes.{discard}
 use Rattle.code_image.specs.declared.code.Code.{Code}
-use Rattle.codegen.specs.Pieces.{Fragment, append, sequence}
-use Rattle.codegen.specs.DataCode.{work_fragment, works_fragment}
-use Rattle.codegen.specs.ArithmeticCode.{value_fragment, total_fragment, update_fragment, updates_fragment}
+use Rattle.code_builder.specs.Pieces.{Fragment, append, sequence}
+use Rattle.code_builder.specs.DataCode.{work_fragment, works_fragment}
+use Rattle.code_builder.specs.ExpressionCode.{value_fragment, total_fragment}
+use Rattle.arithmetic_code.specs.ArithmeticCode.{update_fragment, updates_fragment}
 use Rattle.codegen.specs.UntilCode.{vary_on_fragment}
-use Rattle.codegen.proofs.Kept.{front_kept, back_kept, item_kept}
-use Rattle.codegen.proofs.Pieces.{joined_nothing}
+use Rattle.code_builder.proofs.Kept.{front_kept, back_kept, item_kept}
+use Rattle.code_builder.proofs.Pieces.{joined_nothing}
 
 both_same : (first second third fourth : Fragment) → ((b : Code) → first b ≡ third b) → ((b : Code) → second b ≡ fourth b) → (b : Code) → sequence first second b ≡ sequence third fourth b
 both_same first second third fourth p q b = ap (λ (c : Code). append c (second (append b c))) (p b) ∙ ap (append (third b)) (q (append b (third b)))

@@ -58,25 +58,25 @@ use Rattle.code_image.specs.declared.instruction.Instruction.{Instruction}
 use Rattle.code_image.specs.declared.instruction.Instruction.TheVariants.{Tick, Show, Stop, Count, CountNumber, Turn, Accept, Date, Branch, Jump, Join, Perform, Back, File, TestStatus, Unheard, Data}
 use Rattle.code_image.specs.Known.{known_after, known_along}
 use Rattle.code_image.specs.Demands.{NamesData, NamesCounter, NamesParagraph, IsAddress, NamesFile, SuitsFile, StartsAt, AllStart, performed_from, performed_by_code as performed_instructions, HasOrder as HasOrderCode, IsVerified}
-use Rattle.codegen.specs.Pieces.{in_order}
-use Rattle.codegen.specs.FileCode.{sent_entry, code_file, code_files}
-use Rattle.codegen.specs.Layout.{paragraph_fragment, section_fragment, end_fragment, storage_items, storage_code, code_of}
-use Rattle.codegen.proofs.Standing.{Stands, at_seam}
-use Rattle.codegen.proofs.Flowing.{along_append}
-use Rattle.codegen.proofs.CodeFiles.{every, each_at, kept_at, files_count, codes_count, file_there, all_numbered, places_are, names_places, is_code_file, entries_are}
-use Rattle.codegen.proofs.ConditionValues.{AreFormed, descriptions_kept, each_description, conditions_formed}
-use Rattle.codegen.proofs.FileTable.{file_of, file_at, NamesOne, clauses_named}
-use Rattle.codegen.proofs.HasFiles.{IsFiled, HasFiles, IsNumbered}
-use Rattle.codegen.proofs.SentItems.{IsInOrder, sent_is_item}
-use Rattle.codegen.proofs.Inspections.{AreSized}
-use Rattle.codegen.proofs.Codes.{left_none, right_none}
-use Rattle.codegen.proofs.NewBytes.{all_at}
-use Rattle.codegen.proofs.Pieces.{flat}
-use Rattle.codegen.proofs.Straight.{all_both, IsSent}
-use Rattle.codegen.proofs.Leading.{all_weaker, more_counters, all_lead, both_lead, all_stay, Names}
+use Rattle.code_builder.specs.Pieces.{in_order}
+use Rattle.file_code.specs.FileCode.{sent_entry, code_file, code_files}
+use Rattle.codegen.specs.Layout.{paragraph_fragment, section_fragment, end_fragment, storage_code, code_of}
+use Rattle.file_code.specs.StorageCode.{storage_items}
+use Rattle.code_builder.proofs.Standing.{Stands, at_seam}
+use Rattle.code_builder.proofs.Flowing.{along_append, Flows}
+use Rattle.file_code.proofs.CodeFiles.{every, each_at, kept_at, files_count, codes_count, file_there, all_numbered, places_are, names_places, is_code_file, entries_are}
+use Rattle.code_builder.proofs.ConditionValues.{AreFormed, descriptions_kept, each_description, conditions_formed}
+use Rattle.file_code.proofs.FileTable.{file_of, file_at, NamesOne, clauses_named}
+use Rattle.file_code.proofs.HasFiles.{IsFiled, HasFiles, IsNumbered}
+use Rattle.file_code.proofs.SentItems.{IsInOrder, sent_is_item}
+use Rattle.data_code.proofs.Inspections.{AreSized}
+use Rattle.code_builder.proofs.Codes.{left_none, right_none}
+use Rattle.code_builder.proofs.Parts.{all_at}
+use Rattle.codegen.proofs.Sections.{flat}
+use Rattle.code_builder.proofs.Straight.{all_both, IsSent}
+use Rattle.code_builder.proofs.Leading.{all_weaker, more_counters, all_lead, both_lead, all_stay, Names}
 use Rattle.codegen.proofs.Ranges.{EndsWithin, procedures_end}
 use Rattle.codegen.proofs.Paragraphs.{IsSuitedAt, performed_append, starts_stay, start_at, starts_within, AreParagraphs, paragraphs_lie}
-use Rattle.codegen.proofs.Flowing.{Flows}
 use Rattle.codegen.proofs.Flows.{paragraphs_flows}
 
 map_at : {A B : Type 0} (f : A → B) (xs : List A) (k : ℕ) (x : A) → slice_get xs k ≡ Some x → slice_get (map f xs) k ≡ Some (f x)

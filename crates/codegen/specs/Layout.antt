@@ -1,9 +1,7 @@
 -- The layout of a program's code (own choice).
-use Rattle.std.specs.Prelude.{ℕ, zero, suc, List, [], ◌∷◌, ◌++◌, length, map, Option, Some, None}
+use Rattle.std.specs.Prelude.{ℕ, zero, suc, List, [], ◌∷◌, length, Option, Some, None}
 use Rattle.source_tree.specs.declared.data_statement.DataStatement.{DataStatement}
-use Rattle.source_tree.specs.declared.data_statement.DataStatement.TheVariants.{Move, Initialize, Set}
 use Rattle.source_tree.specs.declared.text_statement.TextStatement.{TextStatement}
-use Rattle.source_tree.specs.declared.text_statement.TextStatement.TheVariants.{Display, Accept, AcceptDate, Inspect}
 use Rattle.records.specs.declared.verb.Verb as on_files
 use Rattle.records.specs.declared.verb.Verb.TheVariants as file_verb
 use Rattle.source_tree.specs.declared.name.Name.{Name}
@@ -37,7 +35,6 @@ use Rattle.source_tree.specs.declared.program.Sentence.{Sentence}
 use Rattle.source_tree.specs.declared.program.Paragraph.{Paragraph}
 use Rattle.source_tree.specs.declared.program.Section.{Section}
 use Rattle.source_tree.specs.declared.program.Program.{Program}
-use Rattle.source_tree.specs.declared.select.Select.{Select}
 use Rattle.source_tree.specs.Evaluate.{selected_asked}
 use Rattle.source_tree.specs.Performing.{turns_of}
 use Rattle.source_tree.specs.Places.{LocatedItem}
@@ -48,25 +45,23 @@ use Rattle.source_tree.specs.ProgramFiles.{ProgramFile}
 use Rattle.source_tree.specs.References.{ItemPlace}
 use Rattle.source_tree.specs.Filing.{read_verb, start_verb}
 use Rattle.data_instructions.specs.declared.tables.DataTables.{DataTables}
-use Rattle.data_instructions.specs.declared.tables.DataItem.{DataItem}
-use Rattle.data_instructions.specs.Codes.{data_item}
 use Rattle.file_image.specs.declared.class.StatusClass.{StatusClass}
 use Rattle.file_image.specs.declared.class.StatusClass.TheVariants.{Successful, AtEnd, InvalidKey}
 use Rattle.code_image.specs.declared.code.Code.{Code}
 use Rattle.code_image.specs.declared.instruction.Instruction.TheVariants.{Tick, Stop, Count, CountNumber, Turn, Perform, Back}
 use Rattle.data_instructions.specs.declared.instruction.DataInstruction.TheVariants as i
-use Rattle.codegen.specs.Pieces.{Fragment, no_tables, empty_code, append, sequence, in_order, plain_code}
-use Rattle.codegen.specs.Meeting.{either_fragment, nothing_fragment}
+use Rattle.code_builder.specs.Pieces.{Fragment, no_tables, empty_code, append, sequence, in_order, plain_code, tick_fragment}
+use Rattle.code_builder.specs.Meeting.{either_fragment, nothing_fragment}
 use Rattle.source_tree.specs.Arithmetic.{is_there}
-use Rattle.codegen.specs.DataCode.{take_fragment, move_fragment, display_fragment, accept_fragment, date_fragment}
-use Rattle.codegen.specs.ArithmeticCode.{arithmetic_fragment}
-use Rattle.codegen.specs.ConditionCode.{condition_fragment}
-use Rattle.codegen.specs.PatternCode.{initializes_fragment, sets_fragment}
-use Rattle.codegen.specs.StringCode.{string_fragment}
-use Rattle.codegen.specs.InspectCode.{inspect_fragment}
-use Rattle.codegen.specs.SubjectCode.{first_object, subjects_fragment}
-use Rattle.codegen.specs.UntilCode.{tick_fragment, until_fragment}
-use Rattle.codegen.specs.FileCode.{code_files, sent_entry, file_fragment, test_fragment, unheard_fragment, into_fragment, from_fragment, on_name_fragment, on_record_fragment}
+use Rattle.code_builder.specs.DataCode.{take_fragment}
+use Rattle.arithmetic_code.specs.ArithmeticCode.{arithmetic_fragment}
+use Rattle.condition_code.specs.ConditionCode.{condition_fragment}
+use Rattle.data_code.specs.StringCode.{string_fragment}
+use Rattle.condition_code.specs.SubjectCode.{first_object, subjects_fragment}
+use Rattle.codegen.specs.UntilCode.{until_fragment}
+use Rattle.file_code.specs.FileCode.{file_fragment, test_fragment, unheard_fragment, into_fragment, from_fragment, on_name_fragment, on_record_fragment}
+use Rattle.data_code.specs.StatementCode.{data_fragment, texts_fragment}
+use Rattle.file_code.specs.StorageCode.{storage_with, tables_with}
 
 abbrev pub stop_run_fragment : ℕ → Fragment
 stop_run_fragment line before = plain_code (Tick line ∷ Stop ∷ [])
@@ -113,17 +108,6 @@ turns_fragment items line (Until one) turn = sequence (tick_fragment line) (unti
 abbrev pub range_fragment : ℕ → Option Range → Fragment
 range_fragment line None before = plain_code (Tick line ∷ [])
 range_fragment line (Some range) before = plain_code (Perform line (record { number = range.first }) (record { number = range.last }) ∷ [])
-
-abbrev pub data_fragment : List LocatedItem → DataStatement → Fragment
-data_fragment items (Move sender receivers) = move_fragment items sender receivers
-data_fragment items (Initialize receivers) = initializes_fragment items receivers
-data_fragment items (Set conditions) = sets_fragment items conditions
-
-abbrev pub texts_fragment : List LocatedItem → TextStatement → Fragment
-texts_fragment items (Display operands advancing) = display_fragment items operands advancing
-texts_fragment items (Accept receiver) = accept_fragment items receiver
-texts_fragment items (AcceptDate receiver) = date_fragment items receiver
-texts_fragment items (Inspect one) = inspect_fragment items one
 
 -- Statements that hold statements; `inside` is the code of those.
 module _ (scope : Scope) {S : Type 0} (inside : S → Fragment) where
@@ -273,17 +257,6 @@ module _ (scope : Scope) where
 -- the end of the last paragraph
 abbrev pub end_fragment : Code
 end_fragment = plain_code (Stop ∷ [])
-
--- the bytes of all areas at the start, and the items; behind these what READ INTO sends of each file
-abbrev pub storage_items : List LocatedItem → List ProgramFile → List DataItem
-storage_items items files = map data_item items ++ map (sent_entry items) files
-
--- the tables before the first statement, by these
-abbrev pub tables_with : List (List ℕ) → List LocatedItem → List ProgramFile → DataTables
-tables_with areas items files = record no_tables { areas = areas; items = storage_items items files }
-
-abbrev pub storage_with : List (List ℕ) → List LocatedItem → List Select → List ProgramFile → Code
-storage_with areas items selects files = record empty_code { tables = tables_with areas items files; files = code_files items selects files }
 
 abbrev pub storage_tables : Program → DataTables
 storage_tables program = tables_with (program_areas program) (scope program).items (scope program).files

@@ -1,5 +1,5 @@
 -- The code of turns up to where a condition is true (own choice).
-use Rattle.std.specs.Prelude.{ℕ, false, List, [], ◌∷◌, length, Option, Some, None}
+use Rattle.std.specs.Prelude.{false, List, [], ◌∷◌, length, Option, Some, None}
 use Rattle.source_tree.specs.declared.until.TestTime.{TestTime}
 use Rattle.source_tree.specs.declared.until.TestTime.TheVariants.{Before, After}
 use Rattle.source_tree.specs.declared.until.Varying.{Varying}
@@ -7,16 +7,11 @@ use Rattle.source_tree.specs.declared.until.Until.{Until}
 use Rattle.source_tree.specs.Places.{LocatedItem}
 use Rattle.source_tree.specs.Until.{vary_operation}
 use Rattle.data_instructions.specs.declared.instruction.DataInstruction.TheVariants as i
-use Rattle.code_image.specs.declared.instruction.Instruction.TheVariants.{Tick}
-use Rattle.codegen.specs.Pieces.{Fragment, sequence, plain_code}
-use Rattle.codegen.specs.Meeting.{branch_code, either_fragment, nothing_fragment}
-use Rattle.codegen.specs.DataCode.{work_fragment, move_fragment}
-use Rattle.codegen.specs.ArithmeticCode.{arithmetic_fragment}
-use Rattle.codegen.specs.ConditionCode.{condition_fragment}
-
--- one of the budget, and nothing else
-abbrev pub tick_fragment : ℕ → Fragment
-tick_fragment line before = plain_code (Tick line ∷ [])
+use Rattle.code_builder.specs.Pieces.{Fragment, sequence}
+use Rattle.code_builder.specs.Meeting.{branch_code, either_fragment, nothing_fragment}
+use Rattle.code_builder.specs.DataCode.{work_fragment, move_fragment}
+use Rattle.arithmetic_code.specs.ArithmeticCode.{arithmetic_fragment}
+use Rattle.condition_code.specs.ConditionCode.{condition_fragment}
 
 -- A turn, which begins with what uses one of the budget, and what comes behind it; where the truth is false then, the next turn begins.
 abbrev pub repetition_fragment : Fragment → Fragment → Fragment

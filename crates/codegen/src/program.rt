@@ -10,11 +10,11 @@ ghost use Rattle.code_image.specs.Demands.{IsVerified};
 ghost use Rattle.code_image.specs.Table.{Runs};
 ghost use Rattle.codegen.specs.Layout.{code_of};
 
-use crate::emit::emit_end;
-use crate::emitter::Emitter;
-use crate::storage::storage_code;
+use crate::emit::{emit_end, emit_sections};
+use code_builder::Emitter;
 use code_image::Code;
 use declarations::Checked;
+use file_code::storage_code;
 use std::alloc::{AllocError, Global};
 
 /// The code of a program that keeps the rules. It is refused for want of memory alone.
@@ -38,7 +38,7 @@ pub fn generate(alloc: Global, checked: &Checked<'_>) -> Result<Code, AllocError
         alloc,
         declarations,
     };
-    emitter.emit_sections(&mut code, program.sections.as_slice())?;
+    emit_sections(&emitter, &mut code, program.sections.as_slice())?;
     emit_end(&mut code)?;
     Ok(code)
 }

@@ -1,0 +1,102 @@
+-- The code of arithmetic doesn't depend on the instructions before it, but on how many there are.
+use Rattle.std.proofs.Common.{Bool, false, List, [], ◌∷◌}
+use Rattle.source_tree.specs.declared.reference.Reference.{Reference}
+use Rattle.source_tree.specs.declared.expression.Operand.{Operand}
+use Rattle.source_tree.specs.declared.expression.Operator.{Operator}
+use Rattle.source_tree.specs.declared.expression.Operator.TheVariants as operator
+use Rattle.source_tree.specs.declared.arithmetic.Receiver.{Receiver}
+use Rattle.source_tree.specs.declared.arithmetic.DivisionOrder.{DivisionOrder}
+use Rattle.source_tree.specs.declared.arithmetic.DivisionOrder.TheVariants.{Into, By}
+use Rattle.source_tree.specs.declared.arithmetic.Operation.{Operation}
+use Rattle.source_tree.specs.declared.arithmetic.Operation.TheVariants.{Add, AddGiving, Subtract, SubtractGiving, Multiply, MultiplyGiving, Divide, DivideGiving, DivideRemainder, Compute}
+use Rattle.source_tree.specs.Places.{LocatedItem}
+use Rattle.data_instructions.specs.declared.calculation.Calculation.TheVariants as c
+use Rattle.data_instructions.specs.declared.instruction.DataInstruction.{DataInstruction}
+use Rattle.data_instructions.specs.declared.instruction.DataInstruction.TheVariants as i
+use Rattle.data_instructions.specs.ArithmeticCodes.{operator_code, duplicate, discard}
+use Rattle.code_builder.specs.Pieces.{Fragment, sequence}
+use Rattle.code_builder.specs.DataCode.{work_fragment, works_fragment, take_fragment}
+use Rattle.arithmetic_code.specs.ArithmeticCode.{division_fragment, void_code, quotient_scale, store_fragment, update_fragment, updates_fragment, give_fragment, gives_fragment, remainder_fragment, discard_fragment, operation_fragment, arithmetic_fragment}
+use Rattle.code_builder.specs.ExpressionCode.{value_fragment, total_fragment, expression_fragment}
+use Rattle.code_builder.proofs.Blind.{Blind, both_blind, in_order_blind, work_blind, works_blind, taking_blind}
+use Rattle.code_builder.proofs.ExpressionBlind.{expression_blind, total_blind, value_blind}
+
+division_blind : (order : DivisionOrder) (inner : Fragment) → Blind inner → Blind (division_fragment order inner)
+division_blind By inner f = f
+division_blind Into inner f =
+    both_blind (works_fragment (duplicate 1 ∷ [])) (sequence inner (works_fragment (discard ∷ []))) (works_blind (duplicate 1 ∷ []))
+    (both_blind inner (works_fragment (discard ∷ [])) f (works_blind (discard ∷ [])))
+
+module _ (items : List LocatedItem) where
+  -- ---- operations
+
+  module _ (keep : Bool) where
+    store_blind : (one : Receiver) → Blind (store_fragment items keep one)
+    store_blind one = taking_blind items (i.Store one.rounded keep) one.item
+
+    update_blind : (by : Operator) (one : Receiver) → Blind (update_fragment items keep by one)
+    update_blind by one =
+        both_blind (take_fragment items i.Push one.item) (sequence (works_fragment (duplicate 1 ∷ operator_code by ∷ [])) (store_fragment items keep one)) (taking_blind items i.Push one.item)
+        (both_blind (works_fragment (duplicate 1 ∷ operator_code by ∷ [])) (store_fragment items keep one) (works_blind (duplicate 1 ∷ operator_code by ∷ [])) (store_blind one))
+
+    give_blind : (one : Receiver) → Blind (give_fragment items keep one)
+    give_blind one = both_blind (work_fragment (duplicate 0)) (store_fragment items keep one) (work_blind (duplicate 0)) (store_blind one)
+
+    -- updates, and gives, of what stands on the stack, which is taken away then
+    updated_blind : (by : Operator) (all : List Receiver) → Blind (sequence (updates_fragment items keep by all) (discard_fragment items keep))
+    updated_blind by all = both_blind (updates_fragment items keep by all) (discard_fragment items keep) (in_order_blind (update_fragment items keep by) (update_blind by) all) (works_blind (discard ∷ []))
+
+    given_blind : (last : List DataInstruction) (all : List Receiver) → Blind (sequence (gives_fragment items keep all) (works_fragment last))
+    given_blind last all = both_blind (gives_fragment items keep all) (works_fragment last) (in_order_blind (give_fragment items keep) give_blind all) (works_blind last)
+
+    remainder_blind : (quotient : Receiver) (remainder : Reference) → Blind (remainder_fragment items keep quotient remainder)
+    remainder_blind quotient remainder =
+        let front = duplicate 1 ∷ duplicate 1 ∷ i.Calculate c.Divide ∷ [] in
+        let middle = i.Calculate (c.Truncate (quotient_scale items quotient.item)) ∷ i.Calculate c.Multiply ∷ i.Calculate c.Subtract ∷ void_code keep in
+        let last = take_fragment items (i.Store false keep) remainder in
+        both_blind (works_fragment front) (sequence (give_fragment items keep quotient) (sequence (works_fragment middle) last)) (works_blind front)
+        (both_blind (give_fragment items keep quotient) (sequence (works_fragment middle) last) (give_blind quotient)
+        (both_blind (works_fragment middle) last (works_blind middle) (taking_blind items (i.Store false keep) remainder)))
+
+    -- two operands, and what comes behind them
+    operands_blind : (first second : Operand) (inner : Fragment) → Blind inner → Blind (sequence (value_fragment items first) (sequence (value_fragment items second) inner))
+    operands_blind first second inner f =
+        both_blind (value_fragment items first) (sequence (value_fragment items second) inner) (value_blind items first) (both_blind (value_fragment items second) inner (value_blind items second) f)
+
+    operation_blind : (one : Operation) → Blind (operation_fragment items keep one)
+    operation_blind (Add operands receivers) =
+        both_blind (total_fragment items operands) (sequence (updates_fragment items keep operator.Add receivers) (discard_fragment items keep)) (total_blind items operands) (updated_blind operator.Add receivers)
+    operation_blind (AddGiving operands receivers) =
+        both_blind (total_fragment items operands) (sequence (gives_fragment items keep receivers) (discard_fragment items keep)) (total_blind items operands) (given_blind (discard ∷ []) receivers)
+    operation_blind (Subtract operands receivers) =
+        both_blind (total_fragment items operands) (sequence (updates_fragment items keep operator.Subtract receivers) (discard_fragment items keep)) (total_blind items operands)
+        (updated_blind operator.Subtract receivers)
+    operation_blind (SubtractGiving operands minuend receivers) =
+        let works = works_fragment (duplicate 1 ∷ i.Calculate c.Subtract ∷ []) in
+        let gives = sequence (gives_fragment items keep receivers) (works_fragment (discard ∷ discard ∷ [])) in
+        both_blind (total_fragment items operands) (sequence (value_fragment items minuend) (sequence works gives)) (total_blind items operands)
+        (both_blind (value_fragment items minuend) (sequence works gives) (value_blind items minuend)
+        (both_blind works gives (works_blind (duplicate 1 ∷ i.Calculate c.Subtract ∷ [])) (given_blind (discard ∷ discard ∷ []) receivers)))
+    operation_blind (Multiply factor receivers) =
+        both_blind (value_fragment items factor) (sequence (updates_fragment items keep operator.Multiply receivers) (discard_fragment items keep)) (value_blind items factor)
+        (updated_blind operator.Multiply receivers)
+    operation_blind (MultiplyGiving factor by receivers) =
+        let gives = sequence (gives_fragment items keep receivers) (discard_fragment items keep) in
+        operands_blind factor by (sequence (work_fragment (i.Calculate c.Multiply)) gives)
+        (both_blind (work_fragment (i.Calculate c.Multiply)) gives (work_blind (i.Calculate c.Multiply)) (given_blind (discard ∷ []) receivers))
+    operation_blind (Divide divisor receivers) =
+        both_blind (value_fragment items divisor) (sequence (updates_fragment items keep operator.Divide receivers) (discard_fragment items keep)) (value_blind items divisor)
+        (updated_blind operator.Divide receivers)
+    operation_blind (DivideGiving first order second receivers) =
+        let gives = sequence (gives_fragment items keep receivers) (discard_fragment items keep) in
+        let inner = sequence (work_fragment (i.Calculate c.Divide)) gives in
+        operands_blind first second (division_fragment order inner)
+        (division_blind order inner (both_blind (work_fragment (i.Calculate c.Divide)) gives (work_blind (i.Calculate c.Divide)) (given_blind (discard ∷ []) receivers)))
+    operation_blind (DivideRemainder first order second quotient remainder) =
+        operands_blind first second (division_fragment order (remainder_fragment items keep quotient remainder))
+        (division_blind order (remainder_fragment items keep quotient remainder) (remainder_blind quotient remainder))
+    operation_blind (Compute receivers value) =
+        both_blind (expression_fragment items value) (sequence (gives_fragment items keep receivers) (discard_fragment items keep)) (expression_blind items value) (given_blind (discard ∷ []) receivers)
+
+    pub arithmetic_blind : (one : Operation) → Blind (arithmetic_fragment items keep one)
+    arithmetic_blind one = both_blind (work_fragment i.ClearTruth) (operation_fragment items keep one) (work_blind i.ClearTruth) (operation_blind one)

@@ -1,0 +1,2 @@
+pub mod ArithmeticCode
+pub mod Operations

@@ -1,0 +1,81 @@
+-- Where the rules are kept, each occurrence of an item that is named lies in its area, and moves are permitted.
+use Rattle.std.proofs.Common.{◌≡◌, ℕ, List, [], ◌∷◌, Some, true, refl, sym, ap, subst, ◌∙◌}
+use Rattle.std.specs.Prelude.{slice_get, not}
+use Rattle.lexical.specs.declared.place.Place.{Place}
+use Rattle.items.specs.declared.taken.Taken.{Taken}
+use Rattle.items.specs.declared.taken.Taken.TheVariants as t
+use Rattle.source_tree.specs.declared.reference.Reference.{Reference}
+use Rattle.source_tree.specs.declared.expression.Operand.{Operand}
+use Rattle.source_tree.specs.declared.expression.Operand.TheVariants as operand
+use Rattle.source_tree.specs.ArithmeticRules.{numeric_item, number_rules}
+use Rattle.source_tree.specs.Broken.{RuleBreach, each}
+use Rattle.source_tree.specs.Literals.{literal_sender}
+use Rattle.source_tree.specs.LookUp.{items_named, first}
+use Rattle.source_tree.specs.MoveRules.{may_move, only_item, sent_by, receives}
+use Rattle.source_tree.specs.NameRules.{reference_rules, any_item, operand_rules}
+use Rattle.source_tree.specs.Places.{LocatedItem}
+use Rattle.source_tree.specs.TextRules.{shown_rules, display_rules}
+use Rattle.data_instructions.specs.Codes.{data_item}
+use Rattle.data_instructions.specs.Chains.{LiesWhole, LiesAll, ShowsAll, SendsAs, MayReceive, MayReceiveEach}
+use Rattle.data_instructions.specs.ArithmeticCodes.{LiesOperand}
+use Rattle.code_image.specs.declared.code.Code.{Code}
+use Rattle.code_builder.specs.DataCode.{item_number}
+use Rattle.code_builder.proofs.Codes.{left_none, right_none, item_there, keeps}
+use Rattle.code_builder.proofs.Integers.{kept, not_false}
+
+module _ (items : List LocatedItem) (whole : Code) (entries : (n : ℕ) (one : LocatedItem) → slice_get items n ≡ Some one → slice_get whole.tables.items n ≡ Some (data_item one))
+    (lie : (n : ℕ) (one : LocatedItem) → slice_get items n ≡ Some one → LiesWhole whole.tables one) where
+  the_only : (one : Reference) (found other : LocatedItem) → items_named items one.item ≡ found ∷ [] → first (items_named items one.item) ≡ Some other → found ≡ other
+  the_only one found other named is = same (sym (ap first named) ∙ is)
+    where
+      same : Some found ≡ Some other → found ≡ other
+      same e = cc
+
+  pub lies_all : (asked : Place → LocatedItem → List RuleBreach) (one : Reference) → reference_rules items asked one ≡ [] → LiesAll items whole.tables one
+  lies_all asked one e = λ found is.
+      let k = keeps items whole entries asked one e in
+      subst (LiesWhole whole.tables) (the_only one k.found found k.named is) (lie (item_number items one.item) k.found (item_there items one.item k.found k.named))
+
+  pub shows_all : (all : List Operand) → display_rules items all ≡ [] → ShowsAll items whole.tables all
+  shows_all [] e = tt
+  shows_all (operand.Item one ∷ more) e =
+      let one_rules = reference_rules items any_item one in
+      (lies_all any_item one (left_none one_rules (each (shown_rules items) more) e), shows_all more (right_none one_rules (each (shown_rules items) more) e))
+  shows_all (operand.Literal one ∷ more) e = shows_all more (right_none (shown_rules items (operand.Literal one)) (each (shown_rules items) more) e)
+
+  -- what is sent, for a sender that keeps the rules
+  pub record Sends (sender : Operand) : Type 0 where
+    pub sent : Taken
+    pub is : sent_by items sender ≡ Some sent
+    pub sends_as : SendsAs items whole.tables sender sent
+
+  pub sends : (sender : Operand) → operand_rules items sender ≡ [] → Sends sender
+  sends (operand.Item one) e =
+      let k = keeps items whole entries any_item one e in
+      record {
+        sent = t.Item k.found.item;
+        is = ap only_item k.named;
+        sends_as = (lies_all any_item one e, λ found is. ap (λ (p : LocatedItem). t.Item p.item) (sym (the_only one k.found found k.named is)));
+      }
+  sends (operand.Literal one) e = record { sent = (literal_sender one.value).taken; is = refl; sends_as = refl }
+
+  pub receives_one : (sent : Taken) (one : Reference) → reference_rules items (receives (Some sent)) one ≡ [] → MayReceive items whole.tables sent one
+  receives_one sent one e =
+      let k = keeps items whole entries (receives (Some sent)) one e in (
+        lies_all (receives (Some sent)) one e,
+        λ found is.
+            subst (λ (p : LocatedItem). may_move sent p.item ≡ true) (the_only one k.found found k.named is)
+            (not_false (may_move sent k.found.item) (kept (not (may_move sent k.found.item)) 49 one.item.name.place k.asks)),
+      )
+
+  pub receive_each : (sent : Taken) (all : List Reference) → each (reference_rules items (receives (Some sent))) all ≡ [] → MayReceiveEach items whole.tables sent all
+  receive_each sent [] e = tt
+  receive_each sent (one ∷ more) e =
+      let one_rules = reference_rules items (receives (Some sent)) one in
+      (receives_one sent one (left_none one_rules (each (reference_rules items (receives (Some sent))) more) e), receive_each sent more (right_none one_rules (each (reference_rules items (receives (Some sent))) more) e))
+
+  -- ---- numbers
+
+  pub lies_operand : (one : Operand) → number_rules items one ≡ [] → LiesOperand items whole.tables one
+  lies_operand (operand.Item one) e = lies_all numeric_item one e
+  lies_operand (operand.Literal one) e = tt

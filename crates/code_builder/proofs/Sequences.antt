@@ -1,0 +1,24 @@
+-- Pieces that are put behind code one after the other.
+use Rattle.std.proofs.Common.{◌≡◌, ap, ◌∙◌}
+use Rattle.std.specs.Prelude.{Result, Ok, Err, OnOk}
+use Rattle.code_image.specs.declared.code.Code.{Code}
+use Rattle.code_builder.specs.Pieces.{Fragment, append, sequence}
+use Rattle.code_builder.proofs.Pieces.{joined_assoc}
+
+pub then_piece : (first second : Fragment) (before now after : Code) → now ≡ append before (first before) → after ≡ append now (second now) → after ≡ append before (sequence first second before)
+then_piece first second before now after e f = f ∙ ap (λ (c : Code). append c (second c)) e ∙ joined_assoc before (first before) (second (append before (first before)))
+
+-- the same where a call may have failed
+module _ {T E : Type 0} where
+  pub is_so : (result : Result T E) (made total wanted : Code) → OnOk result (made ≡ total) → total ≡ wanted → OnOk result (made ≡ wanted)
+  is_so (Ok x) made total wanted e f = e ∙ f
+  is_so (Err x) made total wanted e f = e
+
+  pub ends_so : (result : Result T E) (first second : Fragment) (before now after : Code) → now ≡ append before (first before) → OnOk result (after ≡ append now (second now))
+      → OnOk result (after ≡ append before (sequence first second before))
+  ends_so (Ok x) first second before now after e f = then_piece first second before now after e f
+  ends_so (Err x) first second before now after e f = f
+
+  pub on_ok : {P Q : Type 0} (result : Result T E) → OnOk result P → (P → Q) → OnOk result Q
+  on_ok (Ok x) h f = f h
+  on_ok (Err x) h f = h

@@ -1,0 +1,16 @@
+use Rattle.std.proofs.Common.{sym, ap, ◌∙◌}
+use Rattle.source_tree.specs.Broken.{each}
+use Rattle.source_tree.specs.ArithmeticRules.{number_rules}
+use Rattle.declarations.specs.Named.{items_in}
+use Rattle.code_builder.proofs.Kept.{front_kept, back_kept}
+use Rattle.code_builder.proofs.emitter.Emitter.emit_total.Goals as goal
+
+pub emit_value-requires-clause-rules : goal.emit_value-requires-clause-rules
+emit_value-requires-clause-rules c =
+    let kept = number_rules (items_in c.args.self.now.declarations.now) in
+    front_kept (kept c.in-Some.first.now) (each kept c.in-Some.more.now) (sym (ap (each kept) c.in-Some.ensures.cases.0) ∙ c.requires.rules)
+
+pub emit_all_added-requires-clause-rules : goal.emit_all_added-requires-clause-rules
+emit_all_added-requires-clause-rules c =
+    let kept = number_rules (items_in c.args.self.now.declarations.now) in
+    back_kept (kept c.in-Some.first.now) (each kept c.in-Some.more.now) (sym (ap (each kept) c.in-Some.ensures.cases.0) ∙ c.requires.rules)

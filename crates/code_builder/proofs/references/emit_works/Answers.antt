@@ -1,0 +1,10 @@
+use Rattle.std.proofs.Common.{ap, ◌∙◌}
+use Rattle.code_builder.specs.Pieces.{append}
+use Rattle.code_builder.specs.DataCode.{work_fragment}
+use Rattle.code_builder.proofs.Pieces.{is_done}
+use Rattle.code_builder.proofs.Works.{works_are}
+use Rattle.code_builder.proofs.references.emit_works.Goals as goal
+
+pub returns : goal.returns
+returns c =
+    is_done work_fragment c.args.all.now c.loop-one.one-index c.loop-one.code _ c.loop-one-test.false c.loop-one.invariant ∙ ap (append c.args.code.now) (works_are c.args.all.now c.args.code.now)

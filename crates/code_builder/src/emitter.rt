@@ -1,0 +1,109 @@
+//! The items of a program, by their names.
+
+ghost use Rattle.std.specs.Prelude.{◌≡◌, IfOk, slice_get};
+ghost use Rattle.declarations.specs.Named.{IsDeclared, items_in};
+ghost use Rattle.source_tree.specs.Arithmetic.{receiver_of};
+ghost use Rattle.source_tree.specs.InspectLayout.{found_size};
+ghost use Rattle.code_builder.specs.DataCode as spec;
+ghost use Rattle.code_builder.specs.ExpressionCode as numbers;
+
+use data_instructions::ItemIndex;
+use declarations::Declarations;
+use items::Kind;
+use layout::PlacedItem;
+use name_table::LookUp;
+use source_tree::{Dimension, QualifiedName};
+use std::alloc::{AllocError, Global};
+
+/// What every function that makes code looks at: what a program declares, and where the memory of its code comes from.
+#[derive(Clone, Copy)]
+pub struct Emitter<'a> {
+    /// Where memory comes from.
+    pub alloc: Global,
+    /// What the program declares.
+    pub declarations: &'a Declarations<'a>,
+}
+
+/// The number of an entry that has so many before it. Its table is refused where 32 bits don't hold the number.
+pub fn entry_number(before: usize) -> Result<u32, AllocError>
+    ensures { IfOk result (λ number. number ≡ before) }
+{
+    let Ok(number) = u32::try_from(before) else {
+        return Err(AllocError);
+    };
+    Ok(number)
+}
+
+/// The decimals that an item keeps of a number: none of one that takes no number.
+fn scale_kept(one: &PlacedItem) -> u8
+    ensures { result ≡ numbers.scale_kept (receiver_of one.now.item.kind one.now.editing) }
+{
+    match (one.item.kind, &one.editing) {
+        (Kind::Numeric(numeric), _) => numeric.scale,
+        (Kind::NumericEdited { .. }, Some(picture)) => picture.scale(),
+        _ => 0,
+    }
+}
+
+impl<'a> Emitter<'a> {
+    /// The number of the item that a name names, among all items in order; 0 if it names none or several.
+    pub fn item_number(&self, name: &QualifiedName) -> usize
+        requires { IsDeclared self.now.declarations.now }
+        ensures { result ≡ spec.item_number (items_in self.now.declarations.now) name.now }
+    {
+        match self.declarations.names.look_up(name) {
+            LookUp::One(number) => number,
+            LookUp::Unknown | LookUp::Several => 0,
+        }
+    }
+
+    /// The item that a name names, by its place in the table of items. It fails only if 32 bits don't hold that place.
+    pub fn item_index(&self, name: &QualifiedName) -> Result<ItemIndex, AllocError>
+        requires { IsDeclared self.now.declarations.now }
+        ensures { IfOk result (λ index. index ≡ spec.item_index (items_in self.now.declarations.now) name.now) }
+    {
+        let number = entry_number(self.item_number(name))?;
+        Ok(ItemIndex { number })
+    }
+
+    /// The length in bytes of the item that a name names; 0 if it names none or several.
+    pub fn length_of(&self, name: &QualifiedName) -> u32
+        requires { IsDeclared self.now.declarations.now }
+        ensures { result ≡ found_size (slice_get (items_in self.now.declarations.now) (spec.item_number (items_in self.now.declarations.now) name.now)) }
+    {
+        match self.declarations.layout.items.get(self.item_number(name)) {
+            Some(found) => found.item.length,
+            None => 0,
+        }
+    }
+
+    /// The dimensions of the item of this number, outermost first; none if there is no such item.
+    pub fn dimensions_at(&self, number: usize) -> &[Dimension]
+        requires { IsDeclared self.now.declarations.now }
+        ensures { result.now ≡ spec.dimensions_of (slice_get (items_in self.now.declarations.now) number) }
+    {
+        match self.declarations.layout.items.get(number) {
+            Some(found) => found.dimensions.as_slice(),
+            None => &[],
+        }
+    }
+
+    /// The dimensions of the item that a name names, outermost first.
+    pub fn dimensions(&self, name: &QualifiedName) -> &[Dimension]
+        requires { IsDeclared self.now.declarations.now }
+        ensures { result.now ≡ spec.dimensions_of (slice_get (items_in self.now.declarations.now) (spec.item_number (items_in self.now.declarations.now) name.now)) }
+    {
+        self.dimensions_at(self.item_number(name))
+    }
+
+    /// How many decimals the item that a name names keeps of a number.
+    pub fn scale_kept(&self, name: &QualifiedName) -> u8
+        requires { IsDeclared self.now.declarations.now }
+        ensures { result ≡ numbers.scale_of_item (slice_get (items_in self.now.declarations.now) (spec.item_number (items_in self.now.declarations.now) name.now)) }
+    {
+        match self.declarations.layout.items.get(self.item_number(name)) {
+            Some(found) => scale_kept(found),
+            None => 0,
+        }
+    }
+}

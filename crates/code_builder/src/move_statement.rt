@@ -1,0 +1,86 @@
+//! The code of MOVE (COBOL-85, Nucleus, "The MOVE statement").
+
+ghost use Rattle.std.specs.Prelude.{◌≡◌, ◌++◌, [], ◌∷◌, length, true, IfOk, OnOk};
+ghost use Rattle.source_tree.specs.declared.reference.Reference.{Reference};
+ghost use Rattle.source_tree.specs.Broken.{each};
+ghost use Rattle.source_tree.specs.Literals.{literal_sender};
+ghost use Rattle.source_tree.specs.NameRules.{operand_rules, subscript_rules};
+ghost use Rattle.source_tree.specs.MoveRules.{move_rules};
+ghost use Rattle.source_tree.specs.ValueRules.{has_form};
+ghost use Rattle.declarations.specs.Named.{IsDeclared, items_in};
+ghost use Rattle.code_builder.specs.Pieces.{append};
+ghost use Rattle.code_builder.specs.DataCode as spec;
+
+use crate::emitter::{Emitter, entry_number};
+use crate::references::emit_work;
+use code_image::Code;
+use data_instructions::{DataInstruction, LiteralSender, SenderIndex};
+use literals::Sender;
+use source_tree::{LiteralValue, Operand, Reference};
+use std::alloc::{AllocError, Global};
+
+/// A literal, in the table of senders. Answers its number there. It fails only if memory runs out. A table of 2^32 entries counts as that.
+pub fn put_sender(
+    alloc: Global,
+    code: &mut Code,
+    value: &LiteralValue,
+) -> Result<SenderIndex, AllocError>
+    requires { has_form value.now ≡ true }
+    ensures code { OnOk result (code.new ≡ record code.old { tables = record code.old.tables { senders = code.old.tables.senders ++ spec.literal_entry (literal_sender value.now) ∷ [] } }) }
+    ensures index { IfOk result (λ index. index ≡ record { number = length code.old.tables.senders }) }
+{
+    let number = entry_number(code.tables.senders.len())?;
+    let Sender { taken, bytes } = Sender::of(alloc, value)?;
+    code.tables.senders.push(LiteralSender { taken, bytes })?;
+    Ok(SenderIndex { number })
+}
+
+/// A literal, taken as the sender. It fails only if memory runs out.
+pub fn emit_literal(alloc: Global, code: &mut Code, value: &LiteralValue) -> Result<(), AllocError>
+    requires { has_form value.now ≡ true }
+    ensures { OnOk result (code.new ≡ append code.old (spec.literal_fragment value.now code.old)) }
+{
+    let literal = put_sender(alloc, code, value)?;
+    emit_work(code, DataInstruction::TakeLiteral { literal })
+}
+
+impl<'a> Emitter<'a> {
+    /// An operand, taken as the sender. It fails only if memory runs out.
+    pub fn emit_sender(&self, code: &mut Code, one: &Operand) -> Result<(), AllocError>
+        requires declared { IsDeclared self.now.declarations.now }
+        requires rules { operand_rules (items_in self.now.declarations.now) one.now ≡ [] }
+        ensures { OnOk result (code.new ≡ append code.old (spec.sender_fragment (items_in self.now.declarations.now) one.now code.old)) }
+    {
+        match one {
+            Operand::Item(reference) => self.emit_taking(code, DataInstruction::Take, reference),
+            Operand::Literal(literal) => emit_literal(self.alloc, code, &literal.value),
+        }
+    }
+
+    /// The moves of what was taken to receivers, in order. It fails only if memory runs out.
+    pub fn emit_receivers(&self, code: &mut Code, all: &[Reference]) -> Result<(), AllocError>
+        requires declared { IsDeclared self.now.declarations.now }
+        requires rules { each (λ (one : Reference). each (subscript_rules (items_in self.now.declarations.now)) one.subscripts) all.now ≡ [] }
+        ensures { OnOk result (code.new ≡ append code.old (spec.receivers_fragment (items_in self.now.declarations.now) all.now code.old)) }
+    {
+        for one in all {
+            self.emit_taking(code, DataInstruction::Move, one)?;
+        }
+        Ok(())
+    }
+
+    /// MOVE of a sender to receivers, behind its `tick`. It fails only if memory runs out.
+    pub fn emit_move(
+        &self,
+        code: &mut Code,
+        sender: &Operand,
+        receivers: &[Reference],
+    ) -> Result<(), AllocError>
+        requires declared { IsDeclared self.now.declarations.now }
+        requires rules { move_rules (items_in self.now.declarations.now) sender.now receivers.now ≡ [] }
+        ensures { OnOk result (code.new ≡ append code.old (spec.move_fragment (items_in self.now.declarations.now) sender.now receivers.now code.old)) }
+    {
+        self.emit_sender(code, sender)?;
+        self.emit_receivers(code, receivers)
+    }
+}

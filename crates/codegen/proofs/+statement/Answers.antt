@@ -1,0 +1,817 @@
+use Rattle.std.proofs.Common.{rules, ◌≡◌, ◌+◌, true, List, [], ◌∷◌, ◌++◌, length, drop, Some, refl, sym, ap, subst, arith, ◌∙◌, length-append}
+use Rattle.std.specs.List.{AllByRecursion}
+use Rattle.std.proofs.lemmas.Grind.{common_steps}
+use Rattle.records.specs.declared.verb.Verb.{Verb}
+use Rattle.records.specs.declared.verb.Verb.TheVariants as file_verb
+use Rattle.source_tree.specs.declared.statement.Statement.{Statement, the_lemmas}
+use Rattle.source_tree.specs.declared.file_statement.FileStatement.{FileStatement}
+use Rattle.source_tree.specs.declared.conditional_statement.ConditionalStatement.{ConditionalStatement}
+use Rattle.source_tree.specs.declared.conditional_statement.ConditionalStatement.TheVariants.{If}
+use Rattle.source_tree.specs.declared.until.TestTime.{TestTime}
+use Rattle.source_tree.specs.declared.condition.Condition.TheVariants.{Any}
+use Rattle.source_tree.specs.declared.evaluate_statement.Subject.{Subject}
+use Rattle.source_tree.specs.declared.evaluate_statement.When.{When}
+use Rattle.source_tree.specs.declared.evaluate_statement.Selected.{Selected}
+use Rattle.source_tree.specs.declared.string_statement.Sending.{Sending}
+use Rattle.source_tree.specs.Broken.{each}
+use Rattle.source_tree.specs.Evaluate.{asked_each, whens_asked, selected_asked}
+use Rattle.source_tree.specs.EvaluateRules.{when_rules, selected_rules}
+use Rattle.source_tree.specs.Filing as meaning
+use Rattle.source_tree.specs.Filing.{file_with_record, phrases_of}
+use Rattle.source_tree.specs.FilingRules.{delete_rules, file_named_rules, filing_rules, read_rules, record_rules, start_rules}
+use Rattle.source_tree.specs.NameRules.{reference_rules}
+use Rattle.source_tree.specs.ConditionRules.{varying_rules, condition_rules, until_rules}
+use Rattle.source_tree.specs.Rules.{all_permitted, integer_item, verb_rules, arithmetic_rules, stringing_rules, branching_rules, performing_rules, phrases_rules, phrase_rules, file_phrases_rules, performed_rules, turns_rules, evaluate_rules, statement_rules}
+use Rattle.source_tree.specs.ArithmeticRules.{operation_rules}
+use Rattle.source_tree.specs.LookUp.{first, items_named}
+use Rattle.source_tree.specs.ProgramFiles.{ProgramFile, files_named}
+use Rattle.source_tree.specs.StringRules.{sending_rules, receiver_item, only_length, string_rules}
+use Rattle.file_descriptions.specs.Files.{file_in}
+use Rattle.declarations.specs.Named.{scope_in}
+use Rattle.declarations.proofs.RuleLayers as layers
+use Rattle.data_instructions.specs.declared.instruction.DataInstruction.TheVariants as i
+use Rattle.file_image.specs.declared.class.StatusClass.TheVariants.{Successful}
+use Rattle.code_image.specs.declared.code.Code.{Code}
+use Rattle.code_image.specs.declared.instruction.Instruction.TheVariants.{Jump, Join}
+use Rattle.code_builder.specs.declared.phrases.Way.{Way}
+use Rattle.code_builder.specs.Pieces.{Fragment, append, sequence, in_order, tick_fragment}
+use Rattle.code_builder.specs.Meeting.{branch_code, jump_code, either_fragment, nothing_fragment}
+use Rattle.code_builder.specs.DataCode.{work_fragment, take_fragment}
+use Rattle.condition_code.specs.ConditionCode.{condition_fragment}
+use Rattle.data_code.specs.StringCode.{string_fragment}
+use Rattle.codegen.specs.UntilCode.{repetition_fragment, until_before_fragment, until_after_fragment, until_from_fragment, vary_begin_fragment, vary_on_fragment, until_fragment}
+use Rattle.file_code.specs.FileCode.{file_fragment, test_fragment, unheard_fragment, on_file_fragment, into_fragment, from_fragment, on_name_fragment}
+use Rattle.condition_code.specs.SubjectCode.{first_object, subjects_fragment}
+use Rattle.codegen.specs.Layout.{turn_end, count_begin, counted_turn, counted_fragment, turn_fragment, phrase_fragment, phrases_fragment, selection_fragment, conditional_fragment, taken_fragment, success_fragment, failure_fragment, status_fragment, statement_on_fragment, alone_fragment, file_statement_fragment, statement_fragment}
+use Rattle.code_builder.specs.Phrases.{patched_code, IsWay, met_all}
+use Rattle.condition_code.proofs.EvaluateKept.{subjects_of, groups_of, other_of}
+use Rattle.code_builder.proofs.Opening.{opened_way, opened_longer, with_last, still_ways}
+use Rattle.codegen.proofs.Groups.{groups_go_on, groups_done}
+use Rattle.condition_code.proofs.Questions.{whens_rules}
+use Rattle.data_code.proofs.StringCodes.{keeps_string, pointer_kept}
+use Rattle.code_builder.proofs.Pieces.{joined_nothing}
+use Rattle.code_builder.proofs.Sequences.{then_piece, is_so, ends_so, on_ok}
+use Rattle.code_builder.proofs.Meeting.{meeting}
+use Rattle.codegen.proofs.PhraseParts.{phrases_stand}
+use Rattle.code_builder.proofs.Kept.{front_kept, back_kept, one_kept, item_kept}
+use Rattle.file_code.proofs.FilingKept.{first_kept, read_key_kept, read_into_kept, start_key_kept, record_names_one, record_from_kept}
+use Rattle.file_code.proofs.OnFiles.{none_found, one_found}
+use Rattle.codegen.proofs.+statement.Goals as goal
+
+pub emit_statement-emit_moving-requires-clause-rules : goal.emit_statement-emit_moving-requires-clause-rules
+emit_statement-emit_moving-requires-clause-rules t c =
+    let scope = scope_in c.args.emitter.now.declarations.now in
+    sym (ap (verb_rules scope all_permitted (statement_rules scope all_permitted)) c.in-DataStatement.is) ∙ sym (layers.statement_is scope all_permitted c.args.one.now) ∙ c.requires.rules
+
+pub emit_statement-emit_calculating-requires : goal.emit_statement-emit_calculating-requires
+emit_statement-emit_calculating-requires t c =
+    let scope = scope_in c.args.emitter.now.declarations.now in
+    let one = c.in-Arithmetic.arithmetic in
+    let r : arithmetic_rules scope.items (statement_rules scope all_permitted) one ≡ [] = sym (ap (verb_rules scope all_permitted (statement_rules scope all_permitted)) c.in-Arithmetic.is) ∙ sym (layers.statement_is scope all_permitted c.args.one.now) ∙ c.requires.rules in
+    let first = phrase_rules (statement_rules scope all_permitted) one.phrases.arose in
+    let second = phrase_rules (statement_rules scope all_permitted) one.phrases.did_not in
+    let front = front_kept (operation_rules scope.items one.operation) (phrases_rules (statement_rules scope all_permitted) one.phrases) r in
+    let phrases = back_kept (operation_rules scope.items one.operation) (phrases_rules (statement_rules scope all_permitted) one.phrases) r in
+    (search (rules, the_lemmas), (c.requires.declared, (c.requires.entries, (front, (front_kept first second phrases, back_kept first second phrases)))))
+
+pub emit_statement-emit_stringing-requires : goal.emit_statement-emit_stringing-requires
+emit_statement-emit_stringing-requires t c =
+    let scope = scope_in c.args.emitter.now.declarations.now in
+    let one = c.in-Stringing.stringing in
+    let r : stringing_rules scope.items (statement_rules scope all_permitted) one ≡ [] = sym (ap (verb_rules scope all_permitted (statement_rules scope all_permitted)) c.in-Stringing.is) ∙ sym (layers.statement_is scope all_permitted c.args.one.now) ∙ c.requires.rules in
+    let first = phrase_rules (statement_rules scope all_permitted) one.phrases.arose in
+    let second = phrase_rules (statement_rules scope all_permitted) one.phrases.did_not in
+    let front = front_kept (string_rules scope.items one) (phrases_rules (statement_rules scope all_permitted) one.phrases) r in
+    let phrases = back_kept (string_rules scope.items one) (phrases_rules (statement_rules scope all_permitted) one.phrases) r in
+    (search (rules, the_lemmas), (c.requires.declared, (c.requires.entries, (front, (front_kept first second phrases, back_kept first second phrases)))))
+
+pub emit_statement-emit_filing-requires : goal.emit_statement-emit_filing-requires
+emit_statement-emit_filing-requires t c =
+    let scope = scope_in c.args.emitter.now.declarations.now in
+    let one = c.in-Filing.filing in
+    let own = filing_rules scope.items scope.files one in
+    let inner = file_phrases_rules (statement_rules scope all_permitted) (phrases_of one) in
+    let r : own ++ inner ≡ [] =
+    sym (ap (verb_rules scope all_permitted (statement_rules scope all_permitted)) c.in-Filing.is) ∙ sym (layers.statement_is scope all_permitted c.args.one.now) ∙ c.requires.rules in
+    (search (rules, the_lemmas), (c.requires.declared, (c.requires.entries, (front_kept own inner r, back_kept own inner r))))
+
+pub emit_statement-emit_branching-requires : goal.emit_statement-emit_branching-requires
+emit_statement-emit_branching-requires t c =
+    let scope = scope_in c.args.emitter.now.declarations.now in
+    let r : branching_rules scope.items (statement_rules scope all_permitted) c.in-Branching.branching ≡ [] =
+    sym (ap (verb_rules scope all_permitted (statement_rules scope all_permitted)) c.in-Branching.is) ∙ sym (layers.statement_is scope all_permitted c.args.one.now) ∙ c.requires.rules in
+    (search (rules, the_lemmas), (c.requires.declared, (c.requires.entries, r)))
+
+pub emit_phrases-returns : goal.emit_phrases-returns
+emit_phrases-returns t c =
+    let scope = scope_in c.args.emitter.now.declarations.now in
+    let inside = statement_fragment scope in
+    let old = c.args.code.now in
+    let first = phrase_fragment scope inside c.args.one.now.arose in
+    let second = phrase_fragment scope inside c.args.one.now.did_not in
+    let branch = c.in_ok-branch.branch in
+    let other = c.in_ok-other.other in
+    let so : c.has_phrase.result ≡ true = first_of (search rules, grind (arith, common_steps)) in
+    on_ok c.emit_meeting.result c.emit_meeting.ensures
+    (λ (e : c.emit_meeting.new.code ≡ patched_code branch other c.emit_phrase-2.new.code).
+    meeting first second old c.emit_branch.new.code c.emit_phrase.new.code c.emit_jump.new.code c.emit_phrase-2.new.code c.emit_meeting.new.code branch other
+    c.in_ok-branch.ensures.code c.in_ok-branch.ensures.address c.in_ok-emit_phrase.ensures c.in_ok-other.ensures.code c.in_ok-other.ensures.other c.in_ok-emit_phrase-2.ensures e
+    ∙ ap (append old) (phrases_stand scope inside c.args.one.now.arose c.args.one.now.did_not old (sym c.has_phrase.ensures ∙ so)))
+
+pub emit_phrase-emit_statements-requires : goal.emit_phrase-emit_statements-requires
+emit_phrase-emit_statements-requires t c =
+    let scope = scope_in c.args.emitter.now.declarations.now in
+    let e : c.args.one.now ≡ Some c.as_slice.result.now = c.in-Some.is ∙ ap (λ (l : List Statement). Some l) (sym c.as_slice.ensures) in
+    let d = rw e at c.decreases in (
+      omega (arith, d),
+      (c.requires.declared, (c.requires.entries, sym (ap (phrase_rules (statement_rules scope all_permitted)) e) ∙ c.requires.rules)),
+    )
+
+pub emit_statement-emit_performing-requires : goal.emit_statement-emit_performing-requires
+emit_statement-emit_performing-requires t c =
+    let scope = scope_in c.args.emitter.now.declarations.now in
+    let r : performing_rules scope all_permitted (statement_rules scope all_permitted) c.in-Performing.performing ≡ [] =
+    sym (ap (verb_rules scope all_permitted (statement_rules scope all_permitted)) c.in-Performing.is) ∙ sym (layers.statement_is scope all_permitted c.args.one.now) ∙ c.requires.rules in
+    (search (rules, the_lemmas), (c.requires.declared, (c.requires.entries, r)))
+
+pub emit_performing-emit_until-requires : goal.emit_performing-emit_until-requires
+emit_performing-emit_until-requires t c =
+    let scope = scope_in c.args.emitter.now.declarations.now in
+    let one = c.args.one.now in
+    let often = turns_rules scope.items one.turns in
+    let behind = performed_rules scope.procedures all_permitted (statement_rules scope all_permitted) one.performed in
+    let turns : until_rules scope.items c.in-Until.until ≡ [] = sym (ap (turns_rules scope.items) c.in-Until.is) ∙ front_kept often behind c.requires.rules in
+    (search (rules, the_lemmas), (c.requires.declared, (c.requires.entries, (turns, back_kept often behind c.requires.rules))))
+
+pub emit_performing-emit_counted-requires : goal.emit_performing-emit_counted-requires
+emit_performing-emit_counted-requires t c =
+    let scope = scope_in c.args.emitter.now.declarations.now in
+    let one = c.args.one.now in
+    let often = turns_rules scope.items one.turns in
+    let behind = performed_rules scope.procedures all_permitted (statement_rules scope all_permitted) one.performed in
+    let item : reference_rules scope.items integer_item c.in-CountedBy.item ≡ [] = sym (ap (turns_rules scope.items) c.in-CountedBy.is) ∙ front_kept often behind c.requires.rules in
+    (search (rules, the_lemmas), (c.requires.declared, (c.requires.entries, (item, back_kept often behind c.requires.rules))))
+
+pub emit_counted-emit_taking-requires-clause-rules : goal.emit_counted-emit_taking-requires-clause-rules
+emit_counted-emit_taking-requires-clause-rules t c = item_kept (scope_in c.args.emitter.now.declarations.now).items integer_item c.args.item.now c.requires.item
+
+pub emit_counted-returns : goal.emit_counted-returns
+emit_counted-returns t c =
+    let scope = scope_in c.args.emitter.now.declarations.now in
+    let old = c.args.code.now in
+    let found = c.emit_taking.new.code in
+    let begun = c.emit_count_begin.new.code in
+    let branched = c.emit_branch.new.code in
+    let middle = c.emit_jump.new.code in
+    let new = c.emit_meeting.new.code in
+    let number = take_fragment scope.items i.Push c.args.item.now in
+    let turn = turn_fragment scope (statement_fragment scope) c.args.line c.args.one.now in
+    let first = counted_turn (length found.instructions) turn in
+    let branch = c.in_ok-branch.branch in
+    let other = c.in_ok-other.other in
+    let inner : c.emit_counted_turn.new.code ≡ append branched (first branched) =
+    c.in_ok-emit_counted_turn.ensures ∙ ap (λ n. append branched (counted_turn n turn branched)) c.in_ok-begin.ensures.begin in
+    on_ok c.emit_meeting.result c.emit_meeting.ensures
+    (λ (m : new ≡ patched_code branch other middle).
+    then_piece number (counted_fragment turn) old found new c.in_ok-emit_taking.ensures
+    (then_piece count_begin (either_fragment first nothing_fragment) found begun new c.in_ok-begin.ensures.code
+    (meeting first nothing_fragment begun branched c.emit_counted_turn.new.code middle middle new branch other
+    c.in_ok-branch.ensures.code c.in_ok-branch.ensures.address inner c.in_ok-other.ensures.code c.in_ok-other.ensures.other (sym (joined_nothing middle)) m)))
+
+pub emit_counted_turn-returns : goal.emit_counted_turn-returns
+emit_counted_turn-returns t c =
+    let scope = scope_in c.args.emitter.now.declarations.now in
+    let old = c.args.code.now in
+    let result = c.emit_turn_end.result in
+    let new = c.emit_turn_end.new.code in
+    let begin = c.args.begin in
+    let turn = turn_fragment scope (statement_fragment scope) c.args.line c.args.one.now in
+    is_so result new (append old (sequence turn (λ b. turn_end begin c.len-to.result) old)) (append old (counted_turn begin turn old))
+    (ends_so result turn (λ b. turn_end begin c.len-to.result) old c.emit_turn.new.code new c.in_ok-emit_turn.ensures c.emit_turn_end.ensures)
+    (ap (λ n. append old (sequence turn (λ b. turn_end begin n) old)) c.len-to.ensures)
+
+pub emit_statement-emit_texts-requires-clause-rules : goal.emit_statement-emit_texts-requires-clause-rules
+emit_statement-emit_texts-requires-clause-rules t c =
+    let scope = scope_in c.args.emitter.now.declarations.now in
+    sym (ap (verb_rules scope all_permitted (statement_rules scope all_permitted)) c.in-Text.is) ∙ sym (layers.statement_is scope all_permitted c.args.one.now) ∙ c.requires.rules
+
+pub emit_statements-emit_statement-requires : goal.emit_statements-emit_statement-requires
+emit_statements-emit_statement-requires t c =
+    let scope = scope_in c.args.emitter.now.declarations.now in
+    let r : statement_rules scope all_permitted c.one-item.result ≡ [] = ap (statement_rules scope all_permitted) c.one-item.is ∙ one_kept (statement_rules scope all_permitted) c.args.all.now c.loop-one.one-index c.one-item.result c.loop-one-test.true c.requires.rules in
+    (search (rules, the_lemmas), (c.requires.declared, (c.requires.entries, r)))
+
+pub emit_branching-emit_condition-requires-clause-rules : goal.emit_branching-emit_condition-requires-clause-rules
+emit_branching-emit_condition-requires-clause-rules t c =
+    let scope = scope_in c.args.emitter.now.declarations.now in
+    let test = condition_rules scope.items c.in-If.condition in
+    let first = each (statement_rules scope all_permitted) c.in-If.statements in
+    let second = phrase_rules (statement_rules scope all_permitted) c.in-If.otherwise in
+    let r : test ++ first ++ second ≡ [] = sym (ap (branching_rules scope.items (statement_rules scope all_permitted)) c.in-If.is) ∙ c.requires.rules in
+    front_kept test first (front_kept (test ++ first) second r)
+
+pub emit_branching-emit_statements-requires : goal.emit_branching-emit_statements-requires
+emit_branching-emit_statements-requires t c =
+    let scope = scope_in c.args.emitter.now.declarations.now in
+    let test = condition_rules scope.items c.in-If.condition in
+    let first = each (statement_rules scope all_permitted) c.as_slice.result.now in
+    let second = phrase_rules (statement_rules scope all_permitted) c.in-If.otherwise in
+    let e : c.args.one.now ≡ If c.in-If.condition c.as_slice.result.now c.in-If.otherwise =
+    c.in-If.is ∙ ap (λ (l : List Statement). If c.in-If.condition l c.in-If.otherwise) (sym c.as_slice.ensures) in
+    let r : test ++ first ++ second ≡ [] = sym (ap (branching_rules scope.items (statement_rules scope all_permitted)) e) ∙ c.requires.rules in
+    let d = rw e at c.decreases in
+    (omega (arith, d), (c.requires.declared, (c.requires.entries, back_kept test first (front_kept (test ++ first) second r))))
+
+pub emit_branching-emit_phrase-requires : goal.emit_branching-emit_phrase-requires
+emit_branching-emit_phrase-requires t c =
+    let scope = scope_in c.args.emitter.now.declarations.now in
+    let test = condition_rules scope.items c.in-If.condition in
+    let first = each (statement_rules scope all_permitted) c.in-If.statements in
+    let second = phrase_rules (statement_rules scope all_permitted) c.in-If.otherwise in
+    let r : test ++ first ++ second ≡ [] = sym (ap (branching_rules scope.items (statement_rules scope all_permitted)) c.in-If.is) ∙ c.requires.rules in
+    let d = rw c.in-If.is at c.decreases in
+    (omega (arith, d), (c.requires.declared, (c.requires.entries, back_kept (test ++ first) second r)))
+
+pub emit_branching-emit_evaluate-requires : goal.emit_branching-emit_evaluate-requires
+emit_branching-emit_evaluate-requires t c =
+    let scope = scope_in c.args.emitter.now.declarations.now in
+    let r : evaluate_rules scope.items (statement_rules scope all_permitted) c.in-Evaluate.evaluate ≡ [] =
+    sym (ap (branching_rules scope.items (statement_rules scope all_permitted)) c.in-Evaluate.is) ∙ c.requires.rules in
+    let d = rw c.in-Evaluate.is at c.decreases in
+    (omega (arith, d), (c.requires.declared, (c.requires.entries, r)))
+
+pub emit_branching-returns-in_ok-emit_phrase-in-If : goal.emit_branching-returns-in_ok-emit_phrase-in-If
+emit_branching-returns-in_ok-emit_phrase-in-If t c =
+    let scope = scope_in c.args.emitter.now.declarations.now in
+    let inside = statement_fragment scope in
+    let old = c.args.code.now in
+    let new = c.emit_meeting.new.code in
+    let tick = tick_fragment c.args.line in
+    let test = condition_fragment scope.items c.in-If.condition in
+    let first = in_order inside c.as_slice.result.now in
+    let second = phrase_fragment scope inside c.in-If.otherwise in
+    let ways = either_fragment first second in
+    let branch = c.in_ok-branch-in-If.branch in
+    let other = c.in_ok-other-in-If.other in
+    let e : c.args.one.now ≡ If c.in-If.condition c.as_slice.result.now c.in-If.otherwise =
+    c.in-If.is ∙ ap (λ (l : List Statement). If c.in-If.condition l c.in-If.otherwise) (sym c.as_slice.ensures) in
+    on_ok c.emit_meeting.result c.emit_meeting.ensures
+    (λ (m : new ≡ patched_code branch other c.emit_phrase.new.code).
+    then_piece tick (sequence test ways) old c.emit_tick.new.code new c.in_ok-emit_tick.ensures
+    (then_piece test ways c.emit_tick.new.code c.emit_condition.new.code new c.in_ok-emit_condition-in-If.ensures
+    (meeting first second c.emit_condition.new.code c.emit_branch.new.code c.emit_statements.new.code c.emit_jump.new.code c.emit_phrase.new.code new branch other
+    c.in_ok-branch-in-If.ensures.code c.in_ok-branch-in-If.ensures.address c.in_ok-emit_statements-in-If.ensures c.in_ok-other-in-If.ensures.code
+    c.in_ok-other-in-If.ensures.other c.in_ok-emit_phrase-in-If.ensures m))
+    ∙ sym (ap (λ (b : ConditionalStatement Statement). append old (conditional_fragment scope inside c.args.line b old)) e))
+
+pub emit_selected-emit_whens-requires-clause-rules : goal.emit_selected-emit_whens-requires-clause-rules
+emit_selected-emit_whens-requires-clause-rules t c =
+    let scope = scope_in c.args.emitter.now.declarations.now in
+    let subjects = c.args.subjects.now in
+    let whens = c.args.one.now.whens in
+    let kept = λ (one : When). each (condition_rules scope.items) (asked_each scope.items subjects one.objects) in
+    ap (each kept) c.as_slice.ensures
+    ∙ whens_rules scope.items subjects whens
+    (front_kept (each (when_rules scope.items subjects) whens) (each (statement_rules scope all_permitted) c.args.one.now.statements) c.requires.rules)
+
+pub emit_selected-emit_statements-requires : goal.emit_selected-emit_statements-requires
+emit_selected-emit_statements-requires t c =
+    let scope = scope_in c.args.emitter.now.declarations.now in
+    let inside = each (statement_rules scope all_permitted) in
+    let one = c.args.one.now in
+    let r : inside c.as_slice-2.result.now ≡ [] =
+    ap inside c.as_slice-2.ensures ∙ back_kept (each (when_rules scope.items c.args.subjects.now) one.whens) (inside one.statements) c.requires.rules in
+    (search (rules, the_lemmas), (c.requires.declared, (c.requires.entries, r)))
+
+pub emit_selected-returns : goal.emit_selected-returns
+emit_selected-returns t c =
+    let scope = scope_in c.args.emitter.now.declarations.now in
+    let old = c.args.code.now in
+    let one = c.args.one.now in
+    let asks = c.emit_whens.new.code in
+    let after = c.emit_jump.new.code in
+    let done = c.emit_statements.new.code in
+    let test = condition_fragment scope.items (selected_asked scope.items c.args.subjects.now one) in
+    let first = in_order (statement_fragment scope) one.statements in
+    let branch_piece : Fragment = λ now. branch_code 0 in
+    let jump_piece : Fragment = λ now. jump_code 0 in
+    let begun : asks ≡ append old (test old) =
+    c.in_ok-emit_whens.ensures ∙ ap (λ (l : List When). append old (condition_fragment scope.items (Any (whens_asked scope.items c.args.subjects.now l)) old)) c.as_slice.ensures in
+    let inner : done ≡ append c.emit_branch.new.code (first c.emit_branch.new.code) =
+    c.in_ok-emit_statements.ensures
+    ∙ ap (λ (l : List Statement). append c.emit_branch.new.code (in_order (statement_fragment scope) l c.emit_branch.new.code)) c.as_slice-2.ensures in
+    record {
+      code = then_piece test (sequence branch_piece (sequence first jump_piece)) old asks after begun
+          (then_piece branch_piece (sequence first jump_piece) asks c.emit_branch.new.code after c.in_ok-branch.ensures.code
+          (then_piece first jump_piece c.emit_branch.new.code done after inner c.in_ok-other.ensures.code));
+      branch = c.in_ok-branch.ensures.address ∙ ap (λ (k : Code). length k.instructions) begun;
+      other = c.in_ok-other.ensures.other ∙ sym (length-append done.instructions (Jump 0 ∷ Join ∷ []))
+          ∙ sym (ap (λ (k : Code). length k.instructions) c.in_ok-other.ensures.code);
+    }
+
+pub emit_groups-emit_selected-requires : goal.emit_groups-emit_selected-requires
+emit_groups-emit_selected-requires t c =
+    let scope = scope_in c.args.emitter.now.declarations.now in
+    let kept = selected_rules scope.items (statement_rules scope all_permitted) c.args.subjects.now in
+    let r : kept c.one-item.result ≡ [] = ap kept c.one-item.is ∙ one_kept kept c.args.selected.now c.loop-one.one-index c.one-item.result c.loop-one-test.true c.requires.rules in
+    (search (rules, the_lemmas), (c.requires.declared, (c.requires.entries, r)))
+
+pub emit_groups-loop-one-preserved : goal.emit_groups-loop-one-preserved
+emit_groups-loop-one-preserved t c =
+    let scope = scope_in c.args.emitter.now.declarations.now in
+    let inside = statement_fragment scope in
+    let subjects = c.args.subjects.now in
+    let groups = c.args.selected.now in
+    let one = c.one-item.result in
+    let ways = c.loop-one.ways.items in
+    let way = c.in_ok-way.way in
+    let now = c.loop-one.code in
+    let next = c.emit_selected.new.code in
+    let test = condition_fragment scope.items (selected_asked scope.items subjects one) in
+    let first = in_order inside one.statements in
+    let pushed : c.push.new.self.items ≡ ways ++ way ∷ [] = c.in_ok-push.ensures.items in
+    record {
+      same = λ other.
+          let rest = selection_fragment scope inside subjects (drop (c.loop-one.one-index + 1) groups) other in
+          ap (λ (l : List Way). met_all l (append next (rest next))) pushed
+          ∙ groups_go_on scope inside subjects other ways groups c.loop-one.one-index one one now next _ way c.loop-one-test.true c.one-item.is c.in_ok-way.ensures
+          (c.loop-one.invariant.same other);
+      within = subst (λ (l : List Way). AllByRecursion (IsWay (length next.instructions)) l) (sym pushed)
+          (with_last (IsWay (length next.instructions)) ways way
+          (still_ways ways (length now.instructions) (length next.instructions) (opened_longer test first now next way c.in_ok-way.ensures) c.loop-one.invariant.within)
+          (opened_way test first now next way c.in_ok-way.ensures));
+    }
+
+pub emit_groups-returns : goal.emit_groups-returns
+emit_groups-returns t c =
+    let scope = scope_in c.args.emitter.now.declarations.now in
+    let inside = statement_fragment scope in
+    let now = c.loop-one.code in
+    record {
+      same = λ other.
+          groups_done scope inside c.args.subjects.now other c.loop-one.ways.items c.args.selected.now c.loop-one.one-index now
+          (append now (phrase_fragment scope inside other now)) _ c.loop-one-test.false refl (c.loop-one.invariant.same other);
+      within = c.loop-one.invariant.within;
+    }
+
+pub emit_evaluate-emit_subjects-requires-clause-rules : goal.emit_evaluate-emit_subjects-requires-clause-rules
+emit_evaluate-emit_subjects-requires-clause-rules t c =
+    let scope = scope_in c.args.emitter.now.declarations.now in
+    subjects_of scope.items (statement_rules scope all_permitted) c.args.one.now c.requires.rules
+
+pub emit_evaluate-emit_groups-requires : goal.emit_evaluate-emit_groups-requires
+emit_evaluate-emit_groups-requires t c =
+    let scope = scope_in c.args.emitter.now.declarations.now in
+    let inside = statement_rules scope all_permitted in
+    let one = c.args.one.now in
+    let r : each (selected_rules scope.items inside c.as_slice.result.now) c.as_slice-2.result.now ≡ [] =
+    ap (λ (l : List Subject). each (selected_rules scope.items inside l) c.as_slice-2.result.now) c.as_slice.ensures
+    ∙ ap (each (selected_rules scope.items inside one.subjects)) c.as_slice-2.ensures ∙ groups_of scope.items inside one c.requires.rules in
+    (search (rules, the_lemmas), (c.requires.declared, (c.requires.entries, r)))
+
+pub emit_evaluate-emit_phrase-requires : goal.emit_evaluate-emit_phrase-requires
+emit_evaluate-emit_phrase-requires t c =
+    let scope = scope_in c.args.emitter.now.declarations.now in
+    (search (rules, the_lemmas), (c.requires.declared, (c.requires.entries, other_of scope.items (statement_rules scope all_permitted) c.args.one.now c.requires.rules)))
+
+pub emit_evaluate-emit_meetings-requires : goal.emit_evaluate-emit_meetings-requires
+emit_evaluate-emit_meetings-requires t c =
+    let scope = scope_in c.args.emitter.now.declarations.now in
+    let now = c.emit_groups.new.code in
+    let new = c.emit_phrase.new.code in
+    let part = phrase_fragment scope (statement_fragment scope) c.args.one.now.other now in
+    let longer : length new.instructions ≡ length now.instructions + length part.instructions =
+    ap (λ (k : Code). length k.instructions) c.in_ok-emit_phrase.ensures ∙ length-append now.instructions part.instructions in
+    still_ways c.in_ok-ways.ways.items (length now.instructions) (length new.instructions) (omega (arith, longer)) c.in_ok-ways.ensures.within
+
+pub emit_evaluate-returns : goal.emit_evaluate-returns
+emit_evaluate-returns t c =
+    let scope = scope_in c.args.emitter.now.declarations.now in
+    let inside = statement_fragment scope in
+    let old = c.args.code.now in
+    let one = c.args.one.now in
+    let now = c.emit_subjects.new.code in
+    let ways = c.in_ok-ways.ways.items in
+    on_ok c.emit_meetings.result c.emit_meetings.ensures
+    (λ (e : c.emit_meetings.new.code ≡ met_all ways c.emit_phrase.new.code).
+    then_piece (subjects_fragment scope.items one.subjects (first_object one.selected)) (selection_fragment scope inside one.subjects one.selected one.other) old now
+    c.emit_meetings.new.code c.in_ok-emit_subjects.ensures
+    (e ∙ ap (met_all ways) c.in_ok-emit_phrase.ensures ∙ c.in_ok-ways.ensures.same one.other
+    ∙ ap (λ (l : List Subject). append now (selection_fragment scope inside l c.as_slice-2.result.now one.other now)) c.as_slice.ensures
+    ∙ ap (λ (l : List (Selected Statement)). append now (selection_fragment scope inside one.subjects l one.other now)) c.as_slice-2.ensures))
+
+pub emit_until-emit_vary_begin-requires-clause-rules : goal.emit_until-emit_vary_begin-requires-clause-rules
+emit_until-emit_vary_begin-requires-clause-rules t c =
+    let scope = scope_in c.args.emitter.now.declarations.now in
+    front_kept (varying_rules scope.items c.args.one.now.varying) (condition_rules scope.items c.args.one.now.condition) c.requires.turns
+
+pub emit_until-returns-in-Before : goal.emit_until-returns-in-Before
+emit_until-returns-in-Before t c =
+    let scope = scope_in c.args.emitter.now.declarations.now in
+    let one = c.args.one.now in
+    let old = c.args.code.now in
+    let begin = vary_begin_fragment scope.items one.varying in
+    let test = condition_fragment scope.items one.condition in
+    let onward = vary_on_fragment scope.items one.varying in
+    let turn = turn_fragment scope (statement_fragment scope) c.args.line c.args.performed.now in
+    let turns = until_before_fragment test onward turn in
+    is_so c.emit_until_before.result c.emit_until_before.new.code (append old (sequence begin turns old)) (append old (until_fragment scope.items one turn old))
+    (ends_so c.emit_until_before.result begin turns old c.emit_vary_begin.new.code c.emit_until_before.new.code c.in_ok-emit_vary_begin.ensures c.emit_until_before.ensures)
+    (sym (ap (λ (w : TestTime). append old (sequence begin (until_from_fragment w test onward turn) old)) c.in-Before.is))
+
+pub emit_until-returns-in-After : goal.emit_until-returns-in-After
+emit_until-returns-in-After t c =
+    let scope = scope_in c.args.emitter.now.declarations.now in
+    let one = c.args.one.now in
+    let old = c.args.code.now in
+    let begin = vary_begin_fragment scope.items one.varying in
+    let test = condition_fragment scope.items one.condition in
+    let onward = vary_on_fragment scope.items one.varying in
+    let turn = turn_fragment scope (statement_fragment scope) c.args.line c.args.performed.now in
+    let turns = until_after_fragment test onward turn in
+    is_so c.emit_until_after.result c.emit_until_after.new.code (append old (sequence begin turns old)) (append old (until_fragment scope.items one turn old))
+    (ends_so c.emit_until_after.result begin turns old c.emit_vary_begin.new.code c.emit_until_after.new.code c.in_ok-emit_vary_begin.ensures c.emit_until_after.ensures)
+    (sym (ap (λ (w : TestTime). append old (sequence begin (until_from_fragment w test onward turn) old)) c.in-After.is))
+
+pub emit_until_before-emit_condition-requires-clause-rules : goal.emit_until_before-emit_condition-requires-clause-rules
+emit_until_before-emit_condition-requires-clause-rules t c =
+    let scope = scope_in c.args.emitter.now.declarations.now in
+    back_kept (varying_rules scope.items c.args.one.now.varying) (condition_rules scope.items c.args.one.now.condition) c.requires.turns
+
+pub emit_until_before-returns : goal.emit_until_before-returns
+emit_until_before-returns t c =
+    let scope = scope_in c.args.emitter.now.declarations.now in
+    let one = c.args.one.now in
+    let old = c.args.code.now in
+    let test = condition_fragment scope.items one.condition in
+    let turn = repetition_fragment (turn_fragment scope (statement_fragment scope) c.args.line c.args.performed.now) (sequence (vary_on_fragment scope.items one.varying) test) in
+    let branch = c.in_ok-branch.branch in
+    let other = c.in_ok-other.other in
+    on_ok c.emit_meeting.result c.emit_meeting.ensures
+    (λ (e : c.emit_meeting.new.code ≡ patched_code branch other c.emit_turn_before.new.code).
+    then_piece test (either_fragment nothing_fragment turn) old c.emit_condition.new.code c.emit_meeting.new.code c.in_ok-emit_condition.ensures
+    (meeting nothing_fragment turn c.emit_condition.new.code c.emit_branch.new.code c.emit_branch.new.code c.emit_jump.new.code c.emit_turn_before.new.code c.emit_meeting.new.code branch other
+    c.in_ok-branch.ensures.code c.in_ok-branch.ensures.address (sym (joined_nothing c.emit_branch.new.code)) c.in_ok-other.ensures.code c.in_ok-other.ensures.other c.in_ok-emit_turn_before.ensures e))
+
+pub emit_turn_before-emit_vary_on-requires-clause-rules : goal.emit_turn_before-emit_vary_on-requires-clause-rules
+emit_turn_before-emit_vary_on-requires-clause-rules t c =
+    let scope = scope_in c.args.emitter.now.declarations.now in
+    front_kept (varying_rules scope.items c.args.one.now.varying) (condition_rules scope.items c.args.one.now.condition) c.requires.turns
+
+pub emit_turn_before-emit_condition-requires-clause-rules : goal.emit_turn_before-emit_condition-requires-clause-rules
+emit_turn_before-emit_condition-requires-clause-rules t c =
+    let scope = scope_in c.args.emitter.now.declarations.now in
+    back_kept (varying_rules scope.items c.args.one.now.varying) (condition_rules scope.items c.args.one.now.condition) c.requires.turns
+
+pub emit_turn_before-returns : goal.emit_turn_before-returns
+emit_turn_before-returns t c =
+    let scope = scope_in c.args.emitter.now.declarations.now in
+    let one = c.args.one.now in
+    let old = c.args.code.now in
+    let result = c.emit_way_back.result in
+    let new = c.emit_way_back.new.code in
+    let test = condition_fragment scope.items one.condition in
+    let onward = vary_on_fragment scope.items one.varying in
+    let turn = turn_fragment scope (statement_fragment scope) c.args.line c.args.performed.now in
+    let behind = sequence onward test in
+    is_so result new (append old (sequence (sequence turn behind) (λ b. branch_code c.len-begin.result) old)) (append old (repetition_fragment turn behind old))
+    (ends_so result (sequence turn behind) (λ b. branch_code c.len-begin.result) old c.emit_condition.new.code new
+    (then_piece turn behind old c.emit_turn.new.code c.emit_condition.new.code c.in_ok-emit_turn.ensures
+    (then_piece onward test c.emit_turn.new.code c.emit_vary_on.new.code c.emit_condition.new.code c.in_ok-emit_vary_on.ensures c.in_ok-emit_condition.ensures))
+    c.emit_way_back.ensures)
+    (ap (λ n. append old (sequence (sequence turn behind) (λ b. branch_code n) old)) c.len-begin.ensures)
+
+pub emit_until_after-emit_condition-requires-clause-rules : goal.emit_until_after-emit_condition-requires-clause-rules
+emit_until_after-emit_condition-requires-clause-rules t c =
+    let scope = scope_in c.args.emitter.now.declarations.now in
+    back_kept (varying_rules scope.items c.args.one.now.varying) (condition_rules scope.items c.args.one.now.condition) c.requires.turns
+
+pub emit_until_after-emit_onward-requires-clause-rules : goal.emit_until_after-emit_onward-requires-clause-rules
+emit_until_after-emit_onward-requires-clause-rules t c =
+    let scope = scope_in c.args.emitter.now.declarations.now in
+    front_kept (varying_rules scope.items c.args.one.now.varying) (condition_rules scope.items c.args.one.now.condition) c.requires.turns
+
+pub emit_until_after-returns : goal.emit_until_after-returns
+emit_until_after-returns t c =
+    let scope = scope_in c.args.emitter.now.declarations.now in
+    let one = c.args.one.now in
+    let old = c.args.code.now in
+    let result = c.emit_way_back.result in
+    let new = c.emit_way_back.new.code in
+    let test = condition_fragment scope.items one.condition in
+    let way = either_fragment nothing_fragment (sequence (vary_on_fragment scope.items one.varying) (work_fragment i.ClearTruth)) in
+    let turn = turn_fragment scope (statement_fragment scope) c.args.line c.args.performed.now in
+    let behind = sequence test way in
+    is_so result new (append old (sequence (sequence turn behind) (λ b. branch_code c.len-begin.result) old)) (append old (repetition_fragment turn behind old))
+    (ends_so result (sequence turn behind) (λ b. branch_code c.len-begin.result) old c.emit_onward.new.code new
+    (then_piece turn behind old c.emit_turn.new.code c.emit_onward.new.code c.in_ok-emit_turn.ensures
+    (then_piece test way c.emit_turn.new.code c.emit_condition.new.code c.emit_onward.new.code c.in_ok-emit_condition.ensures c.in_ok-emit_onward.ensures))
+    c.emit_way_back.ensures)
+    (ap (λ n. append old (sequence (sequence turn behind) (λ b. branch_code n) old)) c.len-begin.ensures)
+
+pub emit_stringing-emit_string-requires-clause-sendings : goal.emit_stringing-emit_string-requires-clause-sendings
+emit_stringing-emit_string-requires-clause-sendings t c =
+    let items = (scope_in c.args.emitter.now.declarations.now).items in
+    ap (each (sending_rules items)) c.as_slice.ensures ∙ (keeps_string items c.args.one.now c.requires.string).sendings
+
+pub emit_stringing-emit_string-requires-clause-receiver : goal.emit_stringing-emit_string-requires-clause-receiver
+emit_stringing-emit_string-requires-clause-receiver t c =
+    let items = (scope_in c.args.emitter.now.declarations.now).items in
+    item_kept items receiver_item c.args.one.now.receiver (keeps_string items c.args.one.now c.requires.string).receiver
+
+pub emit_stringing-emit_string-requires-clause-pointer : goal.emit_stringing-emit_string-requires-clause-pointer
+emit_stringing-emit_string-requires-clause-pointer t c =
+    let items = (scope_in c.args.emitter.now.declarations.now).items in
+    pointer_kept items (only_length (items_named items c.args.one.now.receiver.item)) c.args.one.now.pointer (keeps_string items c.args.one.now c.requires.string).pointer
+
+pub emit_filing-emit_read-requires : goal.emit_filing-emit_read-requires
+emit_filing-emit_read-requires t c =
+    let scope = scope_in c.args.emitter.now.declarations.now in
+    let phrases = c.in-Read.phrases in
+    let d = rw c.in-Read.is at c.decreases in
+    let own : file_named_rules scope.items scope.files c.in-Read.file (read_rules scope.items scope.files c.in-Read.file.place c.in-Read.next c.in-Read.into c.in-Read.key phrases) ≡ [] = sym (ap (filing_rules scope.items scope.files) c.in-Read.is) ∙ c.requires.rules in
+    let inner : file_phrases_rules (statement_rules scope all_permitted) phrases ≡ [] =
+    sym (ap (λ (f : FileStatement Statement). file_phrases_rules (statement_rules scope all_permitted) (phrases_of f)) c.in-Read.is) ∙ c.requires.phrases in
+    (omega (arith, d), (c.requires.declared, (c.requires.entries, (own, inner))))
+
+pub emit_filing-emit_record-requires : goal.emit_filing-emit_record-requires
+emit_filing-emit_record-requires t c =
+    let scope = scope_in c.args.emitter.now.declarations.now in
+    let phrases = c.in-Write.phrases in
+    let d = rw c.in-Write.is at c.decreases in
+    let own : record_rules scope.items scope.files c.in-Write.record c.in-Write.from phrases ≡ [] = sym (ap (filing_rules scope.items scope.files) c.in-Write.is) ∙ c.requires.rules in
+    let inner : file_phrases_rules (statement_rules scope all_permitted) phrases ≡ [] =
+    sym (ap (λ (f : FileStatement Statement). file_phrases_rules (statement_rules scope all_permitted) (phrases_of f)) c.in-Write.is) ∙ c.requires.phrases in
+    (omega (arith, d), (c.requires.declared, (c.requires.entries, (own, inner))))
+
+pub emit_filing-emit_record-requires-in-Rewrite : goal.emit_filing-emit_record-requires-in-Rewrite
+emit_filing-emit_record-requires-in-Rewrite t c =
+    let scope = scope_in c.args.emitter.now.declarations.now in
+    let phrases = c.in-Rewrite.phrases in
+    let d = rw c.in-Rewrite.is at c.decreases in
+    let own : record_rules scope.items scope.files c.in-Rewrite.record c.in-Rewrite.from phrases ≡ [] = sym (ap (filing_rules scope.items scope.files) c.in-Rewrite.is) ∙ c.requires.rules in
+    let inner : file_phrases_rules (statement_rules scope all_permitted) phrases ≡ [] =
+    sym (ap (λ (f : FileStatement Statement). file_phrases_rules (statement_rules scope all_permitted) (phrases_of f)) c.in-Rewrite.is) ∙ c.requires.phrases in
+    (omega (arith, d), (c.requires.declared, (c.requires.entries, (own, inner))))
+
+pub emit_filing-emit_delete-requires : goal.emit_filing-emit_delete-requires
+emit_filing-emit_delete-requires t c =
+    let scope = scope_in c.args.emitter.now.declarations.now in
+    let phrases = c.in-Delete.phrases in
+    let d = rw c.in-Delete.is at c.decreases in
+    let own : file_named_rules scope.items scope.files c.in-Delete.file (delete_rules scope.items scope.files c.in-Delete.file.place phrases) ≡ [] = sym (ap (filing_rules scope.items scope.files) c.in-Delete.is) ∙ c.requires.rules in
+    let inner : file_phrases_rules (statement_rules scope all_permitted) phrases ≡ [] =
+    sym (ap (λ (f : FileStatement Statement). file_phrases_rules (statement_rules scope all_permitted) (phrases_of f)) c.in-Delete.is) ∙ c.requires.phrases in
+    (omega (arith, d), (c.requires.declared, (c.requires.entries, inner)))
+
+pub emit_filing-emit_starting-requires : goal.emit_filing-emit_starting-requires
+emit_filing-emit_starting-requires t c =
+    let scope = scope_in c.args.emitter.now.declarations.now in
+    let phrases = c.in-Start.phrases in
+    let d = rw c.in-Start.is at c.decreases in
+    let own : file_named_rules scope.items scope.files c.in-Start.file (start_rules scope.items scope.files c.in-Start.file.place c.in-Start.key phrases) ≡ [] = sym (ap (filing_rules scope.items scope.files) c.in-Start.is) ∙ c.requires.rules in
+    let inner : file_phrases_rules (statement_rules scope all_permitted) phrases ≡ [] =
+    sym (ap (λ (f : FileStatement Statement). file_phrases_rules (statement_rules scope all_permitted) (phrases_of f)) c.in-Start.is) ∙ c.requires.phrases in
+    (omega (arith, d), (c.requires.declared, (c.requires.entries, (own, inner))))
+
+pub emit_filing-returns-in-Read : goal.emit_filing-returns-in-Read
+emit_filing-returns-in-Read t c =
+    let scope = scope_in c.args.emitter.now.declarations.now in
+    let inside = statement_fragment scope in
+    let old = c.args.code.now in
+    let tick = tick_fragment c.args.line in
+    let verb = λ (file : ProgramFile). meaning.read_verb scope.items file c.in-Read.next c.in-Read.key in
+    let piece = on_name_fragment scope.items scope.files c.in-Read.file (statement_on_fragment scope inside c.in-Read.phrases (into_fragment scope.items c.in-Read.into) verb) in
+    let result = c.emit_read.result in
+    let new = c.emit_read.new.code in
+    is_so result new (append old (sequence tick piece old)) (append old (sequence tick (file_statement_fragment scope inside c.args.one.now) old))
+    (ends_so result tick piece old c.emit_tick.new.code new c.in_ok-emit_tick.ensures c.emit_read.ensures)
+    (sym (ap (λ (one : FileStatement Statement). append old (sequence tick (file_statement_fragment scope inside one) old)) c.in-Read.is))
+
+pub emit_read-read_verb-requires-clause-rules : goal.emit_read-read_verb-requires-clause-rules
+emit_read-read_verb-requires-clause-rules t c =
+    let scope = scope_in c.args.emitter.now.declarations.now in
+    let name = c.args.name.now in
+    let known = file_in scope.items c.in-Some.file.now in
+    let asked = read_rules scope.items scope.files name.place c.args.next c.args.into.now c.args.key.now c.args.phrases.now in
+    read_key_kept scope.items scope.files name.place c.args.next c.args.into.now c.args.key.now c.args.phrases.now known
+    (first_kept name.place asked (files_named scope.files name) known c.requires.rules c.in-Some.ensures)
+
+pub emit_read-emit_on_file-requires : goal.emit_read-emit_on_file-requires
+emit_read-emit_on_file-requires t c =
+    let scope = scope_in c.args.emitter.now.declarations.now in
+    let name = c.args.name.now in
+    let known = file_in scope.items c.in-Some.file.now in
+    let asked = read_rules scope.items scope.files name.place c.args.next c.args.into.now c.args.key.now c.args.phrases.now in
+    let into = read_into_kept scope.items scope.files name.place c.args.next c.args.into.now c.args.key.now c.args.phrases.now known
+    (first_kept name.place asked (files_named scope.files name) known c.requires.rules c.in-Some.ensures) in
+    (omega (arith, c.decreases), (c.requires.declared, (c.requires.entries, (into, c.requires.phrases))))
+
+pub emit_read-returns-in_default : goal.emit_read-returns-in_default
+emit_read-returns-in_default t c =
+    let scope = scope_in c.args.emitter.now.declarations.now in
+    let verb = λ (file : ProgramFile). meaning.read_verb scope.items file c.args.next c.args.key.now in
+    none_found (first (files_named scope.files c.args.name.now)) (statement_on_fragment scope (statement_fragment scope) c.args.phrases.now (into_fragment scope.items c.args.into.now) verb)
+    c.args.code.now c.in_default.ensures
+
+pub emit_read-returns : goal.emit_read-returns
+emit_read-returns t c =
+    let scope = scope_in c.args.emitter.now.declarations.now in
+    let inside = statement_fragment scope in
+    let old = c.args.code.now in
+    let phrases = c.args.phrases.now in
+    let known = file_in scope.items c.in-Some.file.now in
+    let found = first (files_named scope.files c.args.name.now) in
+    let piece = statement_on_fragment scope inside phrases (into_fragment scope.items c.args.into.now) (λ (file : ProgramFile). meaning.read_verb scope.items file c.args.next c.args.key.now) in
+    let behind = status_fragment scope inside known.places.status phrases (into_fragment scope.items c.args.into.now known) in
+    let made = sequence (file_fragment c.in_ok-verb.verb known) behind in
+    is_so c.emit_on_file.result c.emit_on_file.new.code (append old (made old)) (append old (on_file_fragment found piece old)) c.emit_on_file.ensures
+    (one_found found piece known made old c.in-Some.ensures (ap (λ (verb : Verb). sequence (file_fragment verb known) behind old) c.in_ok-verb.ensures))
+
+pub emit_record-emit_from-requires-clause-rules : goal.emit_record-emit_from-requires-clause-rules
+emit_record-emit_from-requires-clause-rules t c =
+    let scope = scope_in c.args.emitter.now.declarations.now in
+    record_from_kept scope.items scope.files c.args.one.now c.args.from.now c.args.phrases.now c.requires.rules
+
+pub emit_record-file_of_record-requires-clause-named : goal.emit_record-file_of_record-requires-clause-named
+emit_record-file_of_record-requires-clause-named t c =
+    let scope = scope_in c.args.emitter.now.declarations.now in
+    record_names_one scope.items scope.files c.args.one.now c.args.from.now c.args.phrases.now c.requires.rules
+
+pub emit_record-returns-in_default : goal.emit_record-returns-in_default
+emit_record-returns-in_default t c =
+    let scope = scope_in c.args.emitter.now.declarations.now in
+    let one = c.args.one.now in
+    let now = c.emit_from.new.code in
+    let found = file_with_record scope.files (first (items_named scope.items one.item)) in
+    let piece = alone_fragment scope (statement_fragment scope) c.args.phrases.now (λ (file : ProgramFile). c.args.verb) in
+    then_piece (from_fragment scope.items one c.args.from.now) (on_file_fragment found piece) c.args.code.now now now c.in_ok-emit_from.ensures
+    (none_found found piece now c.in_default.ensures)
+
+pub emit_record-returns : goal.emit_record-returns
+emit_record-returns t c =
+    let scope = scope_in c.args.emitter.now.declarations.now in
+    let inside = statement_fragment scope in
+    let old = c.args.code.now in
+    let now = c.emit_from.new.code in
+    let new = c.emit_on_file.new.code in
+    let result = c.emit_on_file.result in
+    let one = c.args.one.now in
+    let phrases = c.args.phrases.now in
+    let known = file_in scope.items c.in-Some.file.now in
+    let found = file_with_record scope.files (first (items_named scope.items one.item)) in
+    let piece = alone_fragment scope inside phrases (λ (file : ProgramFile). c.args.verb) in
+    let from = from_fragment scope.items one c.args.from.now in
+    ends_so result from (on_file_fragment found piece) old now new c.in_ok-emit_from.ensures
+    (is_so result new (append now (piece known now)) (append now (on_file_fragment found piece now)) c.emit_on_file.ensures
+    (one_found found piece known (piece known) now c.in-Some.ensures refl))
+
+pub emit_delete-returns-in_default : goal.emit_delete-returns-in_default
+emit_delete-returns-in_default t c =
+    let scope = scope_in c.args.emitter.now.declarations.now in
+    none_found (first (files_named scope.files c.args.name.now)) (alone_fragment scope (statement_fragment scope) c.args.phrases.now (λ (file : ProgramFile). file_verb.Delete))
+    c.args.code.now c.in_default.ensures
+
+pub emit_delete-returns : goal.emit_delete-returns
+emit_delete-returns t c =
+    let scope = scope_in c.args.emitter.now.declarations.now in
+    let old = c.args.code.now in
+    let known = file_in scope.items c.in-Some.file.now in
+    let found = first (files_named scope.files c.args.name.now) in
+    let piece = alone_fragment scope (statement_fragment scope) c.args.phrases.now (λ (file : ProgramFile). file_verb.Delete) in
+    is_so c.emit_on_file.result c.emit_on_file.new.code (append old (piece known old)) (append old (on_file_fragment found piece old)) c.emit_on_file.ensures
+    (one_found found piece known (piece known) old c.in-Some.ensures refl)
+
+pub emit_starting-start_verb-requires-clause-rules : goal.emit_starting-start_verb-requires-clause-rules
+emit_starting-start_verb-requires-clause-rules t c =
+    let scope = scope_in c.args.emitter.now.declarations.now in
+    let name = c.args.name.now in
+    let known = file_in scope.items c.in-Some.file.now in
+    let asked = start_rules scope.items scope.files name.place c.args.key.now c.args.phrases.now in
+    start_key_kept scope.items scope.files name.place c.args.key.now c.args.phrases.now known
+    (first_kept name.place asked (files_named scope.files name) known c.requires.rules c.in-Some.ensures)
+
+pub emit_starting-returns-in_default : goal.emit_starting-returns-in_default
+emit_starting-returns-in_default t c =
+    let scope = scope_in c.args.emitter.now.declarations.now in
+    let verb = λ (file : ProgramFile). meaning.start_verb scope.items file c.args.key.now in
+    none_found (first (files_named scope.files c.args.name.now)) (alone_fragment scope (statement_fragment scope) c.args.phrases.now verb) c.args.code.now c.in_default.ensures
+
+pub emit_starting-returns : goal.emit_starting-returns
+emit_starting-returns t c =
+    let scope = scope_in c.args.emitter.now.declarations.now in
+    let inside = statement_fragment scope in
+    let old = c.args.code.now in
+    let phrases = c.args.phrases.now in
+    let known = file_in scope.items c.in-Some.file.now in
+    let found = first (files_named scope.files c.args.name.now) in
+    let piece = alone_fragment scope inside phrases (λ (file : ProgramFile). meaning.start_verb scope.items file c.args.key.now) in
+    let behind = status_fragment scope inside known.places.status phrases nothing_fragment in
+    let made = sequence (file_fragment c.in_ok-verb.verb known) behind in
+    is_so c.emit_on_file.result c.emit_on_file.new.code (append old (made old)) (append old (on_file_fragment found piece old)) c.emit_on_file.ensures
+    (one_found found piece known made old c.in-Some.ensures (ap (λ (verb : Verb). sequence (file_fragment verb known) behind old) c.in_ok-verb.ensures))
+
+pub emit_on_file-returns : goal.emit_on_file-returns
+emit_on_file-returns t c =
+    let scope = scope_in c.args.emitter.now.declarations.now in
+    let inside = statement_fragment scope in
+    let old = c.args.code.now in
+    let phrases = c.args.phrases.now in
+    let known = file_in scope.items c.args.file.now in
+    let tested = c.emit_test.new.code in
+    let branched = c.emit_branch.new.code in
+    let done = c.emit_success.new.code in
+    let new = c.emit_meeting.new.code in
+    let file = file_fragment c.args.verb known in
+    let test = test_fragment Successful in
+    let into = into_fragment scope.items c.args.into.now known in
+    let success = success_fragment scope inside phrases in
+    let first_way = sequence into success in
+    let failure = failure_fragment scope inside known.places.status phrases in
+    let ways = either_fragment first_way failure in
+    let branch = c.in_ok-branch.branch in
+    let other = c.in_ok-other.other in
+    on_ok c.emit_meeting.result c.emit_meeting.ensures
+    (λ (m : new ≡ patched_code branch other c.emit_failure.new.code).
+    then_piece file (sequence test ways) old c.emit_file.new.code new c.in_ok-emit_file.ensures
+    (then_piece test ways c.emit_file.new.code tested new c.in_ok-emit_test.ensures
+    (meeting first_way failure tested branched done c.emit_jump.new.code c.emit_failure.new.code new branch other
+    c.in_ok-branch.ensures.code c.in_ok-branch.ensures.address
+    (then_piece into success branched c.emit_into.new.code done c.in_ok-emit_into.ensures c.in_ok-emit_success.ensures)
+    c.in_ok-other.ensures.code c.in_ok-other.ensures.other c.in_ok-emit_failure.ensures m)))
+
+pub emit_success-emit_phrase-requires : goal.emit_success-emit_phrase-requires
+emit_success-emit_phrase-requires t c =
+    let inside = statement_rules (scope_in c.args.emitter.now.declarations.now) all_permitted in
+    let pair = c.in-AtEnd.pair in
+    let d = rw c.in-AtEnd.is at c.decreases in
+    let r : phrases_rules inside pair ≡ [] = sym (ap (file_phrases_rules inside) c.in-AtEnd.is) ∙ c.requires.phrases in
+    (omega (arith, d), (c.requires.declared, (c.requires.entries, back_kept (phrase_rules inside pair.arose) (phrase_rules inside pair.did_not) r)))
+
+pub emit_success-emit_phrase-requires-in-InvalidKey : goal.emit_success-emit_phrase-requires-in-InvalidKey
+emit_success-emit_phrase-requires-in-InvalidKey t c =
+    let inside = statement_rules (scope_in c.args.emitter.now.declarations.now) all_permitted in
+    let pair = c.in-InvalidKey.pair in
+    let d = rw c.in-InvalidKey.is at c.decreases in
+    let r : phrases_rules inside pair ≡ [] = sym (ap (file_phrases_rules inside) c.in-InvalidKey.is) ∙ c.requires.phrases in
+    (omega (arith, d), (c.requires.declared, (c.requires.entries, back_kept (phrase_rules inside pair.arose) (phrase_rules inside pair.did_not) r)))
+
+pub emit_failure-emit_class_phrase-requires : goal.emit_failure-emit_class_phrase-requires
+emit_failure-emit_class_phrase-requires t c =
+    let inside = statement_rules (scope_in c.args.emitter.now.declarations.now) all_permitted in
+    let pair = c.in-AtEnd.pair in
+    let d = rw c.in-AtEnd.is at c.decreases in
+    let r : phrases_rules inside pair ≡ [] = sym (ap (file_phrases_rules inside) c.in-AtEnd.is) ∙ c.requires.phrases in
+    (omega (arith, d), (c.requires.declared, (c.requires.entries, front_kept (phrase_rules inside pair.arose) (phrase_rules inside pair.did_not) r)))
+
+pub emit_failure-emit_class_phrase-requires-in-InvalidKey : goal.emit_failure-emit_class_phrase-requires-in-InvalidKey
+emit_failure-emit_class_phrase-requires-in-InvalidKey t c =
+    let inside = statement_rules (scope_in c.args.emitter.now.declarations.now) all_permitted in
+    let pair = c.in-InvalidKey.pair in
+    let d = rw c.in-InvalidKey.is at c.decreases in
+    let r : phrases_rules inside pair ≡ [] = sym (ap (file_phrases_rules inside) c.in-InvalidKey.is) ∙ c.requires.phrases in
+    (omega (arith, d), (c.requires.declared, (c.requires.entries, front_kept (phrase_rules inside pair.arose) (phrase_rules inside pair.did_not) r)))
+
+pub emit_class_phrase-returns : goal.emit_class_phrase-returns
+emit_class_phrase-returns t c =
+    let scope = scope_in c.args.emitter.now.declarations.now in
+    let old = c.args.code.now in
+    let tested = c.emit_test.new.code in
+    let new = c.emit_meeting.new.code in
+    let status = (file_in scope.items c.args.file.now).places.status in
+    let test = test_fragment c.args.class in
+    let first_way = taken_fragment scope (statement_fragment scope) status c.args.arose.now in
+    let unheard = unheard_fragment status in
+    let branch = c.in_ok-branch.branch in
+    let other = c.in_ok-other.other in
+    on_ok c.emit_meeting.result c.emit_meeting.ensures
+    (λ (m : new ≡ patched_code branch other c.emit_unheard.new.code).
+    then_piece test (either_fragment first_way unheard) old tested new c.in_ok-emit_test.ensures
+    (meeting first_way unheard tested c.emit_branch.new.code c.emit_phrase_taken.new.code c.emit_jump.new.code c.emit_unheard.new.code new branch other
+    c.in_ok-branch.ensures.code c.in_ok-branch.ensures.address c.in_ok-emit_phrase_taken.ensures c.in_ok-other.ensures.code c.in_ok-other.ensures.other
+    c.in_ok-emit_unheard.ensures m))
+
+pub emit_phrase_taken-emit_statements-requires : goal.emit_phrase_taken-emit_statements-requires
+emit_phrase_taken-emit_statements-requires t c =
+    let scope = scope_in c.args.emitter.now.declarations.now in
+    let e : c.args.phrase.now ≡ Some c.as_slice.result.now = c.in-Some.is ∙ ap (λ (l : List Statement). Some l) (sym c.as_slice.ensures) in
+    let d = rw e at c.decreases in (
+      omega (arith, d),
+      (c.requires.declared, (c.requires.entries, sym (ap (phrase_rules (statement_rules scope all_permitted)) e) ∙ c.requires.rules)),
+    )
+
+pub emit_stringing-returns : goal.emit_stringing-returns
+emit_stringing-returns t c =
+    let scope = scope_in c.args.emitter.now.declarations.now in
+    let one = c.args.one.now in
+    let old = c.args.code.now in
+    let ticked = c.emit_tick.new.code in
+    let put = c.emit_string.new.code in
+    let new = c.emit_phrases.new.code in
+    let result = c.emit_phrases.result in
+    let tick = tick_fragment c.args.line in
+    let text = string_fragment scope.items one.sendings one.receiver one.pointer in
+    let phrases = phrases_fragment scope (statement_fragment scope) one.phrases in
+    let is : put ≡ append ticked (text ticked) =
+    c.in_ok-emit_string.ensures ∙ ap (λ (all : List Sending). append ticked (string_fragment scope.items all one.receiver one.pointer ticked)) c.as_slice.ensures in
+    ends_so result tick (sequence text phrases) old ticked new c.in_ok-emit_tick.ensures (ends_so result text phrases ticked put new is c.emit_phrases.ensures)

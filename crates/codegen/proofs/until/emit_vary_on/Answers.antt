@@ -1,0 +1,43 @@
+use Rattle.std.proofs.Common.{false, Option, sym, ap, ◌∙◌}
+use Rattle.source_tree.specs.declared.expression.Operator.TheVariants as operator
+use Rattle.source_tree.specs.declared.until.Varying.{Varying}
+use Rattle.source_tree.specs.ConditionRules.{varying_rules}
+use Rattle.data_instructions.specs.declared.instruction.DataInstruction.{DataInstruction}
+use Rattle.data_instructions.specs.declared.instruction.DataInstruction.TheVariants as i
+use Rattle.declarations.specs.Named.{items_in}
+use Rattle.code_builder.specs.Pieces.{append, sequence}
+use Rattle.code_builder.specs.DataCode.{work_fragment}
+use Rattle.code_builder.specs.ExpressionCode.{value_fragment}
+use Rattle.arithmetic_code.specs.ArithmeticCode.{update_fragment}
+use Rattle.codegen.specs.UntilCode.{vary_on_fragment}
+use Rattle.code_builder.proofs.Sequences.{is_so, ends_so}
+use Rattle.codegen.proofs.Varying.{varied, by_kept, varied_kept, vary_on_is}
+use Rattle.codegen.proofs.until.emit_vary_on.Goals as goal
+
+pub emit_value-requires-clause-rules : goal.emit_value-requires-clause-rules
+emit_value-requires-clause-rules c =
+    let items = items_in c.args.emitter.now.declarations.now in
+    by_kept items c.in-Some.varying (sym (ap (varying_rules items) c.in-Some.is) ∙ c.requires.rules)
+
+pub emit_update-requires-clause-rules : goal.emit_update-requires-clause-rules
+emit_update-requires-clause-rules c =
+    let items = items_in c.args.emitter.now.declarations.now in
+    varied_kept items c.in-Some.varying (sym (ap (varying_rules items) c.in-Some.is) ∙ c.requires.rules)
+
+pub returns : goal.returns
+returns c =
+    let items = items_in c.args.emitter.now.declarations.now in
+    let one = c.in-Some.varying in
+    let old = c.args.code.now in
+    let result = c.emit_work-2.result in
+    let new = c.emit_work-2.new.code in
+    let clear = work_fragment i.ClearTruth in
+    let value = value_fragment items one.by in
+    let update = update_fragment items false operator.Add (varied one) in
+    let last = work_fragment c.discard.result in
+    is_so result new (append old (sequence clear (sequence value (sequence update last)) old)) (append old (vary_on_fragment items c.args.one.now old))
+    (ends_so result clear (sequence value (sequence update last)) old c.emit_work.new.code new c.in_ok-emit_work.ensures
+    (ends_so result value (sequence update last) c.emit_work.new.code c.emit_value.new.code new c.in_ok-emit_value.ensures
+    (ends_so result update last c.emit_value.new.code c.emit_update.new.code new c.in_ok-emit_update.ensures c.emit_work-2.ensures)))
+    (ap (λ (d : DataInstruction). append old (sequence clear (sequence value (sequence update (work_fragment d))) old)) c.discard.ensures
+    ∙ ap (append old) (vary_on_is items one old) ∙ sym (ap (λ (o : Option Varying). append old (vary_on_fragment items o old)) c.in-Some.is))

@@ -1,0 +1,103 @@
+-- The code of conditions without AND and OR is straight: it counts nothing and leads nowhere.
+use Rattle.std.proofs.Common.{◌≡◌, ℕ, zero, suc, Bool, List, [], ◌∷◌, Option, Some, None, refl}
+use Rattle.std.specs.Prelude.{slice_get, not}
+use Rattle.std.specs.List.{AllByRecursion}
+use Rattle.source_tree.specs.declared.literal.Literal.{Literal}
+use Rattle.source_tree.specs.declared.entry.ValueRange.{ValueRange}
+use Rattle.source_tree.specs.declared.reference.Reference.{Reference}
+use Rattle.source_tree.specs.declared.expression.Operand.{Operand}
+use Rattle.source_tree.specs.declared.expression.Operand.TheVariants as operand
+use Rattle.source_tree.specs.declared.expression.Expression.{Expression}
+use Rattle.source_tree.specs.declared.condition.Relation.{Relation}
+use Rattle.source_tree.specs.declared.condition.Class.{Class}
+use Rattle.source_tree.specs.declared.condition.Side.{Side}
+use Rattle.source_tree.specs.declared.condition.Side.TheVariants as side
+use Rattle.source_tree.specs.ConditionRules.{relation_rules}
+use Rattle.source_tree.specs.Conditions.{alone_side}
+use Rattle.source_tree.specs.LookUp.{NamedCondition, all_conditions}
+use Rattle.source_tree.specs.NameRules.{operand_rules, form_rule}
+use Rattle.source_tree.specs.Places.{LocatedItem}
+use Rattle.source_tree.specs.ValueRules.{has_form}
+use Rattle.literals.proofs.Forms.{sender_formed}
+use Rattle.data_instructions.specs.declared.test.Test.TheVariants as t
+use Rattle.data_instructions.specs.declared.instruction.DataInstruction.TheVariants as i
+use Rattle.data_instructions.specs.ConditionCodes.{negation}
+use Rattle.code_builder.specs.Pieces.{sequence}
+use Rattle.code_builder.specs.DataCode.{dimensions_of, work_fragment, works_fragment, number_fragment, subscripts_fragment, take_fragment, sender_fragment}
+use Rattle.code_builder.specs.ExpressionCode.{zero_number, expression_fragment}
+use Rattle.code_builder.specs.Values.{HasForms, AreFormedValues}
+use Rattle.code_builder.specs.ConditionNumbers.{condition_number, condition_item, values_of, values_named}
+use Rattle.condition_code.specs.ConditionCode.{range_fragment, value_range_fragment, values_fragment, condition_name_fragment, compared_fragment, side_fragment, relation_from, relation_fragment}
+use Rattle.code_builder.proofs.ExpressionStraight.{value_straight, expression_straight}
+use Rattle.condition_code.proofs.ConditionCodes.{KeepsRelation, keeps_relation, alone_keeps}
+use Rattle.code_builder.proofs.ConditionValues.{AreFormed}
+use Rattle.code_builder.proofs.Integers.{kept, not_false}
+use Rattle.code_builder.proofs.Straight.{AlwaysStraight, both_straight, nothing_straight, works_straight, work_straight, number_straight, subscripts_straight, taking_straight, sender_straight}
+
+range_straight : (from : Literal) (last : Option Literal) → HasForms from last → AlwaysStraight (range_fragment from last)
+range_straight from None h before = record { instructions = (tt, tt); starts = refl; files = refl; areas = refl; items = refl; senders = (sender_formed from.value h, tt); inspections = tt }
+range_straight from (Some last) h before = record { instructions = (tt, tt); starts = refl; files = refl; areas = refl; items = refl; senders = (sender_formed from.value h.0, (sender_formed last.value h.1, tt)); inspections = tt }
+
+values_straight : (all : List ValueRange) → AreFormedValues all → AlwaysStraight (values_fragment all)
+values_straight [] h before = nothing_straight
+values_straight (one ∷ more) h before = both_straight (value_range_fragment one) (values_fragment more) (range_straight one.first one.last h.0) (values_straight more h.1) before
+
+-- the values of the condition name of a number, if there is one
+values_at : (all : List NamedCondition) → AllByRecursion (λ (one : NamedCondition). AreFormedValues one.condition.values) all → (n : ℕ) → AreFormedValues (values_of (slice_get all n))
+values_at [] h n = tt
+values_at (one ∷ more) h zero = h.0
+values_at (one ∷ more) h (suc n) = values_at more h.1 n
+
+module _ (items : List LocatedItem) where
+  compared_straight : (one : Relation) (other : Operand) → operand_rules items other ≡ [] → AlwaysStraight (compared_fragment items one other)
+  compared_straight one (operand.Item reference) e before = taking_straight items (i.Test (t.Compare one)) reference before
+  compared_straight one (operand.Literal literal) e before = record {
+    instructions = (tt, tt);
+    starts = refl;
+    files = refl;
+    areas = refl;
+    items = refl;
+    senders = (sender_formed literal.value (not_false (has_form literal.value) (kept (not (has_form literal.value)) (form_rule literal.value) literal.place e)), tt);
+    inspections = tt;
+  }
+
+  side_straight : (one : Side) → AlwaysStraight (side_fragment items one)
+  side_straight (side.Expression one) = expression_straight items one
+  side_straight (side.Literal one) = value_straight items (operand.Literal one)
+
+  sides_straight : (left : Side) (one : Relation) (right : Side) → AlwaysStraight (sequence (side_fragment items left) (sequence (side_fragment items right) (work_fragment (i.Test (t.CompareNumbers one)))))
+  sides_straight left one right =
+      both_straight (side_fragment items left) (sequence (side_fragment items right) (work_fragment (i.Test (t.CompareNumbers one)))) (side_straight left)
+      (both_straight (side_fragment items right) (work_fragment (i.Test (t.CompareNumbers one))) (side_straight right) (work_straight (i.Test (t.CompareNumbers one))))
+
+  relation_from_straight : (a b : Option Operand) (left : Side) (one : Relation) (right : Side) → alone_side left ≡ a → alone_side right ≡ b → KeepsRelation items left right
+      → AlwaysStraight (relation_from items a b left one right)
+  relation_from_straight (Some a) (Some b) left one right is other k =
+      both_straight (sender_fragment items a) (compared_fragment items one b) (sender_straight items a (alone_keeps items left a is k.left_keeps))
+      (compared_straight one b (alone_keeps items right b other k.right_keeps))
+  relation_from_straight (Some a) None left one right is other k = sides_straight left one right
+  relation_from_straight None (Some b) left one right is other k = sides_straight left one right
+  relation_from_straight None None left one right is other k = sides_straight left one right
+
+  pub relation_straight : (left : Side) (one : Relation) (right : Side) → relation_rules items left right ≡ [] → AlwaysStraight (relation_fragment items left one right)
+  relation_straight left one right e = relation_from_straight (alone_side left) (alone_side right) left one right refl refl (keeps_relation items left right e)
+
+  pub sign_straight : (value : Expression) (one : Relation) → AlwaysStraight (sequence (expression_fragment items value) (sequence (number_fragment zero_number) (work_fragment (i.Test (t.CompareNumbers one)))))
+  sign_straight value one =
+      both_straight (expression_fragment items value) (sequence (number_fragment zero_number) (work_fragment (i.Test (t.CompareNumbers one)))) (expression_straight items value)
+      (both_straight (number_fragment zero_number) (work_fragment (i.Test (t.CompareNumbers one))) (number_straight zero_number) (work_straight (i.Test (t.CompareNumbers one))))
+
+  pub class_straight : (reference : Reference) (negated : Bool) (one : Class) → AlwaysStraight (sequence (take_fragment items (i.Test (t.Class one)) reference) (works_fragment (negation negated)))
+  class_straight reference negated one =
+      both_straight (take_fragment items (i.Test (t.Class one)) reference) (works_fragment (negation negated)) (taking_straight items (i.Test (t.Class one)) reference) (works_straight (negation negated))
+
+  pub name_straight : AreFormed items → (one : Reference) → AlwaysStraight (condition_name_fragment items one)
+  name_straight formed one =
+      let dimensions = dimensions_of (slice_get items (condition_item items one.item).number) in
+      let subscripts = subscripts_fragment items dimensions one.subscripts in
+      let taking = works_fragment (i.Take ∷ i.ClearTruth ∷ []) in
+      let values = values_fragment (values_named items one.item) in
+      both_straight (work_fragment (i.Place (condition_item items one.item))) (sequence subscripts (sequence taking values)) (work_straight (i.Place (condition_item items one.item)))
+      (both_straight subscripts (sequence taking values) (subscripts_straight items dimensions one.subscripts)
+      (both_straight taking values (works_straight (i.Take ∷ i.ClearTruth ∷ []))
+      (values_straight (values_named items one.item) (values_at (all_conditions items) formed (condition_number items one.item)))))

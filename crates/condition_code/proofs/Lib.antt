@@ -1,0 +1,14 @@
+pub mod ConditionForms
+pub mod ConditionBlind
+pub mod ConditionLayers
+pub mod EvaluateKept
+pub mod SubjectFaults
+pub mod Questions
+pub mod SubjectLooks
+pub mod Sides
+pub mod ConditionCodes
+pub mod ConditionDoes
+pub mod SubjectsDo
+pub mod ConditionStraight
+pub mod ConditionFlows
+pub mod ConditionMeets

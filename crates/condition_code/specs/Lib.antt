@@ -1,0 +1,3 @@
+pub mod ConditionCode
+pub mod SubjectCode
+pub mod Sides

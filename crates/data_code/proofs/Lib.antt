@@ -1,0 +1,14 @@
+pub mod BlindStrings
+pub mod DataBlind
+pub mod NewBytes
+pub mod PatternCodes
+pub mod StringCodes
+pub mod InspectLists
+pub mod InspectMaking
+pub mod InspectKept
+pub mod InspectCodes
+pub mod TextDoing
+pub mod StringStraight
+pub mod DataStraight
+pub mod Inspections
+pub mod TextStraight

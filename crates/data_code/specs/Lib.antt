@@ -1,0 +1,4 @@
+pub mod PatternCode
+pub mod StringCode
+pub mod InspectCode
+pub mod StatementCode

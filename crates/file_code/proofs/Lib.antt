@@ -1,0 +1,11 @@
+pub mod FilingKept
+pub mod OneNamed
+pub mod OnFiles
+pub mod StorageItems
+pub mod HasFiles
+pub mod Described
+pub mod FileDoing
+pub mod IntoDoing
+pub mod FileTable
+pub mod SentItems
+pub mod CodeFiles

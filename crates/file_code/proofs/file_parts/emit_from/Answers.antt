@@ -1,0 +1,30 @@
+use Rattle.std.proofs.Common.{◌≡◌, [], ◌∷◌, sym, ap, ◌∙◌}
+use Rattle.source_tree.specs.declared.reference.Reference.{Reference}
+use Rattle.source_tree.specs.declared.expression.Operand.TheVariants.{Item}
+use Rattle.source_tree.specs.Broken.{each}
+use Rattle.source_tree.specs.FilingRules.{from_rules}
+use Rattle.source_tree.specs.NameRules.{subscript_rules, reference_rules, any_item, operand_rules}
+use Rattle.source_tree.specs.MoveRules.{sent_by, receives, move_rules}
+use Rattle.declarations.specs.Named.{items_in, files_in}
+use Rattle.code_builder.proofs.Kept.{front_kept, back_kept, item_kept, subscripts_kept}
+use Rattle.file_code.proofs.file_parts.emit_from.Goals as goal
+
+pub emit_taking-requires-clause-rules : goal.emit_taking-requires-clause-rules
+emit_taking-requires-clause-rules c =
+    let items = items_in c.args.emitter.now.declarations.now in
+    let files = files_in c.args.emitter.now.declarations.now in
+    let from = c.in-Some.from in
+    let to = c.args.to.now in
+    let r : move_rules items (Item from) (to ∷ []) ≡ [] = sym (ap (from_rules items files to) c.in-Some.is) ∙ c.requires.rules in
+    item_kept items any_item from (front_kept (operand_rules items (Item from)) (each (reference_rules items (receives (sent_by items (Item from)))) (to ∷ [])) r)
+
+pub emit_receivers-requires-clause-rules : goal.emit_receivers-requires-clause-rules
+emit_receivers-requires-clause-rules c =
+    let items = items_in c.args.emitter.now.declarations.now in
+    let files = files_in c.args.emitter.now.declarations.now in
+    let from = c.in-Some.from in
+    let to = c.args.to.now in
+    let asked = receives (sent_by items (Item from)) in
+    let r : move_rules items (Item from) (to ∷ []) ≡ [] = sym (ap (from_rules items files to) c.in-Some.is) ∙ c.requires.rules in
+    ap (each (λ (one : Reference). each (subscript_rules items) one.subscripts)) c.from_ref.ensures.value
+    ∙ subscripts_kept items asked (to ∷ []) (back_kept (operand_rules items (Item from)) (each (reference_rules items asked) (to ∷ [])) r)

@@ -1,0 +1,17 @@
+use Rattle.std.proofs.Common.{◌≡◌, Option, refl, ap, ◌∙◌}
+use Rattle.picture.specs.declared.picture.Picture.{Picture}
+use Rattle.data_instructions.specs.declared.tables.DataItem.{DataItem}
+use Rattle.file_descriptions.specs.Files.{file_in}
+use Rattle.declarations.specs.Named.{items_in}
+use Rattle.file_code.specs.FileCode.{sent_entry}
+use Rattle.file_code.specs.Sent.{edits, first_editing}
+use Rattle.file_code.proofs.StorageItems.{first_is}
+use Rattle.file_code.proofs.storage.sent_entry.Goals as goal
+
+pub returns : goal.returns
+returns c =
+    let items = items_in c.args.declarations.now in
+    let file = c.args.file.now in
+    ap (λ (editing : Option Picture). record (sent_entry items (file_in items file)) { editing = editing })
+    (c.in_ok-sent_editing.ensures ∙ ap (first_editing (edits file)) (c.as_slice.ensures ∙ c.requires.items)
+    ∙ first_is file (file_in items file) items refl refl)

@@ -1,0 +1,4 @@
+pub mod FileCode
+pub mod Sent
+pub mod Filed
+pub mod StorageCode

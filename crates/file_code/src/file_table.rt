@@ -1,0 +1,60 @@
+//! The table of files of code.
+
+ghost use Rattle.std.specs.Prelude.{◌≡◌, IfOk};
+ghost use Rattle.std.specs.Option.{option_map};
+ghost use Rattle.declarations.specs.Named.{IsDeclared, items_in, files_in};
+ghost use Rattle.file_code.specs.FileCode as spec;
+ghost use Rattle.file_code.specs.Sent.{code_in};
+
+use code_builder::entry_number;
+use data_instructions::ItemIndex;
+use declarations::Declarations;
+use file_descriptions::ProgramFile;
+use file_image::CodeFile;
+use sqlite_items::Items;
+use std::alloc::{AllocError, Global};
+
+/// The files, in the order of their SELECTs.
+pub(crate) fn code_files(
+    alloc: Global,
+    declarations: &Declarations<'_>,
+) -> Result<Items<CodeFile>, AllocError>
+    requires { IsDeclared declarations.now }
+    ensures { IfOk result (λ files. files ≡ spec.code_files (items_in declarations.now) declarations.now.selects.now (files_in declarations.now)) }
+{
+    let mut files = Items::new(alloc);
+    for file in &declarations.files.files {
+        files.push(code_file(alloc, file)?)?;
+    }
+    Ok(files)
+}
+
+/// The item of a clause, by its number.
+fn clause_index(number: Option<usize>) -> Result<Option<ItemIndex>, AllocError>
+    ensures { IfOk result (λ index. index ≡ option_map spec.index_at number) }
+{
+    let Some(number) = number else {
+        return Ok(None);
+    };
+    let number = entry_number(number)?;
+    Ok(Some(ItemIndex { number }))
+}
+
+/// What code has of a file.
+fn code_file(alloc: Global, file: &ProgramFile<'_>) -> Result<CodeFile, AllocError>
+    ensures { IfOk result (λ code. code ≡ code_in file.now) }
+{
+    let name = Items::from_slice(alloc, file.select.assigned.characters.as_slice())?;
+    let alternates = Items::from_slice(alloc, file.alternates.as_slice())?;
+    Ok(CodeFile {
+        name,
+        organization: file.organization,
+        record_length: file.record_length,
+        alternates,
+        access: file.select.access,
+        optional: file.select.optional,
+        area: file.area,
+        relative_key: clause_index(file.relative_key)?,
+        status: clause_index(file.status)?,
+    })
+}
