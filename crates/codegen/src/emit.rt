@@ -13,12 +13,10 @@ ghost use Rattle.declarations.specs.Named.{IsDeclared, items_in, scope_in};
 ghost use Rattle.code_builder.specs.Pieces.{append, in_order};
 ghost use Rattle.codegen.specs.Layout.{stop_run_fragment, conditional_fragment, control_fragment, range_fragment, turn_fragment, perform_fragment, phrase_fragment, phrases_fragment, arithmetic_statement_fragment, statement_fragment, sentence_fragment, start_fragment, back_fragment, paragraph_fragment, section_fragment, end_fragment, string_statement_fragment};
 
-use crate::evaluate_statement::emit_evaluate;
-use crate::file_statement::emit_filing;
-use crate::times::{count_of, emit_counted, emit_times};
-use crate::until::emit_until;
+use crate::statement_emitter::StatementEmitter;
+use crate::times::count_of;
 use arithmetic_code::emit_arithmetic;
-use code_builder::{Emitter, emit_branch, emit_jump, emit_meeting, emit_tick};
+use code_builder::{emit_branch, emit_jump, emit_meeting, emit_tick};
 use code_image::{Code, Instruction, ParagraphIndex};
 use condition_code::emit_condition;
 use data_code::{emit_moving, emit_string, emit_texts};
@@ -87,318 +85,313 @@ pub(crate) fn emit_end(code: &mut Code) -> Result<(), AllocError>
     Ok(())
 }
 
-/// A statement, with those in it.
-#[cycle(statement)]
-#[tactic(auto, using(crate::proofs::Layers::statement_is))]
-fn emit_statement(emitter: &Emitter<'_>, code: &mut Code, one: &Statement) -> Result<(), AllocError>
-    requires declared { IsDeclared emitter.now.declarations.now }
-    requires entries { entry_rules emitter.now.declarations.now.storage.now ≡ [] }
-    requires rules { rules.statement_rules (scope_in emitter.now.declarations.now) all_permitted one.now ≡ [] }
-    ensures { OnOk result (code.new ≡ append code.old (statement_fragment (scope_in emitter.now.declarations.now) one.now code.old)) }
-{
-    let line = one.place.line;
-    match &one.verb {
-        Verb::DataStatement(moving) => emit_moving(emitter, code, line, moving),
-        Verb::Arithmetic(arithmetic) => emit_calculating(emitter, code, line, arithmetic),
-        Verb::ConditionalStatement(branching) => emit_branching(emitter, code, line, branching),
-        Verb::PerformStatement(performing) => emit_performing(emitter, code, line, performing),
-        Verb::Text(text) => emit_texts(emitter, code, line, text),
-        Verb::StringStatement(stringing) => emit_stringing(emitter, code, line, stringing),
-        Verb::FileStatement(filing) => emit_filing(emitter, code, line, filing),
-        Verb::ControlStatement(ending) => emit_ending(code, line, *ending),
-    }
-}
-
-/// An arithmetic statement, with those in its phrases.
-#[cycle(statement)]
-fn emit_calculating(
-    emitter: &Emitter<'_>,
-    code: &mut Code,
-    line: u32,
-    one: &Arithmetic<Statement>,
-) -> Result<(), AllocError>
-    requires declared { IsDeclared emitter.now.declarations.now }
-    requires entries { entry_rules emitter.now.declarations.now.storage.now ≡ [] }
-    requires operation { operation_rules (items_in emitter.now.declarations.now) one.now.operation ≡ [] }
-    requires arose { rules.phrase_rules (rules.statement_rules (scope_in emitter.now.declarations.now) all_permitted) one.now.phrases.arose ≡ [] }
-    requires did_not { rules.phrase_rules (rules.statement_rules (scope_in emitter.now.declarations.now) all_permitted) one.now.phrases.did_not ≡ [] }
-    ensures { OnOk result (code.new ≡ append code.old (arithmetic_statement_fragment (scope_in emitter.now.declarations.now) (statement_fragment (scope_in emitter.now.declarations.now)) line one.now code.old)) }
-{
-    emit_tick(code, line)?;
-    emit_arithmetic(emitter, code, one.phrases.arose.is_some(), &one.operation)?;
-    emit_phrases(emitter, code, &one.phrases)
-}
-
-/// STRING, with the statements in its phrases.
-#[cycle(statement)]
-pub(crate) fn emit_stringing(
-    emitter: &Emitter<'_>,
-    code: &mut Code,
-    line: u32,
-    one: &StringStatement<Statement>,
-) -> Result<(), AllocError>
-    requires declared { IsDeclared emitter.now.declarations.now }
-    requires entries { entry_rules emitter.now.declarations.now.storage.now ≡ [] }
-    requires string { string_rules (items_in emitter.now.declarations.now) one.now ≡ [] }
-    requires arose { rules.phrase_rules (rules.statement_rules (scope_in emitter.now.declarations.now) all_permitted) one.now.phrases.arose ≡ [] }
-    requires did_not { rules.phrase_rules (rules.statement_rules (scope_in emitter.now.declarations.now) all_permitted) one.now.phrases.did_not ≡ [] }
-    ensures { OnOk result (code.new ≡ append code.old (string_statement_fragment (scope_in emitter.now.declarations.now) (statement_fragment (scope_in emitter.now.declarations.now)) line one.now code.old)) }
-{
-    emit_tick(code, line)?;
-    emit_string(
-        emitter,
-        code,
-        one.sendings.as_slice(),
-        &one.receiver,
-        &one.pointer,
-    )?;
-    emit_phrases(emitter, code, &one.phrases)
-}
-
-/// The phrases, where one stands.
-#[cycle(statement)]
-pub(crate) fn emit_phrases(
-    emitter: &Emitter<'_>,
-    code: &mut Code,
-    one: &Phrases<Statement>,
-) -> Result<(), AllocError>
-    requires declared { IsDeclared emitter.now.declarations.now }
-    requires entries { entry_rules emitter.now.declarations.now.storage.now ≡ [] }
-    requires arose { rules.phrase_rules (rules.statement_rules (scope_in emitter.now.declarations.now) all_permitted) one.now.arose ≡ [] }
-    requires did_not { rules.phrase_rules (rules.statement_rules (scope_in emitter.now.declarations.now) all_permitted) one.now.did_not ≡ [] }
-    ensures { OnOk result (code.new ≡ append code.old (phrases_fragment (scope_in emitter.now.declarations.now) (statement_fragment (scope_in emitter.now.declarations.now)) one.now code.old)) }
-{
-    if !has_phrase(one) {
-        return Ok(());
-    }
-    let branch = emit_branch(code)?;
-    emit_phrase(emitter, code, &one.arose)?;
-    let other = emit_jump(code)?;
-    emit_phrase(emitter, code, &one.did_not)?;
-    emit_meeting(code, branch, other)
-}
-
-/// The statements of a phrase, where it stands.
-#[cycle(statement)]
-pub(crate) fn emit_phrase(
-    emitter: &Emitter<'_>,
-    code: &mut Code,
-    one: &Option<Items<Statement>>,
-) -> Result<(), AllocError>
-    requires declared { IsDeclared emitter.now.declarations.now }
-    requires entries { entry_rules emitter.now.declarations.now.storage.now ≡ [] }
-    requires rules { rules.phrase_rules (rules.statement_rules (scope_in emitter.now.declarations.now) all_permitted) one.now ≡ [] }
-    ensures { OnOk result (code.new ≡ append code.old (phrase_fragment (scope_in emitter.now.declarations.now) (statement_fragment (scope_in emitter.now.declarations.now)) one.now code.old)) }
-{
-    match one {
-        None => Ok(()),
-        Some(inside) => emit_statements(emitter, code, inside.as_slice()),
-    }
-}
-
-/// IF or EVALUATE, with its `tick` and the statements in it.
-#[cycle(statement)]
-fn emit_branching(
-    emitter: &Emitter<'_>,
-    code: &mut Code,
-    line: u32,
-    one: &ConditionalStatement<Statement>,
-) -> Result<(), AllocError>
-    requires declared { IsDeclared emitter.now.declarations.now }
-    requires entries { entry_rules emitter.now.declarations.now.storage.now ≡ [] }
-    requires rules { rules.branching_rules (items_in emitter.now.declarations.now) (rules.statement_rules (scope_in emitter.now.declarations.now) all_permitted) one.now ≡ [] }
-    ensures { OnOk result (code.new ≡ append code.old (conditional_fragment (scope_in emitter.now.declarations.now) (statement_fragment (scope_in emitter.now.declarations.now)) line one.now code.old)) }
-{
-    emit_tick(code, line)?;
-    match one {
-        ConditionalStatement::If {
-            condition,
-            statements,
-            otherwise,
-        } => {
-            emit_condition(emitter, code, condition)?;
-            let branch = emit_branch(code)?;
-            emit_statements(emitter, code, statements.as_slice())?;
-            let other = emit_jump(code)?;
-            emit_phrase(emitter, code, otherwise)?;
-            emit_meeting(code, branch, other)
-        }
-        ConditionalStatement::Evaluate(evaluate) => emit_evaluate(emitter, code, evaluate),
-    }
-}
-
-/// PERFORM, as often as it says.
-#[cycle(statement)]
-fn emit_performing(
-    emitter: &Emitter<'_>,
-    code: &mut Code,
-    line: u32,
-    one: &PerformStatement<Statement>,
-) -> Result<(), AllocError>
-    requires declared { IsDeclared emitter.now.declarations.now }
-    requires entries { entry_rules emitter.now.declarations.now.storage.now ≡ [] }
-    requires rules { rules.performing_rules (scope_in emitter.now.declarations.now) all_permitted (rules.statement_rules (scope_in emitter.now.declarations.now) all_permitted) one.now ≡ [] }
-    ensures { OnOk result (code.new ≡ append code.old (perform_fragment (scope_in emitter.now.declarations.now) (statement_fragment (scope_in emitter.now.declarations.now)) line one.now code.old)) }
-{
-    match &one.turns {
-        Repetition::Once => emit_turn(emitter, code, line, &one.performed),
-        Repetition::Times(count) => {
-            emit_tick(code, line)?;
-            emit_times(emitter, code, line, count_of(count), &one.performed)
-        }
-        Repetition::CountedBy(item) => {
-            emit_tick(code, line)?;
-            emit_counted(emitter, code, line, item, &one.performed)
-        }
-        Repetition::Until(until) => {
-            emit_tick(code, line)?;
-            emit_until(emitter, code, line, until, &one.performed)
+impl<'a> StatementEmitter<'a> {
+    /// A statement, with those in it.
+    #[cycle(statement)]
+    #[tactic(auto, using(crate::proofs::Layers::statement_is))]
+    fn emit_statement(&self, code: &mut Code, one: &Statement) -> Result<(), AllocError>
+        requires declared { IsDeclared self.now.emitter.declarations.now }
+        requires entries { entry_rules self.now.emitter.declarations.now.storage.now ≡ [] }
+        requires rules { rules.statement_rules (scope_in self.now.emitter.declarations.now) all_permitted one.now ≡ [] }
+        ensures { OnOk result (code.new ≡ append code.old (statement_fragment (scope_in self.now.emitter.declarations.now) one.now code.old)) }
+    {
+        let line = one.place.line;
+        match &one.verb {
+            Verb::DataStatement(moving) => emit_moving(&self.emitter, code, line, moving),
+            Verb::Arithmetic(arithmetic) => self.emit_calculating(code, line, arithmetic),
+            Verb::ConditionalStatement(branching) => self.emit_branching(code, line, branching),
+            Verb::PerformStatement(performing) => self.emit_performing(code, line, performing),
+            Verb::Text(text) => emit_texts(&self.emitter, code, line, text),
+            Verb::StringStatement(stringing) => self.emit_stringing(code, line, stringing),
+            Verb::FileStatement(filing) => self.emit_filing(code, line, filing),
+            Verb::ControlStatement(ending) => emit_ending(code, line, *ending),
         }
     }
-}
 
-/// One turn, which uses one of the budget.
-#[cycle(statement)]
-pub(crate) fn emit_turn(
-    emitter: &Emitter<'_>,
-    code: &mut Code,
-    line: u32,
-    one: &Performed<Statement>,
-) -> Result<(), AllocError>
-    requires declared { IsDeclared emitter.now.declarations.now }
-    requires entries { entry_rules emitter.now.declarations.now.storage.now ≡ [] }
-    requires rules { rules.performed_rules (scope_in emitter.now.declarations.now).procedures all_permitted (rules.statement_rules (scope_in emitter.now.declarations.now) all_permitted) one.now ≡ [] }
-    ensures { OnOk result (code.new ≡ append code.old (turn_fragment (scope_in emitter.now.declarations.now) (statement_fragment (scope_in emitter.now.declarations.now)) line one.now code.old)) }
-{
-    match one {
-        Performed::Procedures { first, last } => emit_range(emitter, code, line, first, last),
-        Performed::Statements(inside) => {
-            emit_tick(code, line)?;
-            emit_statements(emitter, code, inside.as_slice())
+    /// An arithmetic statement, with those in its phrases.
+    #[cycle(statement)]
+    fn emit_calculating(
+        &self,
+        code: &mut Code,
+        line: u32,
+        one: &Arithmetic<Statement>,
+    ) -> Result<(), AllocError>
+        requires declared { IsDeclared self.now.emitter.declarations.now }
+        requires entries { entry_rules self.now.emitter.declarations.now.storage.now ≡ [] }
+        requires operation { operation_rules (items_in self.now.emitter.declarations.now) one.now.operation ≡ [] }
+        requires arose { rules.phrase_rules (rules.statement_rules (scope_in self.now.emitter.declarations.now) all_permitted) one.now.phrases.arose ≡ [] }
+        requires did_not { rules.phrase_rules (rules.statement_rules (scope_in self.now.emitter.declarations.now) all_permitted) one.now.phrases.did_not ≡ [] }
+        ensures { OnOk result (code.new ≡ append code.old (arithmetic_statement_fragment (scope_in self.now.emitter.declarations.now) (statement_fragment (scope_in self.now.emitter.declarations.now)) line one.now code.old)) }
+    {
+        emit_tick(code, line)?;
+        emit_arithmetic(
+            &self.emitter,
+            code,
+            one.phrases.arose.is_some(),
+            &one.operation,
+        )?;
+        self.emit_phrases(code, &one.phrases)
+    }
+
+    /// STRING, with the statements in its phrases.
+    #[cycle(statement)]
+    pub(crate) fn emit_stringing(
+        &self,
+        code: &mut Code,
+        line: u32,
+        one: &StringStatement<Statement>,
+    ) -> Result<(), AllocError>
+        requires declared { IsDeclared self.now.emitter.declarations.now }
+        requires entries { entry_rules self.now.emitter.declarations.now.storage.now ≡ [] }
+        requires string { string_rules (items_in self.now.emitter.declarations.now) one.now ≡ [] }
+        requires arose { rules.phrase_rules (rules.statement_rules (scope_in self.now.emitter.declarations.now) all_permitted) one.now.phrases.arose ≡ [] }
+        requires did_not { rules.phrase_rules (rules.statement_rules (scope_in self.now.emitter.declarations.now) all_permitted) one.now.phrases.did_not ≡ [] }
+        ensures { OnOk result (code.new ≡ append code.old (string_statement_fragment (scope_in self.now.emitter.declarations.now) (statement_fragment (scope_in self.now.emitter.declarations.now)) line one.now code.old)) }
+    {
+        emit_tick(code, line)?;
+        emit_string(
+            &self.emitter,
+            code,
+            one.sendings.as_slice(),
+            &one.receiver,
+            &one.pointer,
+        )?;
+        self.emit_phrases(code, &one.phrases)
+    }
+
+    /// The phrases, where one stands.
+    #[cycle(statement)]
+    pub(crate) fn emit_phrases(
+        &self,
+        code: &mut Code,
+        one: &Phrases<Statement>,
+    ) -> Result<(), AllocError>
+        requires declared { IsDeclared self.now.emitter.declarations.now }
+        requires entries { entry_rules self.now.emitter.declarations.now.storage.now ≡ [] }
+        requires arose { rules.phrase_rules (rules.statement_rules (scope_in self.now.emitter.declarations.now) all_permitted) one.now.arose ≡ [] }
+        requires did_not { rules.phrase_rules (rules.statement_rules (scope_in self.now.emitter.declarations.now) all_permitted) one.now.did_not ≡ [] }
+        ensures { OnOk result (code.new ≡ append code.old (phrases_fragment (scope_in self.now.emitter.declarations.now) (statement_fragment (scope_in self.now.emitter.declarations.now)) one.now code.old)) }
+    {
+        if !has_phrase(one) {
+            return Ok(());
+        }
+        let branch = emit_branch(code)?;
+        self.emit_phrase(code, &one.arose)?;
+        let other = emit_jump(code)?;
+        self.emit_phrase(code, &one.did_not)?;
+        emit_meeting(code, branch, other)
+    }
+
+    /// The statements of a phrase, where it stands.
+    #[cycle(statement)]
+    pub(crate) fn emit_phrase(
+        &self,
+        code: &mut Code,
+        one: &Option<Items<Statement>>,
+    ) -> Result<(), AllocError>
+        requires declared { IsDeclared self.now.emitter.declarations.now }
+        requires entries { entry_rules self.now.emitter.declarations.now.storage.now ≡ [] }
+        requires rules { rules.phrase_rules (rules.statement_rules (scope_in self.now.emitter.declarations.now) all_permitted) one.now ≡ [] }
+        ensures { OnOk result (code.new ≡ append code.old (phrase_fragment (scope_in self.now.emitter.declarations.now) (statement_fragment (scope_in self.now.emitter.declarations.now)) one.now code.old)) }
+    {
+        match one {
+            None => Ok(()),
+            Some(inside) => self.emit_statements(code, inside.as_slice()),
         }
     }
-}
 
-/// Procedures are performed, from one to the end of another.
-fn emit_range(
-    emitter: &Emitter<'_>,
-    code: &mut Code,
-    line: u32,
-    first: &Name,
-    last: &Option<Name>,
-) -> Result<(), AllocError>
-    requires { IsDeclared emitter.now.declarations.now }
-    ensures { OnOk result (code.new ≡ append code.old (range_fragment line (range_of (scope_in emitter.now.declarations.now).procedures first.now last.now) code.old)) }
-{
-    let Some(range) = emitter.declarations.procedures.range_of(first, last) else {
-        return emit_tick(code, line);
-    };
-    code.instructions.push(Instruction::Perform {
-        line,
-        first: ParagraphIndex {
-            number: range.first,
-        },
-        last: ParagraphIndex { number: range.last },
-    })?;
-    Ok(())
-}
-
-/// Statements, in order.
-#[cycle(statement)]
-pub(crate) fn emit_statements(
-    emitter: &Emitter<'_>,
-    code: &mut Code,
-    all: &[Statement],
-) -> Result<(), AllocError>
-    requires declared { IsDeclared emitter.now.declarations.now }
-    requires entries { entry_rules emitter.now.declarations.now.storage.now ≡ [] }
-    requires rules { each (rules.statement_rules (scope_in emitter.now.declarations.now) all_permitted) all.now ≡ [] }
-    ensures { OnOk result (code.new ≡ append code.old (in_order (statement_fragment (scope_in emitter.now.declarations.now)) all.now code.old)) }
-{
-    for one in all {
-        emit_statement(emitter, code, one)?;
+    /// IF or EVALUATE, with its `tick` and the statements in it.
+    #[cycle(statement)]
+    fn emit_branching(
+        &self,
+        code: &mut Code,
+        line: u32,
+        one: &ConditionalStatement<Statement>,
+    ) -> Result<(), AllocError>
+        requires declared { IsDeclared self.now.emitter.declarations.now }
+        requires entries { entry_rules self.now.emitter.declarations.now.storage.now ≡ [] }
+        requires rules { rules.branching_rules (items_in self.now.emitter.declarations.now) (rules.statement_rules (scope_in self.now.emitter.declarations.now) all_permitted) one.now ≡ [] }
+        ensures { OnOk result (code.new ≡ append code.old (conditional_fragment (scope_in self.now.emitter.declarations.now) (statement_fragment (scope_in self.now.emitter.declarations.now)) line one.now code.old)) }
+    {
+        emit_tick(code, line)?;
+        match one {
+            ConditionalStatement::If {
+                condition,
+                statements,
+                otherwise,
+            } => {
+                emit_condition(&self.emitter, code, condition)?;
+                let branch = emit_branch(code)?;
+                self.emit_statements(code, statements.as_slice())?;
+                let other = emit_jump(code)?;
+                self.emit_phrase(code, otherwise)?;
+                emit_meeting(code, branch, other)
+            }
+            ConditionalStatement::Evaluate(evaluate) => self.emit_evaluate(code, evaluate),
+        }
     }
-    Ok(())
-}
 
-fn emit_sentence(emitter: &Emitter<'_>, code: &mut Code, one: &Sentence) -> Result<(), AllocError>
-    requires declared { IsDeclared emitter.now.declarations.now }
-    requires entries { entry_rules emitter.now.declarations.now.storage.now ≡ [] }
-    requires rules { rules.sentence_rules (scope_in emitter.now.declarations.now) all_permitted one.now ≡ [] }
-    ensures { OnOk result (code.new ≡ append code.old (sentence_fragment (scope_in emitter.now.declarations.now) one.now code.old)) }
-{
-    emit_statements(emitter, code, one.statements.as_slice())
-}
-
-fn emit_sentences(
-    emitter: &Emitter<'_>,
-    code: &mut Code,
-    all: &[Sentence],
-) -> Result<(), AllocError>
-    requires declared { IsDeclared emitter.now.declarations.now }
-    requires entries { entry_rules emitter.now.declarations.now.storage.now ≡ [] }
-    requires rules { each (rules.sentence_rules (scope_in emitter.now.declarations.now) all_permitted) all.now ≡ [] }
-    ensures { OnOk result (code.new ≡ append code.old (in_order (sentence_fragment (scope_in emitter.now.declarations.now)) all.now code.old)) }
-{
-    for one in all {
-        emit_sentence(emitter, code, one)?;
+    /// PERFORM, as often as it says.
+    #[cycle(statement)]
+    fn emit_performing(
+        &self,
+        code: &mut Code,
+        line: u32,
+        one: &PerformStatement<Statement>,
+    ) -> Result<(), AllocError>
+        requires declared { IsDeclared self.now.emitter.declarations.now }
+        requires entries { entry_rules self.now.emitter.declarations.now.storage.now ≡ [] }
+        requires rules { rules.performing_rules (scope_in self.now.emitter.declarations.now) all_permitted (rules.statement_rules (scope_in self.now.emitter.declarations.now) all_permitted) one.now ≡ [] }
+        ensures { OnOk result (code.new ≡ append code.old (perform_fragment (scope_in self.now.emitter.declarations.now) (statement_fragment (scope_in self.now.emitter.declarations.now)) line one.now code.old)) }
+    {
+        match &one.turns {
+            Repetition::Once => self.emit_turn(code, line, &one.performed),
+            Repetition::Times(count) => {
+                emit_tick(code, line)?;
+                self.emit_times(code, line, count_of(count), &one.performed)
+            }
+            Repetition::CountedBy(item) => {
+                emit_tick(code, line)?;
+                self.emit_counted(code, line, item, &one.performed)
+            }
+            Repetition::Until(until) => {
+                emit_tick(code, line)?;
+                self.emit_until(code, line, until, &one.performed)
+            }
+        }
     }
-    Ok(())
-}
 
-fn emit_paragraph(emitter: &Emitter<'_>, code: &mut Code, one: &Paragraph) -> Result<(), AllocError>
-    requires declared { IsDeclared emitter.now.declarations.now }
-    requires entries { entry_rules emitter.now.declarations.now.storage.now ≡ [] }
-    requires rules { rules.paragraph_rules (scope_in emitter.now.declarations.now) all_permitted one.now ≡ [] }
-    ensures { OnOk result (code.new ≡ append code.old (paragraph_fragment (scope_in emitter.now.declarations.now) one.now code.old)) }
-{
-    let number = code.starts.len();
-    emit_start(code)?;
-    emit_sentences(emitter, code, one.sentences.as_slice())?;
-    emit_back(code, number)
-}
-
-fn emit_paragraphs(
-    emitter: &Emitter<'_>,
-    code: &mut Code,
-    all: &[Paragraph],
-) -> Result<(), AllocError>
-    requires declared { IsDeclared emitter.now.declarations.now }
-    requires entries { entry_rules emitter.now.declarations.now.storage.now ≡ [] }
-    requires rules { each (rules.paragraph_rules (scope_in emitter.now.declarations.now) all_permitted) all.now ≡ [] }
-    ensures { OnOk result (code.new ≡ append code.old (in_order (paragraph_fragment (scope_in emitter.now.declarations.now)) all.now code.old)) }
-{
-    for one in all {
-        emit_paragraph(emitter, code, one)?;
+    /// One turn, which uses one of the budget.
+    #[cycle(statement)]
+    pub(crate) fn emit_turn(
+        &self,
+        code: &mut Code,
+        line: u32,
+        one: &Performed<Statement>,
+    ) -> Result<(), AllocError>
+        requires declared { IsDeclared self.now.emitter.declarations.now }
+        requires entries { entry_rules self.now.emitter.declarations.now.storage.now ≡ [] }
+        requires rules { rules.performed_rules (scope_in self.now.emitter.declarations.now).procedures all_permitted (rules.statement_rules (scope_in self.now.emitter.declarations.now) all_permitted) one.now ≡ [] }
+        ensures { OnOk result (code.new ≡ append code.old (turn_fragment (scope_in self.now.emitter.declarations.now) (statement_fragment (scope_in self.now.emitter.declarations.now)) line one.now code.old)) }
+    {
+        match one {
+            Performed::Procedures { first, last } => self.emit_range(code, line, first, last),
+            Performed::Statements(inside) => {
+                emit_tick(code, line)?;
+                self.emit_statements(code, inside.as_slice())
+            }
+        }
     }
-    Ok(())
-}
 
-fn emit_section(emitter: &Emitter<'_>, code: &mut Code, one: &Section) -> Result<(), AllocError>
-    requires declared { IsDeclared emitter.now.declarations.now }
-    requires entries { entry_rules emitter.now.declarations.now.storage.now ≡ [] }
-    requires rules { rules.section_rules (scope_in emitter.now.declarations.now) all_permitted one.now ≡ [] }
-    ensures { OnOk result (code.new ≡ append code.old (section_fragment (scope_in emitter.now.declarations.now) one.now code.old)) }
-{
-    match one.paragraphs.as_slice() {
-        [] => emit_nothing(code),
-        paragraphs => emit_paragraphs(emitter, code, paragraphs),
+    /// Procedures are performed, from one to the end of another.
+    fn emit_range(
+        &self,
+        code: &mut Code,
+        line: u32,
+        first: &Name,
+        last: &Option<Name>,
+    ) -> Result<(), AllocError>
+        requires { IsDeclared self.now.emitter.declarations.now }
+        ensures { OnOk result (code.new ≡ append code.old (range_fragment line (range_of (scope_in self.now.emitter.declarations.now).procedures first.now last.now) code.old)) }
+    {
+        let Some(range) = self.emitter.declarations.procedures.range_of(first, last) else {
+            return emit_tick(code, line);
+        };
+        code.instructions.push(Instruction::Perform {
+            line,
+            first: ParagraphIndex {
+                number: range.first,
+            },
+            last: ParagraphIndex { number: range.last },
+        })?;
+        Ok(())
     }
-}
 
-/// Sections, in order.
-pub(crate) fn emit_sections(
-    emitter: &Emitter<'_>,
-    code: &mut Code,
-    all: &[Section],
-) -> Result<(), AllocError>
-    requires declared { IsDeclared emitter.now.declarations.now }
-    requires entries { entry_rules emitter.now.declarations.now.storage.now ≡ [] }
-    requires rules { rules.sections_rules (scope_in emitter.now.declarations.now) all_permitted all.now ≡ [] }
-    ensures { OnOk result (code.new ≡ append code.old (in_order (section_fragment (scope_in emitter.now.declarations.now)) all.now code.old)) }
-{
-    for one in all {
-        emit_section(emitter, code, one)?;
+    /// Statements, in order.
+    #[cycle(statement)]
+    pub(crate) fn emit_statements(
+        &self,
+        code: &mut Code,
+        all: &[Statement],
+    ) -> Result<(), AllocError>
+        requires declared { IsDeclared self.now.emitter.declarations.now }
+        requires entries { entry_rules self.now.emitter.declarations.now.storage.now ≡ [] }
+        requires rules { each (rules.statement_rules (scope_in self.now.emitter.declarations.now) all_permitted) all.now ≡ [] }
+        ensures { OnOk result (code.new ≡ append code.old (in_order (statement_fragment (scope_in self.now.emitter.declarations.now)) all.now code.old)) }
+    {
+        for one in all {
+            self.emit_statement(code, one)?;
+        }
+        Ok(())
     }
-    Ok(())
+
+    fn emit_sentence(&self, code: &mut Code, one: &Sentence) -> Result<(), AllocError>
+        requires declared { IsDeclared self.now.emitter.declarations.now }
+        requires entries { entry_rules self.now.emitter.declarations.now.storage.now ≡ [] }
+        requires rules { rules.sentence_rules (scope_in self.now.emitter.declarations.now) all_permitted one.now ≡ [] }
+        ensures { OnOk result (code.new ≡ append code.old (sentence_fragment (scope_in self.now.emitter.declarations.now) one.now code.old)) }
+    {
+        self.emit_statements(code, one.statements.as_slice())
+    }
+
+    fn emit_sentences(&self, code: &mut Code, all: &[Sentence]) -> Result<(), AllocError>
+        requires declared { IsDeclared self.now.emitter.declarations.now }
+        requires entries { entry_rules self.now.emitter.declarations.now.storage.now ≡ [] }
+        requires rules { each (rules.sentence_rules (scope_in self.now.emitter.declarations.now) all_permitted) all.now ≡ [] }
+        ensures { OnOk result (code.new ≡ append code.old (in_order (sentence_fragment (scope_in self.now.emitter.declarations.now)) all.now code.old)) }
+    {
+        for one in all {
+            self.emit_sentence(code, one)?;
+        }
+        Ok(())
+    }
+
+    fn emit_paragraph(&self, code: &mut Code, one: &Paragraph) -> Result<(), AllocError>
+        requires declared { IsDeclared self.now.emitter.declarations.now }
+        requires entries { entry_rules self.now.emitter.declarations.now.storage.now ≡ [] }
+        requires rules { rules.paragraph_rules (scope_in self.now.emitter.declarations.now) all_permitted one.now ≡ [] }
+        ensures { OnOk result (code.new ≡ append code.old (paragraph_fragment (scope_in self.now.emitter.declarations.now) one.now code.old)) }
+    {
+        let number = code.starts.len();
+        emit_start(code)?;
+        self.emit_sentences(code, one.sentences.as_slice())?;
+        emit_back(code, number)
+    }
+
+    fn emit_paragraphs(&self, code: &mut Code, all: &[Paragraph]) -> Result<(), AllocError>
+        requires declared { IsDeclared self.now.emitter.declarations.now }
+        requires entries { entry_rules self.now.emitter.declarations.now.storage.now ≡ [] }
+        requires rules { each (rules.paragraph_rules (scope_in self.now.emitter.declarations.now) all_permitted) all.now ≡ [] }
+        ensures { OnOk result (code.new ≡ append code.old (in_order (paragraph_fragment (scope_in self.now.emitter.declarations.now)) all.now code.old)) }
+    {
+        for one in all {
+            self.emit_paragraph(code, one)?;
+        }
+        Ok(())
+    }
+
+    fn emit_section(&self, code: &mut Code, one: &Section) -> Result<(), AllocError>
+        requires declared { IsDeclared self.now.emitter.declarations.now }
+        requires entries { entry_rules self.now.emitter.declarations.now.storage.now ≡ [] }
+        requires rules { rules.section_rules (scope_in self.now.emitter.declarations.now) all_permitted one.now ≡ [] }
+        ensures { OnOk result (code.new ≡ append code.old (section_fragment (scope_in self.now.emitter.declarations.now) one.now code.old)) }
+    {
+        match one.paragraphs.as_slice() {
+            [] => emit_nothing(code),
+            paragraphs => self.emit_paragraphs(code, paragraphs),
+        }
+    }
+
+    /// Sections, in order.
+    pub(crate) fn emit_sections(&self, code: &mut Code, all: &[Section]) -> Result<(), AllocError>
+        requires declared { IsDeclared self.now.emitter.declarations.now }
+        requires entries { entry_rules self.now.emitter.declarations.now.storage.now ≡ [] }
+        requires rules { rules.sections_rules (scope_in self.now.emitter.declarations.now) all_permitted all.now ≡ [] }
+        ensures { OnOk result (code.new ≡ append code.old (in_order (section_fragment (scope_in self.now.emitter.declarations.now)) all.now code.old)) }
+    {
+        for one in all {
+            self.emit_section(code, one)?;
+        }
+        Ok(())
+    }
 }

@@ -14,73 +14,70 @@ ghost use Rattle.codegen.specs.Layout.{evaluate_fragment, statement_fragment};
 ghost use Rattle.code_builder.specs.Phrases.{Opens};
 ghost use Rattle.codegen.specs.EvaluateCode.{OpensAll};
 
-use crate::emit::{emit_phrase, emit_statements};
-use code_builder::{Emitter, Way, emit_branch, emit_jump, emit_meetings};
+use crate::statement_emitter::StatementEmitter;
+use code_builder::{Way, emit_branch, emit_jump, emit_meetings};
 use code_image::Code;
 use condition_code::{emit_subjects, emit_whens};
 use source_tree::{Evaluate, Selected, Statement, Subject};
 use std::alloc::AllocError;
 
-/// The subjects, the groups of WHENs, and OTHER; all ways meet behind it.
-#[cycle(statement)]
-pub(crate) fn emit_evaluate(
-    emitter: &Emitter<'_>,
-    code: &mut Code,
-    one: &Evaluate<Statement>,
-) -> Result<(), AllocError>
-    requires declared { IsDeclared emitter.now.declarations.now }
-    requires entries { entry_rules emitter.now.declarations.now.storage.now ≡ [] }
-    requires rules { rules.evaluate_rules (items_in emitter.now.declarations.now) (rules.statement_rules (scope_in emitter.now.declarations.now) all_permitted) one.now ≡ [] }
-    ensures { OnOk result (code.new ≡ append code.old (evaluate_fragment (scope_in emitter.now.declarations.now) (statement_fragment (scope_in emitter.now.declarations.now)) one.now code.old)) }
-{
-    emit_subjects(emitter, code, one)?;
-    let ways = emit_groups(
-        emitter,
-        code,
-        one.subjects.as_slice(),
-        one.selected.as_slice(),
-    )?;
-    emit_phrase(emitter, code, &one.other)?;
-    emit_meetings(code, ways)
-}
-
-/// The condition of a group of WHENs, and its statements. Answers where the way that skips them isn't known yet.
-#[cycle(statement)]
-fn emit_selected(
-    emitter: &Emitter<'_>,
-    code: &mut Code,
-    subjects: &[Subject],
-    one: &Selected<Statement>,
-) -> Result<Way, AllocError>
-    requires declared { IsDeclared emitter.now.declarations.now }
-    requires entries { entry_rules emitter.now.declarations.now.storage.now ≡ [] }
-    requires rules { selected_rules (items_in emitter.now.declarations.now) (rules.statement_rules (scope_in emitter.now.declarations.now) all_permitted) subjects.now one.now ≡ [] }
-    ensures { IfOk result (λ way. Opens (condition_fragment (items_in emitter.now.declarations.now) (selected_asked (items_in emitter.now.declarations.now) subjects.now one.now)) (in_order (statement_fragment (scope_in emitter.now.declarations.now)) one.now.statements) code.old code.new way) }
-{
-    emit_whens(emitter, code, subjects, one.whens.as_slice())?;
-    let branch = emit_branch(code)?;
-    emit_statements(emitter, code, one.statements.as_slice())?;
-    let other = emit_jump(code)?;
-    Ok(Way { branch, other })
-}
-
-/// Each group of WHENs in turn. Answers where the ways that skip their statements aren't known yet.
-#[cycle(statement)]
-fn emit_groups(
-    emitter: &Emitter<'_>,
-    code: &mut Code,
-    subjects: &[Subject],
-    selected: &[Selected<Statement>],
-) -> Result<Vec<Way>, AllocError>
-    requires declared { IsDeclared emitter.now.declarations.now }
-    requires entries { entry_rules emitter.now.declarations.now.storage.now ≡ [] }
-    requires rules { each (selected_rules (items_in emitter.now.declarations.now) (rules.statement_rules (scope_in emitter.now.declarations.now) all_permitted) subjects.now) selected.now ≡ [] }
-    ensures { IfOk result (λ ways. OpensAll (scope_in emitter.now.declarations.now) (statement_fragment (scope_in emitter.now.declarations.now)) subjects.now selected.now code.old code.new ways.items) }
-{
-    let mut ways = Vec::new(emitter.alloc);
-    for one in selected {
-        let way = emit_selected(emitter, code, subjects, one)?;
-        ways.push(way)?;
+impl<'a> StatementEmitter<'a> {
+    /// The subjects, the groups of WHENs, and OTHER; all ways meet behind it.
+    #[cycle(statement)]
+    pub(crate) fn emit_evaluate(
+        &self,
+        code: &mut Code,
+        one: &Evaluate<Statement>,
+    ) -> Result<(), AllocError>
+        requires declared { IsDeclared self.now.emitter.declarations.now }
+        requires entries { entry_rules self.now.emitter.declarations.now.storage.now ≡ [] }
+        requires rules { rules.evaluate_rules (items_in self.now.emitter.declarations.now) (rules.statement_rules (scope_in self.now.emitter.declarations.now) all_permitted) one.now ≡ [] }
+        ensures { OnOk result (code.new ≡ append code.old (evaluate_fragment (scope_in self.now.emitter.declarations.now) (statement_fragment (scope_in self.now.emitter.declarations.now)) one.now code.old)) }
+    {
+        emit_subjects(&self.emitter, code, one)?;
+        let ways = self.emit_groups(code, one.subjects.as_slice(), one.selected.as_slice())?;
+        self.emit_phrase(code, &one.other)?;
+        emit_meetings(code, ways)
     }
-    Ok(ways)
+
+    /// The condition of a group of WHENs, and its statements. Answers where the way that skips them isn't known yet.
+    #[cycle(statement)]
+    fn emit_selected(
+        &self,
+        code: &mut Code,
+        subjects: &[Subject],
+        one: &Selected<Statement>,
+    ) -> Result<Way, AllocError>
+        requires declared { IsDeclared self.now.emitter.declarations.now }
+        requires entries { entry_rules self.now.emitter.declarations.now.storage.now ≡ [] }
+        requires rules { selected_rules (items_in self.now.emitter.declarations.now) (rules.statement_rules (scope_in self.now.emitter.declarations.now) all_permitted) subjects.now one.now ≡ [] }
+        ensures { IfOk result (λ way. Opens (condition_fragment (items_in self.now.emitter.declarations.now) (selected_asked (items_in self.now.emitter.declarations.now) subjects.now one.now)) (in_order (statement_fragment (scope_in self.now.emitter.declarations.now)) one.now.statements) code.old code.new way) }
+    {
+        emit_whens(&self.emitter, code, subjects, one.whens.as_slice())?;
+        let branch = emit_branch(code)?;
+        self.emit_statements(code, one.statements.as_slice())?;
+        let other = emit_jump(code)?;
+        Ok(Way { branch, other })
+    }
+
+    /// Each group of WHENs in turn. Answers where the ways that skip their statements aren't known yet.
+    #[cycle(statement)]
+    fn emit_groups(
+        &self,
+        code: &mut Code,
+        subjects: &[Subject],
+        selected: &[Selected<Statement>],
+    ) -> Result<Vec<Way>, AllocError>
+        requires declared { IsDeclared self.now.emitter.declarations.now }
+        requires entries { entry_rules self.now.emitter.declarations.now.storage.now ≡ [] }
+        requires rules { each (selected_rules (items_in self.now.emitter.declarations.now) (rules.statement_rules (scope_in self.now.emitter.declarations.now) all_permitted) subjects.now) selected.now ≡ [] }
+        ensures { IfOk result (λ ways. OpensAll (scope_in self.now.emitter.declarations.now) (statement_fragment (scope_in self.now.emitter.declarations.now)) subjects.now selected.now code.old code.new ways.items) }
+    {
+        let mut ways = Vec::new(self.emitter.alloc);
+        for one in selected {
+            let way = self.emit_selected(code, subjects, one)?;
+            ways.push(way)?;
+        }
+        Ok(ways)
+    }
 }

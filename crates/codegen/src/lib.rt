@@ -6,6 +6,7 @@ mod evaluate_statement;
 mod file_statement;
 mod open_statement;
 mod program;
+mod statement_emitter;
 mod times;
 mod until;
 

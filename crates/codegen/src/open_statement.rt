@@ -7,7 +7,8 @@ ghost use Rattle.code_builder.specs.Pieces.{append, in_order};
 ghost use Rattle.file_code.specs.FileCode as spec;
 ghost use Rattle.codegen.specs.Layout.{alone_fragment, open_fragment, close_fragment, statement_fragment};
 
-use code_builder::{Emitter, emit_branch, emit_jump, emit_meeting};
+use crate::statement_emitter::StatementEmitter;
+use code_builder::{emit_branch, emit_jump, emit_meeting};
 use code_image::Code;
 use file_code::{emit_file, emit_test, emit_unheard, file_named};
 use file_image::StatusClass;
@@ -15,53 +16,42 @@ use records::Verb;
 use source_tree::{Name, Opening};
 use std::alloc::AllocError;
 
-/// OPEN of each file in turn.
-pub(crate) fn emit_opens(
-    emitter: &Emitter<'_>,
-    code: &mut Code,
-    all: &[Opening],
-) -> Result<(), AllocError>
-    requires { IsDeclared emitter.now.declarations.now }
-    ensures { OnOk result (code.new ≡ append code.old (in_order (open_fragment (scope_in emitter.now.declarations.now) (statement_fragment (scope_in emitter.now.declarations.now))) all.now code.old)) }
-{
-    for one in all {
-        emit_alone(emitter, code, Verb::Open(one.mode), &one.file)?;
+impl<'a> StatementEmitter<'a> {
+    /// OPEN of each file in turn.
+    pub(crate) fn emit_opens(&self, code: &mut Code, all: &[Opening]) -> Result<(), AllocError>
+        requires { IsDeclared self.now.emitter.declarations.now }
+        ensures { OnOk result (code.new ≡ append code.old (in_order (open_fragment (scope_in self.now.emitter.declarations.now) (statement_fragment (scope_in self.now.emitter.declarations.now))) all.now code.old)) }
+    {
+        for one in all {
+            self.emit_alone(code, Verb::Open(one.mode), &one.file)?;
+        }
+        Ok(())
     }
-    Ok(())
-}
 
-/// CLOSE of each file in turn.
-pub(crate) fn emit_closes(
-    emitter: &Emitter<'_>,
-    code: &mut Code,
-    all: &[Name],
-) -> Result<(), AllocError>
-    requires { IsDeclared emitter.now.declarations.now }
-    ensures { OnOk result (code.new ≡ append code.old (in_order (close_fragment (scope_in emitter.now.declarations.now) (statement_fragment (scope_in emitter.now.declarations.now))) all.now code.old)) }
-{
-    for one in all {
-        emit_alone(emitter, code, Verb::Close, one)?;
+    /// CLOSE of each file in turn.
+    pub(crate) fn emit_closes(&self, code: &mut Code, all: &[Name]) -> Result<(), AllocError>
+        requires { IsDeclared self.now.emitter.declarations.now }
+        ensures { OnOk result (code.new ≡ append code.old (in_order (close_fragment (scope_in self.now.emitter.declarations.now) (statement_fragment (scope_in self.now.emitter.declarations.now))) all.now code.old)) }
+    {
+        for one in all {
+            self.emit_alone(code, Verb::Close, one)?;
+        }
+        Ok(())
     }
-    Ok(())
-}
 
-/// A statement without phrases on the file of that name, and what comes of its status.
-fn emit_alone(
-    emitter: &Emitter<'_>,
-    code: &mut Code,
-    verb: Verb,
-    name: &Name,
-) -> Result<(), AllocError>
-    requires { IsDeclared emitter.now.declarations.now }
-    ensures { OnOk result (code.new ≡ append code.old (spec.on_name_fragment (items_in emitter.now.declarations.now) (files_in emitter.now.declarations.now) name.now (alone_fragment (scope_in emitter.now.declarations.now) (statement_fragment (scope_in emitter.now.declarations.now)) Absent (λ file. verb)) code.old)) }
-{
-    let Some(file) = file_named(emitter, name) else {
-        return Ok(());
-    };
-    emit_file(code, verb, file)?;
-    emit_test(code, StatusClass::Successful)?;
-    let branch = emit_branch(code)?;
-    let other = emit_jump(code)?;
-    emit_unheard(emitter, code, file)?;
-    emit_meeting(code, branch, other)
+    /// A statement without phrases on the file of that name, and what comes of its status.
+    fn emit_alone(&self, code: &mut Code, verb: Verb, name: &Name) -> Result<(), AllocError>
+        requires { IsDeclared self.now.emitter.declarations.now }
+        ensures { OnOk result (code.new ≡ append code.old (spec.on_name_fragment (items_in self.now.emitter.declarations.now) (files_in self.now.emitter.declarations.now) name.now (alone_fragment (scope_in self.now.emitter.declarations.now) (statement_fragment (scope_in self.now.emitter.declarations.now)) Absent (λ file. verb)) code.old)) }
+    {
+        let Some(file) = file_named(&self.emitter, name) else {
+            return Ok(());
+        };
+        emit_file(code, verb, file)?;
+        emit_test(code, StatusClass::Successful)?;
+        let branch = emit_branch(code)?;
+        let other = emit_jump(code)?;
+        emit_unheard(&self.emitter, code, file)?;
+        emit_meeting(code, branch, other)
+    }
 }

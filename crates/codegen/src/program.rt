@@ -10,7 +10,8 @@ ghost use Rattle.code_image.specs.Demands.{IsVerified};
 ghost use Rattle.code_image.specs.Table.{Runs};
 ghost use Rattle.codegen.specs.Layout.{code_of};
 
-use crate::emit::{emit_end, emit_sections};
+use crate::emit::emit_end;
+use crate::statement_emitter::StatementEmitter;
 use code_builder::Emitter;
 use code_image::Code;
 use declarations::Checked;
@@ -34,11 +35,13 @@ pub fn generate(alloc: Global, checked: &Checked<'_>) -> Result<Code, AllocError
     let program = checked.program();
     let declarations = checked.declarations();
     let mut code = storage_code(alloc, program, declarations)?;
-    let emitter = Emitter {
-        alloc,
-        declarations,
+    let emitter = StatementEmitter {
+        emitter: Emitter {
+            alloc,
+            declarations,
+        },
     };
-    emit_sections(&emitter, &mut code, program.sections.as_slice())?;
+    emitter.emit_sections(&mut code, program.sections.as_slice())?;
     emit_end(&mut code)?;
     Ok(code)
 }

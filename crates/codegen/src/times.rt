@@ -12,8 +12,8 @@ ghost use Rattle.code_builder.specs.DataCode.{take_fragment};
 ghost use Rattle.codegen.specs.Layout.{loop_begin, count_begin, turn_end, counted_turn, times_fragment, counted_fragment, turn_fragment, statement_fragment};
 ghost use Rattle.data_instructions.specs.declared.instruction.DataInstruction.TheVariants as i;
 
-use crate::emit::emit_turn;
-use code_builder::{Emitter, emit_branch, emit_jump, emit_meeting};
+use crate::statement_emitter::StatementEmitter;
+use code_builder::{emit_branch, emit_jump, emit_meeting};
 use code_image::{Code, CounterIndex, Instruction};
 use data_instructions::DataInstruction;
 use source_tree::{Integer, Performed, Reference, Statement};
@@ -68,65 +68,67 @@ fn emit_turn_end(code: &mut Code, begin: usize, to: usize) -> Result<(), AllocEr
     Ok(())
 }
 
-/// So many turns.
-#[cycle(statement)]
-pub(crate) fn emit_times(
-    emitter: &Emitter<'_>,
-    code: &mut Code,
-    line: u32,
-    count: u64,
-    one: &Performed<Statement>,
-) -> Result<(), AllocError>
-    requires declared { IsDeclared emitter.now.declarations.now }
-    requires entries { entry_rules emitter.now.declarations.now.storage.now ≡ [] }
-    requires rules { rules.performed_rules (scope_in emitter.now.declarations.now).procedures all_permitted (rules.statement_rules (scope_in emitter.now.declarations.now) all_permitted) one.now ≡ [] }
-    ensures { OnOk result (code.new ≡ append code.old (times_fragment count (turn_fragment (scope_in emitter.now.declarations.now) (statement_fragment (scope_in emitter.now.declarations.now)) line one.now) code.old)) }
-{
-    if count == 0 {
-        return Ok(());
+impl<'a> StatementEmitter<'a> {
+    /// So many turns.
+    #[cycle(statement)]
+    pub(crate) fn emit_times(
+        &self,
+        code: &mut Code,
+        line: u32,
+        count: u64,
+        one: &Performed<Statement>,
+    ) -> Result<(), AllocError>
+        requires declared { IsDeclared self.now.emitter.declarations.now }
+        requires entries { entry_rules self.now.emitter.declarations.now.storage.now ≡ [] }
+        requires rules { rules.performed_rules (scope_in self.now.emitter.declarations.now).procedures all_permitted (rules.statement_rules (scope_in self.now.emitter.declarations.now) all_permitted) one.now ≡ [] }
+        ensures { OnOk result (code.new ≡ append code.old (times_fragment count (turn_fragment (scope_in self.now.emitter.declarations.now) (statement_fragment (scope_in self.now.emitter.declarations.now)) line one.now) code.old)) }
+    {
+        if count == 0 {
+            return Ok(());
+        }
+        let begin = emit_loop_begin(code, count - 1)?;
+        self.emit_counted_turn(code, line, begin, one)
     }
-    let begin = emit_loop_begin(code, count - 1)?;
-    emit_counted_turn(emitter, code, line, begin, one)
-}
 
-/// As many turns as an item says.
-#[cycle(statement)]
-pub(crate) fn emit_counted(
-    emitter: &Emitter<'_>,
-    code: &mut Code,
-    line: u32,
-    item: &Reference,
-    one: &Performed<Statement>,
-) -> Result<(), AllocError>
-    requires declared { IsDeclared emitter.now.declarations.now }
-    requires entries { entry_rules emitter.now.declarations.now.storage.now ≡ [] }
-    requires item { reference_rules (items_in emitter.now.declarations.now) integer_item item.now ≡ [] }
-    requires rules { rules.performed_rules (scope_in emitter.now.declarations.now).procedures all_permitted (rules.statement_rules (scope_in emitter.now.declarations.now) all_permitted) one.now ≡ [] }
-    ensures { OnOk result (code.new ≡ append code.old (sequence (take_fragment (items_in emitter.now.declarations.now) i.Push item.now) (counted_fragment (turn_fragment (scope_in emitter.now.declarations.now) (statement_fragment (scope_in emitter.now.declarations.now)) line one.now)) code.old)) }
-{
-    emitter.emit_taking(code, DataInstruction::Push, item)?;
-    let begin = emit_count_begin(code)?;
-    let branch = emit_branch(code)?;
-    emit_counted_turn(emitter, code, line, begin, one)?;
-    let other = emit_jump(code)?;
-    emit_meeting(code, branch, other)
-}
+    /// As many turns as an item says.
+    #[cycle(statement)]
+    pub(crate) fn emit_counted(
+        &self,
+        code: &mut Code,
+        line: u32,
+        item: &Reference,
+        one: &Performed<Statement>,
+    ) -> Result<(), AllocError>
+        requires declared { IsDeclared self.now.emitter.declarations.now }
+        requires entries { entry_rules self.now.emitter.declarations.now.storage.now ≡ [] }
+        requires item { reference_rules (items_in self.now.emitter.declarations.now) integer_item item.now ≡ [] }
+        requires rules { rules.performed_rules (scope_in self.now.emitter.declarations.now).procedures all_permitted (rules.statement_rules (scope_in self.now.emitter.declarations.now) all_permitted) one.now ≡ [] }
+        ensures { OnOk result (code.new ≡ append code.old (sequence (take_fragment (items_in self.now.emitter.declarations.now) i.Push item.now) (counted_fragment (turn_fragment (scope_in self.now.emitter.declarations.now) (statement_fragment (scope_in self.now.emitter.declarations.now)) line one.now)) code.old)) }
+    {
+        self.emitter.emit_taking(code, DataInstruction::Push, item)?;
+        let begin = emit_count_begin(code)?;
+        let branch = emit_branch(code)?;
+        self.emit_counted_turn(code, line, begin, one)?;
+        let other = emit_jump(code)?;
+        emit_meeting(code, branch, other)
+    }
 
-/// The turns of the loop that begins at this address.
-#[cycle(statement)]
-fn emit_counted_turn(
-    emitter: &Emitter<'_>,
-    code: &mut Code,
-    line: u32,
-    begin: usize,
-    one: &Performed<Statement>,
-) -> Result<(), AllocError>
-    requires declared { IsDeclared emitter.now.declarations.now }
-    requires entries { entry_rules emitter.now.declarations.now.storage.now ≡ [] }
-    requires rules { rules.performed_rules (scope_in emitter.now.declarations.now).procedures all_permitted (rules.statement_rules (scope_in emitter.now.declarations.now) all_permitted) one.now ≡ [] }
-    ensures { OnOk result (code.new ≡ append code.old (counted_turn begin (turn_fragment (scope_in emitter.now.declarations.now) (statement_fragment (scope_in emitter.now.declarations.now)) line one.now) code.old)) }
-{
-    let to = code.instructions.len();
-    emit_turn(emitter, code, line, one)?;
-    emit_turn_end(code, begin, to)
+    /// The turns of the loop that begins at this address.
+    #[cycle(statement)]
+    fn emit_counted_turn(
+        &self,
+        code: &mut Code,
+        line: u32,
+        begin: usize,
+        one: &Performed<Statement>,
+    ) -> Result<(), AllocError>
+        requires declared { IsDeclared self.now.emitter.declarations.now }
+        requires entries { entry_rules self.now.emitter.declarations.now.storage.now ≡ [] }
+        requires rules { rules.performed_rules (scope_in self.now.emitter.declarations.now).procedures all_permitted (rules.statement_rules (scope_in self.now.emitter.declarations.now) all_permitted) one.now ≡ [] }
+        ensures { OnOk result (code.new ≡ append code.old (counted_turn begin (turn_fragment (scope_in self.now.emitter.declarations.now) (statement_fragment (scope_in self.now.emitter.declarations.now)) line one.now) code.old)) }
+    {
+        let to = code.instructions.len();
+        self.emit_turn(code, line, one)?;
+        emit_turn_end(code, begin, to)
+    }
 }

@@ -14,152 +14,150 @@ ghost use Rattle.codegen.specs.UntilCode as spec;
 ghost use Rattle.codegen.specs.Layout.{turn_fragment, statement_fragment};
 ghost use Rattle.data_instructions.specs.declared.instruction.DataInstruction.TheVariants as i;
 
-use crate::emit::emit_turn;
+use crate::statement_emitter::StatementEmitter;
 use arithmetic_code::{discard, emit_update};
-use code_builder::{Emitter, emit_branch, emit_jump, emit_meeting, emit_way_back, emit_work};
+use code_builder::{emit_branch, emit_jump, emit_meeting, emit_way_back, emit_work};
 use code_image::Code;
 use condition_code::emit_condition;
 use data_instructions::DataInstruction;
 use source_tree::{Operator, Performed, Statement, TestTime, Until, Varying};
 use std::alloc::AllocError;
 
-/// Turns up to where a condition is true.
-#[cycle(statement)]
-pub(crate) fn emit_until(
-    emitter: &Emitter<'_>,
-    code: &mut Code,
-    line: u32,
-    one: &Until,
-    performed: &Performed<Statement>,
-) -> Result<(), AllocError>
-    requires declared { IsDeclared emitter.now.declarations.now }
-    requires entries { entry_rules emitter.now.declarations.now.storage.now ≡ [] }
-    requires turns { until_rules (items_in emitter.now.declarations.now) one.now ≡ [] }
-    requires rules { rules.performed_rules (scope_in emitter.now.declarations.now).procedures all_permitted (rules.statement_rules (scope_in emitter.now.declarations.now) all_permitted) performed.now ≡ [] }
-    ensures { OnOk result (code.new ≡ append code.old (spec.until_fragment (items_in emitter.now.declarations.now) one.now (turn_fragment (scope_in emitter.now.declarations.now) (statement_fragment (scope_in emitter.now.declarations.now)) line performed.now) code.old)) }
-{
-    emit_vary_begin(emitter, code, &one.varying)?;
-    match one.test {
-        TestTime::Before => emit_until_before(emitter, code, line, one, performed),
-        TestTime::After => emit_until_after(emitter, code, line, one, performed),
+impl<'a> StatementEmitter<'a> {
+    /// Turns up to where a condition is true.
+    #[cycle(statement)]
+    pub(crate) fn emit_until(
+        &self,
+        code: &mut Code,
+        line: u32,
+        one: &Until,
+        performed: &Performed<Statement>,
+    ) -> Result<(), AllocError>
+        requires declared { IsDeclared self.now.emitter.declarations.now }
+        requires entries { entry_rules self.now.emitter.declarations.now.storage.now ≡ [] }
+        requires turns { until_rules (items_in self.now.emitter.declarations.now) one.now ≡ [] }
+        requires rules { rules.performed_rules (scope_in self.now.emitter.declarations.now).procedures all_permitted (rules.statement_rules (scope_in self.now.emitter.declarations.now) all_permitted) performed.now ≡ [] }
+        ensures { OnOk result (code.new ≡ append code.old (spec.until_fragment (items_in self.now.emitter.declarations.now) one.now (turn_fragment (scope_in self.now.emitter.declarations.now) (statement_fragment (scope_in self.now.emitter.declarations.now)) line performed.now) code.old)) }
+    {
+        self.emit_vary_begin(code, &one.varying)?;
+        match one.test {
+            TestTime::Before => self.emit_until_before(code, line, one, performed),
+            TestTime::After => self.emit_until_after(code, line, one, performed),
+        }
     }
-}
 
-/// VARYING begins: FROM is moved in.
-fn emit_vary_begin(
-    emitter: &Emitter<'_>,
-    code: &mut Code,
-    one: &Option<Varying>,
-) -> Result<(), AllocError>
-    requires declared { IsDeclared emitter.now.declarations.now }
-    requires rules { varying_rules (items_in emitter.now.declarations.now) one.now ≡ [] }
-    ensures { OnOk result (code.new ≡ append code.old (spec.vary_begin_fragment (items_in emitter.now.declarations.now) one.now code.old)) }
-{
-    let Some(varying) = one else {
-        return Ok(());
-    };
-    emitter.emit_sender(code, &varying.from)?;
-    emitter.emit_taking(code, DataInstruction::Move, &varying.item)
-}
+    /// VARYING begins: FROM is moved in.
+    fn emit_vary_begin(&self, code: &mut Code, one: &Option<Varying>) -> Result<(), AllocError>
+        requires declared { IsDeclared self.now.emitter.declarations.now }
+        requires rules { varying_rules (items_in self.now.emitter.declarations.now) one.now ≡ [] }
+        ensures { OnOk result (code.new ≡ append code.old (spec.vary_begin_fragment (items_in self.now.emitter.declarations.now) one.now code.old)) }
+    {
+        let Some(varying) = one else {
+            return Ok(());
+        };
+        self.emitter.emit_sender(code, &varying.from)?;
+        self.emitter
+            .emit_taking(code, DataInstruction::Move, &varying.item)
+    }
 
-/// VARYING goes on: BY is added.
-fn emit_vary_on(
-    emitter: &Emitter<'_>,
-    code: &mut Code,
-    one: &Option<Varying>,
-) -> Result<(), AllocError>
-    requires declared { IsDeclared emitter.now.declarations.now }
-    requires rules { varying_rules (items_in emitter.now.declarations.now) one.now ≡ [] }
-    ensures { OnOk result (code.new ≡ append code.old (spec.vary_on_fragment (items_in emitter.now.declarations.now) one.now code.old)) }
-{
-    let Some(varying) = one else {
-        return Ok(());
-    };
-    emit_work(code, DataInstruction::ClearTruth)?;
-    emitter.emit_value(code, &varying.by)?;
-    emit_update(emitter, code, false, Operator::Add, false, &varying.item)?;
-    emit_work(code, discard())
-}
+    /// VARYING goes on: BY is added.
+    fn emit_vary_on(&self, code: &mut Code, one: &Option<Varying>) -> Result<(), AllocError>
+        requires declared { IsDeclared self.now.emitter.declarations.now }
+        requires rules { varying_rules (items_in self.now.emitter.declarations.now) one.now ≡ [] }
+        ensures { OnOk result (code.new ≡ append code.old (spec.vary_on_fragment (items_in self.now.emitter.declarations.now) one.now code.old)) }
+    {
+        let Some(varying) = one else {
+            return Ok(());
+        };
+        emit_work(code, DataInstruction::ClearTruth)?;
+        self.emitter.emit_value(code, &varying.by)?;
+        emit_update(
+            &self.emitter,
+            code,
+            false,
+            Operator::Add,
+            false,
+            &varying.item,
+        )?;
+        emit_work(code, discard())
+    }
 
-/// Where the truth is false, VARYING goes on, and the truth is false behind it.
-fn emit_onward(
-    emitter: &Emitter<'_>,
-    code: &mut Code,
-    one: &Option<Varying>,
-) -> Result<(), AllocError>
-    requires declared { IsDeclared emitter.now.declarations.now }
-    requires rules { varying_rules (items_in emitter.now.declarations.now) one.now ≡ [] }
-    ensures { OnOk result (code.new ≡ append code.old (either_fragment nothing_fragment (sequence (spec.vary_on_fragment (items_in emitter.now.declarations.now) one.now) (work_fragment i.ClearTruth)) code.old)) }
-{
-    let branch = emit_branch(code)?;
-    let other = emit_jump(code)?;
-    emit_vary_on(emitter, code, one)?;
-    emit_work(code, DataInstruction::ClearTruth)?;
-    emit_meeting(code, branch, other)
-}
+    /// Where the truth is false, VARYING goes on, and the truth is false behind it.
+    fn emit_onward(&self, code: &mut Code, one: &Option<Varying>) -> Result<(), AllocError>
+        requires declared { IsDeclared self.now.emitter.declarations.now }
+        requires rules { varying_rules (items_in self.now.emitter.declarations.now) one.now ≡ [] }
+        ensures { OnOk result (code.new ≡ append code.old (either_fragment nothing_fragment (sequence (spec.vary_on_fragment (items_in self.now.emitter.declarations.now) one.now) (work_fragment i.ClearTruth)) code.old)) }
+    {
+        let branch = emit_branch(code)?;
+        let other = emit_jump(code)?;
+        self.emit_vary_on(code, one)?;
+        emit_work(code, DataInstruction::ClearTruth)?;
+        emit_meeting(code, branch, other)
+    }
 
-/// The test stands before the first turn.
-#[cycle(statement)]
-fn emit_until_before(
-    emitter: &Emitter<'_>,
-    code: &mut Code,
-    line: u32,
-    one: &Until,
-    performed: &Performed<Statement>,
-) -> Result<(), AllocError>
-    requires declared { IsDeclared emitter.now.declarations.now }
-    requires entries { entry_rules emitter.now.declarations.now.storage.now ≡ [] }
-    requires turns { until_rules (items_in emitter.now.declarations.now) one.now ≡ [] }
-    requires rules { rules.performed_rules (scope_in emitter.now.declarations.now).procedures all_permitted (rules.statement_rules (scope_in emitter.now.declarations.now) all_permitted) performed.now ≡ [] }
-    ensures { OnOk result (code.new ≡ append code.old (spec.until_before_fragment (condition_fragment (items_in emitter.now.declarations.now) one.now.condition) (spec.vary_on_fragment (items_in emitter.now.declarations.now) one.now.varying) (turn_fragment (scope_in emitter.now.declarations.now) (statement_fragment (scope_in emitter.now.declarations.now)) line performed.now) code.old)) }
-{
-    emit_condition(emitter, code, &one.condition)?;
-    let branch = emit_branch(code)?;
-    let other = emit_jump(code)?;
-    emit_turn_before(emitter, code, line, one, performed)?;
-    emit_meeting(code, branch, other)
-}
+    /// The test stands before the first turn.
+    #[cycle(statement)]
+    fn emit_until_before(
+        &self,
+        code: &mut Code,
+        line: u32,
+        one: &Until,
+        performed: &Performed<Statement>,
+    ) -> Result<(), AllocError>
+        requires declared { IsDeclared self.now.emitter.declarations.now }
+        requires entries { entry_rules self.now.emitter.declarations.now.storage.now ≡ [] }
+        requires turns { until_rules (items_in self.now.emitter.declarations.now) one.now ≡ [] }
+        requires rules { rules.performed_rules (scope_in self.now.emitter.declarations.now).procedures all_permitted (rules.statement_rules (scope_in self.now.emitter.declarations.now) all_permitted) performed.now ≡ [] }
+        ensures { OnOk result (code.new ≡ append code.old (spec.until_before_fragment (condition_fragment (items_in self.now.emitter.declarations.now) one.now.condition) (spec.vary_on_fragment (items_in self.now.emitter.declarations.now) one.now.varying) (turn_fragment (scope_in self.now.emitter.declarations.now) (statement_fragment (scope_in self.now.emitter.declarations.now)) line performed.now) code.old)) }
+    {
+        emit_condition(&self.emitter, code, &one.condition)?;
+        let branch = emit_branch(code)?;
+        let other = emit_jump(code)?;
+        self.emit_turn_before(code, line, one, performed)?;
+        emit_meeting(code, branch, other)
+    }
 
-/// A turn, with the test at its end.
-#[cycle(statement)]
-fn emit_turn_before(
-    emitter: &Emitter<'_>,
-    code: &mut Code,
-    line: u32,
-    one: &Until,
-    performed: &Performed<Statement>,
-) -> Result<(), AllocError>
-    requires declared { IsDeclared emitter.now.declarations.now }
-    requires entries { entry_rules emitter.now.declarations.now.storage.now ≡ [] }
-    requires turns { until_rules (items_in emitter.now.declarations.now) one.now ≡ [] }
-    requires rules { rules.performed_rules (scope_in emitter.now.declarations.now).procedures all_permitted (rules.statement_rules (scope_in emitter.now.declarations.now) all_permitted) performed.now ≡ [] }
-    ensures { OnOk result (code.new ≡ append code.old (spec.repetition_fragment (turn_fragment (scope_in emitter.now.declarations.now) (statement_fragment (scope_in emitter.now.declarations.now)) line performed.now) (sequence (spec.vary_on_fragment (items_in emitter.now.declarations.now) one.now.varying) (condition_fragment (items_in emitter.now.declarations.now) one.now.condition)) code.old)) }
-{
-    let begin = code.instructions.len();
-    emit_turn(emitter, code, line, performed)?;
-    emit_vary_on(emitter, code, &one.varying)?;
-    emit_condition(emitter, code, &one.condition)?;
-    emit_way_back(code, begin)
-}
+    /// A turn, with the test at its end.
+    #[cycle(statement)]
+    fn emit_turn_before(
+        &self,
+        code: &mut Code,
+        line: u32,
+        one: &Until,
+        performed: &Performed<Statement>,
+    ) -> Result<(), AllocError>
+        requires declared { IsDeclared self.now.emitter.declarations.now }
+        requires entries { entry_rules self.now.emitter.declarations.now.storage.now ≡ [] }
+        requires turns { until_rules (items_in self.now.emitter.declarations.now) one.now ≡ [] }
+        requires rules { rules.performed_rules (scope_in self.now.emitter.declarations.now).procedures all_permitted (rules.statement_rules (scope_in self.now.emitter.declarations.now) all_permitted) performed.now ≡ [] }
+        ensures { OnOk result (code.new ≡ append code.old (spec.repetition_fragment (turn_fragment (scope_in self.now.emitter.declarations.now) (statement_fragment (scope_in self.now.emitter.declarations.now)) line performed.now) (sequence (spec.vary_on_fragment (items_in self.now.emitter.declarations.now) one.now.varying) (condition_fragment (items_in self.now.emitter.declarations.now) one.now.condition)) code.old)) }
+    {
+        let begin = code.instructions.len();
+        self.emit_turn(code, line, performed)?;
+        self.emit_vary_on(code, &one.varying)?;
+        emit_condition(&self.emitter, code, &one.condition)?;
+        emit_way_back(code, begin)
+    }
 
-/// The test stands behind what is performed.
-#[cycle(statement)]
-fn emit_until_after(
-    emitter: &Emitter<'_>,
-    code: &mut Code,
-    line: u32,
-    one: &Until,
-    performed: &Performed<Statement>,
-) -> Result<(), AllocError>
-    requires declared { IsDeclared emitter.now.declarations.now }
-    requires entries { entry_rules emitter.now.declarations.now.storage.now ≡ [] }
-    requires turns { until_rules (items_in emitter.now.declarations.now) one.now ≡ [] }
-    requires rules { rules.performed_rules (scope_in emitter.now.declarations.now).procedures all_permitted (rules.statement_rules (scope_in emitter.now.declarations.now) all_permitted) performed.now ≡ [] }
-    ensures { OnOk result (code.new ≡ append code.old (spec.until_after_fragment (condition_fragment (items_in emitter.now.declarations.now) one.now.condition) (spec.vary_on_fragment (items_in emitter.now.declarations.now) one.now.varying) (turn_fragment (scope_in emitter.now.declarations.now) (statement_fragment (scope_in emitter.now.declarations.now)) line performed.now) code.old)) }
-{
-    let begin = code.instructions.len();
-    emit_turn(emitter, code, line, performed)?;
-    emit_condition(emitter, code, &one.condition)?;
-    emit_onward(emitter, code, &one.varying)?;
-    emit_way_back(code, begin)
+    /// The test stands behind what is performed.
+    #[cycle(statement)]
+    fn emit_until_after(
+        &self,
+        code: &mut Code,
+        line: u32,
+        one: &Until,
+        performed: &Performed<Statement>,
+    ) -> Result<(), AllocError>
+        requires declared { IsDeclared self.now.emitter.declarations.now }
+        requires entries { entry_rules self.now.emitter.declarations.now.storage.now ≡ [] }
+        requires turns { until_rules (items_in self.now.emitter.declarations.now) one.now ≡ [] }
+        requires rules { rules.performed_rules (scope_in self.now.emitter.declarations.now).procedures all_permitted (rules.statement_rules (scope_in self.now.emitter.declarations.now) all_permitted) performed.now ≡ [] }
+        ensures { OnOk result (code.new ≡ append code.old (spec.until_after_fragment (condition_fragment (items_in self.now.emitter.declarations.now) one.now.condition) (spec.vary_on_fragment (items_in self.now.emitter.declarations.now) one.now.varying) (turn_fragment (scope_in self.now.emitter.declarations.now) (statement_fragment (scope_in self.now.emitter.declarations.now)) line performed.now) code.old)) }
+    {
+        let begin = code.instructions.len();
+        self.emit_turn(code, line, performed)?;
+        emit_condition(&self.emitter, code, &one.condition)?;
+        self.emit_onward(code, &one.varying)?;
+        emit_way_back(code, begin)
+    }
 }

@@ -56,16 +56,16 @@ use Rattle.codegen.proofs.PhraseParts.{phrases_stand}
 use Rattle.code_builder.proofs.Kept.{front_kept, back_kept, one_kept, item_kept}
 use Rattle.file_code.proofs.FilingKept.{first_kept, read_key_kept, read_into_kept, start_key_kept, record_names_one, record_from_kept}
 use Rattle.file_code.proofs.OnFiles.{none_found, one_found}
-use Rattle.codegen.proofs.+statement.Goals as goal
+use Rattle.codegen.proofs.statement_emitter.StatementEmitter.+statement.Goals as goal
 
 pub emit_statement-emit_moving-requires-clause-rules : goal.emit_statement-emit_moving-requires-clause-rules
 emit_statement-emit_moving-requires-clause-rules t c =
-    let scope = scope_in c.args.emitter.now.declarations.now in
+    let scope = scope_in c.args.self.now.emitter.declarations.now in
     sym (ap (verb_rules scope all_permitted (statement_rules scope all_permitted)) c.in-DataStatement.is) ∙ sym (layers.statement_is scope all_permitted c.args.one.now) ∙ c.requires.rules
 
 pub emit_statement-emit_calculating-requires : goal.emit_statement-emit_calculating-requires
 emit_statement-emit_calculating-requires t c =
-    let scope = scope_in c.args.emitter.now.declarations.now in
+    let scope = scope_in c.args.self.now.emitter.declarations.now in
     let one = c.in-Arithmetic.arithmetic in
     let r : arithmetic_rules scope.items (statement_rules scope all_permitted) one ≡ [] = sym (ap (verb_rules scope all_permitted (statement_rules scope all_permitted)) c.in-Arithmetic.is) ∙ sym (layers.statement_is scope all_permitted c.args.one.now) ∙ c.requires.rules in
     let first = phrase_rules (statement_rules scope all_permitted) one.phrases.arose in
@@ -76,7 +76,7 @@ emit_statement-emit_calculating-requires t c =
 
 pub emit_statement-emit_stringing-requires : goal.emit_statement-emit_stringing-requires
 emit_statement-emit_stringing-requires t c =
-    let scope = scope_in c.args.emitter.now.declarations.now in
+    let scope = scope_in c.args.self.now.emitter.declarations.now in
     let one = c.in-Stringing.stringing in
     let r : stringing_rules scope.items (statement_rules scope all_permitted) one ≡ [] = sym (ap (verb_rules scope all_permitted (statement_rules scope all_permitted)) c.in-Stringing.is) ∙ sym (layers.statement_is scope all_permitted c.args.one.now) ∙ c.requires.rules in
     let first = phrase_rules (statement_rules scope all_permitted) one.phrases.arose in
@@ -87,7 +87,7 @@ emit_statement-emit_stringing-requires t c =
 
 pub emit_statement-emit_filing-requires : goal.emit_statement-emit_filing-requires
 emit_statement-emit_filing-requires t c =
-    let scope = scope_in c.args.emitter.now.declarations.now in
+    let scope = scope_in c.args.self.now.emitter.declarations.now in
     let one = c.in-Filing.filing in
     let own = filing_rules scope.items scope.files one in
     let inner = file_phrases_rules (statement_rules scope all_permitted) (phrases_of one) in
@@ -97,14 +97,14 @@ emit_statement-emit_filing-requires t c =
 
 pub emit_statement-emit_branching-requires : goal.emit_statement-emit_branching-requires
 emit_statement-emit_branching-requires t c =
-    let scope = scope_in c.args.emitter.now.declarations.now in
+    let scope = scope_in c.args.self.now.emitter.declarations.now in
     let r : branching_rules scope.items (statement_rules scope all_permitted) c.in-Branching.branching ≡ [] =
     sym (ap (verb_rules scope all_permitted (statement_rules scope all_permitted)) c.in-Branching.is) ∙ sym (layers.statement_is scope all_permitted c.args.one.now) ∙ c.requires.rules in
     (search (rules, the_lemmas), (c.requires.declared, (c.requires.entries, r)))
 
 pub emit_phrases-returns : goal.emit_phrases-returns
 emit_phrases-returns t c =
-    let scope = scope_in c.args.emitter.now.declarations.now in
+    let scope = scope_in c.args.self.now.emitter.declarations.now in
     let inside = statement_fragment scope in
     let old = c.args.code.now in
     let first = phrase_fragment scope inside c.args.one.now.arose in
@@ -120,7 +120,7 @@ emit_phrases-returns t c =
 
 pub emit_phrase-emit_statements-requires : goal.emit_phrase-emit_statements-requires
 emit_phrase-emit_statements-requires t c =
-    let scope = scope_in c.args.emitter.now.declarations.now in
+    let scope = scope_in c.args.self.now.emitter.declarations.now in
     let e : c.args.one.now ≡ Some c.as_slice.result.now = c.in-Some.is ∙ ap (λ (l : List Statement). Some l) (sym c.as_slice.ensures) in
     let d = rw e at c.decreases in (
       omega (arith, d),
@@ -129,14 +129,14 @@ emit_phrase-emit_statements-requires t c =
 
 pub emit_statement-emit_performing-requires : goal.emit_statement-emit_performing-requires
 emit_statement-emit_performing-requires t c =
-    let scope = scope_in c.args.emitter.now.declarations.now in
+    let scope = scope_in c.args.self.now.emitter.declarations.now in
     let r : performing_rules scope all_permitted (statement_rules scope all_permitted) c.in-Performing.performing ≡ [] =
     sym (ap (verb_rules scope all_permitted (statement_rules scope all_permitted)) c.in-Performing.is) ∙ sym (layers.statement_is scope all_permitted c.args.one.now) ∙ c.requires.rules in
     (search (rules, the_lemmas), (c.requires.declared, (c.requires.entries, r)))
 
 pub emit_performing-emit_until-requires : goal.emit_performing-emit_until-requires
 emit_performing-emit_until-requires t c =
-    let scope = scope_in c.args.emitter.now.declarations.now in
+    let scope = scope_in c.args.self.now.emitter.declarations.now in
     let one = c.args.one.now in
     let often = turns_rules scope.items one.turns in
     let behind = performed_rules scope.procedures all_permitted (statement_rules scope all_permitted) one.performed in
@@ -145,7 +145,7 @@ emit_performing-emit_until-requires t c =
 
 pub emit_performing-emit_counted-requires : goal.emit_performing-emit_counted-requires
 emit_performing-emit_counted-requires t c =
-    let scope = scope_in c.args.emitter.now.declarations.now in
+    let scope = scope_in c.args.self.now.emitter.declarations.now in
     let one = c.args.one.now in
     let often = turns_rules scope.items one.turns in
     let behind = performed_rules scope.procedures all_permitted (statement_rules scope all_permitted) one.performed in
@@ -153,11 +153,11 @@ emit_performing-emit_counted-requires t c =
     (search (rules, the_lemmas), (c.requires.declared, (c.requires.entries, (item, back_kept often behind c.requires.rules))))
 
 pub emit_counted-emit_taking-requires-clause-rules : goal.emit_counted-emit_taking-requires-clause-rules
-emit_counted-emit_taking-requires-clause-rules t c = item_kept (scope_in c.args.emitter.now.declarations.now).items integer_item c.args.item.now c.requires.item
+emit_counted-emit_taking-requires-clause-rules t c = item_kept (scope_in c.args.self.now.emitter.declarations.now).items integer_item c.args.item.now c.requires.item
 
 pub emit_counted-returns : goal.emit_counted-returns
 emit_counted-returns t c =
-    let scope = scope_in c.args.emitter.now.declarations.now in
+    let scope = scope_in c.args.self.now.emitter.declarations.now in
     let old = c.args.code.now in
     let found = c.emit_taking.new.code in
     let begun = c.emit_count_begin.new.code in
@@ -180,7 +180,7 @@ emit_counted-returns t c =
 
 pub emit_counted_turn-returns : goal.emit_counted_turn-returns
 emit_counted_turn-returns t c =
-    let scope = scope_in c.args.emitter.now.declarations.now in
+    let scope = scope_in c.args.self.now.emitter.declarations.now in
     let old = c.args.code.now in
     let result = c.emit_turn_end.result in
     let new = c.emit_turn_end.new.code in
@@ -192,18 +192,18 @@ emit_counted_turn-returns t c =
 
 pub emit_statement-emit_texts-requires-clause-rules : goal.emit_statement-emit_texts-requires-clause-rules
 emit_statement-emit_texts-requires-clause-rules t c =
-    let scope = scope_in c.args.emitter.now.declarations.now in
+    let scope = scope_in c.args.self.now.emitter.declarations.now in
     sym (ap (verb_rules scope all_permitted (statement_rules scope all_permitted)) c.in-Text.is) ∙ sym (layers.statement_is scope all_permitted c.args.one.now) ∙ c.requires.rules
 
 pub emit_statements-emit_statement-requires : goal.emit_statements-emit_statement-requires
 emit_statements-emit_statement-requires t c =
-    let scope = scope_in c.args.emitter.now.declarations.now in
+    let scope = scope_in c.args.self.now.emitter.declarations.now in
     let r : statement_rules scope all_permitted c.one-item.result ≡ [] = ap (statement_rules scope all_permitted) c.one-item.is ∙ one_kept (statement_rules scope all_permitted) c.args.all.now c.loop-one.one-index c.one-item.result c.loop-one-test.true c.requires.rules in
     (search (rules, the_lemmas), (c.requires.declared, (c.requires.entries, r)))
 
 pub emit_branching-emit_condition-requires-clause-rules : goal.emit_branching-emit_condition-requires-clause-rules
 emit_branching-emit_condition-requires-clause-rules t c =
-    let scope = scope_in c.args.emitter.now.declarations.now in
+    let scope = scope_in c.args.self.now.emitter.declarations.now in
     let test = condition_rules scope.items c.in-If.condition in
     let first = each (statement_rules scope all_permitted) c.in-If.statements in
     let second = phrase_rules (statement_rules scope all_permitted) c.in-If.otherwise in
@@ -212,7 +212,7 @@ emit_branching-emit_condition-requires-clause-rules t c =
 
 pub emit_branching-emit_statements-requires : goal.emit_branching-emit_statements-requires
 emit_branching-emit_statements-requires t c =
-    let scope = scope_in c.args.emitter.now.declarations.now in
+    let scope = scope_in c.args.self.now.emitter.declarations.now in
     let test = condition_rules scope.items c.in-If.condition in
     let first = each (statement_rules scope all_permitted) c.as_slice.result.now in
     let second = phrase_rules (statement_rules scope all_permitted) c.in-If.otherwise in
@@ -224,7 +224,7 @@ emit_branching-emit_statements-requires t c =
 
 pub emit_branching-emit_phrase-requires : goal.emit_branching-emit_phrase-requires
 emit_branching-emit_phrase-requires t c =
-    let scope = scope_in c.args.emitter.now.declarations.now in
+    let scope = scope_in c.args.self.now.emitter.declarations.now in
     let test = condition_rules scope.items c.in-If.condition in
     let first = each (statement_rules scope all_permitted) c.in-If.statements in
     let second = phrase_rules (statement_rules scope all_permitted) c.in-If.otherwise in
@@ -234,7 +234,7 @@ emit_branching-emit_phrase-requires t c =
 
 pub emit_branching-emit_evaluate-requires : goal.emit_branching-emit_evaluate-requires
 emit_branching-emit_evaluate-requires t c =
-    let scope = scope_in c.args.emitter.now.declarations.now in
+    let scope = scope_in c.args.self.now.emitter.declarations.now in
     let r : evaluate_rules scope.items (statement_rules scope all_permitted) c.in-Evaluate.evaluate ≡ [] =
     sym (ap (branching_rules scope.items (statement_rules scope all_permitted)) c.in-Evaluate.is) ∙ c.requires.rules in
     let d = rw c.in-Evaluate.is at c.decreases in
@@ -242,7 +242,7 @@ emit_branching-emit_evaluate-requires t c =
 
 pub emit_branching-returns-in_ok-emit_phrase-in-If : goal.emit_branching-returns-in_ok-emit_phrase-in-If
 emit_branching-returns-in_ok-emit_phrase-in-If t c =
-    let scope = scope_in c.args.emitter.now.declarations.now in
+    let scope = scope_in c.args.self.now.emitter.declarations.now in
     let inside = statement_fragment scope in
     let old = c.args.code.now in
     let new = c.emit_meeting.new.code in
@@ -266,7 +266,7 @@ emit_branching-returns-in_ok-emit_phrase-in-If t c =
 
 pub emit_selected-emit_whens-requires-clause-rules : goal.emit_selected-emit_whens-requires-clause-rules
 emit_selected-emit_whens-requires-clause-rules t c =
-    let scope = scope_in c.args.emitter.now.declarations.now in
+    let scope = scope_in c.args.self.now.emitter.declarations.now in
     let subjects = c.args.subjects.now in
     let whens = c.args.one.now.whens in
     let kept = λ (one : When). each (condition_rules scope.items) (asked_each scope.items subjects one.objects) in
@@ -276,7 +276,7 @@ emit_selected-emit_whens-requires-clause-rules t c =
 
 pub emit_selected-emit_statements-requires : goal.emit_selected-emit_statements-requires
 emit_selected-emit_statements-requires t c =
-    let scope = scope_in c.args.emitter.now.declarations.now in
+    let scope = scope_in c.args.self.now.emitter.declarations.now in
     let inside = each (statement_rules scope all_permitted) in
     let one = c.args.one.now in
     let r : inside c.as_slice-2.result.now ≡ [] =
@@ -285,7 +285,7 @@ emit_selected-emit_statements-requires t c =
 
 pub emit_selected-returns : goal.emit_selected-returns
 emit_selected-returns t c =
-    let scope = scope_in c.args.emitter.now.declarations.now in
+    let scope = scope_in c.args.self.now.emitter.declarations.now in
     let old = c.args.code.now in
     let one = c.args.one.now in
     let asks = c.emit_whens.new.code in
@@ -311,14 +311,14 @@ emit_selected-returns t c =
 
 pub emit_groups-emit_selected-requires : goal.emit_groups-emit_selected-requires
 emit_groups-emit_selected-requires t c =
-    let scope = scope_in c.args.emitter.now.declarations.now in
+    let scope = scope_in c.args.self.now.emitter.declarations.now in
     let kept = selected_rules scope.items (statement_rules scope all_permitted) c.args.subjects.now in
     let r : kept c.one-item.result ≡ [] = ap kept c.one-item.is ∙ one_kept kept c.args.selected.now c.loop-one.one-index c.one-item.result c.loop-one-test.true c.requires.rules in
     (search (rules, the_lemmas), (c.requires.declared, (c.requires.entries, r)))
 
 pub emit_groups-loop-one-preserved : goal.emit_groups-loop-one-preserved
 emit_groups-loop-one-preserved t c =
-    let scope = scope_in c.args.emitter.now.declarations.now in
+    let scope = scope_in c.args.self.now.emitter.declarations.now in
     let inside = statement_fragment scope in
     let subjects = c.args.subjects.now in
     let groups = c.args.selected.now in
@@ -344,7 +344,7 @@ emit_groups-loop-one-preserved t c =
 
 pub emit_groups-returns : goal.emit_groups-returns
 emit_groups-returns t c =
-    let scope = scope_in c.args.emitter.now.declarations.now in
+    let scope = scope_in c.args.self.now.emitter.declarations.now in
     let inside = statement_fragment scope in
     let now = c.loop-one.code in
     record {
@@ -356,12 +356,12 @@ emit_groups-returns t c =
 
 pub emit_evaluate-emit_subjects-requires-clause-rules : goal.emit_evaluate-emit_subjects-requires-clause-rules
 emit_evaluate-emit_subjects-requires-clause-rules t c =
-    let scope = scope_in c.args.emitter.now.declarations.now in
+    let scope = scope_in c.args.self.now.emitter.declarations.now in
     subjects_of scope.items (statement_rules scope all_permitted) c.args.one.now c.requires.rules
 
 pub emit_evaluate-emit_groups-requires : goal.emit_evaluate-emit_groups-requires
 emit_evaluate-emit_groups-requires t c =
-    let scope = scope_in c.args.emitter.now.declarations.now in
+    let scope = scope_in c.args.self.now.emitter.declarations.now in
     let inside = statement_rules scope all_permitted in
     let one = c.args.one.now in
     let r : each (selected_rules scope.items inside c.as_slice.result.now) c.as_slice-2.result.now ≡ [] =
@@ -371,12 +371,12 @@ emit_evaluate-emit_groups-requires t c =
 
 pub emit_evaluate-emit_phrase-requires : goal.emit_evaluate-emit_phrase-requires
 emit_evaluate-emit_phrase-requires t c =
-    let scope = scope_in c.args.emitter.now.declarations.now in
+    let scope = scope_in c.args.self.now.emitter.declarations.now in
     (search (rules, the_lemmas), (c.requires.declared, (c.requires.entries, other_of scope.items (statement_rules scope all_permitted) c.args.one.now c.requires.rules)))
 
 pub emit_evaluate-emit_meetings-requires : goal.emit_evaluate-emit_meetings-requires
 emit_evaluate-emit_meetings-requires t c =
-    let scope = scope_in c.args.emitter.now.declarations.now in
+    let scope = scope_in c.args.self.now.emitter.declarations.now in
     let now = c.emit_groups.new.code in
     let new = c.emit_phrase.new.code in
     let part = phrase_fragment scope (statement_fragment scope) c.args.one.now.other now in
@@ -386,7 +386,7 @@ emit_evaluate-emit_meetings-requires t c =
 
 pub emit_evaluate-returns : goal.emit_evaluate-returns
 emit_evaluate-returns t c =
-    let scope = scope_in c.args.emitter.now.declarations.now in
+    let scope = scope_in c.args.self.now.emitter.declarations.now in
     let inside = statement_fragment scope in
     let old = c.args.code.now in
     let one = c.args.one.now in
@@ -402,12 +402,12 @@ emit_evaluate-returns t c =
 
 pub emit_until-emit_vary_begin-requires-clause-rules : goal.emit_until-emit_vary_begin-requires-clause-rules
 emit_until-emit_vary_begin-requires-clause-rules t c =
-    let scope = scope_in c.args.emitter.now.declarations.now in
+    let scope = scope_in c.args.self.now.emitter.declarations.now in
     front_kept (varying_rules scope.items c.args.one.now.varying) (condition_rules scope.items c.args.one.now.condition) c.requires.turns
 
 pub emit_until-returns-in-Before : goal.emit_until-returns-in-Before
 emit_until-returns-in-Before t c =
-    let scope = scope_in c.args.emitter.now.declarations.now in
+    let scope = scope_in c.args.self.now.emitter.declarations.now in
     let one = c.args.one.now in
     let old = c.args.code.now in
     let begin = vary_begin_fragment scope.items one.varying in
@@ -421,7 +421,7 @@ emit_until-returns-in-Before t c =
 
 pub emit_until-returns-in-After : goal.emit_until-returns-in-After
 emit_until-returns-in-After t c =
-    let scope = scope_in c.args.emitter.now.declarations.now in
+    let scope = scope_in c.args.self.now.emitter.declarations.now in
     let one = c.args.one.now in
     let old = c.args.code.now in
     let begin = vary_begin_fragment scope.items one.varying in
@@ -435,12 +435,12 @@ emit_until-returns-in-After t c =
 
 pub emit_until_before-emit_condition-requires-clause-rules : goal.emit_until_before-emit_condition-requires-clause-rules
 emit_until_before-emit_condition-requires-clause-rules t c =
-    let scope = scope_in c.args.emitter.now.declarations.now in
+    let scope = scope_in c.args.self.now.emitter.declarations.now in
     back_kept (varying_rules scope.items c.args.one.now.varying) (condition_rules scope.items c.args.one.now.condition) c.requires.turns
 
 pub emit_until_before-returns : goal.emit_until_before-returns
 emit_until_before-returns t c =
-    let scope = scope_in c.args.emitter.now.declarations.now in
+    let scope = scope_in c.args.self.now.emitter.declarations.now in
     let one = c.args.one.now in
     let old = c.args.code.now in
     let test = condition_fragment scope.items one.condition in
@@ -455,17 +455,17 @@ emit_until_before-returns t c =
 
 pub emit_turn_before-emit_vary_on-requires-clause-rules : goal.emit_turn_before-emit_vary_on-requires-clause-rules
 emit_turn_before-emit_vary_on-requires-clause-rules t c =
-    let scope = scope_in c.args.emitter.now.declarations.now in
+    let scope = scope_in c.args.self.now.emitter.declarations.now in
     front_kept (varying_rules scope.items c.args.one.now.varying) (condition_rules scope.items c.args.one.now.condition) c.requires.turns
 
 pub emit_turn_before-emit_condition-requires-clause-rules : goal.emit_turn_before-emit_condition-requires-clause-rules
 emit_turn_before-emit_condition-requires-clause-rules t c =
-    let scope = scope_in c.args.emitter.now.declarations.now in
+    let scope = scope_in c.args.self.now.emitter.declarations.now in
     back_kept (varying_rules scope.items c.args.one.now.varying) (condition_rules scope.items c.args.one.now.condition) c.requires.turns
 
 pub emit_turn_before-returns : goal.emit_turn_before-returns
 emit_turn_before-returns t c =
-    let scope = scope_in c.args.emitter.now.declarations.now in
+    let scope = scope_in c.args.self.now.emitter.declarations.now in
     let one = c.args.one.now in
     let old = c.args.code.now in
     let result = c.emit_way_back.result in
@@ -483,17 +483,17 @@ emit_turn_before-returns t c =
 
 pub emit_until_after-emit_condition-requires-clause-rules : goal.emit_until_after-emit_condition-requires-clause-rules
 emit_until_after-emit_condition-requires-clause-rules t c =
-    let scope = scope_in c.args.emitter.now.declarations.now in
+    let scope = scope_in c.args.self.now.emitter.declarations.now in
     back_kept (varying_rules scope.items c.args.one.now.varying) (condition_rules scope.items c.args.one.now.condition) c.requires.turns
 
 pub emit_until_after-emit_onward-requires-clause-rules : goal.emit_until_after-emit_onward-requires-clause-rules
 emit_until_after-emit_onward-requires-clause-rules t c =
-    let scope = scope_in c.args.emitter.now.declarations.now in
+    let scope = scope_in c.args.self.now.emitter.declarations.now in
     front_kept (varying_rules scope.items c.args.one.now.varying) (condition_rules scope.items c.args.one.now.condition) c.requires.turns
 
 pub emit_until_after-returns : goal.emit_until_after-returns
 emit_until_after-returns t c =
-    let scope = scope_in c.args.emitter.now.declarations.now in
+    let scope = scope_in c.args.self.now.emitter.declarations.now in
     let one = c.args.one.now in
     let old = c.args.code.now in
     let result = c.emit_way_back.result in
@@ -511,22 +511,22 @@ emit_until_after-returns t c =
 
 pub emit_stringing-emit_string-requires-clause-sendings : goal.emit_stringing-emit_string-requires-clause-sendings
 emit_stringing-emit_string-requires-clause-sendings t c =
-    let items = (scope_in c.args.emitter.now.declarations.now).items in
+    let items = (scope_in c.args.self.now.emitter.declarations.now).items in
     ap (each (sending_rules items)) c.as_slice.ensures ∙ (keeps_string items c.args.one.now c.requires.string).sendings
 
 pub emit_stringing-emit_string-requires-clause-receiver : goal.emit_stringing-emit_string-requires-clause-receiver
 emit_stringing-emit_string-requires-clause-receiver t c =
-    let items = (scope_in c.args.emitter.now.declarations.now).items in
+    let items = (scope_in c.args.self.now.emitter.declarations.now).items in
     item_kept items receiver_item c.args.one.now.receiver (keeps_string items c.args.one.now c.requires.string).receiver
 
 pub emit_stringing-emit_string-requires-clause-pointer : goal.emit_stringing-emit_string-requires-clause-pointer
 emit_stringing-emit_string-requires-clause-pointer t c =
-    let items = (scope_in c.args.emitter.now.declarations.now).items in
+    let items = (scope_in c.args.self.now.emitter.declarations.now).items in
     pointer_kept items (only_length (items_named items c.args.one.now.receiver.item)) c.args.one.now.pointer (keeps_string items c.args.one.now c.requires.string).pointer
 
 pub emit_filing-emit_read-requires : goal.emit_filing-emit_read-requires
 emit_filing-emit_read-requires t c =
-    let scope = scope_in c.args.emitter.now.declarations.now in
+    let scope = scope_in c.args.self.now.emitter.declarations.now in
     let phrases = c.in-Read.phrases in
     let d = rw c.in-Read.is at c.decreases in
     let own : file_named_rules scope.items scope.files c.in-Read.file (read_rules scope.items scope.files c.in-Read.file.place c.in-Read.next c.in-Read.into c.in-Read.key phrases) ≡ [] = sym (ap (filing_rules scope.items scope.files) c.in-Read.is) ∙ c.requires.rules in
@@ -536,7 +536,7 @@ emit_filing-emit_read-requires t c =
 
 pub emit_filing-emit_record-requires : goal.emit_filing-emit_record-requires
 emit_filing-emit_record-requires t c =
-    let scope = scope_in c.args.emitter.now.declarations.now in
+    let scope = scope_in c.args.self.now.emitter.declarations.now in
     let phrases = c.in-Write.phrases in
     let d = rw c.in-Write.is at c.decreases in
     let own : record_rules scope.items scope.files c.in-Write.record c.in-Write.from phrases ≡ [] = sym (ap (filing_rules scope.items scope.files) c.in-Write.is) ∙ c.requires.rules in
@@ -546,7 +546,7 @@ emit_filing-emit_record-requires t c =
 
 pub emit_filing-emit_record-requires-in-Rewrite : goal.emit_filing-emit_record-requires-in-Rewrite
 emit_filing-emit_record-requires-in-Rewrite t c =
-    let scope = scope_in c.args.emitter.now.declarations.now in
+    let scope = scope_in c.args.self.now.emitter.declarations.now in
     let phrases = c.in-Rewrite.phrases in
     let d = rw c.in-Rewrite.is at c.decreases in
     let own : record_rules scope.items scope.files c.in-Rewrite.record c.in-Rewrite.from phrases ≡ [] = sym (ap (filing_rules scope.items scope.files) c.in-Rewrite.is) ∙ c.requires.rules in
@@ -556,7 +556,7 @@ emit_filing-emit_record-requires-in-Rewrite t c =
 
 pub emit_filing-emit_delete-requires : goal.emit_filing-emit_delete-requires
 emit_filing-emit_delete-requires t c =
-    let scope = scope_in c.args.emitter.now.declarations.now in
+    let scope = scope_in c.args.self.now.emitter.declarations.now in
     let phrases = c.in-Delete.phrases in
     let d = rw c.in-Delete.is at c.decreases in
     let own : file_named_rules scope.items scope.files c.in-Delete.file (delete_rules scope.items scope.files c.in-Delete.file.place phrases) ≡ [] = sym (ap (filing_rules scope.items scope.files) c.in-Delete.is) ∙ c.requires.rules in
@@ -566,7 +566,7 @@ emit_filing-emit_delete-requires t c =
 
 pub emit_filing-emit_starting-requires : goal.emit_filing-emit_starting-requires
 emit_filing-emit_starting-requires t c =
-    let scope = scope_in c.args.emitter.now.declarations.now in
+    let scope = scope_in c.args.self.now.emitter.declarations.now in
     let phrases = c.in-Start.phrases in
     let d = rw c.in-Start.is at c.decreases in
     let own : file_named_rules scope.items scope.files c.in-Start.file (start_rules scope.items scope.files c.in-Start.file.place c.in-Start.key phrases) ≡ [] = sym (ap (filing_rules scope.items scope.files) c.in-Start.is) ∙ c.requires.rules in
@@ -576,7 +576,7 @@ emit_filing-emit_starting-requires t c =
 
 pub emit_filing-returns-in-Read : goal.emit_filing-returns-in-Read
 emit_filing-returns-in-Read t c =
-    let scope = scope_in c.args.emitter.now.declarations.now in
+    let scope = scope_in c.args.self.now.emitter.declarations.now in
     let inside = statement_fragment scope in
     let old = c.args.code.now in
     let tick = tick_fragment c.args.line in
@@ -590,7 +590,7 @@ emit_filing-returns-in-Read t c =
 
 pub emit_read-read_verb-requires-clause-rules : goal.emit_read-read_verb-requires-clause-rules
 emit_read-read_verb-requires-clause-rules t c =
-    let scope = scope_in c.args.emitter.now.declarations.now in
+    let scope = scope_in c.args.self.now.emitter.declarations.now in
     let name = c.args.name.now in
     let known = file_in scope.items c.in-Some.file.now in
     let asked = read_rules scope.items scope.files name.place c.args.next c.args.into.now c.args.key.now c.args.phrases.now in
@@ -599,7 +599,7 @@ emit_read-read_verb-requires-clause-rules t c =
 
 pub emit_read-emit_on_file-requires : goal.emit_read-emit_on_file-requires
 emit_read-emit_on_file-requires t c =
-    let scope = scope_in c.args.emitter.now.declarations.now in
+    let scope = scope_in c.args.self.now.emitter.declarations.now in
     let name = c.args.name.now in
     let known = file_in scope.items c.in-Some.file.now in
     let asked = read_rules scope.items scope.files name.place c.args.next c.args.into.now c.args.key.now c.args.phrases.now in
@@ -609,14 +609,14 @@ emit_read-emit_on_file-requires t c =
 
 pub emit_read-returns-in_default : goal.emit_read-returns-in_default
 emit_read-returns-in_default t c =
-    let scope = scope_in c.args.emitter.now.declarations.now in
+    let scope = scope_in c.args.self.now.emitter.declarations.now in
     let verb = λ (file : ProgramFile). meaning.read_verb scope.items file c.args.next c.args.key.now in
     none_found (first (files_named scope.files c.args.name.now)) (statement_on_fragment scope (statement_fragment scope) c.args.phrases.now (into_fragment scope.items c.args.into.now) verb)
     c.args.code.now c.in_default.ensures
 
 pub emit_read-returns : goal.emit_read-returns
 emit_read-returns t c =
-    let scope = scope_in c.args.emitter.now.declarations.now in
+    let scope = scope_in c.args.self.now.emitter.declarations.now in
     let inside = statement_fragment scope in
     let old = c.args.code.now in
     let phrases = c.args.phrases.now in
@@ -630,17 +630,17 @@ emit_read-returns t c =
 
 pub emit_record-emit_from-requires-clause-rules : goal.emit_record-emit_from-requires-clause-rules
 emit_record-emit_from-requires-clause-rules t c =
-    let scope = scope_in c.args.emitter.now.declarations.now in
+    let scope = scope_in c.args.self.now.emitter.declarations.now in
     record_from_kept scope.items scope.files c.args.one.now c.args.from.now c.args.phrases.now c.requires.rules
 
 pub emit_record-file_of_record-requires-clause-named : goal.emit_record-file_of_record-requires-clause-named
 emit_record-file_of_record-requires-clause-named t c =
-    let scope = scope_in c.args.emitter.now.declarations.now in
+    let scope = scope_in c.args.self.now.emitter.declarations.now in
     record_names_one scope.items scope.files c.args.one.now c.args.from.now c.args.phrases.now c.requires.rules
 
 pub emit_record-returns-in_default : goal.emit_record-returns-in_default
 emit_record-returns-in_default t c =
-    let scope = scope_in c.args.emitter.now.declarations.now in
+    let scope = scope_in c.args.self.now.emitter.declarations.now in
     let one = c.args.one.now in
     let now = c.emit_from.new.code in
     let found = file_with_record scope.files (first (items_named scope.items one.item)) in
@@ -650,7 +650,7 @@ emit_record-returns-in_default t c =
 
 pub emit_record-returns : goal.emit_record-returns
 emit_record-returns t c =
-    let scope = scope_in c.args.emitter.now.declarations.now in
+    let scope = scope_in c.args.self.now.emitter.declarations.now in
     let inside = statement_fragment scope in
     let old = c.args.code.now in
     let now = c.emit_from.new.code in
@@ -668,13 +668,13 @@ emit_record-returns t c =
 
 pub emit_delete-returns-in_default : goal.emit_delete-returns-in_default
 emit_delete-returns-in_default t c =
-    let scope = scope_in c.args.emitter.now.declarations.now in
+    let scope = scope_in c.args.self.now.emitter.declarations.now in
     none_found (first (files_named scope.files c.args.name.now)) (alone_fragment scope (statement_fragment scope) c.args.phrases.now (λ (file : ProgramFile). file_verb.Delete))
     c.args.code.now c.in_default.ensures
 
 pub emit_delete-returns : goal.emit_delete-returns
 emit_delete-returns t c =
-    let scope = scope_in c.args.emitter.now.declarations.now in
+    let scope = scope_in c.args.self.now.emitter.declarations.now in
     let old = c.args.code.now in
     let known = file_in scope.items c.in-Some.file.now in
     let found = first (files_named scope.files c.args.name.now) in
@@ -684,7 +684,7 @@ emit_delete-returns t c =
 
 pub emit_starting-start_verb-requires-clause-rules : goal.emit_starting-start_verb-requires-clause-rules
 emit_starting-start_verb-requires-clause-rules t c =
-    let scope = scope_in c.args.emitter.now.declarations.now in
+    let scope = scope_in c.args.self.now.emitter.declarations.now in
     let name = c.args.name.now in
     let known = file_in scope.items c.in-Some.file.now in
     let asked = start_rules scope.items scope.files name.place c.args.key.now c.args.phrases.now in
@@ -693,13 +693,13 @@ emit_starting-start_verb-requires-clause-rules t c =
 
 pub emit_starting-returns-in_default : goal.emit_starting-returns-in_default
 emit_starting-returns-in_default t c =
-    let scope = scope_in c.args.emitter.now.declarations.now in
+    let scope = scope_in c.args.self.now.emitter.declarations.now in
     let verb = λ (file : ProgramFile). meaning.start_verb scope.items file c.args.key.now in
     none_found (first (files_named scope.files c.args.name.now)) (alone_fragment scope (statement_fragment scope) c.args.phrases.now verb) c.args.code.now c.in_default.ensures
 
 pub emit_starting-returns : goal.emit_starting-returns
 emit_starting-returns t c =
-    let scope = scope_in c.args.emitter.now.declarations.now in
+    let scope = scope_in c.args.self.now.emitter.declarations.now in
     let inside = statement_fragment scope in
     let old = c.args.code.now in
     let phrases = c.args.phrases.now in
@@ -713,7 +713,7 @@ emit_starting-returns t c =
 
 pub emit_on_file-returns : goal.emit_on_file-returns
 emit_on_file-returns t c =
-    let scope = scope_in c.args.emitter.now.declarations.now in
+    let scope = scope_in c.args.self.now.emitter.declarations.now in
     let inside = statement_fragment scope in
     let old = c.args.code.now in
     let phrases = c.args.phrases.now in
@@ -742,7 +742,7 @@ emit_on_file-returns t c =
 
 pub emit_success-emit_phrase-requires : goal.emit_success-emit_phrase-requires
 emit_success-emit_phrase-requires t c =
-    let inside = statement_rules (scope_in c.args.emitter.now.declarations.now) all_permitted in
+    let inside = statement_rules (scope_in c.args.self.now.emitter.declarations.now) all_permitted in
     let pair = c.in-AtEnd.pair in
     let d = rw c.in-AtEnd.is at c.decreases in
     let r : phrases_rules inside pair ≡ [] = sym (ap (file_phrases_rules inside) c.in-AtEnd.is) ∙ c.requires.phrases in
@@ -750,7 +750,7 @@ emit_success-emit_phrase-requires t c =
 
 pub emit_success-emit_phrase-requires-in-InvalidKey : goal.emit_success-emit_phrase-requires-in-InvalidKey
 emit_success-emit_phrase-requires-in-InvalidKey t c =
-    let inside = statement_rules (scope_in c.args.emitter.now.declarations.now) all_permitted in
+    let inside = statement_rules (scope_in c.args.self.now.emitter.declarations.now) all_permitted in
     let pair = c.in-InvalidKey.pair in
     let d = rw c.in-InvalidKey.is at c.decreases in
     let r : phrases_rules inside pair ≡ [] = sym (ap (file_phrases_rules inside) c.in-InvalidKey.is) ∙ c.requires.phrases in
@@ -758,7 +758,7 @@ emit_success-emit_phrase-requires-in-InvalidKey t c =
 
 pub emit_failure-emit_class_phrase-requires : goal.emit_failure-emit_class_phrase-requires
 emit_failure-emit_class_phrase-requires t c =
-    let inside = statement_rules (scope_in c.args.emitter.now.declarations.now) all_permitted in
+    let inside = statement_rules (scope_in c.args.self.now.emitter.declarations.now) all_permitted in
     let pair = c.in-AtEnd.pair in
     let d = rw c.in-AtEnd.is at c.decreases in
     let r : phrases_rules inside pair ≡ [] = sym (ap (file_phrases_rules inside) c.in-AtEnd.is) ∙ c.requires.phrases in
@@ -766,7 +766,7 @@ emit_failure-emit_class_phrase-requires t c =
 
 pub emit_failure-emit_class_phrase-requires-in-InvalidKey : goal.emit_failure-emit_class_phrase-requires-in-InvalidKey
 emit_failure-emit_class_phrase-requires-in-InvalidKey t c =
-    let inside = statement_rules (scope_in c.args.emitter.now.declarations.now) all_permitted in
+    let inside = statement_rules (scope_in c.args.self.now.emitter.declarations.now) all_permitted in
     let pair = c.in-InvalidKey.pair in
     let d = rw c.in-InvalidKey.is at c.decreases in
     let r : phrases_rules inside pair ≡ [] = sym (ap (file_phrases_rules inside) c.in-InvalidKey.is) ∙ c.requires.phrases in
@@ -774,7 +774,7 @@ emit_failure-emit_class_phrase-requires-in-InvalidKey t c =
 
 pub emit_class_phrase-returns : goal.emit_class_phrase-returns
 emit_class_phrase-returns t c =
-    let scope = scope_in c.args.emitter.now.declarations.now in
+    let scope = scope_in c.args.self.now.emitter.declarations.now in
     let old = c.args.code.now in
     let tested = c.emit_test.new.code in
     let new = c.emit_meeting.new.code in
@@ -793,7 +793,7 @@ emit_class_phrase-returns t c =
 
 pub emit_phrase_taken-emit_statements-requires : goal.emit_phrase_taken-emit_statements-requires
 emit_phrase_taken-emit_statements-requires t c =
-    let scope = scope_in c.args.emitter.now.declarations.now in
+    let scope = scope_in c.args.self.now.emitter.declarations.now in
     let e : c.args.phrase.now ≡ Some c.as_slice.result.now = c.in-Some.is ∙ ap (λ (l : List Statement). Some l) (sym c.as_slice.ensures) in
     let d = rw e at c.decreases in (
       omega (arith, d),
@@ -802,7 +802,7 @@ emit_phrase_taken-emit_statements-requires t c =
 
 pub emit_stringing-returns : goal.emit_stringing-returns
 emit_stringing-returns t c =
-    let scope = scope_in c.args.emitter.now.declarations.now in
+    let scope = scope_in c.args.self.now.emitter.declarations.now in
     let one = c.args.one.now in
     let old = c.args.code.now in
     let ticked = c.emit_tick.new.code in

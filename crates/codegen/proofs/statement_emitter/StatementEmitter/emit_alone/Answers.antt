@@ -9,11 +9,11 @@ use Rattle.codegen.specs.Layout.{alone_fragment, statement_fragment}
 use Rattle.code_builder.specs.Phrases.{patched_code}
 use Rattle.codegen.proofs.FileParts.{alone_made}
 use Rattle.code_builder.proofs.Sequences.{on_ok}
-use Rattle.codegen.proofs.open_statement.emit_alone.Goals as goal
+use Rattle.codegen.proofs.statement_emitter.StatementEmitter.emit_alone.Goals as goal
 
 pub returns : goal.returns
 returns c =
-    let declarations = c.args.emitter.now.declarations.now in
+    let declarations = c.args.self.now.emitter.declarations.now in
     let scope = scope_in declarations in
     let old = c.args.code.now in
     let verb = c.args.verb in

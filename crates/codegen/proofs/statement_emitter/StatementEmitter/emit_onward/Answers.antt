@@ -9,12 +9,12 @@ use Rattle.code_builder.specs.Phrases.{patched_code}
 use Rattle.code_builder.proofs.Pieces.{joined_nothing}
 use Rattle.code_builder.proofs.Sequences.{then_piece, on_ok}
 use Rattle.code_builder.proofs.Meeting.{meeting}
-use Rattle.codegen.proofs.until.emit_onward.Goals as goal
+use Rattle.codegen.proofs.statement_emitter.StatementEmitter.emit_onward.Goals as goal
 
 pub returns : goal.returns
 returns c =
     let old = c.args.code.now in
-    let onward = vary_on_fragment (items_in c.args.emitter.now.declarations.now) c.args.one.now in
+    let onward = vary_on_fragment (items_in c.args.self.now.emitter.declarations.now) c.args.one.now in
     let clear = work_fragment i.ClearTruth in
     let branch = c.in_ok-branch.branch in
     let other = c.in_ok-other.other in

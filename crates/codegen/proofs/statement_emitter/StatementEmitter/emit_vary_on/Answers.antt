@@ -12,21 +12,21 @@ use Rattle.arithmetic_code.specs.ArithmeticCode.{update_fragment}
 use Rattle.codegen.specs.UntilCode.{vary_on_fragment}
 use Rattle.code_builder.proofs.Sequences.{is_so, ends_so}
 use Rattle.codegen.proofs.Varying.{varied, by_kept, varied_kept, vary_on_is}
-use Rattle.codegen.proofs.until.emit_vary_on.Goals as goal
+use Rattle.codegen.proofs.statement_emitter.StatementEmitter.emit_vary_on.Goals as goal
 
 pub emit_value-requires-clause-rules : goal.emit_value-requires-clause-rules
 emit_value-requires-clause-rules c =
-    let items = items_in c.args.emitter.now.declarations.now in
+    let items = items_in c.args.self.now.emitter.declarations.now in
     by_kept items c.in-Some.varying (sym (ap (varying_rules items) c.in-Some.is) ∙ c.requires.rules)
 
 pub emit_update-requires-clause-rules : goal.emit_update-requires-clause-rules
 emit_update-requires-clause-rules c =
-    let items = items_in c.args.emitter.now.declarations.now in
+    let items = items_in c.args.self.now.emitter.declarations.now in
     varied_kept items c.in-Some.varying (sym (ap (varying_rules items) c.in-Some.is) ∙ c.requires.rules)
 
 pub returns : goal.returns
 returns c =
-    let items = items_in c.args.emitter.now.declarations.now in
+    let items = items_in c.args.self.now.emitter.declarations.now in
     let one = c.in-Some.varying in
     let old = c.args.code.now in
     let result = c.emit_work-2.result in

@@ -5,17 +5,17 @@ use Rattle.declarations.specs.Named.{scope_in}
 use Rattle.code_builder.specs.Pieces.{append, in_order}
 use Rattle.codegen.specs.Layout.{selection_fragment, statement_fragment}
 use Rattle.code_builder.specs.Phrases.{IsWay, met_all}
-use Rattle.codegen.proofs.+statement.Given as goal
+use Rattle.codegen.proofs.statement_emitter.StatementEmitter.+statement.Given as goal
 
 -- what is there, and what is still to come, are the whole
 abbrev pub invariant-emit_statements-loop-one : goal.invariant-emit_statements-loop-one
-invariant-emit_statements-loop-one l = append l.code (in_order (statement_fragment (scope_in l.emitter.declarations.now)) (drop l.one-index l.all) l.code) ≡ append l.initial.code (in_order (statement_fragment (scope_in l.emitter.declarations.now)) l.all l.initial.code)
+invariant-emit_statements-loop-one l = append l.code (in_order (statement_fragment (scope_in l.self.emitter.declarations.now)) (drop l.one-index l.all) l.code) ≡ append l.initial.code (in_order (statement_fragment (scope_in l.self.emitter.declarations.now)) l.all l.initial.code)
 
 -- the same once all ways meet, whatever OTHER has
 abbrev pub invariant-emit_groups-loop-one : goal.invariant-emit_groups-loop-one
 invariant-emit_groups-loop-one l = record {
-  same : (other : Option (List Statement)) → met_all l.ways.items (append l.code (selection_fragment (scope_in l.emitter.declarations.now) (statement_fragment (scope_in l.emitter.declarations.now)) l.subjects (drop l.one-index l.selected) other l.code))
-      ≡ append l.initial.code (selection_fragment (scope_in l.emitter.declarations.now) (statement_fragment (scope_in l.emitter.declarations.now)) l.subjects l.selected other l.initial.code);
+  same : (other : Option (List Statement)) → met_all l.ways.items (append l.code (selection_fragment (scope_in l.self.emitter.declarations.now) (statement_fragment (scope_in l.self.emitter.declarations.now)) l.subjects (drop l.one-index l.selected) other l.code))
+      ≡ append l.initial.code (selection_fragment (scope_in l.self.emitter.declarations.now) (statement_fragment (scope_in l.self.emitter.declarations.now)) l.subjects l.selected other l.initial.code);
   within : AllByRecursion (IsWay (length l.code.instructions)) l.ways.items;
 }
 
