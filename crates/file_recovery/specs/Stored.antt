@@ -3,8 +3,8 @@ use Rattle.std.specs.Prelude.{List, map}
 use Rattle.records.specs.Rows.{Row}
 use Rattle.records.specs.Files.{File, Files, NamedFile}
 use Rattle.records.specs.Stores.{spec_of}
-use Rattle.half_store.specs.declared.stored.StoredRow.{StoredRow}
-use Rattle.half_store.specs.declared.stored.StoredFile.{StoredFile}
+use Rattle.file_bytes.specs.declared.stored.StoredRow.{StoredRow}
+use Rattle.file_bytes.specs.declared.stored.StoredFile.{StoredFile}
 
 abbrev pub row_of : StoredRow → Row
 row_of r = record { number = r.number; bytes = r.bytes.items; arrivals = r.arrivals.items }

@@ -64,7 +64,3 @@ module _ {A K : Type 0} (c : K → K → Ordering) (total : IsTotalOrder c) (f :
 pub map_twice : {A B C : Type 0} (f : A → B) (g : B → C) (items : List A) → map g (map f items) ≡ map (λ x. g (f x)) items
 map_twice f g [] = refl
 map_twice f g (one ∷ items) = ap (λ l. g (f one) ∷ l) (map_twice f g items)
-
-pub unmapped : {A : Type 0} (P : A → Type 0) (items : List A) → AllByRecursion P (map (λ x. x) items) → AllByRecursion P items
-unmapped P [] all = tt
-unmapped P (one ∷ items) all = (all.0, unmapped P items all.1)

@@ -6,8 +6,8 @@ use Rattle.std.proofs.lemmas.List.{take_more, drop_more, drop_all, map-append}
 use Rattle.records.specs.declared.file_spec.Organization.{Organization}
 use Rattle.records.specs.Rows.{Row, pair_cmp, prime_pair, named_pair}
 use Rattle.records.specs.Changes.{with_row}
-use Rattle.half_store.specs.declared.stored.StoredRow.{StoredRow}
-use Rattle.half_store.specs.Stored.{row_of}
+use Rattle.file_bytes.specs.declared.stored.StoredRow.{StoredRow}
+use Rattle.file_bytes.specs.Stored.{row_of}
 
 -- the new row stands behind the first k
 abbrev pub Passed : Organization → ℕ → List ℕ → List StoredRow → ℕ → Type 0

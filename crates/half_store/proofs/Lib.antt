@@ -9,7 +9,7 @@ mod Replaced
 mod Sought
 mod Turned
 mod Rested
-mod ReadBack
+mod ReadRows
 mod ReadFile
 mod Checked
 mod Formatted

@@ -1,71 +1,40 @@
 -- Bytes spell at most one list of files, and an image holds at most one.
 use Rattle.std.proofs.Common.{◌≡◌, ◌≤◌, ◌<◌, ◌+◌, ◌*◌, ◌^◌, ℕ, List, [], ◌∷◌, ◌++◌, length, drop, length-append, refl, sym, ◌∙◌, ap, arith}
-use Rattle.std.specs.Prelude.{Some, slice_index}
 use Rattle.std.specs.List.{AllByRecursion}
 use Rattle.station.specs.Disk.{Sector}
 use Rattle.roots.specs.declared.pair.Roots.{Roots}
 use Rattle.roots.proofs.Within.{roots_stand}
-use Rattle.records.specs.declared.file_spec.AlternateKey.{AlternateKey}
-use Rattle.records.specs.declared.file_spec.Organization.{Organization}
 use Rattle.records.specs.Spec.{Spec}
 use Rattle.records.specs.Rows.{Row}
 use Rattle.records.specs.Files.{Files, NamedFile}
 use Rattle.half_store.specs.Half.{known_marks, half, named_bytes, Holds}
-use Rattle.half_store.specs.Read.{place_in, row_size, rows_in}
+use Rattle.half_store.specs.Read.{row_size, rows_in}
 use Rattle.half_store.specs.Readable.{IsReadable}
 use Rattle.half_store.specs.Spelled.{file_bytes, files_bytes}
-use Rattle.half_store.proofs.ReadBack.{name_read, kind_read, length_read, prime_read, count_read, keys_read, kind_back}
-use Rattle.half_store.proofs.ReadFile.{front, long, next_is, count_is, rows_are, rest_is}
+use Rattle.file_bytes.proofs.Descriptions.{one_name, one_spec_in}
+use Rattle.half_store.proofs.ReadFile.{name_there, spec_there, front, long, next_is, count_is, rows_are, rest_is}
 use Rattle.half_store.proofs.Rested.{readable}
-
-some_is : {A : Type 0} {a b : A} → Some a ≡ Some b → a ≡ b
-some_is e = cc
 
 abbrev Begins : List ℕ → NamedFile → List ℕ → Type 0
 Begins bytes one more = bytes ≡ file_bytes one ++ more
 
 -- two files that the same bytes begin with
 module _ (bytes : List ℕ) (one other : NamedFile) (more more' : List ℕ) (good : IsReadable one) (good' : IsReadable other) (is : Begins bytes one more) (is' : Begins bytes other more') (few : length bytes < 2 ^ 64) where
+  same_name : one.name ≡ other.name
+  same_name = one_name one.name other.name good.named.name good'.named.name
+      (sym (name_there one.name _ bytes one.file.spec good.named.name (front one more bytes good is))
+      ∙ name_there other.name _ bytes other.file.spec good'.named.name (front other more' bytes good' is'))
+
   abbrev s : Spec
   s = one.file.spec
 
   abbrev s' : Spec
   s' = other.file.spec
 
-  same_name : one.name ≡ other.name
-  same_name =
-      sym (name_read one.name _ bytes s good.named.name good.named.file.spec (front one more bytes good is))
-      ∙ name_read other.name _ bytes s' good'.named.name good'.named.file.spec (front other more' bytes good' is')
-
-  same_organization : s.organization ≡ s'.organization
-  same_organization = some_is (
-      sym (kind_back (slice_index bytes 30) (place_in (drop 33 bytes)) s.organization
-      (kind_read one.name _ bytes s good.named.name good.named.file.spec (front one more bytes good is))
-      (prime_read one.name _ bytes s good.named.name good.named.file.spec (front one more bytes good is)))
-      ∙ kind_back (slice_index bytes 30) (place_in (drop 33 bytes)) s'.organization
-      (kind_read other.name _ bytes s' good'.named.name good'.named.file.spec (front other more' bytes good' is'))
-      (prime_read other.name _ bytes s' good'.named.name good'.named.file.spec (front other more' bytes good' is')))
-
-  same_length : s.record_length ≡ s'.record_length
-  same_length =
-      sym (length_read one.name _ bytes s good.named.name good.named.file.spec (front one more bytes good is))
-      ∙ length_read other.name _ bytes s' good'.named.name good'.named.file.spec (front other more' bytes good' is')
-
-  same_keys : s.alternates ≡ s'.alternates
-  same_keys =
-      sym (keys_read one.name _ bytes s good.named.name good.named.file.spec (front one more bytes good is) (slice_index bytes 37)
-      (count_read one.name _ bytes s good.named.name good.named.file.spec (front one more bytes good is)))
-      ∙ keys_read other.name _ bytes s' good'.named.name good'.named.file.spec (front other more' bytes good' is') (slice_index bytes 37)
-      (count_read other.name _ bytes s' good'.named.name good'.named.file.spec (front other more' bytes good' is'))
-
-  abbrev spec_with : Organization → ℕ → List AlternateKey → Spec
-  spec_with o n keys = record { organization = o; record_length = n; alternates = keys }
-
   same_spec : s ≡ s'
-  same_spec =
-      ap (λ (o : Organization). spec_with o s.record_length s.alternates) same_organization
-      ∙ ap (λ (n : ℕ). spec_with s'.organization n s.alternates) same_length
-      ∙ ap (λ (keys : List AlternateKey). spec_with s'.organization s'.record_length keys) same_keys
+  same_spec = one_spec_in s s' _ _ (drop 30 bytes) good.named.file.spec good'.named.file.spec
+      (spec_there one.name _ bytes s good.named.name (front one more bytes good is))
+      (spec_there other.name _ bytes s' good'.named.name (front other more' bytes good' is'))
 
   same_next : one.file.next_arrival ≡ other.file.next_arrival
   same_next = sym (next_is one more bytes good is) ∙ next_is other more' bytes good' is'

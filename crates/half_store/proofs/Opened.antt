@@ -17,7 +17,7 @@ use Rattle.records.specs.declared.fault.StoreFault.{StoreFault}
 use Rattle.records.specs.declared.fault.StoreFault.TheVariants.{Device, Full, Damaged, Memory, Spent, Layout}
 use Rattle.records.specs.Files.{Files, AreFiles}
 use Rattle.half_store.specs.Spelled.{files_bytes}
-use Rattle.half_store.specs.Stored.{files_of}
+use Rattle.file_bytes.specs.Stored.{files_of}
 use Rattle.half_store.specs.Half.{known_marks, named_length, named_bytes, IsHalfRoot, IsForeign, AreEarly, HoldsAt, Holds, Rests}
 use Rattle.half_store.specs.Opened.{HoldsNone, IsOpenRefusal, FailsWith, of_roots, IsReadCause}
 use Rattle.half_store.specs.Stands.{Represents}

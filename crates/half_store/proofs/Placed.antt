@@ -21,8 +21,8 @@ use Rattle.records.specs.Spec.{Spec}
 use Rattle.records.proofs.Maps.{bytes_same}
 use Rattle.records.proofs.Changed.{there_is_file}
 use Rattle.half_store.specs.Seeking.{AreRecords}
-use Rattle.half_store.specs.declared.stored.StoredFile.{StoredFile}
-use Rattle.half_store.specs.Stored.{file_of, named_of, files_of}
+use Rattle.file_bytes.specs.declared.stored.StoredFile.{StoredFile}
+use Rattle.file_bytes.specs.Stored.{file_of, named_of, files_of}
 use Rattle.half_store.specs.Half.{AreEarly}
 use Rattle.half_store.specs.Changing.{Becomes, BecomesIn}
 

@@ -19,8 +19,8 @@ use Rattle.records.specs.Rows.{Row, Pair, bytes_cmp, pair_cmp, prime_pair}
 use Rattle.records.specs.Order.{RowBound, is_behind, sought_row}
 use Rattle.records.specs.Laws.{first_of, RowsAscend}
 use Rattle.records.proofs.Ascending.{pair_total, first_fits}
-use Rattle.half_store.specs.Stored.{row_of}
-use Rattle.half_store.specs.declared.stored.StoredRow.{StoredRow}
+use Rattle.file_bytes.specs.Stored.{row_of}
+use Rattle.file_bytes.specs.declared.stored.StoredRow.{StoredRow}
 
 -- ---- orders
 

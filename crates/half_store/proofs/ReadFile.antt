@@ -1,17 +1,33 @@
 -- A file that was spelled is read again.
-use Rattle.std.proofs.Common.{◌≡◌, ◌<◌, ◌≤◌, ◌+◌, ◌*◌, ◌^◌, ℕ, List, ◌++◌, length, drop, append_assoc, length-append, sym, ◌∙◌, ap, arith}
+use Rattle.std.proofs.Common.{◌≡◌, ◌<◌, ◌≤◌, ◌+◌, ◌*◌, ◌^◌, ℕ, true, List, ◌++◌, length, take, drop, append_assoc, length-append, sym, ◌∙◌, ap, arith}
 use Rattle.std.specs.List.{flat_map}
-use Rattle.std.proofs.lemmas.List.{drop_at, drop-drop}
+use Rattle.std.proofs.lemmas.List.{take_at, drop_at, drop-drop}
 use Rattle.std.proofs.Math.Nat.{mul-le-mul_right}
 use Rattle.byteorder.specs.Endian.{big_number, big_bytes}
 use Rattle.byteorder.specs.Numbers.{big_number-reads_back}
-use Rattle.records.specs.Spec.{Spec}
+use Rattle.records.specs.Spec.{Spec, is_name}
 use Rattle.records.specs.Rows.{Row}
 use Rattle.records.specs.Files.{NamedFile}
-use Rattle.half_store.specs.Spelled.{padded_name, spec_bytes, no_pages, row_bytes, file_bytes}
-use Rattle.half_store.specs.Read.{row_size, row_in, rows_in}
+use Rattle.file_bytes.specs.Description.{padded_name, spec_bytes}
+use Rattle.half_store.specs.Spelled.{no_pages, file_bytes}
+use Rattle.file_bytes.specs.Rows.{row_bytes}
+use Rattle.half_store.specs.Read.{row_size, rows_in, first_row}
 use Rattle.half_store.specs.Readable.{IsReadable}
-use Rattle.half_store.proofs.ReadBack.{IsPlain, plain, padded_long, spec_long, all_rows, all_same, all_rest, all_long}
+use Rattle.file_bytes.proofs.Several.{all_same, all_rest, all_long}
+use Rattle.file_bytes.proofs.Plain.{IsPlain, plain}
+use Rattle.file_bytes.proofs.Descriptions.{padded_long, spec_long}
+use Rattle.half_store.proofs.ReadRows.{all_rows}
+
+-- the name and the description at the front of a file
+module _ (name more bytes : List ℕ) (spec : Spec) (named : is_name name ≡ true) (is : bytes ≡ padded_name name ++ spec_bytes spec ++ more) where
+  grouped : bytes ≡ padded_name name ++ (spec_bytes spec ++ more)
+  grouped = is ∙ append_assoc (padded_name name) (spec_bytes spec) more
+
+  pub name_there : take 30 bytes ≡ padded_name name
+  name_there = ap (take 30) grouped ∙ take_at (padded_name name) (spec_bytes spec ++ more) 30 (padded_long name named)
+
+  pub spec_there : drop 30 bytes ≡ spec_bytes spec ++ more
+  spec_there = ap (drop 30) grouped ∙ drop_at (padded_name name) (spec_bytes spec ++ more) 30 (padded_long name named)
 
 module _ (one : NamedFile) (more bytes : List ℕ) (good : IsReadable one) (is : bytes ≡ file_bytes one ++ more) where
   abbrev spec : Spec
@@ -58,7 +74,7 @@ module _ (one : NamedFile) (more bytes : List ℕ) (good : IsReadable one) (is :
   next_is = ap (big_number 8) behind_pages ∙ big_number-reads_back 8 next (big_bytes 8 (length rows) ++ (spelled_rows ++ more)) good.early
 
   rows_long : length spelled_rows ≡ row_size spec * length rows
-  rows_long = all_long (row_size spec) (row_in spec) (row_bytes spec.organization) rows (all_rows spec next rows good.early plain_spec good.named.file.rows).1
+  rows_long = all_long (row_size spec) (first_row spec) (row_bytes spec.organization) rows (all_rows spec next rows good.early plain_spec good.named.file.rows).1
 
   pub long : 121 + row_size spec * length rows ≤ length bytes
   long = omega (arith, ap length front, length-append (padded_name one.name ++ spec_bytes spec) (no_pages ++ numbers), front_long, length-append spelled_rows more, rows_long)
@@ -70,8 +86,8 @@ module _ (one : NamedFile) (more bytes : List ℕ) (good : IsReadable one) (is :
   count_is few = ap (big_number 8) behind_next ∙ big_number-reads_back 8 (length rows) (spelled_rows ++ more) (let e = mul-le-mul_right (length rows) some_row in omega (arith, e, few, long))
 
   pub rows_are : rows_in spec (length rows) (drop 121 bytes) ≡ rows
-  rows_are = ap (rows_in spec (length rows)) behind_head ∙ all_same (row_size spec) (row_in spec) (row_bytes spec.organization) rows more (all_rows spec next rows good.early plain_spec good.named.file.rows).0
+  rows_are = ap (rows_in spec (length rows)) behind_head ∙ all_same (row_size spec) (first_row spec) (row_bytes spec.organization) rows more (all_rows spec next rows good.early plain_spec good.named.file.rows).0
 
   pub rest_is : drop (121 + row_size spec * length rows) bytes ≡ more
   rest_is = sym (drop-drop (row_size spec * length rows) 121 bytes) ∙ ap (drop (row_size spec * length rows)) behind_head
-      ∙ all_rest (row_size spec) (row_in spec) (row_bytes spec.organization) rows more (all_rows spec next rows good.early plain_spec good.named.file.rows).0
+      ∙ all_rest (row_size spec) (first_row spec) (row_bytes spec.organization) rows more (all_rows spec next rows good.early plain_spec good.named.file.rows).0

@@ -17,8 +17,8 @@ use Rattle.records.specs.Changes.{FileChange, without_change, done_outcome, is_a
 use Rattle.records.specs.Laws.{RowsAscend}
 use Rattle.records.proofs.Ascending.{pair_total}
 use Rattle.records.proofs.Changed.{pair_same}
-use Rattle.half_store.specs.declared.stored.StoredRow.{StoredRow}
-use Rattle.half_store.specs.Stored.{row_of}
+use Rattle.file_bytes.specs.declared.stored.StoredRow.{StoredRow}
+use Rattle.file_bytes.specs.Stored.{row_of}
 
 -- tests of what a filter leaves
 kept : {A : Type 0} (b : Bool) (p : A → Bool) (x : A) (xs : List A) (rest : Bool) → list_any p xs ≡ rest → list_any p (cond b (x ∷ xs) xs) ≡ ((b && p x) || rest)

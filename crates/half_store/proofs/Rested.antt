@@ -11,11 +11,12 @@ use Rattle.records.specs.Rows.{Row}
 use Rattle.records.specs.Spec.{Spec}
 use Rattle.records.specs.Stores.{spec_of}
 use Rattle.half_store.specs.Half.{AreEarly}
-use Rattle.half_store.specs.Read.{IfRead, row_size, rows_in}
+use Rattle.file_bytes.specs.Read.{IfRead}
+use Rattle.half_store.specs.Read.{row_size, rows_in}
 use Rattle.half_store.specs.Readable.{IsReadable}
 use Rattle.half_store.specs.Spelled.{file_bytes, files_bytes}
-use Rattle.half_store.specs.Stored.{row_of}
-use Rattle.half_store.specs.declared.stored.StoredRow.{StoredRow}
+use Rattle.file_bytes.specs.Stored.{row_of}
+use Rattle.file_bytes.specs.declared.stored.StoredRow.{StoredRow}
 use Rattle.half_store.proofs.ReadFile.{next_is, long, count_is, rows_are, rest_is}
 
 pub stepped : (at size k place : ℕ) → place ≡ at + size * k → place + size ≡ at + size * (k + 1)

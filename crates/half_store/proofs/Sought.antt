@@ -9,9 +9,9 @@ use Rattle.records.specs.declared.key.KeyOfReference.{KeyOfReference}
 use Rattle.records.specs.Spec.{Spec}
 use Rattle.records.specs.Rows.{Row, pair_cmp, pair_under}
 use Rattle.records.specs.Order.{RowBound, is_behind, lesser, least_row, sought_row}
-use Rattle.half_store.specs.Stored.{row_of}
+use Rattle.file_bytes.specs.Stored.{row_of}
 use Rattle.half_store.specs.Seeking.{AreRecords, IsBest}
-use Rattle.half_store.specs.declared.stored.StoredRow.{StoredRow}
+use Rattle.file_bytes.specs.declared.stored.StoredRow.{StoredRow}
 
 module _ (spec : Spec) (key : KeyOfReference) (b : RowBound) (rows : List StoredRow) where
   pub none_best : (k : ℕ) → length rows ≤ k → IsBest spec key b rows k None

@@ -1,20 +1,15 @@
 -- What a change of a file asks of the files after it.
-use Rattle.std.proofs.Common.{◌≢◌, ⊎_elim, ◌≤◌, ◌+◌, Bool, true, false, ◌||◌, cond, ℕ, suc, List, [], ◌∷◌, get_or, arith, Fits, w8}
+use Rattle.std.proofs.Common.{◌≢◌, ⊎_elim, ◌≤◌, ◌+◌, Bool, true, false, ◌||◌, cond, ℕ, List, arith}
 use Rattle.std.specs.Prelude.{Option, Some, None, Result, Ok, Err, IfErr, filter}
-use Rattle.std.specs.List.{AllByRecursion, list_any}
+use Rattle.std.specs.List.{list_any}
 use Rattle.std.proofs.lemmas.Bool.{cond_both}
 use Rattle.records.specs.declared.answer.Outcome.TheVariants.{Taken}
 use Rattle.records.specs.declared.fault.StoreFault.{StoreFault}
 use Rattle.records.specs.declared.fault.StoreFault.TheVariants.{Damaged}
 use Rattle.records.specs.Rows.{Row, Pair, named_pair}
-use Rattle.records.specs.Files.{File, IsByte}
+use Rattle.records.specs.Files.{File}
 use Rattle.records.specs.Changes.{FileChange, without_change, done_outcome, has_prime, new_row, is_taken, is_duplicate, changes, changed_row, with_row, row_at, in_place, without_pair, insertion, replacement, replaced_row, removal, removed_row}
 use Rattle.half_store.specs.Write.{IsCause}
-
--- a slice of bytes
-pub all_bytes : (bytes : List ℕ) → ((i : ℕ) → Fits w8 (get_or bytes i 0)) → AllByRecursion IsByte bytes
-all_bytes [] fits = tt
-all_bytes (byte ∷ bytes) fits = (let here = fits 0 in omega (arith, here), all_bytes bytes (λ i. fits (suc i)))
 
 -- a change gives one arrival at most
 pub inserted_next : (number : ℕ) (bytes : List ℕ) (file : File) → (insertion number bytes file).file.next_arrival ≤ file.next_arrival + 1

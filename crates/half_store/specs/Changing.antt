@@ -6,8 +6,8 @@ use Rattle.records.specs.declared.fault.StoreFault.TheVariants.{Full, Memory, Da
 use Rattle.records.specs.Files.{File}
 use Rattle.records.specs.Changes.{FileChange}
 use Rattle.records.specs.Stores.{is_change, files_after}
-use Rattle.half_store.specs.Stored.{file_of, files_of}
-use Rattle.half_store.specs.declared.stored.StoredFile.{StoredFile}
+use Rattle.file_bytes.specs.Stored.{file_of, files_of}
+use Rattle.file_bytes.specs.declared.stored.StoredFile.{StoredFile}
 
 -- The outcome is told, and the file is the changed one. It is full where the file is to change and no arrival is left.
 pub record Becomes (result : Result Outcome StoreFault) (changed : FileChange) (old new : StoredFile) : Type 0 where

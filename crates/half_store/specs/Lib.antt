@@ -1,5 +1,4 @@
 pub mod Spelled
-pub mod Stored
 pub mod Half
 pub mod Blocks
 pub mod Write

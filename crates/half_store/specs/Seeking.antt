@@ -6,8 +6,8 @@ use Rattle.records.specs.declared.key.KeyOfReference.{KeyOfReference}
 use Rattle.records.specs.Spec.{Spec}
 use Rattle.records.specs.Rows.{Row}
 use Rattle.records.specs.Order.{RowBound, sought_row}
-use Rattle.half_store.specs.Stored.{row_of}
-use Rattle.half_store.specs.declared.stored.StoredRow.{StoredRow}
+use Rattle.file_bytes.specs.Stored.{row_of}
+use Rattle.file_bytes.specs.declared.stored.StoredRow.{StoredRow}
 
 -- each record has this length
 abbrev pub AreRecords : ℕ → List Row → Type 0

@@ -5,7 +5,7 @@ use Rattle.roots.specs.declared.pair.Roots.{Roots}
 use Rattle.roots.specs.Reading.{roots_in}
 use Rattle.records.specs.Files.{Files}
 use Rattle.half_store.specs.Spelled.{files_bytes}
-use Rattle.half_store.specs.Stored.{files_of}
+use Rattle.file_bytes.specs.Stored.{files_of}
 use Rattle.half_store.specs.Half.{known_marks, Rests}
 use Rattle.half_store.specs.Write.{IsFull}
 use Rattle.half_store.specs.declared.store.HalfStore.{HalfStore}

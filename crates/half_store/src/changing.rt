@@ -3,14 +3,14 @@ ghost use Rattle.std.specs.Prelude.{◌≡◌, ◌≢◌, IfErr};
 ghost use Rattle.records.specs.Files.{File, AreFiles};
 ghost use Rattle.records.specs.Changes.{insertion, replacement, removal};
 ghost use Rattle.records.specs.Stores.{Has, pair_of};
-ghost use Rattle.half_store.specs.Stored.{files_of};
+ghost use Rattle.file_bytes.specs.Stored.{files_of};
 ghost use Rattle.half_store.specs.Changing.{BecomesIn, IsMemoryCause};
 
 use crate::finding::find_file;
 use crate::inserting::insert_row;
 use crate::removing::remove_row;
 use crate::replacing::replace_row;
-use crate::stored::StoredFile;
+use file_bytes::StoredFile;
 use records::{FileSpec, Outcome, StoreFault};
 use std::alloc::Global;
 

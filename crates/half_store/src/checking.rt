@@ -3,16 +3,16 @@ ghost use Rattle.std.specs.Prelude.{◌≡◌, ◌≤◌, ◌<◌, ◌+◌, true
 ghost use Rattle.std.specs.List.{AllByRecursion};
 ghost use Rattle.std.specs.declared.cmp.Ordering.TheVariants.{Less};
 ghost use Rattle.records.specs.Rows.{bytes_cmp, pair_cmp, prime_pair};
-ghost use Rattle.records.specs.Files.{IsByte, IsArrival, IsRowNumber, IsRow, IsFile, AreFiles};
+ghost use Rattle.records.specs.Files.{IsRow, IsFile, AreFiles};
 ghost use Rattle.records.specs.Laws.{RowsAscend};
 ghost use Rattle.records.specs.Stores.{spec_of};
 ghost use Rattle.half_store.specs.Half.{AreEarly};
-ghost use Rattle.half_store.specs.Stored.{row_of, file_of, files_of};
-ghost use Rattle.half_store.specs.declared.stored.StoredRow.{StoredRow};
-ghost use Rattle.half_store.specs.declared.stored.StoredFile.{StoredFile};
+ghost use Rattle.file_bytes.specs.Stored.{row_of, file_of, files_of};
+ghost use Rattle.file_bytes.specs.declared.stored.StoredRow.{StoredRow};
+ghost use Rattle.file_bytes.specs.declared.stored.StoredFile.{StoredFile};
 
 use crate::rows::prime_cmp;
-use crate::stored::{StoredFile, StoredRow};
+use file_bytes::{StoredFile, StoredRow, is_row};
 use records::{FileSpec, Organization};
 
 /// Whether files are those of a volume of this generation.
@@ -33,62 +33,6 @@ pub(crate) fn are_files(files: &[StoredFile], generation: u64) -> bool
         }
     }
     true
-}
-
-/// What a slice of bytes has is bytes.
-fn are_bytes(_bytes: &[u8])
-    ensures { AllByRecursion IsByte _bytes.now }
-{}
-
-fn is_given(next: u64, arrival: u64) -> bool
-    ensures yes { result ≡ true → IsArrival next arrival }
-    ensures no { result ≡ false → IsArrival next arrival → ⊥ }
-{
-    1 <= arrival && arrival < next
-}
-
-/// Whether each arrival was given before the next one.
-fn are_given(next: u64, arrivals: &[u64]) -> bool
-    ensures yes { result ≡ true → AllByRecursion (IsArrival next) arrivals.now }
-    ensures no { result ≡ false → AllByRecursion (IsArrival next) arrivals.now → ⊥ }
-{
-    for back in 0..arrivals.len() {
-        let place = arrivals.len() - 1 - back;
-        if !is_given(next, arrivals[place]) {
-            return false;
-        }
-    }
-    true
-}
-
-/// Whether a row may have this number.
-fn is_row_number(organization: Organization, next: u64, number: u64) -> bool
-    ensures yes { result ≡ true → IsRowNumber organization next number }
-    ensures no { result ≡ false → IsRowNumber organization next number → ⊥ }
-{
-    match organization {
-        Organization::Sequential => 1 <= number && number < next,
-        Organization::Relative => 1 <= number && number <= 999_999_999,
-        Organization::Indexed(_) => number == 0,
-    }
-}
-
-/// Whether a row is one of such a file.
-fn is_row(spec: &FileSpec, next: u64, row: &StoredRow) -> bool
-    ensures yes { result ≡ true → IsRow (spec_of spec.now) next (row_of row.now) }
-    ensures no { result ≡ false → IsRow (spec_of spec.now) next (row_of row.now) → ⊥ }
-{
-    if row.bytes.len() != spec.record_length as usize {
-        return false;
-    }
-    if !is_row_number(spec.organization, next, row.number) {
-        return false;
-    }
-    if row.arrivals.len() != spec.alternates.len() {
-        return false;
-    }
-    are_bytes(&row.bytes);
-    are_given(next, &row.arrivals)
 }
 
 /// Whether the row behind this one, if there is one, comes behind it under the prime key.

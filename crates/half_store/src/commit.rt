@@ -6,7 +6,7 @@ ghost use Rattle.station.specs.Calls.{OnlyWrites};
 ghost use Rattle.records.specs.Files.{Files, AreFiles};
 ghost use Rattle.records.specs.Stores.{is_change, Either};
 ghost use Rattle.half_store.specs.Spelled.{files_bytes};
-ghost use Rattle.half_store.specs.Stored.{files_of};
+ghost use Rattle.file_bytes.specs.Stored.{files_of};
 ghost use Rattle.half_store.specs.Half.{Holds, Rests, AreEarly};
 ghost use Rattle.half_store.specs.Write.{IsFull, IsCause};
 ghost use Rattle.half_store.specs.Settled.{CommitsFiles};

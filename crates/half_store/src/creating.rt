@@ -4,11 +4,11 @@ ghost use Rattle.std.specs.Ordering.{is_lt};
 ghost use Rattle.records.specs.Rows.{bytes_cmp};
 ghost use Rattle.records.specs.Files.{File, Files, with_file, empty_file};
 ghost use Rattle.records.specs.Stores.{spec_of};
-ghost use Rattle.half_store.specs.Stored.{file_of, named_of, files_of};
+ghost use Rattle.file_bytes.specs.Stored.{file_of, named_of, files_of};
 ghost use Rattle.half_store.specs.Changing.{IsMemoryCause};
-ghost use Rattle.half_store.specs.declared.stored.StoredFile.{StoredFile};
+ghost use Rattle.file_bytes.specs.declared.stored.StoredFile.{StoredFile};
 
-use crate::stored::StoredFile;
+use file_bytes::StoredFile;
 use records::{FileSpec, StoreFault};
 use std::alloc::Global;
 

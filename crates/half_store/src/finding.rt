@@ -5,12 +5,12 @@ ghost use Rattle.records.specs.Files.{file_at};
 ghost use Rattle.records.specs.Spec.{same_place, same_organization, same_bool, same_alternates, same_spec};
 ghost use Rattle.records.specs.Changes.{is_at, row_at};
 ghost use Rattle.records.specs.Stores.{spec_of, pair_of};
-ghost use Rattle.half_store.specs.Stored.{row_of, file_of, files_of};
-ghost use Rattle.half_store.specs.declared.stored.StoredFile.{StoredFile};
-ghost use Rattle.half_store.specs.declared.stored.StoredRow.{StoredRow};
+ghost use Rattle.file_bytes.specs.Stored.{row_of, file_of, files_of};
+ghost use Rattle.file_bytes.specs.declared.stored.StoredFile.{StoredFile};
+ghost use Rattle.file_bytes.specs.declared.stored.StoredRow.{StoredRow};
 
 use crate::rows::pair_cmp;
-use crate::stored::{StoredFile, StoredRow};
+use file_bytes::{StoredFile, StoredRow};
 use records::{AlternateKey, FileSpec, KeyPlace, Organization, Presence};
 
 /// The place of the file of this name.

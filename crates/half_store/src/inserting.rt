@@ -2,11 +2,11 @@
 ghost use Rattle.std.specs.Prelude.{◌≡◌, ◌≤◌, ◌∷◌, ◌++◌, length, map, take, drop, IfOk, IfErr, IsOkUnless};
 ghost use Rattle.records.specs.Rows.{Row, named_pair, prime_pair};
 ghost use Rattle.records.specs.Changes.{insertion, with_row, done_outcome};
-ghost use Rattle.half_store.specs.Stored.{row_of, file_of};
+ghost use Rattle.file_bytes.specs.Stored.{row_of, file_of};
 ghost use Rattle.half_store.specs.Changing.{Becomes, IsMemoryCause};
 
-use crate::rows::{has_duplicate, has_prime_row, has_taken, number_of_new, prime_cmp};
-use crate::stored::{StoredFile, StoredRow};
+use crate::rows::{has_duplicate, has_prime_row, has_taken, prime_cmp};
+use file_bytes::{StoredFile, StoredRow, number_of_new};
 use records::{AlternateKey, Organization, Outcome, StoreFault};
 use smallvec::SmallVec;
 use std::alloc::Global;

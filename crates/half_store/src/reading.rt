@@ -3,19 +3,19 @@ ghost use Rattle.std.specs.Prelude.{◌≡◌, ◌≤◌, ◌<◌, ◌+◌, ◌*
 ghost use Rattle.std.specs.List.{AllByRecursion};
 ghost use Rattle.records.specs.Stores.{spec_of};
 ghost use Rattle.records.specs.Files.{Files, NamedFile, IsNamed};
-ghost use Rattle.half_store.specs.Stored.{row_of, named_of, files_of};
+ghost use Rattle.file_bytes.specs.Stored.{row_of, named_of, files_of};
 ghost use Rattle.byteorder.specs.Endian.{big_number};
 ghost use Rattle.records.specs.Spec.{Spec, is_spec, is_name};
-ghost use Rattle.half_store.specs.Spelled.{padded_name, spec_bytes, file_bytes, files_bytes};
+ghost use Rattle.file_bytes.specs.Description.{padded_name, spec_bytes};
+ghost use Rattle.half_store.specs.Spelled.{file_bytes, files_bytes};
 ghost use Rattle.half_store.specs.Read as read;
-ghost use Rattle.half_store.specs.Read.{IfRead, numbers_in, row_in, rows_in};
+ghost use Rattle.file_bytes.specs.Read.{IfRead};
+ghost use Rattle.half_store.specs.Read.{first_row, rows_in};
 ghost use Rattle.half_store.specs.Readable.{IsReadable};
 
-use crate::heads::read_spec;
-use crate::stored::{StoredFile, StoredRow};
 use byteorder::{BigEndian, ByteOrder};
-use records::{FileSpec, Organization, StoreFault};
-use smallvec::SmallVec;
+use file_bytes::{NAME_BYTES, StoredFile, StoredRow, key_length, read_description, read_row};
+use records::{FileSpec, StoreFault};
 use std::alloc::Global;
 
 /// The bytes of a file in front of its rows.
@@ -46,78 +46,31 @@ fn number_at(bytes: &[u8], at: usize) -> u64
     BigEndian::read_u64(&bytes[at..])
 }
 
-/// So many numbers of eight bytes.
-fn read_numbers(alloc: Global, bytes: &[u8], count: usize) -> Result<SmallVec<u64, 2>, StoreFault>
-    requires { 8 * count ≤ length bytes.now }
-    ensures numbers { IfOk result (λ numbers. numbers.items ≡ numbers_in count bytes.now) }
-    ensures memory { IsOkUnless result StoreFault.Memory }
-{
-    let mut numbers = SmallVec::new(alloc);
-    for place in 0..count {
-        numbers.push(number_at(bytes, 8 * place))?;
-    }
-    Ok(numbers)
-}
-
-/// The bytes in front of a record.
-fn key_size(organization: Organization) -> usize
-    ensures size { result ≡ read.key_size organization }
-    ensures bound { result < 2 ^ 16 }
-{
-    match organization {
-        Organization::Sequential => 8,
-        Organization::Relative => 4,
-        Organization::Indexed(place) => place.length as usize,
-    }
-}
-
 /// The bytes of a row.
 fn row_size(spec: &FileSpec) -> usize
     requires { length spec.now.alternates.items ≤ 7 }
     ensures size { result ≡ read.row_size (spec_of spec.now) }
     ensures bound { result < 2 ^ 18 }
 {
-    key_size(spec.organization) + spec.record_length as usize + 8 * spec.alternates.len()
-}
-
-/// The number at the front of a row.
-fn read_number(organization: Organization, bytes: &[u8]) -> u64
-    requires { read.key_size organization ≤ length bytes.now }
-    ensures { result ≡ read.number_in organization bytes.now }
-{
-    match organization {
-        Organization::Sequential => BigEndian::read_u64(bytes),
-        Organization::Relative => BigEndian::read_u32(bytes) as u64,
-        Organization::Indexed(_) => 0,
-    }
+    key_length(spec.organization) + (spec.record_length as usize + 8 * spec.alternates.len())
 }
 
 /// The row at the front of the bytes.
-fn read_row(alloc: Global, bytes: &[u8], spec: &FileSpec) -> Result<StoredRow, StoreFault>
+fn read_first_row(alloc: Global, bytes: &[u8], spec: &FileSpec) -> Result<StoredRow, StoreFault>
     requires { read.row_size (spec_of spec.now) ≤ length bytes.now }
-    ensures row { IfOk result (λ row. row_of row ≡ row_in (spec_of spec.now) bytes.now) }
+    ensures row { IfOk result (λ row. row_of row ≡ first_row (spec_of spec.now) bytes.now) }
     ensures memory { IsOkUnless result StoreFault.Memory }
 {
-    let number = read_number(spec.organization, bytes);
-    let size = spec.record_length as usize;
-    let behind = &bytes[key_size(spec.organization)..];
-    let mut record = Vec::new(alloc);
-    record.extend_from_slice(&behind[..size])?;
-    let arrivals = read_numbers(alloc, &behind[size..], spec.alternates.len())?;
-    Ok(StoredRow {
-        number,
-        bytes: record,
-        arrivals,
-    })
+    read_row(alloc, spec, bytes, &bytes[key_length(spec.organization)..])
 }
 
 /// The row from a place on.
 fn row_at(alloc: Global, bytes: &[u8], at: usize, spec: &FileSpec) -> Result<StoredRow, StoreFault>
     requires { at + read.row_size (spec_of spec.now) ≤ length bytes.now }
-    ensures row { IfOk result (λ row. row_of row ≡ row_in (spec_of spec.now) (drop at bytes.now)) }
+    ensures row { IfOk result (λ row. row_of row ≡ first_row (spec_of spec.now) (drop at bytes.now)) }
     ensures memory { IsOkUnless result StoreFault.Memory }
 {
-    read_row(alloc, &bytes[at..], spec)
+    read_first_row(alloc, &bytes[at..], spec)
 }
 
 /// Rows, and the place behind them.
@@ -156,6 +109,17 @@ fn read_rows(
     Ok(Some(FoundRows { rows, end: place }))
 }
 
+/// The name of a file and what it is, at the front of its bytes.
+fn read_front(alloc: Global, bytes: &[u8]) -> Result<Option<FileSpec>, StoreFault>
+    requires { 121 ≤ length bytes.now }
+    ensures keys { IfOk result (λ found. IfSome found (λ f. length f.alternates.items ≤ 7)) }
+    ensures spec { (name : List ℕ) (spec : Spec) (more : List ℕ) → is_name name ≡ true → is_spec spec ≡ true → bytes.now ≡ padded_name name ++ spec_bytes spec ++ more →
+        IfRead result (λ f. (f.name.items ≡ name) × (spec_of f ≡ spec)) }
+    ensures memory { IsOkUnless result StoreFault.Memory }
+{
+    read_description(alloc, &bytes[..NAME_BYTES], &bytes[NAME_BYTES..])
+}
+
 /// The name of a file and what it is, from a place on.
 fn spec_at(alloc: Global, bytes: &[u8], at: usize) -> Result<Option<FileSpec>, StoreFault>
     requires { at + 121 ≤ length bytes.now }
@@ -164,7 +128,7 @@ fn spec_at(alloc: Global, bytes: &[u8], at: usize) -> Result<Option<FileSpec>, S
         IfRead result (λ f. (f.name.items ≡ name) × (spec_of f ≡ spec)) }
     ensures memory { IsOkUnless result StoreFault.Memory }
 {
-    read_spec(alloc, &bytes[at..])
+    read_front(alloc, &bytes[at..])
 }
 
 /// A file, and the place behind it.

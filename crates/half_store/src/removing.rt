@@ -3,11 +3,11 @@ ghost use Rattle.std.specs.Prelude.{◌≡◌, map, IfErr};
 ghost use Rattle.records.specs.Changes.{removal};
 ghost use Rattle.records.specs.Laws.{RowsAscend};
 ghost use Rattle.records.specs.Stores.{pair_of};
-ghost use Rattle.half_store.specs.Stored.{row_of, file_of};
+ghost use Rattle.file_bytes.specs.Stored.{row_of, file_of};
 ghost use Rattle.half_store.specs.Changing.{Becomes, IsMemoryCause};
 
 use crate::finding::find_row;
-use crate::stored::StoredFile;
+use file_bytes::StoredFile;
 use records::{Outcome, StoreFault};
 
 /// The row of this prime key, or of this number where the file has none, is taken out.

@@ -5,14 +5,14 @@ ghost use Rattle.records.specs.Rows.{Row, part, same_bytes};
 ghost use Rattle.records.specs.Changes.{replacement, changes, is_at, is_taken, is_duplicate, repeats, without_pair, arrivals_after};
 ghost use Rattle.records.specs.Laws.{RowsAscend};
 ghost use Rattle.records.specs.Stores.{pair_of};
-ghost use Rattle.half_store.specs.Stored.{row_of, file_of};
+ghost use Rattle.file_bytes.specs.Stored.{row_of, file_of};
 ghost use Rattle.half_store.specs.Changing.{Becomes, IsMemoryCause};
-ghost use Rattle.half_store.specs.declared.stored.StoredRow.{StoredRow};
+ghost use Rattle.file_bytes.specs.declared.stored.StoredRow.{StoredRow};
 
 use crate::finding::find_row;
 use crate::inserting::{ARRIVALS, outcome_of};
-use crate::rows::{has_value, pair_cmp, part_of, prime_key};
-use crate::stored::{StoredFile, StoredRow};
+use crate::rows::{has_value, pair_cmp, prime_key};
+use file_bytes::{StoredFile, StoredRow, part_of};
 use records::{AlternateKey, Organization, Outcome, StoreFault};
 use smallvec::SmallVec;
 use std::alloc::Global;

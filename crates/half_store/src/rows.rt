@@ -4,30 +4,13 @@ ghost use Rattle.std.specs.List.{list_any};
 ghost use Rattle.records.specs.Rows as spec;
 ghost use Rattle.records.specs.Rows.{Row, part, same_bytes, prime_pair, named_pair};
 ghost use Rattle.records.specs.Stores.{pair_of};
-ghost use Rattle.records.specs.Changes.{repeats, is_taken, is_duplicate, new_number, is_at};
-ghost use Rattle.half_store.specs.Stored.{row_of};
-ghost use Rattle.half_store.specs.declared.stored.StoredRow.{StoredRow};
+ghost use Rattle.records.specs.Changes.{repeats, is_taken, is_duplicate, is_at};
+ghost use Rattle.file_bytes.specs.Stored.{row_of};
+ghost use Rattle.file_bytes.specs.declared.stored.StoredRow.{StoredRow};
 
-use crate::stored::StoredRow;
-use records::{AlternateKey, KeyPlace, Organization};
+use file_bytes::{StoredRow, part_of};
+use records::{AlternateKey, Organization};
 use std::cmp::Ordering;
-
-/// A key's value in a record.
-#[tactic(auto, using(crate::proofs::Parts::part_past, crate::proofs::Parts::part_cut))]
-pub(crate) fn part_of(place: KeyPlace, bytes: &[u8]) -> &[u8]
-    ensures { result.now ≡ part place bytes.now }
-{
-    let start = place.offset as usize;
-    let length = place.length as usize;
-    if start >= bytes.len() {
-        return &bytes[..0];
-    }
-    let rest = &bytes[start..];
-    if length >= rest.len() {
-        return rest;
-    }
-    &rest[..length]
-}
 
 /// How a row's place under the prime key compares with that of a record.
 #[tactic(auto, using(crate::proofs::Parts::then_equal))]
@@ -128,15 +111,4 @@ pub(crate) fn has_prime_row(
     ensures { result ≡ list_any (is_at organization (named_pair organization number bytes.now)) (map row_of rows.now) }
 {
     stands_in(rows, organization, number, bytes)
-}
-
-/// The number of a new row.
-pub(crate) fn number_of_new(organization: Organization, number: u64, arrival: u64) -> u64
-    ensures { result ≡ new_number organization number arrival }
-{
-    match organization {
-        Organization::Sequential => arrival,
-        Organization::Relative => number,
-        Organization::Indexed(_) => 0,
-    }
 }

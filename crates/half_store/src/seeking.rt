@@ -8,13 +8,11 @@ ghost use Rattle.records.specs.Order.{is_behind, sought_row, has_value, found_ro
 ghost use Rattle.records.specs.Stores.{spec_of, IsKey, bound_at, record_of};
 ghost use Rattle.records.specs.declared.key.Side.TheVariants.{After};
 ghost use Rattle.records.specs.declared.key.KeyOfReference.TheVariants.{Prime};
-ghost use Rattle.half_store.specs.Stored.{row_of};
-ghost use Rattle.half_store.specs.Seeking.{AreRecords};
-ghost use Rattle.half_store.specs.Seeking.{IsBest};
-ghost use Rattle.half_store.specs.declared.stored.StoredRow.{StoredRow};
+ghost use Rattle.file_bytes.specs.Stored.{row_of};
+ghost use Rattle.half_store.specs.Seeking.{AreRecords, IsBest};
+ghost use Rattle.file_bytes.specs.declared.stored.StoredRow.{StoredRow};
 
-use crate::rows::part_of;
-use crate::stored::StoredRow;
+use file_bytes::{StoredRow, part_of};
 use records::{FileSpec, Found, KeyOfReference, Organization, Side, StoreFault};
 use std::cmp::Ordering;
 

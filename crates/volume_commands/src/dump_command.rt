@@ -5,7 +5,7 @@ ghost use Rattle.std.specs.Io.KnownBytes.{Keeps};
 ghost use Rattle.records.specs.Files.{Files, file_at};
 ghost use Rattle.file_recovery.specs.Recovered.{HoldsFiles};
 ghost use Rattle.file_recovery.specs.Stored.{file_of, files_of};
-ghost use Rattle.half_store.specs.declared.stored.StoredFile.{StoredFile};
+ghost use Rattle.file_bytes.specs.declared.stored.StoredFile.{StoredFile};
 ghost use Rattle.volume_commands.specs.Dump.{dump_of};
 ghost use Rattle.volume_commands.specs.Faults.{IsWriteCause};
 ghost use Rattle.volume_commands.specs.Output.{AppendsBeginningOf, IsDumped};

@@ -6,7 +6,7 @@ use Rattle.btree.specs.Calls.{pages_on}
 use Rattle.btree.specs.Entries.{Entry, HasLengths, entries_of}
 use Rattle.btree.specs.Tree.{IsTreeOrEmpty}
 use Rattle.btree.proofs.There.{tree_ascends}
-use Rattle.half_store.specs.declared.stored.StoredFile.{StoredFile}
+use Rattle.file_bytes.specs.declared.stored.StoredFile.{StoredFile}
 use Rattle.records.specs.declared.fault.StoreFault.TheVariants.{Device, Damaged}
 use Rattle.records.specs.Files.{Files}
 use Rattle.file_recovery.specs.Kept.{FindsFile, NoFile}

@@ -7,7 +7,7 @@ use Rattle.records.specs.Rows.{pair_under}
 use Rattle.records.specs.Stores.{spec_of}
 use Rattle.volume_format.specs.Trees.{key_under, row_value}
 use Rattle.file_recovery.specs.Stored.{row_of}
-use Rattle.half_store.specs.declared.stored.StoredRow.{StoredRow}
+use Rattle.file_bytes.specs.declared.stored.StoredRow.{StoredRow}
 use Rattle.file_recovery.proofs.Entered.{same_entry, key_of, value_of, is_none}
 use Rattle.file_recovery.proofs.reading.add_row.Goals as goal
 

@@ -4,8 +4,8 @@ use Rattle.records.specs.Files.{File}
 use Rattle.records.specs.Changes.{replacement}
 use Rattle.records.specs.Laws.{RowsAscend}
 use Rattle.records.proofs.Changed.{there_is_file}
-use Rattle.half_store.specs.Stored.{row_of, file_of, files_of}
-use Rattle.half_store.specs.declared.stored.StoredFile.{StoredFile}
+use Rattle.file_bytes.specs.Stored.{row_of, file_of, files_of}
+use Rattle.file_bytes.specs.declared.stored.StoredFile.{StoredFile}
 use Rattle.half_store.proofs.Placed.{found_there, becomes_in, held_is}
 use Rattle.half_store.proofs.changing.replace_in.Goals as goal
 

@@ -5,8 +5,8 @@ use Rattle.std.proofs.lemmas.List.{get_or_read}
 use Rattle.std.proofs.lemmas.Cmp.{nat_list_cmp_total}
 use Rattle.records.specs.Files.{NamedFile, IsNamed}
 use Rattle.records.specs.Rows.{bytes_cmp}
-use Rattle.half_store.specs.Stored.{named_of}
-use Rattle.half_store.specs.declared.stored.StoredFile.{StoredFile}
+use Rattle.file_bytes.specs.Stored.{named_of}
+use Rattle.file_bytes.specs.declared.stored.StoredFile.{StoredFile}
 use Rattle.half_store.proofs.Checked.{all_behind, all_none, all_there, sorted_none, sorted_behind, sorted_there, map_twice}
 use Rattle.half_store.proofs.checking.are_files.Goals as goal
 

@@ -4,7 +4,7 @@ use Rattle.std.specs.List.Sorted.{IsStrictlySortedBy}
 use Rattle.records.specs.Files.{IsNamed, names}
 use Rattle.records.specs.Rows.{bytes_cmp}
 use Rattle.half_store.specs.Half.{AreEarly}
-use Rattle.half_store.specs.Stored.{files_of}
+use Rattle.file_bytes.specs.Stored.{files_of}
 use Rattle.half_store.proofs.checking.are_files.Given as goal
 
 abbrev pub invariant-loop-back : goal.invariant-loop-back

@@ -6,8 +6,8 @@ use Rattle.records.specs.Files.{IsRow}
 use Rattle.records.specs.Rows.{Row, pair_cmp, prime_pair}
 use Rattle.records.specs.Stores.{spec_of}
 use Rattle.records.proofs.Ascending.{pair_total}
-use Rattle.half_store.specs.Stored.{row_of}
-use Rattle.half_store.specs.declared.stored.StoredRow.{StoredRow}
+use Rattle.file_bytes.specs.Stored.{row_of}
+use Rattle.file_bytes.specs.declared.stored.StoredRow.{StoredRow}
 use Rattle.half_store.proofs.Checked.{all_behind, all_none, all_there, sorted_none, sorted_behind, sorted_there, map_twice}
 use Rattle.half_store.proofs.checking.are_rows.Goals as goal
 

@@ -3,7 +3,7 @@ use Rattle.std.specs.List.{AllByRecursion}
 use Rattle.records.specs.Files.{IsRow}
 use Rattle.records.specs.Laws.{RowsAscend}
 use Rattle.records.specs.Stores.{spec_of}
-use Rattle.half_store.specs.Stored.{row_of}
+use Rattle.file_bytes.specs.Stored.{row_of}
 use Rattle.half_store.proofs.checking.are_rows.Given as goal
 
 abbrev pub invariant-loop-back : goal.invariant-loop-back

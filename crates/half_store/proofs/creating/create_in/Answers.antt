@@ -2,8 +2,8 @@ use Rattle.std.proofs.Common.{◌≡◌, ◌<◌, ◌∙◌, ℕ, true, List, le
 use Rattle.std.proofs.lemmas.List.{get_or_read}
 use Rattle.records.specs.Files.{File, with_file}
 use Rattle.records.specs.Rows.{same_bytes}
-use Rattle.half_store.specs.Stored.{files_of}
-use Rattle.half_store.specs.declared.stored.StoredFile.{StoredFile}
+use Rattle.file_bytes.specs.Stored.{files_of}
+use Rattle.file_bytes.specs.declared.stored.StoredFile.{StoredFile}
 use Rattle.half_store.proofs.Placed.{PassedNames, put_here}
 use Rattle.half_store.proofs.creating.create_in.Goals as goal
 

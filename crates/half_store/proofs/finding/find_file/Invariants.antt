@@ -1,6 +1,6 @@
 use Rattle.std.proofs.Common.{◌≡◌, drop}
 use Rattle.records.specs.Files.{file_at}
-use Rattle.half_store.specs.Stored.{files_of}
+use Rattle.file_bytes.specs.Stored.{files_of}
 use Rattle.half_store.proofs.finding.find_file.Given as goal
 
 abbrev pub invariant-loop-place : goal.invariant-loop-place

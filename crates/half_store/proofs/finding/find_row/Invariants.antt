@@ -1,7 +1,7 @@
 use Rattle.std.proofs.Common.{◌≡◌, drop, map}
 use Rattle.records.specs.Changes.{row_at}
 use Rattle.records.specs.Stores.{pair_of}
-use Rattle.half_store.specs.Stored.{row_of}
+use Rattle.file_bytes.specs.Stored.{row_of}
 use Rattle.half_store.proofs.finding.find_row.Given as goal
 
 abbrev pub invariant-loop-place : goal.invariant-loop-place

@@ -5,8 +5,8 @@ use Rattle.station.specs.State.{State}
 use Rattle.records.specs.Files.{AreFiles}
 use Rattle.half_store.specs.Half.{named_bytes, AreEarly}
 use Rattle.half_store.specs.Spelled.{files_bytes}
-use Rattle.half_store.specs.Stored.{files_of}
-use Rattle.half_store.specs.declared.stored.StoredFile.{StoredFile}
+use Rattle.file_bytes.specs.Stored.{files_of}
+use Rattle.file_bytes.specs.declared.stored.StoredFile.{StoredFile}
 use Rattle.half_store.proofs.Rested.{is_none}
 use Rattle.half_store.proofs.Opened.{each_least, no_half_roots, no_spelled, holds_now}
 use Rattle.half_store.proofs.opening.read_volume.Goals as goal

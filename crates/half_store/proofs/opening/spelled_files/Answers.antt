@@ -3,12 +3,12 @@ use Rattle.std.specs.Prelude.{Option, Ok, Vec}
 use Rattle.std.specs.declared.alloc.Global.{Global}
 use Rattle.records.specs.Rows.{same_bytes}
 use Rattle.records.proofs.Maps.{bytes_same, same_itself}
-use Rattle.half_store.specs.Read.{IfRead}
+use Rattle.file_bytes.specs.Read.{IfRead}
 use Rattle.half_store.specs.Half.{AreEarly}
 use Rattle.records.specs.Files.{AreFiles}
 use Rattle.half_store.specs.Spelled.{files_bytes}
-use Rattle.half_store.specs.Stored.{files_of}
-use Rattle.half_store.specs.declared.stored.StoredFile.{StoredFile}
+use Rattle.file_bytes.specs.Stored.{files_of}
+use Rattle.file_bytes.specs.declared.stored.StoredFile.{StoredFile}
 use Rattle.half_store.proofs.Rested.{from_none, readable}
 use Rattle.half_store.proofs.opening.spelled_files.Goals as goal
 

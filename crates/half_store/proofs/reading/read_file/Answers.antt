@@ -3,8 +3,9 @@ use Rattle.std.specs.Prelude.{Option, Ok, IfSome}
 use Rattle.std.proofs.lemmas.List.{length-drop}
 use Rattle.records.specs.declared.file_spec.FileSpec.{FileSpec}
 use Rattle.records.specs.Stores.{spec_of}
-use Rattle.half_store.specs.Read.{IfRead, row_size, rows_in}
-use Rattle.half_store.specs.Stored.{row_of}
+use Rattle.file_bytes.specs.Read.{IfRead}
+use Rattle.half_store.specs.Read.{row_size, rows_in}
+use Rattle.file_bytes.specs.Stored.{row_of}
 use Rattle.half_store.specs.declared.reading.FoundRows.{FoundRows}
 use Rattle.half_store.proofs.ReadFile.{front, long}
 use Rattle.half_store.proofs.Rested.{from_none, is_none, rows_there, file_is, end_is}

@@ -1,11 +1,11 @@
 use Rattle.std.proofs.Common.{◌≡◌, ◌≤◌, ◌<◌, ◌∙◌, [], ◌∷◌, ◌++◌, length, drop, ap, subst, arith}
 use Rattle.std.specs.Prelude.{Option, Ok, IfSome}
 use Rattle.records.specs.Files.{NamedFile}
-use Rattle.half_store.specs.Read.{IfRead}
+use Rattle.file_bytes.specs.Read.{IfRead}
 use Rattle.half_store.specs.declared.reading.FoundFile.{FoundFile}
 use Rattle.std.proofs.lemmas.List.{length-drop, map-append}
 use Rattle.half_store.specs.Spelled.{files_bytes}
-use Rattle.half_store.specs.Stored.{named_of, files_of}
+use Rattle.file_bytes.specs.Stored.{named_of, files_of}
 use Rattle.half_store.proofs.Rested.{from_none, next_of, rest_of, all_read}
 use Rattle.half_store.proofs.reading.read_files.Goals as goal
 

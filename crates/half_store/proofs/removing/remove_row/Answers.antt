@@ -5,8 +5,8 @@ use Rattle.records.specs.Rows.{Row}
 use Rattle.records.specs.Changes.{FileChange}
 use Rattle.records.specs.Stores.{pair_of}
 use Rattle.half_store.specs.Changing.{Becomes}
-use Rattle.half_store.specs.Stored.{row_of, file_of}
-use Rattle.half_store.specs.declared.stored.StoredRow.{StoredRow}
+use Rattle.file_bytes.specs.Stored.{row_of, file_of}
+use Rattle.file_bytes.specs.declared.stored.StoredRow.{StoredRow}
 use Rattle.half_store.proofs.Replaced.{found_row, removed_done, without_at}
 use Rattle.half_store.proofs.removing.remove_row.Goals as goal
 

@@ -2,7 +2,7 @@ use Rattle.std.proofs.Common.{◌&&◌, map, sym, ◌∙◌}
 use Rattle.records.specs.declared.file_spec.AlternateKey.{AlternateKey}
 use Rattle.records.specs.Changes.{changes, repeats, without_pair}
 use Rattle.records.specs.Stores.{pair_of}
-use Rattle.half_store.specs.Stored.{row_of}
+use Rattle.file_bytes.specs.Stored.{row_of}
 use Rattle.half_store.proofs.Replaced.{any_filter}
 use Rattle.half_store.proofs.replacing.has_other_duplicate.Goals as goal
 

@@ -8,10 +8,10 @@ use Rattle.records.specs.Rows.{Row, Pair, named_pair}
 use Rattle.records.specs.Changes.{FileChange, done_outcome, is_taken, is_duplicate, changes, without_pair, in_place, changed_row, arrivals_after}
 use Rattle.records.specs.Stores.{is_change, pair_of}
 use Rattle.half_store.specs.Changing.{Becomes}
-use Rattle.half_store.specs.Stored.{row_of, file_of}
+use Rattle.file_bytes.specs.Stored.{row_of, file_of}
 use Rattle.std.specs.Vec.{with_item}
-use Rattle.half_store.specs.declared.stored.StoredFile.{StoredFile}
-use Rattle.half_store.specs.declared.stored.StoredRow.{StoredRow}
+use Rattle.file_bytes.specs.declared.stored.StoredFile.{StoredFile}
+use Rattle.file_bytes.specs.declared.stored.StoredRow.{StoredRow}
 use Rattle.half_store.proofs.Replaced.{found_row, four, replaced_taken, replaced_done, in_place_at, done_changes}
 use Rattle.half_store.proofs.replacing.replace_row.Goals as goal
 

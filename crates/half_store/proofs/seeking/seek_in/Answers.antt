@@ -1,12 +1,11 @@
-use Rattle.half_store.specs.declared.stored.StoredRow.{StoredRow}
-use Rattle.half_store.proofs.Sought.{long_at}
+use Rattle.file_bytes.specs.declared.stored.StoredRow.{StoredRow}
+use Rattle.half_store.proofs.Sought.{long_at, none_from}
 use Rattle.std.proofs.lemmas.List.{get_or_read}
 use Rattle.std.proofs.Common.{◌≡◌, length, get_or, arith, map, sym, ◌∙◌, ap}
 use Rattle.std.specs.Option.{option_map}
 use Rattle.records.specs.Order.{found_row}
 use Rattle.records.specs.Stores.{spec_of, bound_at, record_of}
-use Rattle.half_store.specs.Stored.{row_of}
-use Rattle.half_store.proofs.Sought.{none_from}
+use Rattle.file_bytes.specs.Stored.{row_of}
 use Rattle.half_store.proofs.seeking.seek_in.Goals as goal
 
 pub returns-in-None-clause-found : goal.returns-in-None-clause-found

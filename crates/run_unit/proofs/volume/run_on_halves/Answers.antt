@@ -2,7 +2,7 @@ use Rattle.std.proofs.Common.{◌∙◌, sym, subst, ap}
 use Rattle.records.specs.Files.{Files}
 use Rattle.half_store.specs.Half.{Holds}
 use Rattle.half_store.specs.Stands.{Represents}
-use Rattle.half_store.specs.Stored.{files_of}
+use Rattle.file_bytes.specs.Stored.{files_of}
 use Rattle.source_tree.specs.Given.{RunInput}
 use Rattle.file_image.specs.Files.{entries_of}
 use Rattle.code_image.specs.Table.{Runs}

@@ -4,7 +4,7 @@ use Rattle.station.specs.Blocks.{CrashLeaves}
 use Rattle.station.proofs.Spans.{stays}
 use Rattle.records.specs.Files.{Files, AreFiles}
 use Rattle.records.specs.Stores.{is_change, Either}
-use Rattle.half_store.specs.Stored.{files_of}
+use Rattle.file_bytes.specs.Stored.{files_of}
 use Rattle.half_store.specs.Half.{Holds, Rests, AreEarly}
 use Rattle.half_store.specs.declared.store.HalfStore.{HalfStore}
 use Rattle.half_store.proofs.Written.{at_rest}

@@ -1,8 +1,8 @@
 use Rattle.std.proofs.Common.{◌∙◌, List, ap}
 use Rattle.station.proofs.Spans.{stays}
 use Rattle.half_store.specs.Spelled.{files_bytes}
-use Rattle.half_store.specs.Stored.{files_of}
-use Rattle.half_store.specs.declared.stored.StoredFile.{StoredFile}
+use Rattle.file_bytes.specs.Stored.{files_of}
+use Rattle.file_bytes.specs.declared.stored.StoredFile.{StoredFile}
 use Rattle.half_store.proofs.Written.{at_rest}
 use Rattle.half_store.proofs.store.HalfStore.write.Goals as goal
 

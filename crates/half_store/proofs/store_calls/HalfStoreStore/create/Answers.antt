@@ -3,7 +3,7 @@ use Rattle.station.proofs.Spans.{stays}
 use Rattle.records.specs.Files.{Files, AreFiles, with_file, empty_file}
 use Rattle.records.specs.Stores.{spec_of}
 use Rattle.records.proofs.Changed.{created_are_files}
-use Rattle.half_store.specs.Stored.{files_of}
+use Rattle.file_bytes.specs.Stored.{files_of}
 use Rattle.half_store.specs.Half.{AreEarly}
 use Rattle.half_store.proofs.Written.{at_rest}
 use Rattle.half_store.proofs.Placed.{early_with, counted}

@@ -5,7 +5,7 @@ use Rattle.records.specs.Files.{Files, AreFiles}
 use Rattle.records.specs.Changes.{removal}
 use Rattle.records.specs.Stores.{Has, pair_of, files_after, is_change}
 use Rattle.records.proofs.Changed.{removed_are_files}
-use Rattle.half_store.specs.Stored.{files_of}
+use Rattle.file_bytes.specs.Stored.{files_of}
 use Rattle.half_store.specs.Half.{AreEarly}
 use Rattle.half_store.proofs.Written.{at_rest}
 use Rattle.half_store.proofs.Placed.{early_held, early_after, no_change}

@@ -6,12 +6,13 @@ use Rattle.records.specs.Spec.{Spec}
 use Rattle.records.specs.Changes.{replacement}
 use Rattle.records.specs.Stores.{Has, files_after, is_change}
 use Rattle.records.proofs.Changed.{replaced_are_files}
-use Rattle.half_store.specs.Stored.{files_of}
+use Rattle.file_bytes.specs.Stored.{files_of}
 use Rattle.half_store.specs.Half.{AreEarly}
 use Rattle.half_store.proofs.Written.{at_rest}
 use Rattle.half_store.proofs.Placed.{early_held, early_after, no_change}
 use Rattle.half_store.proofs.Rooms.{lacks_room}
-use Rattle.half_store.proofs.Turned.{all_bytes, replaced_next, cause_sound}
+use Rattle.file_bytes.proofs.Checked.{all_bytes}
+use Rattle.half_store.proofs.Turned.{replaced_next, cause_sound}
 use Rattle.half_store.proofs.store_calls.HalfStoreStore.replace.Goals as goal
 
 pub returns-then-self-clause-turns : goal.returns-then-self-clause-turns

@@ -9,9 +9,9 @@ use Rattle.records.specs.Stores.{Has, spec_of, bound_at, record_of}
 use Rattle.records.specs.Laws.{RowsAscend}
 use Rattle.records.specs.Order.{sought_row, found_row as told}
 use Rattle.half_store.specs.Seeking.{AreRecords}
-use Rattle.half_store.specs.Stored.{row_of, file_of}
-use Rattle.half_store.specs.declared.stored.StoredRow.{StoredRow}
-use Rattle.half_store.specs.declared.stored.StoredFile.{StoredFile}
+use Rattle.file_bytes.specs.Stored.{row_of, file_of}
+use Rattle.file_bytes.specs.declared.stored.StoredRow.{StoredRow}
+use Rattle.file_bytes.specs.declared.stored.StoredFile.{StoredFile}
 use Rattle.half_store.proofs.Placed.{one_file, found_there, records_held, rows_ascend}
 use Rattle.half_store.proofs.store_calls.HalfStoreStore.seek.Goals as goal
 

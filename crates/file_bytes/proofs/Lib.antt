@@ -1,0 +1,7 @@
+pub mod Several
+pub mod Plain
+pub mod Descriptions
+pub mod Rows
+mod Parts
+pub mod Checked
+mod Examples

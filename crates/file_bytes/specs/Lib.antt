@@ -1,0 +1,4 @@
+pub mod Stored
+pub mod Description
+pub mod Rows
+pub mod Read
