@@ -14,7 +14,8 @@ use Rattle.btree.specs.Entries.{Entry, with_new_entry}
 use Rattle.records.specs.Spec.{Spec, is_name}
 use Rattle.records.specs.Rows.{bytes_cmp}
 use Rattle.records.specs.Files.{File, Files, NamedFile, IsNamed, AreFiles, empty_file, file_at, with_file}
-use Rattle.volume_format.specs.Catalog.{padded_name, listing_bytes}
+use Rattle.file_bytes.specs.Description.{padded_name}
+use Rattle.volume_format.specs.Catalog.{listing_bytes}
 use Rattle.volume_format.specs.Forest.{TreeLevels, IsForest}
 use Rattle.volume_format.specs.Grows.{IsTreeAmong}
 use Rattle.volume_format.specs.Volume.{FileTrees, IsKept, MapHolds, trees_of, catalog_entry, tree_levels}

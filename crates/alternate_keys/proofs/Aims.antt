@@ -18,15 +18,15 @@ use Rattle.records.specs.declared.file_spec.Organization.TheVariants.{Sequential
 use Rattle.records.specs.declared.key.KeyOfReference.{KeyOfReference}
 use Rattle.records.specs.declared.key.KeyOfReference.TheVariants.{Prime, Alternate}
 use Rattle.records.specs.Spec.{Spec}
-use Rattle.records.specs.Rows.{Pair, bytes_cmp, pair_cmp}
-use Rattle.volume_format.specs.Trees.{key_under, prime_key, pair_key}
+use Rattle.records.specs.Rows.{Pair, bytes_cmp, pair_cmp, prime_place}
+use Rattle.volume_format.specs.Trees.{key_under, pair_key}
+use Rattle.file_bytes.specs.Rows.{prime_key}
 use Rattle.alternate_keys.specs.declared.search_start.SearchStart.TheVariants as aim
 use Rattle.volume_format.specs.Pairs.{IsPair, IsPrimePair}
 use Rattle.alternate_keys.specs.Aims.{IsBound, fill, extended_bytes, aim_at, aim_short, aim_number, aim_value, pair_aim_key, prime_aim, prime_aim_key, aim_of, aim_key, wants}
 use Rattle.records.specs.declared.key.Side.{Side}
 use Rattle.records.specs.declared.key.Side.TheVariants as side
 use Rattle.records.specs.Order.{RowBound, is_behind, is_beyond}
-use Rattle.records.specs.Rows.{prime_place}
 use Rattle.records.specs.Stores.{key_length}
 use Rattle.std.specs.Cmp.{nat_cmp_is}
 use Rattle.volume_format.proofs.Order.{numbers_alone}

@@ -12,7 +12,8 @@ use Rattle.btree.specs.Entries.{Entry, entries_of, entry_with}
 use Rattle.records.specs.Spec.{is_name}
 use Rattle.records.specs.Rows.{same_bytes}
 use Rattle.records.specs.Files.{File, Files, IsNamed, file_at}
-use Rattle.volume_format.specs.Catalog.{padded_name, catalog_layout}
+use Rattle.file_bytes.specs.Description.{padded_name}
+use Rattle.volume_format.specs.Catalog.{catalog_layout}
 use Rattle.volume_format.specs.Forest.{IsTreeIn}
 use Rattle.volume_format.specs.Volume.{FileTrees, IsKept, MapHolds, trees_of, catalog_entry}
 use Rattle.volume_format.proofs.Forests.{all_left, all_right}

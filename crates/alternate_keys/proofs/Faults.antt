@@ -5,23 +5,8 @@ use Rattle.records.specs.declared.fault.StoreFault.{StoreFault}
 use Rattle.pages.specs.declared.error.PagesError.{PagesError}
 use Rattle.pages.specs.declared.error.PagesError.TheVariants as pages
 use Rattle.records.specs.declared.fault.StoreFault.TheVariants.{Device, Full, Damaged, Memory, Spent}
-use Rattle.alternate_keys.specs.Faults.{fault_of, IsReadFault}
-
-pub damaged_back : (error : PagesError) → fault_of error ≡ Damaged → error ≡ pages.Damaged
-damaged_back pages.Device is = cc
-damaged_back pages.Full is = cc
-damaged_back pages.Damaged is = refl
-damaged_back pages.Memory is = cc
-damaged_back pages.Spent is = cc
-damaged_back pages.ForeignMark is = cc
-
-pub full_back : (error : PagesError) → fault_of error ≡ Full → error ≡ pages.Full
-full_back pages.Device is = cc
-full_back pages.Full is = refl
-full_back pages.Damaged is = cc
-full_back pages.Memory is = cc
-full_back pages.Spent is = cc
-full_back pages.ForeignMark is = cc
+use Rattle.volume_format.specs.Faults.{fault_of}
+use Rattle.alternate_keys.specs.Faults.{IsReadFault}
 
 -- a commit never tells of damage
 pub commit_sound : (error : PagesError) → (error ≡ pages.Device) ⊎ (error ≡ pages.Full) ⊎ (error ≡ pages.Memory) ⊎ (error ≡ pages.Spent) → fault_of error ≡ Damaged → ⊥

@@ -17,7 +17,8 @@ use Rattle.records.specs.Rows.{prime_place}
 use Rattle.records.specs.Order.{RowBound}
 use Rattle.records.specs.Stores.{IsKey}
 use Rattle.records.specs.Files.{File}
-use Rattle.volume_format.specs.Trees.{layout_under, prime_key_length}
+use Rattle.volume_format.specs.Trees.{layout_under}
+use Rattle.file_bytes.specs.Rows.{prime_key_length}
 use Rattle.volume_format.specs.Volume.{FileTrees}
 use Rattle.volume_format.proofs.Small.{place_short, spec_keys}
 use Rattle.alternate_keys.specs.declared.search_start.SearchStart.{SearchStart}

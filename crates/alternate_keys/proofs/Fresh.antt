@@ -23,7 +23,7 @@ use Rattle.records.specs.Files.{File, IsByte, IsRow, IsFile, IsArrival}
 use Rattle.volume_format.specs.Trees.{entry_under, AreOf}
 use Rattle.volume_format.specs.Pairs.{IsPrimePair, IsUnder}
 use Rattle.volume_format.proofs.Keeping.{prime_bytes}
-use Rattle.volume_format.proofs.Once.{same_number}
+use Rattle.file_bytes.proofs.Several.{same_number}
 use Rattle.volume_format.proofs.Order.{keys_in_order}
 use Rattle.volume_format.proofs.Places.{place_within}
 use Rattle.alternate_keys.specs.NewRow.{row_with}

@@ -12,8 +12,9 @@ use Rattle.records.specs.declared.file_spec.Organization.TheVariants.{Sequential
 use Rattle.records.specs.declared.key.KeyOfReference.TheVariants.{Prime, Alternate}
 use Rattle.records.specs.Spec.{is_spec}
 use Rattle.records.specs.Rows.{prime_place, no_key}
-use Rattle.volume_format.specs.Catalog.{Listing, listing_bytes, spec_bytes, key_bytes, filled_to, organization_byte}
-use Rattle.volume_format.specs.Trees.{prime_key_length}
+use Rattle.volume_format.specs.Catalog.{Listing, listing_bytes}
+use Rattle.file_bytes.specs.Description.{spec_bytes, key_bytes, filled_to, organization_byte}
+use Rattle.file_bytes.specs.Rows.{prime_key_length}
 use Rattle.volume_format.proofs.Places.{place_within}
 use Rattle.volume_format.proofs.Small.{short_record}
 

@@ -11,7 +11,7 @@ use Rattle.records.specs.declared.file_spec.Organization.TheVariants.{Sequential
 use Rattle.records.specs.declared.key.KeyOfReference.TheVariants.{Prime}
 use Rattle.records.specs.Spec.{Spec, is_spec}
 use Rattle.records.specs.Rows.{part, prime_place, named_pair}
-use Rattle.volume_format.specs.Trees.{prime_key, prime_key_length}
+use Rattle.file_bytes.specs.Rows.{prime_key, prime_key_length}
 use Rattle.volume_format.proofs.Places.{place_within}
 
 pub bytes_long : (n x : ℕ) → length (big_bytes n x) ≡ n

@@ -12,7 +12,7 @@ use Rattle.pages.proofs.One.{one_map}
 use Rattle.records.specs.declared.fault.StoreFault.TheVariants.{Layout}
 use Rattle.records.specs.Files.{Files}
 use Rattle.volume_format.specs.Volume.{MapHolds, Holds}
-use Rattle.alternate_keys.specs.Faults.{fault_of}
+use Rattle.volume_format.specs.Faults.{fault_of}
 use Rattle.alternate_keys.specs.Opened.{HasMap, IsOpenRefusal, IsReadCause}
 use Rattle.alternate_keys.specs.Stands.{Represents}
 

@@ -16,7 +16,8 @@ use Rattle.records.specs.Spec.{Spec, is_name}
 use Rattle.records.specs.Rows.{bytes_cmp}
 use Rattle.records.specs.Files.{File, Files, NamedFile, IsNamed, AreFiles, names, file_at, with_file}
 use Rattle.records.proofs.Maps.{same_itself}
-use Rattle.volume_format.specs.Catalog.{padded_name, listing_bytes}
+use Rattle.file_bytes.specs.Description.{padded_name}
+use Rattle.volume_format.specs.Catalog.{listing_bytes}
 use Rattle.volume_format.specs.Forest.{TreeLevels, IsForest}
 use Rattle.volume_format.specs.Grows.{IsTreeAmong}
 use Rattle.volume_format.specs.Volume.{FileTrees, IsKept, MapHolds, trees_of, catalog_entry, catalog_tree, listing_of}

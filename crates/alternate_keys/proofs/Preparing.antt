@@ -12,7 +12,7 @@ use Rattle.records.specs.Changes.{FileChange}
 use Rattle.records.specs.Files.{File, Files, NamedFile, AreFiles, IsByte, file_at, with_file}
 use Rattle.records.specs.Stores.{is_change, files_after, pair_of}
 use Rattle.records.proofs.Changed.{inserted_are_files, replaced_are_files, removed_are_files}
-use Rattle.volume_format.specs.Catalog.{padded_name}
+use Rattle.file_bytes.specs.Description.{padded_name}
 use Rattle.volume_format.specs.Forest.{TreeLevels}
 use Rattle.volume_format.specs.Grows.{IsTreeAmong}
 use Rattle.volume_format.specs.Volume.{MapHolds, trees_of, catalog_entry}

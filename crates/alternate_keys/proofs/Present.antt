@@ -13,10 +13,10 @@ use Rattle.records.specs.Spec.{Spec, is_spec, same_place, same_organization, sam
 use Rattle.records.specs.Rows.{same_bytes}
 use Rattle.records.specs.Files.{File, presence}
 use Rattle.records.proofs.Maps.{bytes_same, same_itself, specs_same}
-use Rattle.volume_format.specs.Catalog.{spec_bytes}
+use Rattle.file_bytes.specs.Description.{spec_bytes}
 use Rattle.volume_format.specs.Volume.{FileTrees, listing_of}
 use Rattle.volume_format.proofs.Listings.{spec_read}
-use Rattle.volume_format.proofs.Specs.{one_spec}
+use Rattle.file_bytes.proofs.Descriptions.{one_spec}
 use Rattle.alternate_keys.specs.Listed.{IsListed}
 
 number_by : (b : Bool) (n : ℕ) → (n == n) ≡ b → b ≡ true

@@ -14,7 +14,8 @@ use Rattle.records.specs.Changes as rows
 use Rattle.records.specs.Changes.{FileChange, row_at, removal, removed_row, without_change}
 use Rattle.records.specs.Files.{File, NamedFile}
 use Rattle.records.specs.Laws.{RowsAscend}
-use Rattle.volume_format.specs.Trees.{entry_under, key_under, layout_under, row_value, AreOf}
+use Rattle.volume_format.specs.Trees.{entry_under, key_under, layout_under, AreOf}
+use Rattle.file_bytes.specs.Rows.{row_value}
 use Rattle.volume_format.specs.Pairs.{IsPair}
 use Rattle.volume_format.specs.Forest.{TreeLevels}
 use Rattle.volume_format.specs.Grows.{IsTreeAmong}

@@ -23,7 +23,8 @@ use Rattle.records.specs.Files.{File, NamedFile}
 use Rattle.records.specs.Stores.{is_change}
 use Rattle.records.specs.Laws.{RowsAscend}
 use Rattle.records.proofs.Changed.{pair_same}
-use Rattle.volume_format.specs.Trees.{entry_under, key_under, layout_under, row_value, AreOf}
+use Rattle.volume_format.specs.Trees.{entry_under, key_under, layout_under, AreOf}
+use Rattle.file_bytes.specs.Rows.{row_value}
 use Rattle.volume_format.specs.Pairs.{IsPair}
 use Rattle.volume_format.specs.Forest.{TreeLevels}
 use Rattle.volume_format.specs.Grows.{IsTreeAmong}

@@ -12,7 +12,8 @@ use Rattle.records.specs.Spec.{Spec}
 use Rattle.records.specs.Rows.{Row, part, place_of, same_bytes, no_key}
 use Rattle.records.specs.Changes.{changes, arrivals_after}
 use Rattle.records.proofs.Maps.{bytes_same}
-use Rattle.volume_format.specs.Trees.{entry_under, row_value}
+use Rattle.volume_format.specs.Trees.{entry_under}
+use Rattle.file_bytes.specs.Rows.{row_value}
 use Rattle.alternate_keys.specs.Moved.{old_key}
 
 -- the arrival at a place of the list

@@ -12,7 +12,7 @@ use Rattle.records.specs.Rows.{bytes_cmp, same_bytes}
 use Rattle.records.specs.Files.{File, Files, NamedFile, names, file_at, with_file}
 use Rattle.records.proofs.Maps.{bytes_same, same_itself}
 use Rattle.btree_pages.specs.Keys.{key_cmp}
-use Rattle.volume_format.specs.Catalog.{padded_name}
+use Rattle.file_bytes.specs.Description.{padded_name}
 use Rattle.volume_format.specs.Volume.{FileTrees, catalog_entry}
 use Rattle.volume_format.proofs.Names.{names_in_order}
 

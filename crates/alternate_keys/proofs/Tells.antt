@@ -23,7 +23,8 @@ use Rattle.records.specs.Order.{RowBound, sought_row, is_behind, is_repeated, ha
 use Rattle.records.specs.Stores.{key_length}
 use Rattle.alternate_keys.specs.declared.search_start.SearchStart.{SearchStart}
 use Rattle.alternate_keys.specs.declared.search_start.SearchStart.TheVariants as aim
-use Rattle.volume_format.specs.Trees.{prime_key, prime_key_length, entry_under}
+use Rattle.file_bytes.specs.Rows.{prime_key, prime_key_length}
+use Rattle.volume_format.specs.Trees.{entry_under}
 use Rattle.volume_format.specs.Pairs.{IsUnder, IsPrimePair}
 use Rattle.alternate_keys.specs.Aims.{aim_of, aim_short, fill, aim_at, extended_bytes, pair_aim_key, found_entry}
 use Rattle.alternate_keys.specs.Seen.{HasPairs, IsPairEntry, IsSought, number_in, begins_with_value}

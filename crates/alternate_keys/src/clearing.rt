@@ -8,13 +8,13 @@ ghost use Rattle.alternate_keys.specs.Calls.{Edits};
 ghost use Rattle.alternate_keys.specs.Created.{OnForest, OnStored, OnAlternates, OnListed};
 ghost use Rattle.alternate_keys.specs.Faults.{IsReadFault};
 
-use crate::fault::to_fault;
 use crate::stored::{stored_count, stored_tree};
 use btree::Tree;
 use pages::PageMap;
 use records::{KeyOfReference, StoreFault};
 use station::Device;
 use std::alloc::Global;
+use volume_format::to_fault;
 
 /// Gives up all pages of the trees of a file, as a value of the catalog says them.
 pub(crate) fn clear_trees<D: Device>(

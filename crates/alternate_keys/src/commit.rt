@@ -8,10 +8,10 @@ ghost use Rattle.alternate_keys.specs.Faults.{IsWriteFault};
 ghost use Rattle.alternate_keys.specs.Settles.{IsChanged, CommitsFiles};
 ghost use Rattle.alternate_keys.specs.Stands.{Represents};
 
-use crate::fault::to_fault;
 use pages::{PageMap, map_bounds};
 use records::{Outcome, StoreFault};
 use station::Device;
+use volume_format::to_fault;
 
 /// Puts the pages on the disk: each moment leaves the files before, or those after.
 pub(crate) fn commit_pages<D: Device>(pages: &mut PageMap, device: &mut D) -> Result<(), StoreFault>

@@ -4,17 +4,16 @@ ghost use Rattle.pages.specs.Pages.{is_spent, sectors_of, IsOpen};
 ghost use Rattle.btree.specs.Calls.{IfAgrees, pages_on};
 ghost use Rattle.btree.specs.Entries.{entries_of, first_entry, first_entry_after};
 ghost use Rattle.btree.specs.Tree.{TreeNode, IsTreeOrEmpty};
-ghost use Rattle.alternate_keys.specs.Calls.{LooksAt};
+ghost use Rattle.volume_format.specs.Calls.{LooksAt};
 ghost use Rattle.alternate_keys.specs.Created.{OnFiles};
 ghost use Rattle.alternate_keys.specs.Faults.{IsReadFault};
 
-use crate::fault::to_fault;
-use crate::listing::catalog_tree;
 use btree::{Entry, Tree};
 use pages::PageMap;
 use records::StoreFault;
 use station::Device;
 use std::alloc::Global;
+use volume_format::{catalog_tree, to_fault};
 
 /// How many files a volume may have.
 const MOST_FILES: u8 = 255;

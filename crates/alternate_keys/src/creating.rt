@@ -10,7 +10,8 @@ ghost use Rattle.btree.specs.Told.{FewChanged};
 ghost use Rattle.records.specs.Files.{Files, empty_file, with_file};
 ghost use Rattle.records.specs.Spec.{is_name};
 ghost use Rattle.records.specs.Stores.{spec_of};
-ghost use Rattle.volume_format.specs.Catalog.{padded_name, listing_bytes};
+ghost use Rattle.file_bytes.specs.Description.{padded_name};
+ghost use Rattle.volume_format.specs.Catalog.{listing_bytes};
 ghost use Rattle.volume_format.specs.Grows.{IsTreeAmong};
 ghost use Rattle.volume_format.specs.Volume.{MapHolds, trees_of, catalog_entry};
 ghost use Rattle.alternate_keys.specs.Created.{OnFiles, Prepares};
@@ -23,12 +24,13 @@ use crate::clearing::clear_trees;
 use crate::commit::commit_pages;
 use crate::counting::is_full;
 use crate::enter::insert_among;
-use crate::listing::{catalog_tree, find_listing, replace_listing};
+use crate::listing::{find_listing, replace_listing};
+use file_bytes::pad_name;
 use pages::{PageMap, few_needed, map_bounds, needed_by};
 use records::{FileSpec, StoreFault};
 use station::Device;
 use std::alloc::Global;
-use volume_format::{pad_name, spell_listing};
+use volume_format::{catalog_tree, spell_listing};
 
 /// Makes a file without rows, in place of one of that name, and puts it on the disk.
 pub(crate) fn create_in<D: Device>(

@@ -10,11 +10,11 @@ ghost use Rattle.volume_format.specs.Grows.{IsTreeAmong};
 ghost use Rattle.alternate_keys.specs.Among.{OnAmong};
 ghost use Rattle.alternate_keys.specs.Faults.{IsWriteFault};
 
-use crate::fault::to_fault;
 use btree::Tree;
 use pages::PageMap;
 use records::StoreFault;
 use station::Device;
+use volume_format::to_fault;
 
 /// Puts a new entry into a tree, beside which others stay. `false` tells that its key is there, and then nothing was changed.
 pub(crate) fn insert_among<D: Device>(

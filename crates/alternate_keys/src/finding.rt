@@ -10,11 +10,11 @@ ghost use Rattle.volume_format.specs.Volume.{MapHolds};
 ghost use Rattle.alternate_keys.specs.Faults.{IsReadFault};
 
 use crate::listing::find_listing;
+use file_bytes::{DESCRIPTION_BYTES, spell_description};
 use pages::PageMap;
 use records::{FileSpec, Presence, StoreFault};
 use station::Device;
 use std::alloc::Global;
-use volume_format::{SPEC_BYTES, spell_spec};
 
 /// Tells whether a file is there, and whether it is as the program says.
 pub(crate) fn find_in<D: Device>(
@@ -39,7 +39,7 @@ pub(crate) fn find_in<D: Device>(
         Some(entry) => entry,
         None => return Ok(Presence::Absent),
     };
-    let spec = spell_spec(alloc, file)?;
+    let spec = spell_description(alloc, file)?;
     if says(entry.value(), &spec) {
         Ok(Presence::Present)
     } else {
@@ -52,5 +52,5 @@ fn says(value: &[u8], spec: &[u8]) -> bool
     requires { length value.now ≡ 83 }
     ensures { result ≡ same_bytes (take 43 value.now) spec.now }
 {
-    value[..SPEC_BYTES] == spec[..]
+    value[..DESCRIPTION_BYTES] == spec[..]
 }

@@ -7,13 +7,13 @@ ghost use Rattle.btree.specs.Entries.{HasLengths};
 ghost use Rattle.records.specs.Changes.{row_at};
 ghost use Rattle.records.specs.Rows.{Row};
 ghost use Rattle.records.specs.Stores.{spec_of, key_length, pair_of};
-ghost use Rattle.volume_format.specs.Trees.{entry_under, layout_under, prime_key};
-ghost use Rattle.alternate_keys.specs.Calls.{LooksAt};
+ghost use Rattle.volume_format.specs.Trees.{entry_under, layout_under};
+ghost use Rattle.file_bytes.specs.Rows.{prime_key};
+ghost use Rattle.volume_format.specs.Calls.{LooksAt};
 ghost use Rattle.alternate_keys.specs.Faults.{IsReadFault};
 ghost use Rattle.alternate_keys.specs.Moved.{is_out_of_range};
 ghost use Rattle.alternate_keys.specs.Seen.{HasRows};
 
-use crate::fault::to_fault;
 use crate::row_bytes::copy_of;
 use crate::search_keys::{number_bytes, pair_bytes};
 use btree::{Entry, Tree};
@@ -21,6 +21,7 @@ use pages::PageMap;
 use records::{FileSpec, KeyOfReference, Organization, StoreFault};
 use station::Device;
 use std::alloc::Global;
+use volume_format::to_fault;
 
 /// Numbers of relative files are below this.
 const NUMBERS: u64 = 4294967296;

@@ -9,11 +9,11 @@ ghost use Rattle.alternate_keys.specs.Among.{OnAmong};
 ghost use Rattle.alternate_keys.specs.Calls.{Edits};
 ghost use Rattle.alternate_keys.specs.Faults.{IsReadFault};
 
-use crate::fault::to_fault;
 use btree::Tree;
 use pages::PageMap;
 use records::StoreFault;
 use station::Device;
+use volume_format::to_fault;
 
 /// Takes the entry of a key out of a tree, beside which others stay. Where it isn't there, the volume is damaged.
 pub(crate) fn remove_among<D: Device>(

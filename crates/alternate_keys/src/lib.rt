@@ -9,7 +9,6 @@ mod commit;
 mod counting;
 mod creating;
 mod enter;
-mod fault;
 mod file_tree;
 mod finding;
 mod finding_row;

@@ -7,7 +7,8 @@ ghost use Rattle.btree.specs.Entries.{entry_with, with_value};
 ghost use Rattle.btree.specs.Told.{FewChanged, FewFilled};
 ghost use Rattle.records.specs.Spec.{is_name};
 ghost use Rattle.records.specs.Files.{Files, file_at};
-ghost use Rattle.volume_format.specs.Catalog.{padded_name, catalog_layout};
+ghost use Rattle.file_bytes.specs.Description.{padded_name};
+ghost use Rattle.volume_format.specs.Catalog.{catalog_layout};
 ghost use Rattle.volume_format.specs.Grows.{IsTreeAmong};
 ghost use Rattle.volume_format.specs.Volume.{MapHolds, catalog_entry};
 ghost use Rattle.alternate_keys.specs.Among.{OnAmong};
@@ -15,26 +16,13 @@ ghost use Rattle.alternate_keys.specs.Calls.{Edits};
 ghost use Rattle.alternate_keys.specs.Faults.{IsReadFault};
 ghost use Rattle.alternate_keys.specs.Listed.{IsListed, catalog_at};
 
-use crate::fault::to_fault;
 use btree::{Entry, Tree};
-use btree_pages::RowLayout;
+use file_bytes::pad_name;
 use pages::PageMap;
 use records::StoreFault;
 use station::Device;
 use std::alloc::Global;
-use volume_format::{LISTING_BYTES, NAME_BYTES, pad_name};
-
-/// The tree of the catalog.
-pub(crate) fn catalog_tree(alloc: Global, root: u32) -> Tree
-    ensures layout { result.layout ≡ catalog_layout }
-    ensures root { result.root ≡ root }
-{
-    let layout = RowLayout {
-        key_length: NAME_BYTES,
-        value_length: LISTING_BYTES,
-    };
-    Tree::new(alloc, layout, root)
-}
+use volume_format::{catalog_tree, to_fault};
 
 /// The entry of a name in the catalog. It isn't built into its callers, as each entry on the way to its answer takes room there.
 #[inline(never)]

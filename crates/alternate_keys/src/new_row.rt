@@ -14,8 +14,9 @@ ghost use Rattle.alternate_keys.specs.Faults.{IsWriteFault};
 ghost use Rattle.alternate_keys.specs.NewRow.{row_with};
 
 use crate::enter::insert_among;
-use crate::row_bytes::{new_value, row_key};
+use crate::row_bytes::new_value;
 use btree::Tree;
+use file_bytes::row_key;
 use pages::PageMap;
 use records::{FileSpec, KeyOfReference, StoreFault};
 use station::Device;
@@ -55,7 +56,7 @@ pub(crate) fn insert_row<D: Device>(
     ensures spent { result ≡ Err StoreFault.Spent → is_spent pages.old ≡ true }
     ensures cause { IfErr result IsWriteFault }
 {
-    let key = row_key(alloc, file, number, bytes)?;
+    let key = row_key(alloc, file.organization, number, bytes)?;
     let value = new_value(alloc, file, arrival, bytes)?;
     insert_among(prime, pages, device, &key, &value)
 }

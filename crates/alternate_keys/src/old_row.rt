@@ -5,12 +5,13 @@ ghost use Rattle.byteorder.specs.Endian.{big_bytes, big_number};
 ghost use Rattle.records.specs.Changes.{changes, arrivals_after};
 ghost use Rattle.records.specs.Rows.{Row};
 ghost use Rattle.records.specs.Stores.{spec_of, IsKey};
-ghost use Rattle.volume_format.specs.Trees.{row_value};
+ghost use Rattle.file_bytes.specs.Rows.{row_value};
 ghost use Rattle.alternate_keys.specs.Moved.{old_key, changes_at, IsRowOf};
 
-use crate::row_bytes::{copy_of, part_of};
+use crate::row_bytes::copy_of;
 use crate::search_keys::pair_bytes;
 use byteorder::{BigEndian, ByteOrder};
+use file_bytes::part_of;
 use records::{FileSpec, KeyOfReference, StoreFault};
 use std::alloc::Global;
 

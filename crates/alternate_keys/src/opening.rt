@@ -12,13 +12,12 @@ ghost use Rattle.volume_format.specs.Volume.{Holds};
 ghost use Rattle.alternate_keys.specs.Opened.{HasMap, IsOpenRefusal, IsReadCause, FailsWith};
 ghost use Rattle.alternate_keys.specs.Stands.{Represents};
 
-use crate::fault::to_fault;
 use crate::store::PagedStore;
 use pages::PageMap;
 use records::StoreFault;
 use station::{Device, DeviceError};
 use std::alloc::Global;
-use volume_format::empty_holds;
+use volume_format::{empty_holds, to_fault};
 
 /// Makes a volume of the device's size without files. What the device held before is gone.
 pub fn format<D: Device>(device: &mut D) -> Result<(), DeviceError>

@@ -10,7 +10,6 @@ ghost use Rattle.records.specs.Stores.{key_length};
 ghost use Rattle.alternate_keys.specs.Faults.{IsReadFault};
 ghost use Rattle.alternate_keys.specs.Seen.{HasPairs};
 
-use crate::fault::to_fault;
 use crate::found_rows::begins_with;
 use crate::look::look;
 use crate::search_keys::pair_bytes;
@@ -20,6 +19,7 @@ use pages::PageMap;
 use records::{KeyOfReference, StoreFault};
 use station::Device;
 use std::alloc::Global;
+use volume_format::to_fault;
 
 /// Whether a row has this value of an alternate key, by the key's tree. It isn't built into its callers, so that its entry takes no
 /// room beside what they have.

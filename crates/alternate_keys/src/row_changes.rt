@@ -17,12 +17,12 @@ use crate::finding_row::find_row;
 use crate::leave::{remove_among, replace_among};
 use crate::new_row::insert_row;
 use crate::old_row::{arrival_next, value_after};
-use crate::row_bytes::{number_for, part_of};
 use crate::row_trees::move_row;
 use crate::row_turn::RowTurn;
 use crate::row_verb::RowVerb;
 use crate::taken_row::look_at_new_row;
 use crate::values::find_duplicate_key;
+use file_bytes::{number_of_new, part_of};
 use pages::PageMap;
 use records::{FileSpec, KeyOfReference, Outcome, StoreFault};
 use station::Device;
@@ -105,7 +105,7 @@ fn insert_trees<D: Device>(
         return Err(StoreFault::Damaged);
     }
     let mut prime = file_tree(alloc, file, KeyOfReference::Prime, listing);
-    let own = number_for(file.organization, number, arrival);
+    let own = number_of_new(file.organization, number, arrival);
     if !insert_row(alloc, &mut prime, pages, device, file, own, arrival, bytes)? {
         return Ok(RowTurn::none(alloc, Outcome::Taken));
     }

@@ -10,7 +10,6 @@ ghost use Rattle.records.specs.Stores.{spec_of, Has, IsKey, key_length, bound_at
 ghost use Rattle.volume_format.specs.Volume.{MapHolds};
 ghost use Rattle.alternate_keys.specs.Faults.{IsReadFault};
 
-use crate::fault::to_fault;
 use crate::file_tree::file_tree;
 use crate::listing::find_listing;
 use crate::search_keys::{key_for, search_start_for};
@@ -19,6 +18,7 @@ use pages::{PageMap, map_bounds};
 use records::{FileSpec, Found, KeyOfReference, Side, StoreFault};
 use station::Device;
 use std::alloc::Global;
+use volume_format::to_fault;
 
 /// Seeks the first row behind a place in the order of a key. Its record is put into `bytes`, which stays where there is no such row,
 /// and after a refusal.

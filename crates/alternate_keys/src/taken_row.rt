@@ -7,25 +7,25 @@ ghost use Rattle.btree.specs.Entries.{entry_with};
 ghost use Rattle.records.specs.Rows.{Row, named_pair};
 ghost use Rattle.records.specs.Changes.{insertion, is_taken, is_duplicate, done_outcome};
 ghost use Rattle.records.specs.Stores.{spec_of, IsNewNumber, is_change};
-ghost use Rattle.volume_format.specs.Trees.{entry_under, prime_key};
-ghost use Rattle.alternate_keys.specs.Calls.{LooksAt};
+ghost use Rattle.volume_format.specs.Trees.{entry_under};
+ghost use Rattle.file_bytes.specs.Rows.{prime_key};
+ghost use Rattle.volume_format.specs.Calls.{LooksAt};
 ghost use Rattle.alternate_keys.specs.Faults.{IsReadFault};
 ghost use Rattle.alternate_keys.specs.Moved.{is_new};
 ghost use Rattle.alternate_keys.specs.Placed.{OnTrees};
 ghost use Rattle.alternate_keys.specs.Seen.{HasRows};
 
 use crate::commit::is_done;
-use crate::fault::to_fault;
 use crate::file_tree::file_tree;
-use crate::row_bytes::{number_for, row_key};
 use crate::row_verb::RowVerb;
 use crate::values::find_duplicate_key;
 use btree::Tree;
+use file_bytes::{number_of_new, row_key};
 use pages::PageMap;
 use records::{FileSpec, KeyOfReference, Outcome, StoreFault};
 use station::Device;
 use std::alloc::Global;
-use volume_format::next_arrival;
+use volume_format::{next_arrival, to_fault};
 
 /// How many pages a new entry changes at most.
 const ENTRY_PAGES: usize = 42;
@@ -75,7 +75,7 @@ pub(crate) fn look_at_new_row<D: Device>(
         return Ok(outcome);
     }
     let prime = file_tree(alloc, file, KeyOfReference::Prime, listing);
-    let own = number_for(file.organization, number, next_arrival(listing));
+    let own = number_of_new(file.organization, number, next_arrival(listing));
     if is_row_there(alloc, &prime, pages, device, file, own, bytes)? {
         return Ok(Outcome::Taken);
     }
@@ -115,7 +115,7 @@ fn is_row_there<D: Device>(
     ensures spent { result ≡ Err StoreFault.Spent → is_spent pages.old ≡ true }
     ensures cause { IfErr result IsReadFault }
 {
-    let key = row_key(alloc, file, number, bytes)?;
+    let key = row_key(alloc, file.organization, number, bytes)?;
     match prime.get(pages, device, &key) {
         Ok(entry) => Ok(entry.is_some()),
         Err(error) => Err(to_fault(error)),

@@ -13,7 +13,7 @@ use Rattle.records.specs.Spec.{Spec, is_spec, is_name}
 use Rattle.records.specs.Rows.{Row, Pair, bytes_cmp, pair_cmp, pair_under, prime_pair}
 use Rattle.records.specs.Files.{File, IsRow, IsFile, IsNamed, names}
 use Rattle.records.specs.Laws.{RowsAscend}
-use Rattle.volume_format.specs.Catalog.{padded_name}
+use Rattle.file_bytes.specs.Description.{padded_name}
 use Rattle.volume_format.specs.Pairs.{IsUnder}
 use Rattle.volume_format.specs.Trees.{entry_under}
 use Rattle.volume_format.specs.Volume.{FileTrees, catalog_entry}

@@ -8,32 +8,9 @@ use Rattle.pages.specs.declared.page_map.PageMap.{PageMap}
 use Rattle.pages.specs.declared.volume.VolumeMap.{VolumeMap}
 use Rattle.btree.specs.Calls.{pages_on}
 use Rattle.btree.proofs.Frames.{unchanged_still, unchanged_on, same_pages}
-use Rattle.file_recovery.specs.Calls.{LooksAt}
-
-reads_blamed : {D : Type 0} (d : Devices D) (A B : Type 0) (a b : D) → (B → A) → OnlyReads d A a b → OnlyReads d B a b
-reads_blamed d A B a b from only = record {
-  honest = only.honest;
-  sectors = only.sectors;
-  failures = record { no_fewer = only.failures.no_fewer; failed = λ blamed. only.failures.failed (from blamed) };
-  state = only.state;
-  history = only.history;
-}
+use Rattle.volume_format.specs.Calls.{LooksAt}
 
 module _ {D : Type 0} (d : Devices D) where
-  pub looks_nowhere : (p : PageMap) (a : D) → IsOpen p → LooksAt d ⊥ p a p a
-  looks_nowhere p a is = record { only = reads_nothing d a; unchanged = unchanged_still p; agrees = λ honest agrees. agrees; is_open = is }
-
-  pub looks_blamed : (A B : Type 0) (p q : PageMap) (a b : D) → (B → A) → LooksAt d A p a q b → LooksAt d B p a q b
-  looks_blamed A B p q a b from looks = record { only = reads_blamed d A B a b from looks.only; unchanged = looks.unchanged; agrees = looks.agrees; is_open = looks.is_open }
-
-  pub looks_then : (A B C : Type 0) (p q r : PageMap) (a b c : D) → (C → A ⊎ B) → LooksAt d A p a q b → LooksAt d B q b r c → LooksAt d C p a r c
-  looks_then A B C p q r a b c which first second = record {
-    only = reads_then d A B C a b c which first.only second.only;
-    unchanged = unchanged_on p q r first.unchanged second.unchanged;
-    agrees = λ honest agrees. second.agrees (first.only.honest.0 honest) (first.agrees honest agrees);
-    is_open = second.is_open;
-  }
-
   -- what stays
   pub unspent_kept : (A : Type 0) (p q : PageMap) (a b : D) → LooksAt d A p a q b → is_spent p ≡ false → is_spent q ≡ false
   unspent_kept A p q a b looks is = looks.unchanged.committed.spent ∙ is

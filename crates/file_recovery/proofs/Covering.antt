@@ -27,7 +27,7 @@ use Rattle.volume_format.specs.Volume.{FileTrees, IsKept, MapHolds, no_tree, tre
 use Rattle.volume_format.proofs.Forests.{all_left, all_right}
 use Rattle.volume_format.proofs.Listings.{spec_read, prime_read, root_read}
 use Rattle.volume_format.proofs.Roots.{root_small}
-use Rattle.volume_format.proofs.Specs.{one_spec}
+use Rattle.file_bytes.proofs.Descriptions.{one_spec}
 use Rattle.file_recovery.specs.Covered.{IsCovered}
 use Rattle.file_recovery.specs.Kept.{IsCatalog, FindsCatalog, NoCatalog}
 use Rattle.file_recovery.proofs.Ascents.{names_ascend}

@@ -6,7 +6,8 @@ use Rattle.btree.specs.Entries.{Entry}
 use Rattle.records.specs.declared.key.KeyOfReference.TheVariants.{Prime}
 use Rattle.records.specs.Spec.{Spec}
 use Rattle.records.specs.Rows.{Row, pair_under}
-use Rattle.volume_format.specs.Trees.{entry_under, key_under, row_value}
+use Rattle.volume_format.specs.Trees.{entry_under, key_under}
+use Rattle.file_bytes.specs.Rows.{row_value}
 
 entry_with : List ℕ → List ℕ → Entry
 entry_with key value = record { key = key; value = value }

@@ -7,24 +7,9 @@ use Rattle.btree.specs.Reading.{IsSearchRefusal}
 use Rattle.btree.specs.Refusals.{IsChangeRefusal}
 use Rattle.pages.specs.declared.error.PagesError.{PagesError}
 use Rattle.pages.specs.declared.error.PagesError.TheVariants as pages
-use Rattle.file_recovery.specs.Faults.{fault_of, IsReadFault}
+use Rattle.volume_format.specs.Faults.{fault_of}
+use Rattle.file_recovery.specs.Faults.{IsReadFault}
 use Rattle.file_recovery.specs.Rows.{IsOwnFault}
-
-pub damaged_back : (error : PagesError) → fault_of error ≡ Damaged → error ≡ pages.Damaged
-damaged_back pages.Device is = cc
-damaged_back pages.Full is = cc
-damaged_back pages.Damaged is = refl
-damaged_back pages.Memory is = cc
-damaged_back pages.Spent is = cc
-damaged_back pages.ForeignMark is = cc
-
-pub device_back : (error : PagesError) → fault_of error ≡ Device → error ≡ pages.Device
-device_back pages.Device is = refl
-device_back pages.Full is = cc
-device_back pages.Damaged is = cc
-device_back pages.Memory is = cc
-device_back pages.Spent is = cc
-device_back pages.ForeignMark is = cc
 
 -- why reading an unspent map is refused
 pub read_fault : (layout : RowLayout) (error : PagesError) → IsSearchRefusal layout error → (error ≡ pages.Spent → ⊥) → IsReadFault (fault_of error)

@@ -6,7 +6,8 @@ use Rattle.btree.specs.Entries.{Entry}
 use Rattle.records.specs.declared.file_spec.FileSpec.{FileSpec}
 use Rattle.records.specs.Spec.{Spec, is_spec, is_name}
 use Rattle.records.specs.Stores.{spec_of}
-use Rattle.volume_format.specs.Catalog.{padded_name, listing_bytes}
+use Rattle.file_bytes.specs.Description.{padded_name}
+use Rattle.volume_format.specs.Catalog.{listing_bytes}
 use Rattle.file_recovery.specs.Read.{listing_in}
 
 -- it spells a file of this name and spec, whose next arrival a volume of that generation may have

@@ -14,15 +14,15 @@ use Rattle.records.specs.Spec.{Spec}
 use Rattle.records.specs.Rows.{Row}
 use Rattle.records.specs.Files.{File, NamedFile, IsRow, IsNamed}
 use Rattle.records.specs.Laws.{RowsAscend}
-use Rattle.volume_format.specs.Catalog.{Listing, IsListing, padded_name, listing_bytes}
+use Rattle.volume_format.specs.Catalog.{Listing, IsListing, listing_bytes}
+use Rattle.file_bytes.specs.Description.{padded_name}
 use Rattle.volume_format.specs.Forest.{TreeLevels, IsTreeIn, pages_under, pages_within}
 use Rattle.volume_format.specs.Trees.{entry_under, layout_under}
 use Rattle.volume_format.specs.Volume.{FileTrees, IsKept, no_tree, trees_of, listing_of}
 use Rattle.volume_format.proofs.Listings.{spec_read, prime_read, root_read, next_read}
-use Rattle.volume_format.proofs.Names.{one_name}
+use Rattle.file_bytes.proofs.Descriptions.{one_name, one_spec}
 use Rattle.volume_format.proofs.Once.{one_rows_most}
 use Rattle.volume_format.proofs.Roots.{root_small}
-use Rattle.volume_format.proofs.Specs.{one_spec}
 use Rattle.file_recovery.specs.Found.{root_at, HasIndex, AreIndexes, FindsIndexes}
 use Rattle.file_recovery.specs.Kept.{IsCatalogFile, FindsFile}
 use Rattle.file_recovery.specs.Read.{roots_in, listing_in}

@@ -1,4 +1,3 @@
-pub mod Checked
 pub mod ReadBack
 pub mod Walks
 pub mod Calling

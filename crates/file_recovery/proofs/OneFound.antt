@@ -15,7 +15,7 @@ use Rattle.volume_format.specs.Trees.{layout_under}
 use Rattle.volume_format.specs.Volume.{FileTrees, no_tree, trees_of, listing_of}
 use Rattle.volume_format.proofs.Listings.{spec_read, prime_read, root_read}
 use Rattle.volume_format.proofs.Roots.{root_small}
-use Rattle.volume_format.proofs.Specs.{one_spec}
+use Rattle.file_bytes.proofs.Descriptions.{one_spec}
 use Rattle.file_recovery.specs.Kept.{IsCatalogFile}
 use Rattle.file_recovery.proofs.OneKept.{one_planted}
 

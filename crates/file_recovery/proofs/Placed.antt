@@ -5,7 +5,7 @@ use Rattle.std.proofs.lemmas.List.{get_or-map, get_or_default, length-map}
 use Rattle.records.specs.Rows.{Row, part, prime_place}
 use Rattle.records.specs.Spec.{Spec}
 use Rattle.file_recovery.specs.Rows.{IsSized, no_row, prime_at}
-use Rattle.file_recovery.specs.Stored.{row_of, rows_of}
+use Rattle.file_bytes.specs.Stored.{row_of, rows_of}
 use Rattle.file_bytes.specs.declared.stored.StoredRow.{StoredRow}
 
 module _ (rows : List StoredRow) (k : ℕ) (row : StoredRow) (low : k < length rows) (is : row ≡ get_or rows k row) where

@@ -14,7 +14,8 @@ use Rattle.records.specs.declared.fault.StoreFault.TheVariants.{Device, Full, Da
 use Rattle.records.specs.Files.{Files}
 use Rattle.volume_format.specs.Volume.{MapHolds, Holds}
 use Rattle.file_recovery.specs.Covered.{IsCovered}
-use Rattle.file_recovery.specs.Faults.{fault_of, IsReadFault}
+use Rattle.volume_format.specs.Faults.{fault_of}
+use Rattle.file_recovery.specs.Faults.{IsReadFault}
 use Rattle.file_recovery.specs.Kept.{FindsCatalog, NoCatalog}
 use Rattle.file_recovery.specs.Recovered.{RefusedTrees, IsReadCause}
 use Rattle.file_recovery.proofs.Covering.{NoneMarked, none_held, catalog_held, stray_held}

@@ -7,22 +7,21 @@ ghost use Rattle.records.specs.declared.key.KeyOfReference.TheVariants.{Alternat
 ghost use Rattle.records.specs.Laws.{RowsAscend};
 ghost use Rattle.records.specs.Stores.{spec_of, IsKey};
 ghost use Rattle.btree_check.specs.Walks.{FindsTree, NoUnmarkedTree};
-ghost use Rattle.file_recovery.specs.Calls.{LooksAt};
+ghost use Rattle.volume_format.specs.Calls.{LooksAt};
 ghost use Rattle.file_recovery.specs.Faults.{IsReadFault};
 ghost use Rattle.file_recovery.specs.Found.{FindsIndexes, NoIndexes, FindsIndex, NoIndex};
 ghost use Rattle.file_recovery.specs.Rows.{IsSized};
-ghost use Rattle.file_recovery.specs.Stored.{rows_of};
+ghost use Rattle.file_bytes.specs.Stored.{rows_of};
 
-use crate::fault::to_fault;
 use crate::pairs::check_index;
 use btree::Tree;
 use btree_check::check_tree;
-use half_store::StoredRow;
+use file_bytes::StoredRow;
 use pages::{PageMap, map_bounds};
 use records::{FileSpec, KeyOfReference, StoreFault};
 use station::Device;
 use std::alloc::Global;
-use volume_format::{alternate_root, tree_layout};
+use volume_format::{alternate_root, to_fault, tree_layout};
 
 /// Whether the pages under a tree's root are a tree, which are marked.
 pub(crate) fn check_pages<D: Device>(

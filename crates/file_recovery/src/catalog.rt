@@ -4,23 +4,22 @@ ghost use Rattle.pages.specs.Pages.{map_now, is_spent, sectors_of, IsOpen};
 ghost use Rattle.btree.specs.Calls.{IfAgrees, OnPages, OnTree, pages_on};
 ghost use Rattle.btree.specs.Entries.{HasLengths, entries_of};
 ghost use Rattle.volume_format.specs.Catalog.{catalog_layout};
-ghost use Rattle.file_recovery.specs.Calls.{LooksAt};
+ghost use Rattle.volume_format.specs.Calls.{LooksAt};
 ghost use Rattle.file_recovery.specs.Faults.{IsReadFault};
 ghost use Rattle.file_recovery.specs.Kept.{FindsCatalog, NoCatalog, NoFile};
 ghost use Rattle.file_recovery.specs.Listed.{FindsFiles, NoFiles, AddsFile};
-ghost use Rattle.file_recovery.specs.Stored.{files_of};
+ghost use Rattle.file_bytes.specs.Stored.{files_of};
 
 use crate::alternates::check_pages;
 use crate::checked_file::check_file;
 use crate::walking::{first_in, next_in};
 use btree::{Entry, Tree};
-use btree_pages::RowLayout;
-use half_store::StoredFile;
+use file_bytes::StoredFile;
 use pages::{PageMap, map_bounds};
 use records::StoreFault;
 use station::Device;
 use std::alloc::Global;
-use volume_format::{LISTING_BYTES, NAME_BYTES};
+use volume_format::catalog_tree;
 
 /// How many files a volume may have.
 const MOST_FILES: u8 = 255;
@@ -47,18 +46,6 @@ pub(crate) fn read_catalog<D: Device>(
     let catalog = catalog_tree(alloc, pages.catalog());
     check_pages(alloc, &catalog, pages, device, seen)?;
     read_files(alloc, &catalog, generation, pages, device, seen)
-}
-
-/// The tree of the catalog.
-fn catalog_tree(alloc: Global, root: u32) -> Tree
-    ensures layout { result.layout ≡ catalog_layout }
-    ensures root { result.root ≡ root }
-{
-    let layout = RowLayout {
-        key_length: NAME_BYTES,
-        value_length: LISTING_BYTES,
-    };
-    Tree::new(alloc, layout, root)
 }
 
 /// Puts the file of an entry behind the others. The pages of its trees are marked. `Damaged` tells that there is no such file with

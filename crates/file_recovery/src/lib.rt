@@ -7,8 +7,6 @@ mod alternates;
 mod catalog;
 mod checked_file;
 mod coverage;
-mod fault;
-mod heads;
 mod laws;
 mod listing;
 mod pairs;
@@ -20,6 +18,6 @@ mod rows;
 mod sparse_index;
 mod walking;
 
-pub use half_store::{StoredFile, StoredRow};
+pub use file_bytes::{StoredFile, StoredRow};
 pub use laws::one_list_of_files;
 pub use recovering::recover;

@@ -3,13 +3,14 @@ ghost use Rattle.std.specs.Prelude.{◌≡◌, ◌≤◌, true, ℕ, List, lengt
 ghost use Rattle.records.specs.Spec.{is_name};
 ghost use Rattle.records.specs.Rows.{same_bytes};
 ghost use Rattle.records.specs.Stores.{spec_of};
-ghost use Rattle.volume_format.specs.Catalog.{Listing, IsListing, padded_name, listing_bytes};
+ghost use Rattle.volume_format.specs.Catalog.{Listing, IsListing, listing_bytes};
+ghost use Rattle.file_bytes.specs.Description.{padded_name};
 ghost use Rattle.file_recovery.specs.Read.{roots_in, listing_in};
 
-use crate::heads::read_spec;
+use file_bytes::{pad_name, read_description};
 use records::{FileSpec, StoreFault};
 use std::alloc::Global;
-use volume_format::{alternate_root, next_arrival, pad_name, prime_root, spell_listing};
+use volume_format::{alternate_root, next_arrival, prime_root, spell_listing};
 
 /// Whether two are the same bytes.
 pub(crate) fn is_same(one: &[u8], two: &[u8]) -> bool
@@ -68,7 +69,7 @@ pub(crate) fn read_listing(
     ensures none { result ≡ Ok None → (name : List ℕ) (l : Listing) → is_name name ≡ true → IsListing l → key.now ≡ padded_name name → value.now ≡ listing_bytes l → ⊥ }
     ensures memory { IsOkUnless result StoreFault.Memory }
 {
-    let Some(file) = read_spec(alloc, key, value)? else {
+    let Some(file) = read_description(alloc, key, value)? else {
         return Ok(None);
     };
     let is_own = is_entry_of(alloc, &file, key, value)?;

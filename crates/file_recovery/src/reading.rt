@@ -8,15 +8,15 @@ ghost use Rattle.records.specs.declared.key.KeyOfReference.TheVariants.{Prime};
 ghost use Rattle.records.specs.Files.{IsRow};
 ghost use Rattle.records.specs.Stores.{spec_of};
 ghost use Rattle.volume_format.specs.Trees.{entry_under, prime_layout};
-ghost use Rattle.file_recovery.specs.Calls.{LooksAt};
+ghost use Rattle.volume_format.specs.Calls.{LooksAt};
 ghost use Rattle.file_recovery.specs.Faults.{IsReadFault};
 ghost use Rattle.file_recovery.specs.Rows.{IsOwnFault, NoRow, NoRows, AddsRow};
-ghost use Rattle.file_recovery.specs.Stored.{rows_of};
+ghost use Rattle.file_bytes.specs.Stored.{rows_of};
 
-use crate::rows::read_row;
+use crate::rows::row_of_entry;
 use crate::walking::{first_in, next_in};
 use btree::{Entry, Tree};
-use half_store::StoredRow;
+use file_bytes::StoredRow;
 use pages::PageMap;
 use records::{FileSpec, StoreFault};
 use station::Device;
@@ -72,7 +72,7 @@ fn add_row(
     ensures damaged { result ≡ Err StoreFault.Damaged → NoRow (spec_of file.now) next_arrival entry.now }
     ensures cause { IfErr result IsOwnFault }
 {
-    let Some(row) = read_row(alloc, file, next_arrival, entry.key(), entry.value())? else {
+    let Some(row) = row_of_entry(alloc, file, next_arrival, entry.key(), entry.value())? else {
         return Err(StoreFault::Damaged);
     };
     rows.push(row)?;

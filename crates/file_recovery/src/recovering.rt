@@ -11,16 +11,16 @@ ghost use Rattle.records.specs.Files.{Files};
 ghost use Rattle.volume_format.specs.Volume.{MapHolds, Holds};
 ghost use Rattle.file_recovery.specs.Faults.{IsReadFault};
 ghost use Rattle.file_recovery.specs.Recovered.{HoldsFiles, IsRecoveryRefusal, RefusedTrees, IsReadCause, IsTreeCause};
-ghost use Rattle.file_recovery.specs.Stored.{files_of};
+ghost use Rattle.file_bytes.specs.Stored.{files_of};
 
 use crate::catalog::read_catalog;
 use crate::coverage::are_covered;
-use crate::fault::to_fault;
-use half_store::StoredFile;
+use file_bytes::StoredFile;
 use pages::PageMap;
 use records::StoreFault;
 use station::Device;
 use std::alloc::Global;
+use volume_format::to_fault;
 
 /// How many pages are kept in memory.
 const CAPACITY: usize = 64;

@@ -3,11 +3,11 @@ ghost use Rattle.std.specs.Prelude.{◌≡◌, ◌≤◌, ◌<◌, None, ℕ, le
 ghost use Rattle.std.specs.List.{All};
 ghost use Rattle.records.specs.Stores.{spec_of};
 ghost use Rattle.file_recovery.specs.Rows.{IsSized, PrimesAscend, prime_at};
-ghost use Rattle.file_recovery.specs.Stored.{rows_of};
+ghost use Rattle.file_bytes.specs.Stored.{rows_of};
 
 use crate::row_bytes::prime_value_at;
 use crate::sparse_index::SparseIndex;
-use half_store::StoredRow;
+use file_bytes::StoredRow;
 use records::FileSpec;
 use std::cmp::Ordering;
 

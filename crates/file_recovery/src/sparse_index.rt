@@ -3,10 +3,10 @@ ghost use Rattle.std.specs.Prelude.{length, ◌≤◌, IsOkUnless};
 ghost use Rattle.std.specs.List.{All};
 ghost use Rattle.records.specs.Stores.{spec_of};
 ghost use Rattle.file_recovery.specs.Rows.{IsSized};
-ghost use Rattle.file_recovery.specs.Stored.{rows_of};
+ghost use Rattle.file_bytes.specs.Stored.{rows_of};
 
 use crate::row_bytes::prime_value_at;
-use half_store::StoredRow;
+use file_bytes::StoredRow;
 use records::{FileSpec, StoreFault};
 use std::alloc::Global;
 

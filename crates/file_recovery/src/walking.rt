@@ -3,14 +3,14 @@ ghost use Rattle.std.specs.Prelude.{◌≡◌, ◌≤◌, false, Err, IfOk, IfEr
 ghost use Rattle.pages.specs.Pages.{is_spent, sectors_of, IsOpen};
 ghost use Rattle.btree.specs.Calls.{OnTree, OnNoTree};
 ghost use Rattle.btree.specs.Entries.{HasLengths, entries_of, first_entry, first_entry_after};
-ghost use Rattle.file_recovery.specs.Calls.{LooksAt};
+ghost use Rattle.volume_format.specs.Calls.{LooksAt};
 ghost use Rattle.file_recovery.specs.Faults.{IsReadFault};
 
-use crate::fault::to_fault;
 use btree::{Entry, Tree};
 use pages::PageMap;
 use records::StoreFault;
 use station::Device;
+use volume_format::to_fault;
 
 /// The first entry of a tree.
 pub(crate) fn first_in<D: Device>(

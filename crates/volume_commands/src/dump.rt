@@ -4,7 +4,7 @@ ghost use Rattle.std.specs.Io.KnownBytes.{Appends};
 ghost use Rattle.volume_commands.specs.Dump as spec;
 ghost use Rattle.volume_commands.specs.Faults.{IsWriteCause};
 ghost use Rattle.volume_commands.specs.Output.{AppendsBeginning};
-ghost use Rattle.file_recovery.specs.Stored.{row_of, rows_of};
+ghost use Rattle.file_bytes.specs.Stored.{row_of, rows_of};
 
 use crate::escape::push_text;
 use crate::output::{flush, write_text};

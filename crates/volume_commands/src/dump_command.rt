@@ -1,10 +1,9 @@
 //! The command `dump`.
-ghost use Rattle.std.specs.Prelude.{◌≡◌, ◌<◌, Err, None, Some, length, get_or};
-ghost use Rattle.std.specs.Prelude.{IfOk, IfErr, IfSome, OnErr};
+ghost use Rattle.std.specs.Prelude.{◌≡◌, ◌<◌, Err, None, Some, length, get_or, IfOk, IfErr, IfSome, OnErr};
 ghost use Rattle.std.specs.Io.KnownBytes.{Keeps};
 ghost use Rattle.records.specs.Files.{Files, file_at};
 ghost use Rattle.file_recovery.specs.Recovered.{HoldsFiles};
-ghost use Rattle.file_recovery.specs.Stored.{file_of, files_of};
+ghost use Rattle.file_bytes.specs.Stored.{file_of, files_of};
 ghost use Rattle.file_bytes.specs.declared.stored.StoredFile.{StoredFile};
 ghost use Rattle.volume_commands.specs.Dump.{dump_of};
 ghost use Rattle.volume_commands.specs.Faults.{IsWriteCause};

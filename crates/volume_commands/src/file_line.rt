@@ -1,7 +1,7 @@
 //! What `list` prints of files.
 ghost use Rattle.std.specs.Prelude.{◌≡◌, ◌++◌, ◌∷◌, decimal, IfOk, OnOk};
 ghost use Rattle.volume_commands.specs.Listing as spec;
-ghost use Rattle.file_recovery.specs.Stored.{named_of, files_of};
+ghost use Rattle.file_bytes.specs.Stored.{named_of, files_of};
 
 use crate::escape::push_text;
 use file_recovery::StoredFile;

@@ -3,7 +3,7 @@ ghost use Rattle.std.specs.Prelude.{◌≡◌, ◌≢◌, IfErr, OnOk, OnErr};
 ghost use Rattle.std.specs.Io.KnownBytes.{Keeps, Appends};
 ghost use Rattle.records.specs.Files.{Files};
 ghost use Rattle.file_recovery.specs.Recovered.{HoldsFiles};
-ghost use Rattle.file_recovery.specs.Stored.{files_of};
+ghost use Rattle.file_bytes.specs.Stored.{files_of};
 ghost use Rattle.volume_commands.specs.Listing as spec;
 ghost use Rattle.volume_commands.specs.Faults.{IsWriteCause};
 ghost use Rattle.volume_commands.specs.Output.{AppendsBeginning};

@@ -2,7 +2,7 @@
 ghost use Rattle.std.specs.Prelude.{◌≡◌, IfOk};
 ghost use Rattle.records.specs.Files.{Files};
 ghost use Rattle.file_recovery.specs.Recovered.{HoldsFiles};
-ghost use Rattle.file_recovery.specs.Stored.{files_of};
+ghost use Rattle.file_bytes.specs.Stored.{files_of};
 ghost use Rattle.volume_commands.specs.Calls.{ReadsVolume};
 
 use crate::volume_error::VolumeError;

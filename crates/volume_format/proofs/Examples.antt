@@ -5,7 +5,8 @@ use Rattle.records.specs.declared.file_spec.Organization.TheVariants.{Indexed}
 use Rattle.records.specs.declared.key.KeyOfReference.TheVariants.{Prime, Alternate}
 use Rattle.records.specs.Spec.{Spec}
 use Rattle.records.specs.Rows.{Row}
-use Rattle.volume_format.specs.Catalog.{listing_bytes, spec_bytes}
+use Rattle.volume_format.specs.Catalog.{listing_bytes}
+use Rattle.file_bytes.specs.Description.{spec_bytes}
 use Rattle.volume_format.specs.Trees.{entry_under, prime_layout}
 
 abbrev place : ℕ → ℕ → KeyPlace

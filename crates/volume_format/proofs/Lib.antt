@@ -1,7 +1,6 @@
 pub mod Places
 pub mod Small
 pub mod Names
-pub mod Specs
 pub mod Roots
 pub mod OneFiles
 pub mod Forests
@@ -9,7 +8,8 @@ pub mod Order
 pub mod Comes
 pub mod Keeping
 pub mod Listings
-pub mod Padding
 pub mod Empty
 pub mod Once
+pub mod Faults
+pub mod Looks
 mod Examples

@@ -8,22 +8,10 @@ use Rattle.byteorder.specs.Endian.{big_bytes, big_number}
 use Rattle.byteorder.specs.Numbers.{big_number-reads_back}
 use Rattle.records.specs.declared.file_spec.AlternateKey.{AlternateKey}
 use Rattle.records.specs.Spec.{Spec, is_spec}
-use Rattle.volume_format.specs.Catalog.{Listing, IsListing, ReadsBack, listing_bytes, spec_bytes, key_bytes, filled_to}
+use Rattle.volume_format.specs.Catalog.{Listing, IsListing, ReadsBack, listing_bytes}
+use Rattle.file_bytes.specs.Description.{spec_bytes, key_bytes, filled_to}
+use Rattle.file_bytes.proofs.Descriptions.{filled_long, spec_long}
 use Rattle.volume_format.proofs.Small.{few_alternates}
-
-filled_long : (count : ℕ) (bytes : List ℕ) → length bytes ≤ count → length (filled_to count bytes) ≡ count
-filled_long count bytes fits =
-    let zeros : List ℕ = replicate (count - length bytes) 0 in
-    let all : length (bytes ++ zeros) ≡ length bytes + length zeros = length-append bytes zeros in
-    let rest : length zeros ≡ count - length bytes = length-replicate (count - length bytes) 0 in
-    omega (arith, all, rest)
-
-pub keys_long : (keys : List AlternateKey) → length (flat_map key_bytes keys) ≡ 5 * length keys
-keys_long [] = refl
-keys_long (key ∷ keys) =
-    let rest = keys_long keys in
-    let all = length-append (key_bytes key) (flat_map key_bytes keys) in
-    omega arith
 
 pub pages_long : (pages : List ℕ) → length (flat_map (big_bytes 4) pages) ≡ 4 * length pages
 pages_long [] = refl
@@ -32,11 +20,8 @@ pages_long (page ∷ pages) =
     let all = length-append (big_bytes 4 page) (flat_map (big_bytes 4) pages) in
     omega arith
 
-spec_long : (s : Spec) → length s.alternates ≤ 7 → length (spec_bytes s) ≡ 43
-unfolding spec_bytes
-spec_long s few =
-    let keys : length (filled_to 35 (flat_map key_bytes s.alternates)) ≡ 35 = filled_long 35 (flat_map key_bytes s.alternates) (let k = keys_long s.alternates in omega arith) in
-    omega (arith, keys)
+pub roots_filled : (roots : List ℕ) (count : ℕ) → count ≡ 28 - 4 * length roots → flat_map (big_bytes 4) roots ++ replicate count 0 ≡ filled_to 28 (flat_map (big_bytes 4) roots)
+roots_filled roots count is = ap (λ (m : ℕ). flat_map (big_bytes 4) roots ++ replicate m 0) (is ∙ ap (λ (m : ℕ). 28 - m) (sym (pages_long roots)))
 
 -- the page at a place of the list
 page_at : (pages : List ℕ) (i : ℕ) (more : List ℕ) → i < length pages → All (λ page. page < 2 ^ 32) pages → big_number 4 (drop (4 * i) (flat_map (big_bytes 4) pages ++ more)) ≡ slice_index_or pages i 0

@@ -9,10 +9,9 @@ use Rattle.std.specs.declared.cmp.Ordering.{Ordering}
 use Rattle.std.specs.declared.cmp.Ordering.TheVariants.{Less, Greater}
 use Rattle.std.proofs.lemmas.Cmp.{nat_list_cmp_total, tied_itself}
 use Rattle.btree_pages.specs.Keys.{key_cmp}
-use Rattle.btree_pages.proofs.Order.{same_key}
 use Rattle.records.specs.Spec.{is_letter, is_name}
 use Rattle.records.specs.Rows.{bytes_cmp}
-use Rattle.volume_format.specs.Catalog.{padded_name, filled_to}
+use Rattle.file_bytes.specs.Description.{padded_name, filled_to}
 use Rattle.volume_format.proofs.Places.{both}
 
 below_first : (n y : ℕ) (ys : List ℕ) → 1 ≤ n → 1 ≤ y → key_cmp (replicate n 0) (y ∷ ys) ≡ Less
@@ -46,7 +45,3 @@ letters name is = (both (nat_le 1 (length name) && nat_le (length name) 30) _ is
 
 pub names_in_order : (one two : List ℕ) → is_name one ≡ true → is_name two ≡ true → key_cmp (padded_name one) (padded_name two) ≡ bytes_cmp one two
 names_in_order one two first second = filled_in_order 30 one two (fits one first) (fits two second) (letters one first) (letters two second)
-
-pub one_name : (one two : List ℕ) → is_name one ≡ true → is_name two ≡ true → padded_name one ≡ padded_name two → one ≡ two
-one_name one two first second same =
-    same_key one two (sym (names_in_order one two first second) ∙ ap (λ (k : List ℕ). key_cmp k (padded_name two)) same ∙ tied_itself nat_list_cmp_total (padded_name two))

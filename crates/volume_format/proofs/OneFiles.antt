@@ -22,8 +22,7 @@ use Rattle.volume_format.specs.Trees.{entry_under, layout_under}
 use Rattle.volume_format.specs.Forest.{TreeLevels, IsTreeIn}
 use Rattle.volume_format.specs.Volume.{FileTrees, IsKept, MapHolds, Holds, trees_of, listing_of, catalog_entry}
 use Rattle.volume_format.proofs.Forests.{all_right}
-use Rattle.volume_format.proofs.Names.{one_name}
-use Rattle.volume_format.proofs.Specs.{one_spec}
+use Rattle.file_bytes.proofs.Descriptions.{one_name, one_spec}
 use Rattle.volume_format.proofs.Listings.{spec_read, prime_read, next_read_most}
 use Rattle.volume_format.proofs.Roots.{root_small}
 use Rattle.volume_format.proofs.Once.{one_rows_most}

@@ -10,7 +10,8 @@ use Rattle.records.specs.declared.key.KeyOfReference.{KeyOfReference}
 use Rattle.records.specs.declared.key.KeyOfReference.TheVariants.{Prime, Alternate}
 use Rattle.records.specs.Spec.{Spec}
 use Rattle.records.specs.Rows.{Pair, bytes_cmp, pair_cmp}
-use Rattle.volume_format.specs.Trees.{key_under, prime_key}
+use Rattle.volume_format.specs.Trees.{key_under}
+use Rattle.file_bytes.specs.Rows.{prime_key}
 use Rattle.volume_format.specs.Pairs.{IsPair, IsPrimePair}
 
 -- keys compare as the pairs do

@@ -1,15 +1,12 @@
 -- What the catalog says of a file, and its bytes (own choice). Numbers are big-endian.
-use Rattle.std.specs.Prelude.{◌≡◌, ◌<◌, ◌+◌, ◌-◌, ◌*◌, ◌^◌, ◌++◌, ℕ, true, List, [], ◌∷◌, length, take, drop, replicate, slice_index_or, if◌then◌else◌}
+use Rattle.std.specs.Prelude.{◌≡◌, ◌<◌, ◌+◌, ◌*◌, ◌^◌, ◌++◌, ℕ, true, List, length, take, drop, slice_index_or}
 use Rattle.std.specs.List.{All, flat_map}
 use Rattle.byteorder.specs.Endian.{big_bytes, big_number}
 use Rattle.btree_pages.specs.declared.row_layout.RowLayout.{RowLayout}
-use Rattle.records.specs.declared.file_spec.KeyPlace.{KeyPlace}
-use Rattle.records.specs.declared.file_spec.AlternateKey.{AlternateKey}
-use Rattle.records.specs.declared.file_spec.Organization.{Organization}
-use Rattle.records.specs.declared.file_spec.Organization.TheVariants.{Sequential, Relative, Indexed}
 use Rattle.btree_pages.specs.Keys.{key_cmp}
 use Rattle.records.specs.Spec.{Spec, is_spec, is_name}
-use Rattle.records.specs.Rows.{bytes_cmp, prime_place}
+use Rattle.records.specs.Rows.{bytes_cmp}
+use Rattle.file_bytes.specs.Description.{filled_to, padded_name, spec_bytes}
 
 -- a file's spec, the pages of its trees' roots, and the arrival that the next WRITE gives
 pub record Listing : Type 0 where
@@ -18,28 +15,6 @@ pub record Listing : Type 0 where
   -- in order of the alternate keys
   pub alternates : List ℕ
   pub next_arrival : ℕ
-
-abbrev pub organization_byte : Organization → ℕ
-organization_byte Sequential = 0
-organization_byte Relative = 1
-organization_byte (Indexed place) = 2
-
-abbrev pub place_bytes : KeyPlace → List ℕ
-place_bytes place = big_bytes 2 place.offset ++ big_bytes 2 place.length
-
-abbrev pub key_bytes : AlternateKey → List ℕ
-key_bytes key = place_bytes key.place ++ (if key.duplicates then 1 else 0) ∷ []
-
--- up to so many bytes, with zeros
-abbrev pub filled_to : ℕ → List ℕ → List ℕ
-filled_to count bytes = bytes ++ replicate (count - length bytes) 0
-
--- what a file is, in 43 bytes; one of fewer than seven alternate keys has zeros in their places
-abbrev pub spec_head : Spec → List ℕ
-spec_head spec = organization_byte spec.organization ∷ (big_bytes 2 spec.record_length ++ (place_bytes (prime_place spec.organization) ++ length spec.alternates ∷ []))
-
-unfoldable pub spec_bytes : Spec → List ℕ
-spec_bytes spec = spec_head spec ++ filled_to 35 (flat_map key_bytes spec.alternates)
 
 -- 83 bytes
 unfoldable pub listing_bytes : Listing → List ℕ
@@ -52,10 +27,6 @@ pub record IsListing (l : Listing) : Type 0 where
   pub alternates : All (λ page. page < 2 ^ 32) l.alternates
   pub count : length l.alternates ≡ length l.spec.alternates
   pub next_arrival : l.next_arrival < 2 ^ 63
-
--- a name is followed by zeros, and has none itself; so padded names have the order of names
-abbrev pub padded_name : List ℕ → List ℕ
-padded_name name = filled_to 30 name
 
 abbrev pub catalog_layout : RowLayout
 catalog_layout = record { key_length = 30; value_length = 83 }
@@ -70,10 +41,6 @@ pub record ReadsBack (l : Listing) : Type 0 where
 
 abbrev pub ListingReadsBack : Type 0
 ListingReadsBack = (l : Listing) → IsListing l → ReadsBack l
-
--- bytes spell at most one spec
-abbrev pub OneSpec : Type 0
-OneSpec = (one two : Spec) → is_spec one ≡ true → is_spec two ≡ true → spec_bytes one ≡ spec_bytes two → one ≡ two
 
 -- padded names have the order of names
 abbrev pub NamesInOrder : Type 0

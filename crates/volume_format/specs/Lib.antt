@@ -5,4 +5,6 @@ pub mod Forest
 pub mod Volume
 pub mod Comes
 pub mod Grows
+pub mod Calls
+pub mod Faults
 pub mod Laws

@@ -1,28 +1,15 @@
 -- The trees of a file: one of its rows, and one of the pairs of each alternate key.
 use Rattle.std.specs.Prelude.{◌≡◌, ◌+◌, ◌*◌, ◌++◌, ℕ, List, length, Contains}
-use Rattle.std.specs.List.{flat_map}
 use Rattle.byteorder.specs.Endian.{big_bytes}
 use Rattle.btree_pages.specs.declared.row_layout.RowLayout.{RowLayout}
 use Rattle.btree.specs.Entries.{Entry}
-use Rattle.records.specs.declared.file_spec.Organization.{Organization}
-use Rattle.records.specs.declared.file_spec.Organization.TheVariants.{Sequential, Relative, Indexed}
 use Rattle.records.specs.declared.key.KeyOfReference.{KeyOfReference}
 use Rattle.records.specs.declared.key.KeyOfReference.TheVariants.{Prime, Alternate}
 use Rattle.records.specs.Spec.{Spec}
 use Rattle.records.specs.Rows.{Row, part, prime_place, place_of, Pair, pair_under}
+use Rattle.file_bytes.specs.Rows.{prime_key_length, prime_key, row_value}
 
--- how long the keys of the tree of rows are
-abbrev pub prime_key_length : Organization → ℕ
-prime_key_length Sequential = 8
-prime_key_length Relative = 4
-prime_key_length (Indexed place) = place.length
-
--- the key of a pair under the prime key, and of one under an alternate key
-abbrev pub prime_key : Organization → Pair → List ℕ
-prime_key Sequential pair = big_bytes 8 pair.number
-prime_key Relative pair = big_bytes 4 pair.number
-prime_key (Indexed place) pair = pair.value
-
+-- the key of a pair under an alternate key
 abbrev pub pair_key : Pair → List ℕ
 pair_key pair = pair.value ++ big_bytes 8 pair.number
 
@@ -31,10 +18,7 @@ abbrev pub key_under : Spec → KeyOfReference → Pair → List ℕ
 key_under spec Prime pair = prime_key spec.organization pair
 key_under spec (Alternate i) pair = pair_key pair
 
--- an entry of the tree of rows: the record, and the row's arrivals
-abbrev pub row_value : Row → List ℕ
-row_value row = row.bytes ++ flat_map (big_bytes 8) row.arrivals
-
+-- the tree of rows has the record and the arrivals of a row under its key
 abbrev pub prime_layout : Spec → RowLayout
 prime_layout spec = record { key_length = prime_key_length spec.organization; value_length = spec.record_length + 8 * length spec.alternates }
 

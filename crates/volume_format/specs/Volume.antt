@@ -8,7 +8,8 @@ use Rattle.btree.specs.Rooted.{RootedTree}
 use Rattle.btree.specs.Entries.{Entry, entries_of}
 use Rattle.records.specs.declared.key.KeyOfReference.TheVariants.{Prime, Alternate}
 use Rattle.records.specs.Files.{File, NamedFile, Files, AreFiles}
-use Rattle.volume_format.specs.Catalog.{Listing, listing_bytes, padded_name, catalog_layout}
+use Rattle.volume_format.specs.Catalog.{Listing, listing_bytes, catalog_layout}
+use Rattle.file_bytes.specs.Description.{padded_name}
 use Rattle.volume_format.specs.Trees.{entry_under, layout_under, AreOf}
 use Rattle.volume_format.specs.Forest.{TreeLevels, IsForest}
 

@@ -1,5 +1,6 @@
 //! The laws of trees in one map, of the order of keys, and of what an image holds.
-ghost use Rattle.volume_format.specs.Catalog.{ListingReadsBack, OneSpec, NamesInOrder};
+ghost use Rattle.volume_format.specs.Catalog.{ListingReadsBack, NamesInOrder};
+ghost use Rattle.file_bytes.specs.Description.{OneSpec};
 ghost use Rattle.volume_format.specs.Pairs.{KeysInOrder};
 ghost use Rattle.volume_format.specs.Comes.{RowComes, PairComes};
 ghost use Rattle.volume_format.specs.Laws.{ForestMoves, NextHolds, EmptyHolds, RowsFit, LayoutsFit, OneRows, OneFiles};

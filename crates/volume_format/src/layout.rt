@@ -6,13 +6,11 @@ ghost use Rattle.volume_format.specs.Trees.{layout_under};
 
 use crate::laws::layouts_fit;
 use btree_pages::RowLayout;
-use records::{FileSpec, KeyOfReference, Organization};
+use file_bytes::key_length;
+use records::{FileSpec, KeyOfReference};
 
-/// The bytes of an arrival, and of the number of a row in a sequential file.
+/// The bytes of an arrival.
 const ARRIVAL_BYTES: usize = 8;
-
-/// The bytes of the number of a row in a relative file.
-const NUMBER_BYTES: usize = 4;
 
 /// The lengths of keys and values in the tree of a key: of the rows under the prime key, and of pairs under an alternate key.
 pub fn tree_layout(file: &FileSpec, key: KeyOfReference) -> RowLayout
@@ -24,11 +22,7 @@ pub fn tree_layout(file: &FileSpec, key: KeyOfReference) -> RowLayout
     let prime = file.key_place(KeyOfReference::Prime).length as usize;
     match key {
         KeyOfReference::Prime => RowLayout {
-            key_length: match file.organization {
-                Organization::Sequential => ARRIVAL_BYTES,
-                Organization::Relative => NUMBER_BYTES,
-                Organization::Indexed(_) => prime,
-            },
+            key_length: key_length(file.organization),
             value_length: file.record_length as usize + ARRIVAL_BYTES * file.alternates.len(),
         },
         KeyOfReference::Alternate(_) => RowLayout {

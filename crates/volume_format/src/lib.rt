@@ -3,16 +3,17 @@
 //! Promise: the definitions of what an image holds, and their laws.
 #![tactic(auto)]
 
+mod catalog;
+mod fault;
 mod laws;
 mod layout;
 mod listing;
 
+pub use catalog::catalog_tree;
+pub use fault::to_fault;
 pub use laws::{
     catalog_tells, empty_holds, forest_moves, keys_in_order, layouts_fit, listing_reads_back,
     next_holds, one_list_of_files, one_rows, pair_comes, row_comes, rows_fit,
 };
 pub use layout::tree_layout;
-pub use listing::{
-    LISTING_BYTES, NAME_BYTES, SPEC_BYTES, alternate_root, next_arrival, pad_name, prime_root,
-    spell_listing, spell_spec,
-};
+pub use listing::{LISTING_BYTES, alternate_root, next_arrival, prime_root, spell_listing};

@@ -14,7 +14,7 @@ use Rattle.records.specs.Spec.{Spec}
 use Rattle.records.specs.Changes.{FileChange}
 use Rattle.records.specs.Files.{AreFiles}
 use Rattle.records.specs.Stores.{spec_of, is_change, files_after}
-use Rattle.volume_format.specs.Catalog.{padded_name}
+use Rattle.file_bytes.specs.Description.{padded_name}
 use Rattle.volume_format.specs.Forest.{TreeLevels}
 use Rattle.volume_format.specs.Grows.{IsTreeAmong}
 use Rattle.volume_format.specs.Volume.{catalog_entry}

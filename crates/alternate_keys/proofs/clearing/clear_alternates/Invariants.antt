@@ -1,12 +1,10 @@
-use Rattle.std.proofs.Common.{◌≤◌, ◌++◌, drop}
-use Rattle.pages.specs.Pages.{filled_of}
+use Rattle.std.proofs.Common.{◌≤◌, ◌++◌, drop, List}
+use Rattle.pages.specs.Pages.{filled_of, Agrees}
 use Rattle.btree.specs.Calls.{pages_on}
 use Rattle.volume_format.specs.Forest.{TreeLevels, IsForest}
 use Rattle.volume_format.specs.Volume.{FileTrees}
 use Rattle.alternate_keys.specs.Calls.{Edits}
 use Rattle.alternate_keys.specs.Created.{HasStored}
-use Rattle.pages.specs.Pages.{Agrees}
-use Rattle.std.proofs.Common.{List}
 use Rattle.alternate_keys.proofs.clearing.clear_alternates.Given as goal
 
 abbrev pub invariant-loop-key : goal.invariant-loop-key

@@ -10,7 +10,7 @@ use Rattle.volume_format.specs.Forest.{TreeLevels, IsTreeIn}
 use Rattle.volume_format.specs.Volume.{tree_levels}
 use Rattle.volume_format.proofs.Forests.{all_right, forest_moves}
 use Rattle.alternate_keys.proofs.Empties.{forest_without}
-use Rattle.alternate_keys.proofs.Faults.{damaged_back}
+use Rattle.volume_format.proofs.Faults.{damaged_back}
 use Rattle.alternate_keys.proofs.clearing.clear_among.Goals as goal
 
 pub returns-in-Ok-clause-cleared : goal.returns-in-Ok-clause-cleared

@@ -4,7 +4,8 @@ use Rattle.pages.specs.Image.{Map, map_of}
 use Rattle.pages.specs.Pages.{map_now, committed_of, next_generation}
 use Rattle.pages.specs.declared.error.PagesError.TheVariants as pages
 use Rattle.records.specs.declared.fault.StoreFault.TheVariants.{Full, Damaged}
-use Rattle.alternate_keys.proofs.Faults.{commit_sound, full_back}
+use Rattle.alternate_keys.proofs.Faults.{commit_sound}
+use Rattle.volume_format.proofs.Faults.{full_back}
 use Rattle.alternate_keys.proofs.Settled.{moments_hold, stands_then, changed_or_not, rests_then}
 use Rattle.alternate_keys.proofs.commit.commit_pages.Goals as goal
 

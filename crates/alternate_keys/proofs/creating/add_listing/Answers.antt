@@ -10,7 +10,7 @@ use Rattle.btree.specs.Entries.{Entry, entry_with, with_new_entry}
 use Rattle.btree.specs.Rooted.{RootedTree}
 use Rattle.btree.proofs.Frames.{same_pages}
 use Rattle.records.specs.declared.fault.StoreFault.TheVariants.{Device, Full, Damaged}
-use Rattle.volume_format.specs.Catalog.{padded_name}
+use Rattle.file_bytes.specs.Description.{padded_name}
 use Rattle.volume_format.specs.Forest.{TreeLevels}
 use Rattle.volume_format.specs.Grows.{IsTreeAmong}
 use Rattle.volume_format.specs.Volume.{trees_of, catalog_entry}

@@ -16,7 +16,7 @@ use Rattle.records.specs.Files.{File, Files, AreFiles, file_at, with_file, empty
 use Rattle.records.specs.Spec.{Spec}
 use Rattle.records.specs.Stores.{spec_of}
 use Rattle.records.proofs.Changed.{created_are_files}
-use Rattle.volume_format.specs.Catalog.{padded_name}
+use Rattle.file_bytes.specs.Description.{padded_name}
 use Rattle.volume_format.specs.Forest.{TreeLevels, IsForest}
 use Rattle.volume_format.specs.Grows.{IsTreeAmong}
 use Rattle.volume_format.specs.Volume.{MapHolds, trees_of, catalog_entry}

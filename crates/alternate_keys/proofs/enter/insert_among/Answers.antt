@@ -11,7 +11,7 @@ use Rattle.btree.specs.Entries.{Entry, entries_of, entry_with, with_new_entry}
 use Rattle.volume_format.specs.Forest.{TreeLevels}
 use Rattle.volume_format.proofs.Forests.{forest_moves}
 use Rattle.alternate_keys.proofs.Among.{grows}
-use Rattle.alternate_keys.proofs.Faults.{damaged_back, full_back}
+use Rattle.volume_format.proofs.Faults.{damaged_back, full_back}
 use Rattle.alternate_keys.proofs.enter.insert_among.Goals as goal
 
 pub returns-in-Ok-clause-inserted : goal.returns-in-Ok-clause-inserted

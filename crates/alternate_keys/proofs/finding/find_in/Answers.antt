@@ -7,7 +7,7 @@ use Rattle.records.specs.declared.fault.StoreFault.TheVariants.{Damaged}
 use Rattle.records.specs.Spec.{Spec}
 use Rattle.records.specs.Rows.{same_bytes}
 use Rattle.records.specs.Files.{file_at}
-use Rattle.volume_format.specs.Catalog.{spec_bytes}
+use Rattle.file_bytes.specs.Description.{spec_bytes}
 use Rattle.records.specs.Stores.{spec_of}
 use Rattle.alternate_keys.specs.Listed.{IsListed}
 use Rattle.alternate_keys.proofs.Present.{absent, present_by}

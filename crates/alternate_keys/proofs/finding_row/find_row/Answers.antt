@@ -6,7 +6,8 @@ use Rattle.records.specs.declared.key.KeyOfReference.TheVariants.{Prime}
 use Rattle.records.specs.Rows.{Row, Pair}
 use Rattle.records.specs.Spec.{Spec}
 use Rattle.records.specs.Stores.{spec_of, pair_of}
-use Rattle.volume_format.specs.Trees.{entry_under, prime_key}
+use Rattle.volume_format.specs.Trees.{entry_under}
+use Rattle.file_bytes.specs.Rows.{prime_key}
 use Rattle.alternate_keys.proofs.Numbered.{no_row, asked_pair}
 use Rattle.alternate_keys.proofs.RowEdits.{row_found}
 use Rattle.alternate_keys.proofs.finding_row.find_row.Goals as goal

@@ -7,7 +7,8 @@ use Rattle.byteorder.specs.Endian.{big_bytes}
 use Rattle.btree.specs.Entries.{Entry}
 use Rattle.records.specs.declared.answer.Found.{Found}
 use Rattle.records.specs.declared.file_spec.Organization.{Organization}
-use Rattle.volume_format.specs.Trees.{prime_key_length, entry_under}
+use Rattle.file_bytes.specs.Rows.{prime_key_length}
+use Rattle.volume_format.specs.Trees.{entry_under}
 use Rattle.records.specs.declared.key.KeyOfReference.TheVariants.{Prime}
 use Rattle.alternate_keys.specs.Seen.{number_in}
 use Rattle.alternate_keys.proofs.Tells.{prime_number, prime_long}

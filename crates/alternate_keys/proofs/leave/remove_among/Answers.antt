@@ -9,7 +9,7 @@ use Rattle.btree.specs.Entries.{Entry, entries_of, entry_with, without_entry}
 use Rattle.btree.specs.Changes.{Becomes}
 use Rattle.alternate_keys.proofs.Among.{grows}
 use Rattle.alternate_keys.proofs.Becoming.{becomes_among}
-use Rattle.alternate_keys.proofs.Faults.{damaged_back}
+use Rattle.volume_format.proofs.Faults.{damaged_back}
 use Rattle.alternate_keys.proofs.leave.remove_among.Goals as goal
 
 pub returns-in-Ok-true-clause-removed : goal.returns-in-Ok-true-clause-removed

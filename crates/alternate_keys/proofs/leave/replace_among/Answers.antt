@@ -10,7 +10,7 @@ use Rattle.btree.specs.Changes.{Becomes}
 use Rattle.volume_format.specs.Grows.{IsTreeAmong}
 use Rattle.alternate_keys.proofs.Among.{grows}
 use Rattle.alternate_keys.proofs.Becoming.{becomes_among}
-use Rattle.alternate_keys.proofs.Faults.{damaged_back}
+use Rattle.volume_format.proofs.Faults.{damaged_back}
 use Rattle.alternate_keys.proofs.leave.replace_among.Goals as goal
 
 pub returns-in-Ok-true-clause-replaced : goal.returns-in-Ok-true-clause-replaced

@@ -6,9 +6,10 @@ use Rattle.records.specs.declared.fault.StoreFault.TheVariants.{Damaged}
 use Rattle.btree_pages.specs.declared.row_layout.RowLayout.{RowLayout}
 use Rattle.btree.specs.Rooted.{RootedTree}
 use Rattle.btree.specs.Entries.{Entry, entries_of, entry_with}
-use Rattle.volume_format.specs.Catalog.{catalog_layout, padded_name}
+use Rattle.volume_format.specs.Catalog.{catalog_layout}
+use Rattle.file_bytes.specs.Description.{padded_name}
 use Rattle.alternate_keys.proofs.Catalogs.{listed, catalog_holds}
-use Rattle.alternate_keys.proofs.Faults.{damaged_back}
+use Rattle.volume_format.proofs.Faults.{damaged_back}
 use Rattle.alternate_keys.proofs.listing.find_listing.Goals as goal
 
 pub returns-in-Ok-clause-listed : goal.returns-in-Ok-clause-listed

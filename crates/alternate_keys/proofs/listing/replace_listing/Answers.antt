@@ -7,12 +7,12 @@ use Rattle.records.specs.declared.fault.StoreFault.TheVariants.{Damaged}
 use Rattle.btree.specs.Rooted.{RootedTree}
 use Rattle.btree.specs.Entries.{Entry, entries_of, entry_with, with_value}
 use Rattle.btree.specs.Changes.{Becomes}
-use Rattle.volume_format.specs.Catalog.{padded_name}
+use Rattle.file_bytes.specs.Description.{padded_name}
 use Rattle.volume_format.specs.Grows.{IsTreeAmong}
 use Rattle.alternate_keys.specs.Listed.{catalog_at}
 use Rattle.alternate_keys.proofs.Among.{grows}
 use Rattle.alternate_keys.proofs.Becoming.{becomes_among}
-use Rattle.alternate_keys.proofs.Faults.{damaged_back}
+use Rattle.volume_format.proofs.Faults.{damaged_back}
 use Rattle.alternate_keys.proofs.Keeping.{same_tree}
 use Rattle.alternate_keys.proofs.listing.replace_listing.Goals as goal
 

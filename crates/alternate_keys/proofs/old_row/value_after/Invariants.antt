@@ -4,7 +4,7 @@ use Rattle.byteorder.specs.Endian.{big_bytes}
 use Rattle.records.specs.Changes.{arrivals_after}
 use Rattle.records.specs.Rows.{Row}
 use Rattle.records.specs.Stores.{spec_of}
-use Rattle.volume_format.specs.Trees.{row_value}
+use Rattle.file_bytes.specs.Rows.{row_value}
 use Rattle.alternate_keys.specs.Moved.{IsRowOf}
 use Rattle.alternate_keys.proofs.old_row.value_after.Given as goal
 

@@ -14,7 +14,8 @@ use Rattle.records.specs.Spec.{Spec}
 use Rattle.records.specs.Rows.{Pair}
 use Rattle.records.specs.Changes.{FileChange}
 use Rattle.records.specs.Stores.{spec_of, pair_of, is_change}
-use Rattle.volume_format.specs.Trees.{entry_under, key_under, row_value}
+use Rattle.volume_format.specs.Trees.{entry_under, key_under}
+use Rattle.file_bytes.specs.Rows.{row_value}
 use Rattle.volume_format.specs.Forest.{TreeLevels}
 use Rattle.volume_format.specs.Grows.{IsTreeAmong}
 use Rattle.alternate_keys.specs.declared.row_verb.RowVerb.TheVariants.{Remove}

@@ -17,7 +17,8 @@ use Rattle.records.specs.Rows.{Row, Pair, part, place_of, named_pair}
 use Rattle.records.specs.Changes.{FileChange, changed_row, row_at, changes, without_pair, is_duplicate}
 use Rattle.records.specs.Files.{NamedFile}
 use Rattle.records.specs.Stores.{spec_of, pair_of, is_change}
-use Rattle.volume_format.specs.Trees.{entry_under, key_under, layout_under, row_value}
+use Rattle.volume_format.specs.Trees.{entry_under, key_under, layout_under}
+use Rattle.file_bytes.specs.Rows.{row_value}
 use Rattle.volume_format.specs.Pairs.{IsPair}
 use Rattle.volume_format.specs.Forest.{TreeLevels}
 use Rattle.volume_format.specs.Grows.{IsTreeAmong}

@@ -17,7 +17,7 @@ use Rattle.btree.specs.Rooted.{RootedTree}
 use Rattle.alternate_keys.specs.Aims.{IsBound}
 use Rattle.alternate_keys.specs.Listed.{IsListed, root_in}
 use Rattle.alternate_keys.specs.Seen.{IsSought}
-use Rattle.alternate_keys.proofs.Faults.{damaged_back}
+use Rattle.volume_format.proofs.Faults.{damaged_back}
 use Rattle.alternate_keys.proofs.FoundTrees.{Knows, layout_short, sought_in}
 use Rattle.alternate_keys.proofs.seeking.seek_in.Goals as goal
 

@@ -5,8 +5,9 @@ use Rattle.records.specs.declared.key.KeyOfReference.{KeyOfReference}
 use Rattle.records.specs.declared.key.KeyOfReference.TheVariants.{Alternate}
 use Rattle.records.specs.Rows.{prime_place}
 use Rattle.records.specs.Stores.{IsKey}
-use Rattle.volume_format.specs.Catalog.{organization_byte}
-use Rattle.volume_format.specs.Trees.{layout_under, prime_key_length}
+use Rattle.file_bytes.specs.Description.{organization_byte}
+use Rattle.volume_format.specs.Trees.{layout_under}
+use Rattle.file_bytes.specs.Rows.{prime_key_length}
 use Rattle.alternate_keys.proofs.Heads.{organization_at, count_at, record_at, prime_at, alternate_at, key_by, layout_as}
 use Rattle.alternate_keys.proofs.stored.stored_layout.Goals as goal
 

@@ -5,7 +5,8 @@ use Rattle.records.specs.declared.key.KeyOfReference.TheVariants.{Prime}
 use Rattle.records.specs.Spec.{Spec}
 use Rattle.records.specs.Rows.{named_pair}
 use Rattle.records.specs.Stores.{spec_of}
-use Rattle.volume_format.specs.Trees.{entry_under, prime_key}
+use Rattle.volume_format.specs.Trees.{entry_under}
+use Rattle.file_bytes.specs.Rows.{prime_key}
 use Rattle.alternate_keys.proofs.taken_row.is_row_there.Goals as goal
 
 pub returns-in-Ok-clause-there : goal.returns-in-Ok-clause-there

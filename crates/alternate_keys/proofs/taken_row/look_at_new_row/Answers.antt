@@ -13,10 +13,11 @@ use Rattle.records.specs.Rows.{named_pair}
 use Rattle.records.specs.Changes.{FileChange, has_prime, new_row, new_number, is_taken}
 use Rattle.records.specs.Files.{IsByte}
 use Rattle.records.specs.Stores.{spec_of, is_change}
-use Rattle.volume_format.specs.Trees.{entry_under, prime_key}
+use Rattle.volume_format.specs.Trees.{entry_under}
+use Rattle.file_bytes.specs.Rows.{prime_key}
 use Rattle.alternate_keys.specs.Placed.{HasTrees}
 use Rattle.alternate_keys.proofs.Bytes.{all_bytes}
-use Rattle.alternate_keys.proofs.Calling.{looks_blamed, looks_then}
+use Rattle.volume_format.proofs.Looks.{looks_blamed, looks_then}
 use Rattle.alternate_keys.proofs.FileTrees.{arrival_is, prime_rows, all_pairs}
 use Rattle.alternate_keys.proofs.InsertRow.{inserted_there, inserted_taken, prime_there, look_free, look_full, look_taken}
 use Rattle.alternate_keys.proofs.Still.{same_volume}
@@ -109,7 +110,7 @@ returns-then-branch-clause-taken g c = λ honest agrees named generation left ri
     let same : arrival ≡ named.file.next_arrival = c.next_arrival.ensures ∙ arrival_is spec named generation there left right listing has_then in
     let all : All IsByte bytes = all_bytes bytes c.type_inv.bytes in
     let entries : List Entry = map (entry_under spec Prime) named.file.rows in
-    let own_is : c.number_for-own.result ≡ new_number spec.organization c.args.number arrival = c.number_for-own.ensures in
+    let own_is : c.number_of_new-own.result ≡ new_number spec.organization c.args.number arrival = c.number_of_new-own.ensures in
     let seen = c.in_ok-is_row_there.ensures.there (looks.only.honest.0 honest) (looks.agrees honest agrees) named.file.rows rows in
     let named_there = ap (λ (n : ℕ). is_some (entry_with entries (prime_key spec.organization (named_pair spec.organization n bytes)))) own_is in
     let prime = prime_there spec named generation there left right listing has_then c.args.number arrival bytes same c.args.file.now.sound c.requires.bytes all c.requires.number in
@@ -142,7 +143,7 @@ returns-clause-free g c = λ unspent honest agrees named generation left right h
     let same : arrival ≡ named.file.next_arrival = c.next_arrival.ensures ∙ arrival_is spec named generation there left right listing has_then in
     let all : All IsByte bytes = all_bytes bytes c.type_inv.bytes in
     let entries : List Entry = map (entry_under spec Prime) named.file.rows in
-    let own_is : c.number_for-own.result ≡ new_number spec.organization c.args.number arrival = c.number_for-own.ensures in
+    let own_is : c.number_of_new-own.result ≡ new_number spec.organization c.args.number arrival = c.number_of_new-own.ensures in
     let seen = c.in_ok-is_row_there.ensures.there (looks.only.honest.0 honest) (looks.agrees honest agrees) named.file.rows rows in
     let named_there = ap (λ (n : ℕ). is_some (entry_with entries (prime_key spec.organization (named_pair spec.organization n bytes)))) own_is in
     let prime = prime_there spec named generation there left right listing has_then c.args.number arrival bytes same c.args.file.now.sound c.requires.bytes all c.requires.number in

@@ -17,7 +17,7 @@ use Rattle.btree.proofs.Frames.{same_pages}
 use Rattle.alternate_keys.specs.Moved.{is_new}
 use Rattle.alternate_keys.specs.Placed.{listed_tree}
 use Rattle.alternate_keys.specs.Seen.{HasPairs}
-use Rattle.alternate_keys.proofs.Calling.{looks_then}
+use Rattle.volume_format.proofs.Looks.{looks_then}
 use Rattle.alternate_keys.proofs.Walks.{any_more, any_at, all_taken, allowed, any_filtered}
 use Rattle.alternate_keys.proofs.values.find_duplicate_key.Goals as goal
 

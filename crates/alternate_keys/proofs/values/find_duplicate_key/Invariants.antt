@@ -5,7 +5,7 @@ use Rattle.btree.specs.Calls.{IfAgrees, pages_on}
 use Rattle.records.specs.Rows.{Row}
 use Rattle.records.specs.Changes.{repeats}
 use Rattle.records.specs.Stores.{spec_of}
-use Rattle.alternate_keys.specs.Calls.{LooksAt}
+use Rattle.volume_format.specs.Calls.{LooksAt}
 use Rattle.alternate_keys.specs.Moved.{is_new}
 use Rattle.alternate_keys.specs.Placed.{HasAllPairs}
 use Rattle.alternate_keys.proofs.values.find_duplicate_key.Given as goal

@@ -12,8 +12,9 @@ use Rattle.records.specs.declared.key.KeyOfReference.TheVariants.{Alternate}
 use Rattle.records.specs.Stores.{spec_of}
 use Rattle.volume_format.specs.Trees.{AreOf, layout_under}
 use Rattle.volume_format.specs.Volume.{tree_levels}
-use Rattle.file_recovery.specs.Stored.{rows_of}
-use Rattle.file_recovery.proofs.Calling.{looks_then, pages_kept}
+use Rattle.file_bytes.specs.Stored.{rows_of}
+use Rattle.volume_format.proofs.Looks.{looks_then}
+use Rattle.file_recovery.proofs.Calling.{pages_kept}
 use Rattle.file_recovery.proofs.alternates.check_alternate.Goals as goal
 
 pub returns-clause-looks : goal.returns-clause-looks

@@ -6,8 +6,9 @@ use Rattle.records.specs.declared.fault.StoreFault.TheVariants.{Device, Damaged}
 use Rattle.records.specs.Stores.{spec_of}
 use Rattle.volume_format.proofs.Small.{few_alternates}
 use Rattle.file_recovery.specs.Found.{FindsIndex, FindsIndexes, NoIndex}
-use Rattle.file_recovery.specs.Stored.{rows_of}
-use Rattle.file_recovery.proofs.Calling.{looks_nowhere, looks_then, pages_kept}
+use Rattle.file_bytes.specs.Stored.{rows_of}
+use Rattle.volume_format.proofs.Looks.{looks_nowhere, looks_then}
+use Rattle.file_recovery.proofs.Calling.{pages_kept}
 use Rattle.file_recovery.proofs.Indexes.{no_indexes, one_more_index, at_first, goes_on, none_here}
 use Rattle.file_recovery.proofs.alternates.check_alternates.Goals as goal
 

@@ -2,9 +2,9 @@ use Rattle.std.proofs.Common.{length}
 use Rattle.btree.specs.Calls.{OnPages}
 use Rattle.records.specs.Laws.{RowsAscend}
 use Rattle.records.specs.Stores.{spec_of}
-use Rattle.file_recovery.specs.Calls.{LooksAt}
+use Rattle.volume_format.specs.Calls.{LooksAt}
 use Rattle.file_recovery.specs.Found.{FindsIndexes}
-use Rattle.file_recovery.specs.Stored.{rows_of}
+use Rattle.file_bytes.specs.Stored.{rows_of}
 use Rattle.file_recovery.proofs.Indexes.{CanGoOn}
 use Rattle.file_recovery.proofs.alternates.check_alternates.Given as goal
 

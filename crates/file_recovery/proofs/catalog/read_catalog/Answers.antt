@@ -14,8 +14,9 @@ use Rattle.records.specs.declared.fault.StoreFault.TheVariants.{Device, Damaged}
 use Rattle.volume_format.specs.Catalog.{catalog_layout}
 use Rattle.file_recovery.specs.Kept.{FindsCatalog}
 use Rattle.file_recovery.specs.Listed.{FindsFiles, NoFiles, pages_of_files}
-use Rattle.file_recovery.specs.Stored.{named_of, files_of}
-use Rattle.file_recovery.proofs.Calling.{looks_then, pages_kept}
+use Rattle.file_bytes.specs.Stored.{named_of, files_of}
+use Rattle.volume_format.proofs.Looks.{looks_then}
+use Rattle.file_recovery.proofs.Calling.{pages_kept}
 use Rattle.file_recovery.proofs.Listed.{finds_catalog, catalog_grows, catalog_found}
 use Rattle.file_recovery.proofs.Marking.{can_left, can_after}
 use Rattle.file_recovery.proofs.catalog.read_catalog.Goals as goal

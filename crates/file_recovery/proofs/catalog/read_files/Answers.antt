@@ -11,8 +11,9 @@ use Rattle.records.specs.declared.fault.StoreFault.TheVariants.{Device, Damaged}
 use Rattle.records.specs.Files.{Files}
 use Rattle.file_recovery.specs.Kept.{FindsFile, NoFile}
 use Rattle.file_recovery.specs.Listed.{FindsFiles}
-use Rattle.file_recovery.specs.Stored.{files_of}
-use Rattle.file_recovery.proofs.Calling.{looks_blamed, looks_then, pages_kept}
+use Rattle.file_bytes.specs.Stored.{files_of}
+use Rattle.volume_format.proofs.Looks.{looks_blamed, looks_then}
+use Rattle.file_recovery.proofs.Calling.{pages_kept}
 use Rattle.file_recovery.proofs.Listed.{no_files, one_more_file, at_first, goes_on, none_here, too_many}
 use Rattle.file_recovery.proofs.Walks.{entry_at, first_at, next_at, taken_all}
 use Rattle.file_recovery.proofs.catalog.read_files.Goals as goal

@@ -2,9 +2,9 @@ use Rattle.std.proofs.Common.{◌≡◌, length, take}
 use Rattle.std.specs.Prelude.{IfSome}
 use Rattle.btree.specs.Calls.{OnTree, pages_on}
 use Rattle.btree.specs.Entries.{HasLengths, entries_of}
-use Rattle.file_recovery.specs.Calls.{LooksAt}
+use Rattle.volume_format.specs.Calls.{LooksAt}
 use Rattle.file_recovery.specs.Listed.{FindsFiles}
-use Rattle.file_recovery.specs.Stored.{files_of}
+use Rattle.file_bytes.specs.Stored.{files_of}
 use Rattle.file_recovery.proofs.Listed.{CanGoOn}
 use Rattle.file_recovery.proofs.Walks.{entry_at}
 use Rattle.file_recovery.proofs.catalog.read_files.Given as goal

@@ -20,9 +20,10 @@ use Rattle.volume_format.specs.Trees.{entry_under, layout_under}
 use Rattle.volume_format.specs.Volume.{tree_levels}
 use Rattle.file_recovery.specs.Found.{FindsIndexes, NoIndexes}
 use Rattle.file_recovery.specs.Rows.{IsSized}
-use Rattle.file_recovery.specs.Stored.{rows_of}
+use Rattle.file_bytes.specs.Stored.{rows_of}
 use Rattle.file_recovery.proofs.Ascents.{rows_ascend}
-use Rattle.file_recovery.proofs.Calling.{looks_then, pages_kept}
+use Rattle.volume_format.proofs.Looks.{looks_then}
+use Rattle.file_recovery.proofs.Calling.{pages_kept}
 use Rattle.file_recovery.proofs.Entered.{is_none}
 use Rattle.file_recovery.proofs.Headings.{heading_read, root_told}
 use Rattle.file_recovery.proofs.Kepts.{rows_sized, finds_file, own_listing, own_key, own_value, own_next}

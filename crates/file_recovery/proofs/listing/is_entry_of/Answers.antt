@@ -1,7 +1,7 @@
 use Rattle.std.proofs.Common.{◌≡◌, true, false, ℕ, List, sym, ap, ◌∙◌}
 use Rattle.records.specs.Rows.{same_bytes}
 use Rattle.records.proofs.Maps.{bytes_same, same_itself}
-use Rattle.volume_format.specs.Catalog.{padded_name}
+use Rattle.file_bytes.specs.Description.{padded_name}
 use Rattle.file_recovery.proofs.listing.is_entry_of.Goals as goal
 
 pub returns-then-not-is_same-clause-no : goal.returns-then-not-is_same-clause-no

@@ -10,8 +10,9 @@ use Rattle.btree.proofs.There.{tree_ascends}
 use Rattle.records.specs.declared.fault.StoreFault.TheVariants.{Device, Damaged}
 use Rattle.records.specs.Stores.{spec_of}
 use Rattle.file_recovery.specs.Rows.{IsPairOf}
-use Rattle.file_recovery.specs.Stored.{row_of, rows_of}
-use Rattle.file_recovery.proofs.Calling.{looks_blamed, looks_then, pages_kept}
+use Rattle.file_bytes.specs.Stored.{row_of, rows_of}
+use Rattle.volume_format.proofs.Looks.{looks_blamed, looks_then}
+use Rattle.file_recovery.proofs.Calling.{pages_kept}
 use Rattle.file_recovery.proofs.Matching.{are_pairs, as_many}
 use Rattle.file_recovery.proofs.PairsOf.{primes_ascend}
 use Rattle.file_recovery.proofs.Walks.{entry_at, entry_in, first_at, next_at, none_at, some_at, none_passed, one_passed, each_passed, taken_all}

@@ -3,9 +3,9 @@ use Rattle.std.specs.List.{AllByRecursion}
 use Rattle.btree.specs.Calls.{OnTree}
 use Rattle.btree.specs.Entries.{entries_of}
 use Rattle.records.specs.Stores.{spec_of}
-use Rattle.file_recovery.specs.Calls.{LooksAt}
+use Rattle.volume_format.specs.Calls.{LooksAt}
 use Rattle.file_recovery.specs.Rows.{IsPairOf}
-use Rattle.file_recovery.specs.Stored.{rows_of}
+use Rattle.file_bytes.specs.Stored.{rows_of}
 use Rattle.file_recovery.proofs.Walks.{entry_at}
 use Rattle.file_recovery.proofs.pairs.check_index.Given as goal
 

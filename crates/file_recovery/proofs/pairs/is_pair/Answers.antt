@@ -4,7 +4,7 @@ use Rattle.records.specs.declared.key.KeyOfReference.TheVariants.{Alternate}
 use Rattle.records.specs.Rows.{Row, pair_under}
 use Rattle.records.specs.Stores.{spec_of}
 use Rattle.volume_format.specs.Trees.{key_under}
-use Rattle.file_recovery.specs.Stored.{row_of, rows_of}
+use Rattle.file_bytes.specs.Stored.{row_of, rows_of}
 use Rattle.file_recovery.proofs.PairsOf.{no_pair, other_pair}
 use Rattle.file_recovery.proofs.Placed.{row_placed}
 use Rattle.file_recovery.proofs.pairs.is_pair.Goals as goal

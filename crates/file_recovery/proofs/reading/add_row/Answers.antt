@@ -5,8 +5,9 @@ use Rattle.records.specs.declared.key.KeyOfReference.TheVariants.{Prime}
 use Rattle.records.specs.Files.{IsRow}
 use Rattle.records.specs.Rows.{pair_under}
 use Rattle.records.specs.Stores.{spec_of}
-use Rattle.volume_format.specs.Trees.{key_under, row_value}
-use Rattle.file_recovery.specs.Stored.{row_of}
+use Rattle.volume_format.specs.Trees.{key_under}
+use Rattle.file_bytes.specs.Rows.{row_value}
+use Rattle.file_bytes.specs.Stored.{row_of}
 use Rattle.file_bytes.specs.declared.stored.StoredRow.{StoredRow}
 use Rattle.file_recovery.proofs.Entered.{same_entry, key_of, value_of, is_none}
 use Rattle.file_recovery.proofs.reading.add_row.Goals as goal

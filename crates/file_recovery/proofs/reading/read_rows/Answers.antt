@@ -14,8 +14,9 @@ use Rattle.records.specs.Files.{IsRow}
 use Rattle.records.specs.Rows.{Row}
 use Rattle.records.specs.Stores.{spec_of}
 use Rattle.volume_format.specs.Trees.{entry_under}
-use Rattle.file_recovery.specs.Stored.{rows_of}
-use Rattle.file_recovery.proofs.Calling.{looks_blamed, looks_then, pages_kept}
+use Rattle.file_bytes.specs.Stored.{rows_of}
+use Rattle.volume_format.proofs.Looks.{looks_blamed, looks_then}
+use Rattle.file_recovery.proofs.Calling.{pages_kept}
 use Rattle.file_recovery.proofs.Entered.{all_behind}
 use Rattle.file_recovery.proofs.Walks.{entry_at, first_at, next_at, taken_more, taken_all, item_at}
 use Rattle.file_recovery.proofs.reading.read_rows.Goals as goal

@@ -7,8 +7,8 @@ use Rattle.records.specs.declared.key.KeyOfReference.TheVariants.{Prime}
 use Rattle.records.specs.Files.{IsRow}
 use Rattle.records.specs.Stores.{spec_of}
 use Rattle.volume_format.specs.Trees.{entry_under}
-use Rattle.file_recovery.specs.Calls.{LooksAt}
-use Rattle.file_recovery.specs.Stored.{rows_of}
+use Rattle.volume_format.specs.Calls.{LooksAt}
+use Rattle.file_bytes.specs.Stored.{rows_of}
 use Rattle.file_recovery.proofs.Walks.{entry_at}
 use Rattle.file_recovery.proofs.reading.read_rows.Given as goal
 

@@ -5,7 +5,7 @@ use Rattle.pages.specs.Image.{Map}
 use Rattle.pages.specs.Pages.{map_now}
 use Rattle.records.specs.declared.fault.StoreFault.TheVariants.{Damaged}
 use Rattle.file_recovery.specs.Covered.{IsCovered}
-use Rattle.file_recovery.specs.Stored.{files_of}
+use Rattle.file_bytes.specs.Stored.{files_of}
 use Rattle.file_recovery.proofs.Covering.{NoneMarked}
 use Rattle.file_recovery.proofs.ReadTrees.{none_marked, catalog_is_held, none_is_held, stray_is_held}
 use Rattle.file_recovery.proofs.recovering.read_volume.Goals as goal

@@ -5,7 +5,7 @@ use Rattle.half_store.specs.Half.{Holds as HoldsHalf}
 use Rattle.half_store.specs.Opened.{IsOpenRefusal as RefusedHalf}
 use Rattle.std.specs.Prelude.{IfErr}
 use Rattle.file_recovery.specs.Recovered.{RefusedTrees}
-use Rattle.file_recovery.specs.Stored.{files_of}
+use Rattle.file_bytes.specs.Stored.{files_of}
 use Rattle.file_recovery.proofs.Reopened.{opens_again, same_present}
 use Rattle.file_recovery.proofs.TwoStores.{ok_so, half_refused, half_cause, either_refused, either_cause}
 use Rattle.file_recovery.proofs.recovering.recover.Goals as goal

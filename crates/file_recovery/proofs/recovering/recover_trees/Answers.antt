@@ -2,7 +2,7 @@ use Rattle.std.proofs.Common.{◌≡◌, sym, ap, subst}
 use Rattle.station.specs.Disk.{Disk}
 use Rattle.station.specs.State.{State}
 use Rattle.file_recovery.specs.Recovered.{RefusedTrees, IsReadCause}
-use Rattle.file_recovery.specs.Stored.{files_of}
+use Rattle.file_bytes.specs.Stored.{files_of}
 use Rattle.file_recovery.proofs.ReadTrees.{trees_there, no_trees, refused_of, cause_of}
 use Rattle.file_recovery.proofs.TwoStores.{ok_so, trees_refused, trees_cause}
 use Rattle.file_recovery.proofs.recovering.recover_trees.Goals as goal

@@ -6,7 +6,7 @@ use Rattle.records.specs.Rows.{Row, bytes_cmp}
 use Rattle.records.specs.Stores.{spec_of}
 use Rattle.records.proofs.Maps.{bytes_same}
 use Rattle.file_recovery.specs.Rows.{prime_at}
-use Rattle.file_recovery.specs.Stored.{row_of, rows_of}
+use Rattle.file_bytes.specs.Stored.{row_of, rows_of}
 use Rattle.file_recovery.proofs.Halving.{left_all, left_left, left_right, none_left}
 use Rattle.file_recovery.proofs.row_search.find_between.Goals as goal
 

@@ -1,7 +1,7 @@
 use Rattle.std.proofs.Common.{◌≡◌, ◌≤◌, ◌-◌, length}
 use Rattle.records.specs.Stores.{spec_of}
 use Rattle.file_recovery.specs.Rows.{PrimesAscend}
-use Rattle.file_recovery.specs.Stored.{rows_of}
+use Rattle.file_bytes.specs.Stored.{rows_of}
 use Rattle.file_recovery.proofs.Halving.{IsLeft}
 use Rattle.file_recovery.proofs.row_search.find_between.Given as goal
 

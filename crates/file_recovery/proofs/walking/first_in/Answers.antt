@@ -2,7 +2,8 @@ use Rattle.std.proofs.Common.{◌≡◌, true, false, Err, sym, ap, subst, ◌�
 use Rattle.pages.specs.declared.error.PagesError.TheVariants as pages
 use Rattle.records.specs.declared.fault.StoreFault.TheVariants.{Damaged}
 use Rattle.file_recovery.specs.Faults.{IsReadFault}
-use Rattle.file_recovery.proofs.Faults.{damaged_back, read_fault}
+use Rattle.volume_format.proofs.Faults.{damaged_back}
+use Rattle.file_recovery.proofs.Faults.{read_fault}
 use Rattle.file_recovery.proofs.walking.first_in.Goals as goal
 
 pub returns-in-Err-clause-damaged : goal.returns-in-Err-clause-damaged

@@ -1,6 +1,6 @@
 use Rattle.std.proofs.Common.{subst, arith}
 use Rattle.std.specs.Io.KnownBytes.{Appends}
-use Rattle.file_recovery.specs.Stored.{row_of}
+use Rattle.file_bytes.specs.Stored.{row_of}
 use Rattle.volume_commands.specs.Dump.{row_line}
 use Rattle.volume_commands.proofs.Beginnings.{on_err, begins_after}
 use Rattle.volume_commands.proofs.Lines.{lines_all, lines_split}

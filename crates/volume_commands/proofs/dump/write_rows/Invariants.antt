@@ -1,7 +1,7 @@
 use Rattle.std.proofs.Common.{take}
 use Rattle.std.specs.List.{flat_map}
 use Rattle.std.specs.Io.KnownBytes.{Appends}
-use Rattle.file_recovery.specs.Stored.{row_of}
+use Rattle.file_bytes.specs.Stored.{row_of}
 use Rattle.volume_commands.specs.Dump.{row_line}
 use Rattle.volume_commands.proofs.dump.write_rows.Given as goal
 

@@ -1,6 +1,6 @@
 use Rattle.std.proofs.Common.{◌≡◌, drop}
 use Rattle.records.specs.Files.{file_at}
-use Rattle.file_recovery.specs.Stored.{files_of}
+use Rattle.file_bytes.specs.Stored.{files_of}
 use Rattle.volume_commands.proofs.dump_command.find_file.Given as goal
 
 abbrev pub invariant-loop-place : goal.invariant-loop-place

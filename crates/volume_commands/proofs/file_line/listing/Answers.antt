@@ -1,5 +1,5 @@
 use Rattle.std.proofs.Common.{◌∙◌, arith}
-use Rattle.file_recovery.specs.Stored.{named_of}
+use Rattle.file_bytes.specs.Stored.{named_of}
 use Rattle.volume_commands.specs.Listing.{file_line}
 use Rattle.volume_commands.proofs.Lines.{lines_all}
 use Rattle.volume_commands.proofs.file_line.listing.Goals as goal

@@ -1,6 +1,6 @@
 use Rattle.std.proofs.Common.{◌≡◌, take}
 use Rattle.std.specs.List.{flat_map}
-use Rattle.file_recovery.specs.Stored.{named_of}
+use Rattle.file_bytes.specs.Stored.{named_of}
 use Rattle.volume_commands.specs.Listing.{file_line}
 use Rattle.volume_commands.proofs.file_line.listing.Given as goal
 

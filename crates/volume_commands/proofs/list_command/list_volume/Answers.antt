@@ -1,7 +1,7 @@
 use Rattle.std.proofs.Common.{◌≡◌, ap, subst, ◌∙◌, OnErr}
 use Rattle.std.proofs.lemmas.Result.{err_from_is_err_and}
 use Rattle.records.specs.Files.{Files}
-use Rattle.file_recovery.specs.Stored.{files_of}
+use Rattle.file_bytes.specs.Stored.{files_of}
 use Rattle.volume_commands.specs.Listing.{listing}
 use Rattle.volume_commands.specs.Output.{AppendsBeginning}
 use Rattle.volume_commands.proofs.Reading.{reads_refused}

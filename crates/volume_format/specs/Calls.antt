@@ -1,4 +1,4 @@
--- What a call that only reads keeps, said once.
+-- What a call on pages keeps that only reads.
 use Rattle.station.specs.Calls.{OnlyReads}
 use Rattle.station.specs.declared.device.Device.{Ghosts as Devices}
 use Rattle.pages.specs.Pages.{Agrees, IsOpen, IsUnchanged}

@@ -3,10 +3,11 @@ use Rattle.records.specs.declared.key.KeyOfReference.TheVariants.{Prime}
 use Rattle.records.specs.Files.{IsRow}
 use Rattle.records.specs.Rows.{Row, pair_under}
 use Rattle.records.specs.Stores.{spec_of}
-use Rattle.volume_format.specs.Trees.{key_under, row_value}
-use Rattle.file_recovery.specs.Stored.{row_of}
-use Rattle.file_recovery.proofs.ReadBack.{row_back}
-use Rattle.file_recovery.proofs.rows.read_row.Goals as goal
+use Rattle.volume_format.specs.Trees.{key_under}
+use Rattle.file_bytes.specs.Rows.{row_value}
+use Rattle.file_bytes.specs.Stored.{row_of}
+use Rattle.file_bytes.proofs.Rows.{row_back}
+use Rattle.file_recovery.proofs.rows.row_of_entry.Goals as goal
 
 pub returns-then-not-is_row-clause-none : goal.returns-then-not-is_row-clause-none
 returns-then-not-is_row-clause-none c = λ told row is key value.

@@ -1,12 +1,12 @@
-//! A refusal of the pages, as the store tells it.
+//! A refusal of the pages, as it is reported.
 ghost use Rattle.std.specs.Prelude.{◌≡◌};
-ghost use Rattle.alternate_keys.specs.Faults.{fault_of};
+ghost use Rattle.volume_format.specs.Faults.{fault_of};
 
 use pages::PagesError;
 use records::StoreFault;
 
-/// What a refusal of the pages is to the store's user.
-pub(crate) fn to_fault(error: PagesError) -> StoreFault
+/// What a refusal of the pages is to the user.
+pub fn to_fault(error: PagesError) -> StoreFault
     ensures { result ≡ fault_of error }
 {
     match error {

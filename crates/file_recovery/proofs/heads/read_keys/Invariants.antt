@@ -1,6 +1,0 @@
-use Rattle.std.proofs.Common.{◌≡◌}
-use Rattle.file_recovery.specs.Read.{keys_in}
-use Rattle.file_recovery.proofs.heads.read_keys.Given as goal
-
-abbrev pub invariant-loop-place : goal.invariant-loop-place
-invariant-loop-place l = l.keys.items ≡ keys_in l.place l.bytes

@@ -1,5 +1,0 @@
-use Rattle.file_recovery.proofs.Checked.{all_bytes}
-use Rattle.file_recovery.proofs.rows.are_bytes.Goals as goal
-
-pub returns : goal.returns
-returns c = all_bytes c.args._bytes.now c.type_inv._bytes

@@ -1,6 +1,0 @@
-use Rattle.std.proofs.Common.{◌≡◌}
-use Rattle.file_recovery.specs.Read.{numbers_in}
-use Rattle.file_recovery.proofs.rows.read_numbers.Given as goal
-
-abbrev pub invariant-loop-place : goal.invariant-loop-place
-invariant-loop-place l = l.numbers.items ≡ numbers_in l.place l.bytes
