@@ -24,6 +24,7 @@ mod repeats;
 mod row_bytes;
 mod row_calls;
 mod row_changes;
+mod row_move;
 mod row_trees;
 mod row_turn;
 mod row_verb;

@@ -8,7 +8,6 @@ ghost use Rattle.btree.specs.Told.{FewChanged, FewFilled};
 ghost use Rattle.records.specs.Spec.{is_name};
 ghost use Rattle.records.specs.Files.{Files, file_at};
 ghost use Rattle.file_bytes.specs.Description.{padded_name};
-ghost use Rattle.volume_format.specs.Catalog.{catalog_layout};
 ghost use Rattle.volume_format.specs.Grows.{IsTreeAmong};
 ghost use Rattle.volume_format.specs.Volume.{MapHolds, catalog_entry};
 ghost use Rattle.alternate_keys.specs.Among.{OnAmong};
@@ -16,7 +15,7 @@ ghost use Rattle.alternate_keys.specs.Calls.{Edits};
 ghost use Rattle.alternate_keys.specs.Faults.{IsReadFault};
 ghost use Rattle.alternate_keys.specs.Listed.{IsListed, catalog_at};
 
-use btree::{Entry, Tree};
+use btree::Entry;
 use file_bytes::pad_name;
 use pages::PageMap;
 use records::StoreFault;

@@ -19,6 +19,7 @@ use crate::enter::insert_among;
 use crate::file_tree::file_tree;
 use crate::leave::remove_among;
 use crate::old_row::{is_changed, old_pair};
+use crate::row_move::RowMove;
 use crate::row_verb::RowVerb;
 use crate::search_keys::pair_bytes;
 use btree::Tree;
@@ -35,24 +36,21 @@ pub(crate) fn move_pairs<D: Device>(
     device: &mut D,
     file: &FileSpec,
     listing: &[u8],
-    verb: RowVerb,
-    old: &[u8],
-    arrival: u64,
-    bytes: &[u8],
+    change: RowMove,
 ) -> Result<Vec<u32>, StoreFault>
     requires open { IsOpen pages.old }
     requires sectors { sectors_of pages.old ≤ D.sectors device.old }
     requires listing { length listing.now ≡ 83 }
-    requires values { HasValues verb (spec_of file.now) old.now bytes.now }
+    requires values { HasValues change.values.verb (spec_of file.now) change.values.old.now change.values.bytes.now }
     ensures edits { Edits D.Device (result ≡ Err StoreFault.Device) pages.old device.old pages.new device.new }
-    ensures came { OnIndexes D.Device (spec_of file.now) pages.old device.old listing.now (λ held left right trees. (after : File) → after.spec ≡ held.spec → PairsMove verb held after old.now bytes.now arrival →
+    ensures came { OnIndexes D.Device (spec_of file.now) pages.old device.old listing.now (λ held left right trees. (after : File) → after.spec ≡ held.spec → PairsMove change.values.verb held after change.values.old.now change.values.bytes.now change.arrival →
         IfOk result (λ roots. HaveBecome after (pages_on D.Device pages.new device.old) left right trees (length trees) roots.items)) }
-    ensures few { OnIndexes D.Device (spec_of file.now) pages.old device.old listing.now (λ held left right trees. (after : File) → after.spec ≡ held.spec → PairsMove verb held after old.now bytes.now arrival →
+    ensures few { OnIndexes D.Device (spec_of file.now) pages.old device.old listing.now (λ held left right trees. (after : File) → after.spec ≡ held.spec → PairsMove change.values.verb held after change.values.old.now change.values.bytes.now change.arrival →
         OnOk result (FewChanged (84 * length file.now.alternates.items) pages.old pages.new)) }
-    ensures room { OnIndexes D.Device (spec_of file.now) pages.old device.old listing.now (λ held left right trees. (after : File) → after.spec ≡ held.spec → PairsMove verb held after old.now bytes.now arrival →
+    ensures room { OnIndexes D.Device (spec_of file.now) pages.old device.old listing.now (λ held left right trees. (after : File) → after.spec ≡ held.spec → PairsMove change.values.verb held after change.values.old.now change.values.bytes.now change.arrival →
         result ≡ Err StoreFault.Full → free_count (committed_of pages.old) < length (changed_pages_of pages.old) + 84 * length file.now.alternates.items) }
-    ensures damaged { OnIndexes D.Device (spec_of file.now) pages.old device.old listing.now (λ held left right trees. (after : File) → after.spec ≡ held.spec → PairsMove verb held after old.now bytes.now arrival →
-        PairsMayMove verb held old.now bytes.now arrival → result ≡ Err StoreFault.Damaged → ⊥) }
+    ensures damaged { OnIndexes D.Device (spec_of file.now) pages.old device.old listing.now (λ held left right trees. (after : File) → after.spec ≡ held.spec → PairsMove change.values.verb held after change.values.old.now change.values.bytes.now change.arrival →
+        PairsMayMove change.values.verb held change.values.old.now change.values.bytes.now change.arrival → result ≡ Err StoreFault.Damaged → ⊥) }
     ensures count { IfOk result (λ roots. length roots.items ≡ length file.now.alternates.items) }
     ensures spent { result ≡ Err StoreFault.Spent → is_spent pages.old ≡ true }
     ensures cause { IfErr result IsWriteFault }
@@ -61,9 +59,7 @@ pub(crate) fn move_pairs<D: Device>(
     let count = file.alternates.len() as u8;
     for key in 0..count {
         let mut tree = file_tree(alloc, file, KeyOfReference::Alternate(key), listing);
-        move_pair(
-            alloc, &mut tree, pages, device, file, key, verb, old, arrival, bytes,
-        )?;
+        move_pair(alloc, &mut tree, pages, device, file, key, change)?;
         roots.push(tree.root())?;
     }
     Ok(roots)
@@ -105,19 +101,18 @@ fn give_pair<D: Device>(
     device: &mut D,
     file: &FileSpec,
     key: u8,
-    arrival: u64,
-    bytes: &[u8],
+    change: RowMove,
 ) -> Result<(), StoreFault>
     requires open { IsOpen pages.old }
     requires sectors { sectors_of pages.old ≤ D.sectors device.old }
     requires key { IsKey (spec_of file.now) (KeyOfReference.Alternate key) }
     requires layout { tree.old.layout ≡ layout_under (spec_of file.now) (KeyOfReference.Alternate key) }
-    requires bytes { length bytes.now ≡ file.now.record_length }
+    requires bytes { length change.values.bytes.now ≡ file.now.record_length }
     ensures edits { Edits D.Device (result ≡ Err StoreFault.Device) pages.old device.old pages.new device.new }
     ensures given { OnAmong D.Device tree.old pages.old device.old (λ left right entries.
-        OnOk result (IsTreeAmong (pages_on D.Device pages.new device.old) left right tree.new (with_new_entry entries (pair_entry (spec_of file.now) key bytes.now arrival)))) }
+        OnOk result (IsTreeAmong (pages_on D.Device pages.new device.old) left right tree.new (with_new_entry entries (pair_entry (spec_of file.now) key change.values.bytes.now change.arrival)))) }
     ensures damaged { OnAmong D.Device tree.old pages.old device.old (λ left right entries.
-        entry_with entries (pair_entry (spec_of file.now) key bytes.now arrival).key ≡ None → result ≡ Err StoreFault.Damaged → ⊥) }
+        entry_with entries (pair_entry (spec_of file.now) key change.values.bytes.now change.arrival).key ≡ None → result ≡ Err StoreFault.Damaged → ⊥) }
     ensures few { OnAmong D.Device tree.old pages.old device.old (λ left right entries. FewChanged 42 pages.old pages.new) }
     ensures room { OnAmong D.Device tree.old pages.old device.old (λ left right entries. result ≡ Err StoreFault.Full → free_count (committed_of pages.old) < length (changed_pages_of pages.old) + 42) }
     ensures layout { tree.new.layout ≡ tree.old.layout }
@@ -125,7 +120,8 @@ fn give_pair<D: Device>(
     ensures cause { IfErr result IsWriteFault }
 {
     let place = file.key_place(KeyOfReference::Alternate(key));
-    let at = pair_bytes(alloc, part_of(place, bytes), arrival)?;
+    let bytes = change.values.bytes;
+    let at = pair_bytes(alloc, part_of(place, bytes), change.arrival)?;
     let prime = file.key_place(KeyOfReference::Prime);
     if insert_among(tree, pages, device, &at, part_of(prime, bytes))? {
         Ok(())
@@ -143,41 +139,38 @@ fn move_pair<D: Device>(
     device: &mut D,
     file: &FileSpec,
     key: u8,
-    verb: RowVerb,
-    old: &[u8],
-    arrival: u64,
-    bytes: &[u8],
+    change: RowMove,
 ) -> Result<(), StoreFault>
     requires open { IsOpen pages.old }
     requires sectors { sectors_of pages.old ≤ D.sectors device.old }
     requires key { IsKey (spec_of file.now) (KeyOfReference.Alternate key) }
     requires layout { tree.old.layout ≡ layout_under (spec_of file.now) (KeyOfReference.Alternate key) }
-    requires values { HasValues verb (spec_of file.now) old.now bytes.now }
+    requires values { HasValues change.values.verb (spec_of file.now) change.values.old.now change.values.bytes.now }
     ensures edits { Edits D.Device (result ≡ Err StoreFault.Device) pages.old device.old pages.new device.new }
     ensures moved { OnAmong D.Device tree.old pages.old device.old (λ left right entries.
-        OnOk result (IsTreeAmong (pages_on D.Device pages.new device.old) left right tree.new (entries_after verb (spec_of file.now) key old.now bytes.now arrival entries))) }
-    ensures damaged { OnAmong D.Device tree.old pages.old device.old (λ left right entries. MayMove verb (spec_of file.now) key old.now bytes.now arrival entries → result ≡ Err StoreFault.Damaged → ⊥) }
+        OnOk result (IsTreeAmong (pages_on D.Device pages.new device.old) left right tree.new (entries_after change.values.verb (spec_of file.now) key change.values.old.now change.values.bytes.now change.arrival entries))) }
+    ensures damaged { OnAmong D.Device tree.old pages.old device.old (λ left right entries. MayMove change.values.verb (spec_of file.now) key change.values.old.now change.values.bytes.now change.arrival entries → result ≡ Err StoreFault.Damaged → ⊥) }
     ensures few { OnAmong D.Device tree.old pages.old device.old (λ left right entries. OnOk result (FewChanged 84 pages.old pages.new)) }
     ensures room { OnAmong D.Device tree.old pages.old device.old (λ left right entries. result ≡ Err StoreFault.Full → free_count (committed_of pages.old) < length (changed_pages_of pages.old) + 84) }
     ensures layout { tree.new.layout ≡ tree.old.layout }
     ensures spent { result ≡ Err StoreFault.Spent → is_spent pages.old ≡ true }
     ensures cause { IfErr result IsWriteFault }
 {
-    match verb {
+    match change.values.verb {
         RowVerb::Insert => {
-            give_pair(alloc, tree, pages, device, file, key, arrival, bytes)?;
+            give_pair(alloc, tree, pages, device, file, key, change)?;
             Ok(())
         }
         RowVerb::Remove => {
-            take_pair(alloc, tree, pages, device, file, key, old)?;
+            take_pair(alloc, tree, pages, device, file, key, change.values.old)?;
             Ok(())
         }
         RowVerb::Replace => {
-            if !is_changed(file, key, old, bytes) {
+            if !is_changed(file, key, change.values.old, change.values.bytes) {
                 return Ok(());
             }
-            take_pair(alloc, tree, pages, device, file, key, old)?;
-            give_pair(alloc, tree, pages, device, file, key, arrival, bytes)?;
+            take_pair(alloc, tree, pages, device, file, key, change.values.old)?;
+            give_pair(alloc, tree, pages, device, file, key, change)?;
             Ok(())
         }
     }

@@ -22,6 +22,14 @@ use records::{FileSpec, KeyOfReference, StoreFault};
 use station::Device;
 use std::alloc::Global;
 
+/// A new row: its number, its arrival under each alternate key, and its record.
+#[derive(Clone, Copy)]
+pub struct NewRow<'a> {
+    pub number: u64,
+    pub arrival: u64,
+    pub bytes: &'a [u8],
+}
+
 /// Puts a new row into the tree of rows, beside which others stay. `false` tells that its prime key or number is there, and then nothing
 /// was changed.
 pub(crate) fn insert_row<D: Device>(
@@ -30,20 +38,18 @@ pub(crate) fn insert_row<D: Device>(
     pages: &mut PageMap,
     device: &mut D,
     file: &FileSpec,
-    number: u64,
-    arrival: u64,
-    bytes: &[u8],
+    row: NewRow,
 ) -> Result<bool, StoreFault>
     requires open { IsOpen pages.old }
     requires sectors { sectors_of pages.old ≤ D.sectors device.old }
     requires layout { prime.old.layout ≡ layout_under (spec_of file.now) KeyOfReference.Prime }
-    requires bytes { length bytes.now ≡ file.now.record_length }
+    requires bytes { length row.bytes.now ≡ file.now.record_length }
     ensures only { OnlyReads D.Device (result ≡ Err StoreFault.Device) device.old device.new }
     ensures inserted { OnAmong D.Device prime.old pages.old device.old (λ left right entries. result ≡ Ok true →
-        (entry_with entries (entry_under (spec_of file.now) KeyOfReference.Prime (row_with (spec_of file.now) number arrival bytes.now)).key ≡ None)
-        × IsTreeAmong (pages_on D.Device pages.new device.old) left right prime.new (with_new_entry entries (entry_under (spec_of file.now) KeyOfReference.Prime (row_with (spec_of file.now) number arrival bytes.now)))) }
+        (entry_with entries (entry_under (spec_of file.now) KeyOfReference.Prime (row_with (spec_of file.now) row.number row.arrival row.bytes.now)).key ≡ None)
+        × IsTreeAmong (pages_on D.Device pages.new device.old) left right prime.new (with_new_entry entries (entry_under (spec_of file.now) KeyOfReference.Prime (row_with (spec_of file.now) row.number row.arrival row.bytes.now)))) }
     ensures there { OnAmong D.Device prime.old pages.old device.old (λ left right entries. result ≡ Ok false →
-        IsSome (entry_with entries (entry_under (spec_of file.now) KeyOfReference.Prime (row_with (spec_of file.now) number arrival bytes.now)).key)) }
+        IsSome (entry_with entries (entry_under (spec_of file.now) KeyOfReference.Prime (row_with (spec_of file.now) row.number row.arrival row.bytes.now)).key)) }
     ensures same { result ≡ Ok false → IsUnchanged pages.old pages.new }
     ensures damaged { OnAmong D.Device prime.old pages.old device.old (λ left right entries. result ≡ Err StoreFault.Damaged → ⊥) }
     ensures changed_pages { OnAmong D.Device prime.old pages.old device.old (λ left right entries. FewChanged 42 pages.old pages.new) }
@@ -56,7 +62,7 @@ pub(crate) fn insert_row<D: Device>(
     ensures spent { result ≡ Err StoreFault.Spent → is_spent pages.old ≡ true }
     ensures cause { IfErr result IsWriteFault }
 {
-    let key = row_key(alloc, file.organization, number, bytes)?;
-    let value = new_value(alloc, file, arrival, bytes)?;
+    let key = row_key(alloc, file.organization, row.number, row.bytes)?;
+    let value = new_value(alloc, file, row.arrival, row.bytes)?;
     insert_among(prime, pages, device, &key, &value)
 }

@@ -15,8 +15,9 @@ use crate::commit::is_done;
 use crate::file_tree::file_tree;
 use crate::finding_row::find_row;
 use crate::leave::{remove_among, replace_among};
-use crate::new_row::insert_row;
+use crate::new_row::{NewRow, insert_row};
 use crate::old_row::{arrival_next, value_after};
+use crate::row_move::{RowMove, RowValues};
 use crate::row_trees::move_row;
 use crate::row_turn::RowTurn;
 use crate::row_verb::RowVerb;
@@ -106,23 +107,25 @@ fn insert_trees<D: Device>(
     }
     let mut prime = file_tree(alloc, file, KeyOfReference::Prime, listing);
     let own = number_of_new(file.organization, number, arrival);
-    if !insert_row(alloc, &mut prime, pages, device, file, own, arrival, bytes)? {
+    let row = NewRow {
+        number: own,
+        arrival,
+        bytes,
+    };
+    if !insert_row(alloc, &mut prime, pages, device, file, row)? {
         return Ok(RowTurn::none(alloc, Outcome::Taken));
     }
     let root = prime.root();
-    let listing = move_row(
-        alloc,
-        pages,
-        device,
-        file,
-        listing,
-        RowVerb::Insert,
-        &[],
+    let change = RowMove {
+        values: RowValues {
+            verb: RowVerb::Insert,
+            old: &[],
+            bytes,
+        },
         arrival,
-        bytes,
-        root,
-        arrival + 1,
-    )?;
+        next: arrival + 1,
+    };
+    let listing = move_row(alloc, pages, device, file, listing, change, root)?;
     Ok(RowTurn { outcome, listing })
 }
 
@@ -170,16 +173,12 @@ fn replace_trees<D: Device>(
         None => return Ok(RowTurn::none(alloc, Outcome::Missing)),
     };
     let old = row.value();
-    let outcome = find_duplicate_key(
-        alloc,
-        pages,
-        device,
-        file,
-        listing,
-        RowVerb::Replace,
+    let values = RowValues {
+        verb: RowVerb::Replace,
         old,
         bytes,
-    )?;
+    };
+    let outcome = find_duplicate_key(alloc, pages, device, file, listing, values)?;
     if !is_done(outcome) {
         return Ok(RowTurn::none(alloc, outcome));
     }
@@ -191,19 +190,12 @@ fn replace_trees<D: Device>(
     replace_among(&mut prime, pages, device, row.key(), &value)?;
     let next = arrival_next(file, old, bytes, arrival);
     let root = prime.root();
-    let listing = move_row(
-        alloc,
-        pages,
-        device,
-        file,
-        listing,
-        RowVerb::Replace,
-        old,
+    let change = RowMove {
+        values,
         arrival,
-        bytes,
-        root,
         next,
-    )?;
+    };
+    let listing = move_row(alloc, pages, device, file, listing, change, root)?;
     Ok(RowTurn { outcome, listing })
 }
 
@@ -244,19 +236,16 @@ fn remove_trees<D: Device>(
     remove_among(&mut prime, pages, device, row.key())?;
     let next = next_arrival(listing);
     let root = prime.root();
-    let listing = move_row(
-        alloc,
-        pages,
-        device,
-        file,
-        listing,
-        RowVerb::Remove,
-        row.value(),
+    let change = RowMove {
+        values: RowValues {
+            verb: RowVerb::Remove,
+            old: row.value(),
+            bytes: &[],
+        },
+        arrival: next,
         next,
-        &[],
-        root,
-        next,
-    )?;
+    };
+    let listing = move_row(alloc, pages, device, file, listing, change, root)?;
     Ok(RowTurn {
         outcome: Outcome::Done,
         listing,

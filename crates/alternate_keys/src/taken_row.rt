@@ -17,6 +17,7 @@ ghost use Rattle.alternate_keys.specs.Seen.{HasRows};
 
 use crate::commit::is_done;
 use crate::file_tree::file_tree;
+use crate::row_move::RowValues;
 use crate::row_verb::RowVerb;
 use crate::values::find_duplicate_key;
 use btree::Tree;
@@ -58,16 +59,12 @@ pub(crate) fn look_at_new_row<D: Device>(
     ensures spent { result ≡ Err StoreFault.Spent → is_spent pages.old ≡ true }
     ensures cause { IfErr result IsReadFault }
 {
-    let outcome = find_duplicate_key(
-        alloc,
-        pages,
-        device,
-        file,
-        listing,
-        RowVerb::Insert,
-        &[],
+    let values = RowValues {
+        verb: RowVerb::Insert,
+        old: &[],
         bytes,
-    )?;
+    };
+    let outcome = find_duplicate_key(alloc, pages, device, file, listing, values)?;
     if !is_done(outcome) {
         return Ok(outcome);
     }

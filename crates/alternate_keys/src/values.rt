@@ -14,6 +14,7 @@ ghost use Rattle.alternate_keys.specs.Seen.{HasPairs};
 use crate::file_tree::file_tree;
 use crate::old_row::is_changed;
 use crate::repeats::is_value_there;
+use crate::row_move::RowValues;
 use crate::row_verb::RowVerb;
 use file_bytes::part_of;
 use pages::PageMap;
@@ -29,30 +30,28 @@ pub(crate) fn is_repeated<D: Device>(
     file: &FileSpec,
     key: u8,
     listing: &[u8],
-    verb: RowVerb,
-    old: &[u8],
-    bytes: &[u8],
+    values: RowValues,
 ) -> Result<bool, StoreFault>
     requires open { IsOpen pages.old }
     requires sectors { sectors_of pages.old ≤ D.sectors device.old }
     requires key { IsKey (spec_of file.now) (KeyOfReference.Alternate key) }
     requires listing { length listing.now ≡ 83 }
-    requires values { HasValues verb (spec_of file.now) old.now bytes.now }
-    requires bytes { length bytes.now ≡ file.now.record_length }
+    requires values { HasValues values.verb (spec_of file.now) values.old.now values.bytes.now }
+    requires bytes { length values.bytes.now ≡ file.now.record_length }
     ensures looks { LooksAt D.Device (result ≡ Err StoreFault.Device) pages.old device.old pages.new device.new }
     ensures repeated { IfAgrees D.Device pages.old device.old ((rows : List Row) → HasPairs (spec_of file.now) (KeyOfReference.Alternate key) (pages_on D.Device pages.old device.old) rows (listed_tree (spec_of file.now) key listing.now) →
-        IfOk result (λ repeated. repeated ≡ (is_new verb (take file.now.record_length old.now) bytes.now (slice_index_or (spec_of file.now).alternates key no_key) && repeats rows bytes.now (slice_index_or (spec_of file.now).alternates key no_key)))) }
+        IfOk result (λ repeated. repeated ≡ (is_new values.verb (take file.now.record_length values.old.now) values.bytes.now (slice_index_or (spec_of file.now).alternates key no_key) && repeats rows values.bytes.now (slice_index_or (spec_of file.now).alternates key no_key)))) }
     ensures damaged { IfAgrees D.Device pages.old device.old ((rows : List Row) → HasPairs (spec_of file.now) (KeyOfReference.Alternate key) (pages_on D.Device pages.old device.old) rows (listed_tree (spec_of file.now) key listing.now) →
         result ≡ Err StoreFault.Damaged → ⊥) }
     ensures spent { result ≡ Err StoreFault.Spent → is_spent pages.old ≡ true }
     ensures cause { IfErr result IsReadFault }
 {
-    if !is_new_value(verb, file, key, old, bytes) {
+    if !is_new_value(values, file, key) {
         return Ok(false);
     }
     let tree = file_tree(alloc, file, KeyOfReference::Alternate(key), listing);
     let place = file.key_place(KeyOfReference::Alternate(key));
-    is_value_there(alloc, &tree, pages, device, part_of(place, bytes))
+    is_value_there(alloc, &tree, pages, device, part_of(place, values.bytes))
 }
 
 /// What a record comes to by its values of the alternate keys, or of those of which it has another value than the row had: `Taken`
@@ -63,19 +62,17 @@ pub(crate) fn find_duplicate_key<D: Device>(
     device: &mut D,
     file: &FileSpec,
     listing: &[u8],
-    verb: RowVerb,
-    old: &[u8],
-    bytes: &[u8],
+    values: RowValues,
 ) -> Result<Outcome, StoreFault>
     requires open { IsOpen pages.old }
     requires sectors { sectors_of pages.old ≤ D.sectors device.old }
     requires listing { length listing.now ≡ 83 }
-    requires values { HasValues verb (spec_of file.now) old.now bytes.now }
-    requires bytes { length bytes.now ≡ file.now.record_length }
+    requires values { HasValues values.verb (spec_of file.now) values.old.now values.bytes.now }
+    requires bytes { length values.bytes.now ≡ file.now.record_length }
     ensures looks { LooksAt D.Device (result ≡ Err StoreFault.Device) pages.old device.old pages.new device.new }
     ensures told { IfAgrees D.Device pages.old device.old ((rows : List Row) → HasAllPairs (spec_of file.now) (pages_on D.Device pages.old device.old) rows listing.now →
-        IfOk result (λ outcome. outcome ≡ (if is_taken (filter (is_new verb (take file.now.record_length old.now) bytes.now) (spec_of file.now).alternates) rows bytes.now then Outcome.Taken else
-        done_outcome (is_duplicate (filter (is_new verb (take file.now.record_length old.now) bytes.now) (spec_of file.now).alternates) rows bytes.now)))) }
+        IfOk result (λ outcome. outcome ≡ (if is_taken (filter (is_new values.verb (take file.now.record_length values.old.now) values.bytes.now) (spec_of file.now).alternates) rows values.bytes.now then Outcome.Taken else
+        done_outcome (is_duplicate (filter (is_new values.verb (take file.now.record_length values.old.now) values.bytes.now) (spec_of file.now).alternates) rows values.bytes.now)))) }
     ensures damaged { IfAgrees D.Device pages.old device.old ((rows : List Row) → HasAllPairs (spec_of file.now) (pages_on D.Device pages.old device.old) rows listing.now → result ≡ Err StoreFault.Damaged → ⊥) }
     ensures spent { result ≡ Err StoreFault.Spent → is_spent pages.old ≡ true }
     ensures cause { IfErr result IsReadFault }
@@ -83,7 +80,7 @@ pub(crate) fn find_duplicate_key<D: Device>(
     let count = file.alternates.len() as u8;
     let mut duplicate = false;
     for key in 0..count {
-        let repeated = is_repeated(alloc, pages, device, file, key, listing, verb, old, bytes)?;
+        let repeated = is_repeated(alloc, pages, device, file, key, listing, values)?;
         if is_barred(file.alternates[key as usize].duplicates, repeated) {
             return Ok(Outcome::Taken);
         }
@@ -96,14 +93,14 @@ pub(crate) fn find_duplicate_key<D: Device>(
 }
 
 /// Whether a row comes to its value of an alternate key by this change.
-fn is_new_value(verb: RowVerb, file: &FileSpec, key: u8, old: &[u8], bytes: &[u8]) -> bool
+fn is_new_value(values: RowValues, file: &FileSpec, key: u8) -> bool
     requires key { IsKey (spec_of file.now) (KeyOfReference.Alternate key) }
-    requires values { HasValues verb (spec_of file.now) old.now bytes.now }
-    ensures { result ≡ is_new verb (take file.now.record_length old.now) bytes.now (slice_index_or (spec_of file.now).alternates key no_key) }
+    requires values { HasValues values.verb (spec_of file.now) values.old.now values.bytes.now }
+    ensures { result ≡ is_new values.verb (take file.now.record_length values.old.now) values.bytes.now (slice_index_or (spec_of file.now).alternates key no_key) }
 {
-    match verb {
+    match values.verb {
         RowVerb::Insert => true,
-        RowVerb::Replace => is_changed(file, key, old, bytes),
+        RowVerb::Replace => is_changed(file, key, values.old, values.bytes),
         RowVerb::Remove => true,
     }
 }

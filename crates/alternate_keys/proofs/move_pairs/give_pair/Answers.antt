@@ -32,11 +32,11 @@ returns-in_err-insert_among-clause-room g c = λ honest agrees left right entrie
 pub returns-then-branch-clause-given : goal.returns-then-branch-clause-given
 unfolding made
 returns-then-branch-clause-given g c = λ honest agrees left right entries stands.
-    let bytes : List ℕ = c.args.bytes.now in
-    let own : Entry = pair_entry (spec_of c.args.file.now) c.args.key bytes c.args.arrival in
+    let bytes : List ℕ = c.args.change.values.bytes.now in
+    let own : Entry = pair_entry (spec_of c.args.file.now) c.args.key bytes c.args.change.arrival in
     let after : List (Option Sector) = (map_now c.insert_among.new.pages (g.D.Device.state c.args.device.now).disk.present).pages in
     let key : c.deref.result.now ≡ own.key =
-    c.deref.ensures.value ∙ c.in_ok-at.ensures.bytes ∙ ap (λ (l : List ℕ). l ++ big_bytes 8 c.args.arrival) (c.part_of.ensures ∙ ap (λ (p : KeyPlace). part p bytes) c.key_place-place.ensures.place) in
+    c.deref.ensures.value ∙ c.in_ok-at.ensures.bytes ∙ ap (λ (l : List ℕ). l ++ big_bytes 8 c.args.change.arrival) (c.part_of.ensures ∙ ap (λ (p : KeyPlace). part p bytes) c.key_place-place.ensures.place) in
     let value : c.part_of-2.result.now ≡ own.value = c.part_of-2.ensures ∙ ap (λ (p : KeyPlace). part p bytes) c.key_place-prime.ensures.place in
     let same : made c.deref.result.now c.part_of-2.result.now ≡ own = ap (λ (k : List ℕ). made k c.part_of-2.result.now) key ∙ ap (made own.key) value in
     subst (λ (e : Entry). IsTreeAmong after left right c.insert_among.new.tree (with_new_entry entries e)) same
@@ -44,10 +44,10 @@ returns-then-branch-clause-given g c = λ honest agrees left right entries stand
 
 pub returns-clause-damaged : goal.returns-clause-damaged
 returns-clause-damaged g c = λ honest agrees left right entries stands none is.
-    let bytes : List ℕ = c.args.bytes.now in
-    let own : Entry = pair_entry (spec_of c.args.file.now) c.args.key bytes c.args.arrival in
+    let bytes : List ℕ = c.args.change.values.bytes.now in
+    let own : Entry = pair_entry (spec_of c.args.file.now) c.args.key bytes c.args.change.arrival in
     let key : c.deref.result.now ≡ own.key =
-    c.deref.ensures.value ∙ c.in_ok-at.ensures.bytes ∙ ap (λ (l : List ℕ). l ++ big_bytes 8 c.args.arrival) (c.part_of.ensures ∙ ap (λ (p : KeyPlace). part p bytes) c.key_place-place.ensures.place) in
+    c.deref.ensures.value ∙ c.in_ok-at.ensures.bytes ∙ ap (λ (l : List ℕ). l ++ big_bytes 8 c.args.change.arrival) (c.part_of.ensures ∙ ap (λ (p : KeyPlace). part p bytes) c.key_place-place.ensures.place) in
     let some = c.in_ok-insert_among.ensures.there honest agrees left right entries stands (ap Ok c.if-branch.false) in
     let clash : is_some (entry_with entries c.deref.result.now) ≡ false = ap (λ (e : Option Entry). is_some e) (ap (entry_with entries) key ∙ none) in
     let both : true ≡ false = sym some ∙ clash in

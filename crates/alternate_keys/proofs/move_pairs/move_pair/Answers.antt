@@ -21,9 +21,9 @@ returns-in_err-give_pair-in-Insert-clause-damaged g c = λ honest agrees left ri
     let fault : c.in_err-give_pair-in-Insert.field-0.0 ≡ Damaged = sym from in
     let told : c.give_pair.result ≡ Err Damaged = c.in_err-give_pair-in-Insert.was ∙ ap Err fault in
     let spec : Spec = spec_of c.args.file.now in
-    let old : List ℕ = c.args.old.now in
-    let bytes : List ℕ = c.args.bytes.now in
-    let own = subst (λ (v : RowVerb). MayMove v spec c.args.key old bytes c.args.arrival entries) c.in-Insert.is may in
+    let old : List ℕ = c.args.change.values.old.now in
+    let bytes : List ℕ = c.args.change.values.bytes.now in
+    let own = subst (λ (v : RowVerb). MayMove v spec c.args.key old bytes c.args.change.arrival entries) c.in-Insert.is may in
     c.give_pair.ensures.damaged honest agrees left right entries stands own told
 
 pub returns-in_err-give_pair-in-Insert-clause-room : goal.returns-in_err-give_pair-in-Insert-clause-room
@@ -37,11 +37,11 @@ returns-in_err-give_pair-in-Insert-clause-room g c = λ honest agrees left right
 pub returns-in_ok-give_pair-in-Insert-clause-moved : goal.returns-in_ok-give_pair-in-Insert-clause-moved
 returns-in_ok-give_pair-in-Insert-clause-moved g c = λ honest agrees left right entries stands.
     let spec : Spec = spec_of c.args.file.now in
-    let old : List ℕ = c.args.old.now in
-    let bytes : List ℕ = c.args.bytes.now in
+    let old : List ℕ = c.args.change.values.old.now in
+    let bytes : List ℕ = c.args.change.values.bytes.now in
     let image = (g.D.Device.state c.args.device.now).disk.present in
     let after : List (Option Sector) = (map_now c.give_pair.new.pages image).pages in
-    subst (λ (v : RowVerb). IsTreeAmong after left right c.give_pair.new.tree (entries_after v spec c.args.key old bytes c.args.arrival entries)) (sym c.in-Insert.is)
+    subst (λ (v : RowVerb). IsTreeAmong after left right c.give_pair.new.tree (entries_after v spec c.args.key old bytes c.args.change.arrival entries)) (sym c.in-Insert.is)
     (c.in_ok-give_pair-in-Insert.ensures.given honest agrees left right entries stands)
 
 pub returns-in_ok-give_pair-in-Insert-clause-few : goal.returns-in_ok-give_pair-in-Insert-clause-few
@@ -55,19 +55,19 @@ returns-in_err-take_pair-in-Remove-clause-damaged g c = λ honest agrees left ri
     let fault : c.in_err-take_pair-in-Remove.field-0.0 ≡ Damaged = sym from in
     let told : c.take_pair.result ≡ Err Damaged = c.in_err-take_pair-in-Remove.was ∙ ap Err fault in
     let spec : Spec = spec_of c.args.file.now in
-    let old : List ℕ = c.args.old.now in
-    let bytes : List ℕ = c.args.bytes.now in
-    let own = subst (λ (v : RowVerb). MayMove v spec c.args.key old bytes c.args.arrival entries) c.in-Remove.is may in
+    let old : List ℕ = c.args.change.values.old.now in
+    let bytes : List ℕ = c.args.change.values.bytes.now in
+    let own = subst (λ (v : RowVerb). MayMove v spec c.args.key old bytes c.args.change.arrival entries) c.in-Remove.is may in
     c.take_pair.ensures.damaged honest agrees left right entries stands own told
 
 pub returns-in_ok-take_pair-in-Remove-clause-moved : goal.returns-in_ok-take_pair-in-Remove-clause-moved
 returns-in_ok-take_pair-in-Remove-clause-moved g c = λ honest agrees left right entries stands.
     let spec : Spec = spec_of c.args.file.now in
-    let old : List ℕ = c.args.old.now in
-    let bytes : List ℕ = c.args.bytes.now in
+    let old : List ℕ = c.args.change.values.old.now in
+    let bytes : List ℕ = c.args.change.values.bytes.now in
     let image = (g.D.Device.state c.args.device.now).disk.present in
     let after : List (Option Sector) = (map_now c.take_pair.new.pages image).pages in
-    subst (λ (v : RowVerb). IsTreeAmong after left right c.take_pair.new.tree (entries_after v spec c.args.key old bytes c.args.arrival entries)) (sym c.in-Remove.is)
+    subst (λ (v : RowVerb). IsTreeAmong after left right c.take_pair.new.tree (entries_after v spec c.args.key old bytes c.args.change.arrival entries)) (sym c.in-Remove.is)
     (c.in_ok-take_pair-in-Remove.ensures.taken honest agrees left right entries stands)
 
 pub returns-in_ok-take_pair-in-Remove-clause-few : goal.returns-in_ok-take_pair-in-Remove-clause-few
@@ -81,10 +81,10 @@ returns-in_err-take_pair-in-Replace-clause-damaged g c = λ honest agrees left r
     let fault : c.in_err-take_pair-in-Replace.field-0.0 ≡ Damaged = sym from in
     let told : c.take_pair-in-Replace.result ≡ Err Damaged = c.in_err-take_pair-in-Replace.was ∙ ap Err fault in
     let spec : Spec = spec_of c.args.file.now in
-    let old : List ℕ = c.args.old.now in
-    let bytes : List ℕ = c.args.bytes.now in
+    let old : List ℕ = c.args.change.values.old.now in
+    let bytes : List ℕ = c.args.change.values.bytes.now in
     let change : changes_at spec c.args.key old bytes ≡ true = sym c.is_changed.ensures ∙ c.if-not-is_changed.false in
-    let both = subst (λ (v : RowVerb). MayMove v spec c.args.key old bytes c.args.arrival entries) c.in-Replace.is may change in
+    let both = subst (λ (v : RowVerb). MayMove v spec c.args.key old bytes c.args.change.arrival entries) c.in-Replace.is may change in
     c.take_pair-in-Replace.ensures.damaged honest agrees left right entries stands both.0 told
 
 pub returns-in_err-give_pair-in-Replace-clause-damaged : goal.returns-in_err-give_pair-in-Replace-clause-damaged
@@ -93,10 +93,10 @@ returns-in_err-give_pair-in-Replace-clause-damaged g c = λ honest agrees left r
     let fault : c.in_err-give_pair-in-Replace.field-0.0 ≡ Damaged = sym from in
     let told : c.give_pair-in-Replace.result ≡ Err Damaged = c.in_err-give_pair-in-Replace.was ∙ ap Err fault in
     let spec : Spec = spec_of c.args.file.now in
-    let old : List ℕ = c.args.old.now in
-    let bytes : List ℕ = c.args.bytes.now in
+    let old : List ℕ = c.args.change.values.old.now in
+    let bytes : List ℕ = c.args.change.values.bytes.now in
     let change : changes_at spec c.args.key old bytes ≡ true = sym c.is_changed.ensures ∙ c.if-not-is_changed.false in
-    let both = subst (λ (v : RowVerb). MayMove v spec c.args.key old bytes c.args.arrival entries) c.in-Replace.is may change in
+    let both = subst (λ (v : RowVerb). MayMove v spec c.args.key old bytes c.args.change.arrival entries) c.in-Replace.is may change in
     let own_key : List ℕ = old_key spec c.args.key old in
     let edits = c.take_pair-in-Replace.ensures.edits in
     let still = edits.only.state honest in
@@ -110,8 +110,8 @@ returns-in_err-give_pair-in-Replace-clause-room g c = λ honest agrees left righ
     let fault : c.in_err-give_pair-in-Replace.field-0.0 ≡ Full = sym from in
     let told : c.give_pair-in-Replace.result ≡ Err Full = c.in_err-give_pair-in-Replace.was ∙ ap Err fault in
     let spec : Spec = spec_of c.args.file.now in
-    let old : List ℕ = c.args.old.now in
-    let bytes : List ℕ = c.args.bytes.now in
+    let old : List ℕ = c.args.change.values.old.now in
+    let bytes : List ℕ = c.args.change.values.bytes.now in
     let own_key : List ℕ = old_key spec c.args.key old in
     let edits = c.take_pair-in-Replace.ensures.edits in
     let still = edits.only.state honest in
@@ -125,8 +125,8 @@ returns-in_err-give_pair-in-Replace-clause-room g c = λ honest agrees left righ
 pub returns-in_ok-give_pair-in-Replace-clause-moved : goal.returns-in_ok-give_pair-in-Replace-clause-moved
 returns-in_ok-give_pair-in-Replace-clause-moved g c = λ honest agrees left right entries stands.
     let spec : Spec = spec_of c.args.file.now in
-    let old : List ℕ = c.args.old.now in
-    let bytes : List ℕ = c.args.bytes.now in
+    let old : List ℕ = c.args.change.values.old.now in
+    let bytes : List ℕ = c.args.change.values.bytes.now in
     let image = (g.D.Device.state c.args.device.now).disk.present in
     let change : changes_at spec c.args.key old bytes ≡ true = sym c.is_changed.ensures ∙ c.if-not-is_changed.false in
     let own_key : List ℕ = old_key spec c.args.key old in
@@ -137,16 +137,16 @@ returns-in_ok-give_pair-in-Replace-clause-moved g c = λ honest agrees left righ
     let given = c.in_ok-give_pair-in-Replace.ensures.given (edits.only.honest.0 honest) (edits.agrees honest agrees) left right (without_entry entries own_key) here in
     let new : RootedTree = c.give_pair-in-Replace.new.tree in
     let after : List (Option Sector) = (map_now c.give_pair-in-Replace.new.pages image).pages in
-    let later : List Entry = with_new_entry (without_entry entries own_key) (pair_entry spec c.args.key bytes c.args.arrival) in
+    let later : List Entry = with_new_entry (without_entry entries own_key) (pair_entry spec c.args.key bytes c.args.change.arrival) in
     let put = subst (λ (s : State). IsTreeAmong (map_now c.give_pair-in-Replace.new.pages s.disk.present).pages left right new later) still given in
-    subst (λ (v : RowVerb). IsTreeAmong after left right new (entries_after v spec c.args.key old bytes c.args.arrival entries)) (sym c.in-Replace.is)
+    subst (λ (v : RowVerb). IsTreeAmong after left right new (entries_after v spec c.args.key old bytes c.args.change.arrival entries)) (sym c.in-Replace.is)
     (subst (λ (b : Bool). IsTreeAmong after left right new (if b then later else entries)) (sym change) put)
 
 pub returns-in_ok-give_pair-in-Replace-clause-few : goal.returns-in_ok-give_pair-in-Replace-clause-few
 returns-in_ok-give_pair-in-Replace-clause-few g c = λ honest agrees left right entries stands.
     let spec : Spec = spec_of c.args.file.now in
-    let old : List ℕ = c.args.old.now in
-    let bytes : List ℕ = c.args.bytes.now in
+    let old : List ℕ = c.args.change.values.old.now in
+    let bytes : List ℕ = c.args.change.values.bytes.now in
     let own_key : List ℕ = old_key spec c.args.key old in
     let edits = c.take_pair-in-Replace.ensures.edits in
     let still = edits.only.state honest in

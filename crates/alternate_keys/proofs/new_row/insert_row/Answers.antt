@@ -20,14 +20,14 @@ made key value = record { key = key; value = value }
 pub insert_among-requires-clause-value : goal.insert_among-requires-clause-value
 insert_among-requires-clause-value g c =
     ap (λ (l : List ℕ). length l) (c.deref-2.ensures.value ∙ c.in_ok-value.ensures.value)
-    ∙ value_long (spec_of c.args.file.now) c.args.arrival c.args.bytes.now c.requires.bytes
+    ∙ value_long (spec_of c.args.file.now) c.args.row.arrival c.args.row.bytes.now c.requires.bytes
     ∙ sym (ap (λ (l : RowLayout). l.value_length) c.requires.layout)
 
 pub returns-clause-inserted : goal.returns-clause-inserted
 unfolding made
 returns-clause-inserted g c = λ honest agrees left right entries stands is.
     let spec : Spec = spec_of c.args.file.now in
-    let own : Entry = entry_under spec Prime (row_with spec c.args.number c.args.arrival c.args.bytes.now) in
+    let own : Entry = entry_under spec Prime (row_with spec c.args.row.number c.args.row.arrival c.args.row.bytes.now) in
     let key : c.deref.result.now ≡ own.key = c.deref.ensures.value ∙ c.in_ok-key.ensures.key in
     let value : c.deref-2.result.now ≡ own.value = c.deref-2.ensures.value ∙ c.in_ok-value.ensures.value in
     let same : made c.deref.result.now c.deref-2.result.now ≡ own = ap (λ (k : List ℕ). made k c.deref-2.result.now) key ∙ ap (made own.key) value in
@@ -39,6 +39,6 @@ returns-clause-inserted g c = λ honest agrees left right entries stands is.
 pub returns-clause-there : goal.returns-clause-there
 returns-clause-there g c = λ honest agrees left right entries stands is.
     let spec : Spec = spec_of c.args.file.now in
-    let own : Entry = entry_under spec Prime (row_with spec c.args.number c.args.arrival c.args.bytes.now) in
+    let own : Entry = entry_under spec Prime (row_with spec c.args.row.number c.args.row.arrival c.args.row.bytes.now) in
     let key : c.deref.result.now ≡ own.key = c.deref.ensures.value ∙ c.in_ok-key.ensures.key in
     subst (λ (k : List ℕ). IsSome (entry_with entries k)) key (c.insert_among.ensures.there honest agrees left right entries stands is)

@@ -94,9 +94,9 @@ returns-then-is_barred-clause-told g c = λ honest agrees rows pairs.
     let loop = c.loop-key in
     let spec : Spec = spec_of c.args.file.now in
     let listing : List ℕ = c.args.listing.now in
-    let bytes : List ℕ = c.args.bytes.now in
+    let bytes : List ℕ = c.args.values.bytes.now in
     let keys : List AlternateKey = spec.alternates in
-    let new : AlternateKey → Bool = is_new c.args.verb (take spec.record_length c.args.old.now) bytes in
+    let new : AlternateKey → Bool = is_new c.args.values.verb (take spec.record_length c.args.values.old.now) bytes in
     let n : c.len-count.result ≡ length c.args.file.now.alternates.items = omega (arith, c.len-count.ensures, c.args.file.now.alternates.ok) in
     let low : loop.key < length keys = let test = c.loop-key-test.true in omega (arith, n, test) in
     let same = same_pages c.args.pages.now loop.pages (g.D.Device.state c.args.device.now) (g.D.Device.state loop.device) loop.invariant.looks.unchanged (loop.invariant.looks.only.state honest) in
@@ -117,9 +117,9 @@ loop-key-preserved g c =
       told = λ honest agrees rows pairs.
           let spec : Spec = spec_of c.args.file.now in
           let listing : List ℕ = c.args.listing.now in
-          let bytes : List ℕ = c.args.bytes.now in
+          let bytes : List ℕ = c.args.values.bytes.now in
           let keys : List AlternateKey = spec.alternates in
-          let new : AlternateKey → Bool = is_new c.args.verb (take spec.record_length c.args.old.now) bytes in
+          let new : AlternateKey → Bool = is_new c.args.values.verb (take spec.record_length c.args.values.old.now) bytes in
           let n : c.len-count.result ≡ length c.args.file.now.alternates.items = omega (arith, c.len-count.ensures, c.args.file.now.alternates.ok) in
           let low : loop.key < length keys = let test = c.loop-key-test.true in omega (arith, n, test) in
           let same = same_pages c.args.pages.now loop.pages (g.D.Device.state c.args.device.now) (g.D.Device.state loop.device) loop.invariant.looks.unchanged (loop.invariant.looks.only.state honest) in
@@ -138,9 +138,9 @@ loop-key-preserved g c =
 pub returns-then-duplicate-clause-told : goal.returns-then-duplicate-clause-told
 returns-then-duplicate-clause-told g c = λ honest agrees rows pairs.
     let loop = c.loop-key in
-    let bytes : List ℕ = c.args.bytes.now in
+    let bytes : List ℕ = c.args.values.bytes.now in
     let keys : List AlternateKey = c.args.file.now.alternates.items in
-    let new : AlternateKey → Bool = is_new c.args.verb (take c.args.file.now.record_length c.args.old.now) bytes in
+    let new : AlternateKey → Bool = is_new c.args.values.verb (take c.args.file.now.record_length c.args.values.old.now) bytes in
     let n : c.len-count.result ≡ length c.args.file.now.alternates.items = omega (arith, c.len-count.ensures, c.args.file.now.alternates.ok) in
     let all : take loop.key keys ≡ keys = all_taken keys loop.key (let test = c.loop-key-test.false in let end = loop.auto.key-end in omega (arith, n, test, end)) in
     let so_far = loop.invariant.told honest agrees rows pairs in
@@ -149,9 +149,9 @@ returns-then-duplicate-clause-told g c = λ honest agrees rows pairs.
 pub returns-clause-told : goal.returns-clause-told
 returns-clause-told g c = λ honest agrees rows pairs.
     let loop = c.loop-key in
-    let bytes : List ℕ = c.args.bytes.now in
+    let bytes : List ℕ = c.args.values.bytes.now in
     let keys : List AlternateKey = c.args.file.now.alternates.items in
-    let new : AlternateKey → Bool = is_new c.args.verb (take c.args.file.now.record_length c.args.old.now) bytes in
+    let new : AlternateKey → Bool = is_new c.args.values.verb (take c.args.file.now.record_length c.args.values.old.now) bytes in
     let n : c.len-count.result ≡ length c.args.file.now.alternates.items = omega (arith, c.len-count.ensures, c.args.file.now.alternates.ok) in
     let all : take loop.key keys ≡ keys = all_taken keys loop.key (let test = c.loop-key-test.false in let end = loop.auto.key-end in omega (arith, n, test, end)) in
     let so_far = loop.invariant.told honest agrees rows pairs in

@@ -35,19 +35,19 @@ returns-clause-repeated g c = λ honest agrees rows pairs.
     let tree : RootedTree = c.file_tree-tree.result in
     let same : tree ≡ listed_tree spec c.args.key c.args.listing.now = same_tree tree (listed_tree spec c.args.key c.args.listing.now) c.file_tree-tree.ensures.layout c.file_tree-tree.ensures.root in
     let here = subst (λ (t : RootedTree). HasPairs spec (Alternate c.args.key) pages rows t) (sym same) pairs in
-    let value : c.part_of.result.now ≡ part place c.args.bytes.now = c.part_of.ensures ∙ ap (λ (p : KeyPlace). part p c.args.bytes.now) c.key_place-place.ensures.place in
-    let long : length (part place c.args.bytes.now) ≡ place.length = part_long place spec.record_length c.args.bytes.now (place_within spec (Alternate c.args.key) c.args.file.now.sound within) c.requires.bytes in
+    let value : c.part_of.result.now ≡ part place c.args.values.bytes.now = c.part_of.ensures ∙ ap (λ (p : KeyPlace). part p c.args.values.bytes.now) c.key_place-place.ensures.place in
+    let long : length (part place c.args.values.bytes.now) ≡ place.length = part_long place spec.record_length c.args.values.bytes.now (place_within spec (Alternate c.args.key) c.args.file.now.sound within) c.requires.bytes in
     let key : AlternateKey = slice_index_or spec.alternates c.args.key no_key in
-    let new : is_new c.args.verb (take spec.record_length c.args.old.now) c.args.bytes.now key ≡ true = sym c.is_new_value.ensures ∙ c.if-not-is_new_value.false in
+    let new : is_new c.args.values.verb (take spec.record_length c.args.values.old.now) c.args.values.bytes.now key ≡ true = sym c.is_new_value.ensures ∙ c.if-not-is_new_value.false in
     let there = subst (λ (v : List ℕ). IfOk c.is_value_there.result (λ there. there ≡ list_any (λ row. same_bytes (part place row.bytes) v) rows)) value
     (c.is_value_there.ensures.there honest agrees spec c.args.key rows here (ap (λ (l : List ℕ). length l) value ∙ long)) in
-    subst (λ (b : Bool). IfOk c.is_value_there.result (λ there. there ≡ (b && repeats rows c.args.bytes.now key))) (sym new) there
+    subst (λ (b : Bool). IfOk c.is_value_there.result (λ there. there ≡ (b && repeats rows c.args.values.bytes.now key))) (sym new) there
 
 pub returns-then-not-is_new_value-clause-repeated : goal.returns-then-not-is_new_value-clause-repeated
 returns-then-not-is_new_value-clause-repeated g c = λ honest agrees rows pairs.
     let spec : Spec = spec_of c.args.file.now in
     let key : AlternateKey = slice_index_or spec.alternates c.args.key no_key in
-    sym (ap (λ (b : Bool). b && repeats rows c.args.bytes.now key) (sym c.is_new_value.ensures ∙ c.if-not-is_new_value.true))
+    sym (ap (λ (b : Bool). b && repeats rows c.args.values.bytes.now key) (sym c.is_new_value.ensures ∙ c.if-not-is_new_value.true))
 
 pub returns-clause-damaged : goal.returns-clause-damaged
 returns-clause-damaged g c = λ honest agrees rows pairs is.
