@@ -1,10 +1,10 @@
-//! Decimal operations on coefficients of at most 9 digits: the calls of `decimal18`, the code in 128 bits that they replaced,
-//! and plain loops over integers of 64 bits that test for overflow, each timed in one run.
+//! Decimal operations on coefficients of at most 9 digits: the calls of `decimal18`, and plain loops over integers of 64 bits that test
+//! for overflow, each timed in one run.
 
 ghost use Rattle.std.specs.Prelude.{◌<◌, ◌≤◌, All};
 ghost use Rattle.std.specs.Char.{IsAsciiDigit};
 
-use crate::{plain_decimals, replaced_decimals};
+use crate::plain_decimals;
 use decimal18::{Dec, Rounding};
 use std::cmp::Ordering;
 use std::io;
@@ -50,7 +50,7 @@ pub fn measure(rt: &HostRuntime) -> io::Result<()> {
     for mixed in [false, true] {
         let mut operands = Operands::new(mixed);
         println!(rt;
-            "{}: nanoseconds an operation, now, replaced and plain",
+            "{}: nanoseconds an operation, ours and plain",
             if mixed {
                 "scales 0 to 6"
             } else {
@@ -58,16 +58,13 @@ pub fn measure(rt: &HostRuntime) -> io::Result<()> {
             }
         )?;
         for operation in ALL {
-            let now = operation.tenths(rt, Body::Now, &mut operands, &mut sum)?;
-            let replaced = operation.tenths(rt, Body::Replaced, &mut operands, &mut sum)?;
+            let ours = operation.tenths(rt, Body::Ours, &mut operands, &mut sum)?;
             let plain = operation.tenths(rt, Body::Plain, &mut operands, &mut sum)?;
             println!(rt;
-                "{}: {}.{}, {}.{}, {}.{}",
+                "{}: {}.{}, {}.{}",
                 operation.name(),
-                now / 10,
-                now % 10,
-                replaced / 10,
-                replaced % 10,
+                ours / 10,
+                ours % 10,
                 plain / 10,
                 plain % 10
             )?;
@@ -82,8 +79,6 @@ pub fn measure(rt: &HostRuntime) -> io::Result<()> {
 struct Operands {
     left: [Dec; COUNT],
     right: [Dec; COUNT],
-    replaced_left: [replaced_decimals::Number; COUNT],
-    replaced_right: [replaced_decimals::Number; COUNT],
     plain_left: [plain_decimals::Number; COUNT],
     plain_right: [plain_decimals::Number; COUNT],
 }
@@ -122,15 +117,6 @@ impl Operand {
         Dec::from_parts(self.negative, self.magnitude as u128, self.scale)
     }
 
-    fn replaced(&self) -> replaced_decimals::Number {
-        let positive = self.magnitude as i128;
-        let coefficient = if self.negative { -positive } else { positive };
-        replaced_decimals::Number {
-            coefficient,
-            scale: self.scale,
-        }
-    }
-
     fn plain(&self) -> plain_decimals::Number {
         let positive = self.magnitude as i64;
         let coefficient = if self.negative { -positive } else { positive };
@@ -147,8 +133,6 @@ impl Operands {
         let mut operands = Operands {
             left: [one.decimal(); COUNT],
             right: [one.decimal(); COUNT],
-            replaced_left: [one.replaced(); COUNT],
-            replaced_right: [one.replaced(); COUNT],
             plain_left: [one.plain(); COUNT],
             plain_right: [one.plain(); COUNT],
         };
@@ -165,8 +149,6 @@ impl Operands {
     {
         self.left[n] = left.decimal();
         self.right[n] = right.decimal();
-        self.replaced_left[n] = left.replaced();
-        self.replaced_right[n] = right.replaced();
         self.plain_left[n] = left.plain();
         self.plain_right[n] = right.plain();
     }
@@ -184,11 +166,6 @@ fn told(sum: u64, value: Dec) -> u64 {
         .wrapping_add(value.is_negative() as u64)
 }
 
-fn told_replaced(sum: u64, value: replaced_decimals::Number) -> u64 {
-    sum.wrapping_add(value.scale as u64)
-        .wrapping_add((value.coefficient < 0) as u64)
-}
-
 fn told_plain(sum: u64, value: plain_decimals::Number) -> u64 {
     sum.wrapping_add(value.scale as u64)
         .wrapping_add((value.coefficient < 0) as u64)
@@ -201,18 +178,6 @@ fn sums(operands: &Operands) -> u64 {
         let b = operands.right[n];
         if let Ok(value) = a.add(b) {
             sum = told(sum, value);
-        }
-    }
-    sum
-}
-
-fn replaced_sums(operands: &Operands) -> u64 {
-    let mut sum = 0u64;
-    for n in 0..COUNT {
-        let a = operands.replaced_left[n];
-        let b = operands.replaced_right[n];
-        if let Some(value) = replaced_decimals::sum(a, b) {
-            sum = told_replaced(sum, value);
         }
     }
     sum
@@ -242,18 +207,6 @@ fn differences(operands: &Operands) -> u64 {
     sum
 }
 
-fn replaced_differences(operands: &Operands) -> u64 {
-    let mut sum = 0u64;
-    for n in 0..COUNT {
-        let a = operands.replaced_left[n];
-        let b = operands.replaced_right[n];
-        if let Some(value) = replaced_decimals::difference(a, b) {
-            sum = told_replaced(sum, value);
-        }
-    }
-    sum
-}
-
 fn plain_differences(operands: &Operands) -> u64 {
     let mut sum = 0u64;
     for n in 0..COUNT {
@@ -273,18 +226,6 @@ fn products(operands: &Operands) -> u64 {
         let b = operands.right[n];
         if let Ok(value) = a.mul(b) {
             sum = told(sum, value);
-        }
-    }
-    sum
-}
-
-fn replaced_products(operands: &Operands) -> u64 {
-    let mut sum = 0u64;
-    for n in 0..COUNT {
-        let a = operands.replaced_left[n];
-        let b = operands.replaced_right[n];
-        if let Some(value) = replaced_decimals::product(a, b) {
-            sum = told_replaced(sum, value);
         }
     }
     sum
@@ -314,18 +255,6 @@ fn quotients(operands: &Operands) -> u64 {
     sum
 }
 
-fn replaced_quotients(operands: &Operands) -> u64 {
-    let mut sum = 0u64;
-    for n in 0..COUNT {
-        let a = operands.replaced_left[n];
-        let b = operands.replaced_right[n];
-        if let Some(value) = replaced_decimals::quotient(a, b) {
-            sum = told_replaced(sum, value);
-        }
-    }
-    sum
-}
-
 fn plain_quotients(operands: &Operands) -> u64 {
     let mut sum = 0u64;
     for n in 0..COUNT {
@@ -349,17 +278,6 @@ fn fits(operands: &Operands) -> u64 {
     sum
 }
 
-fn replaced_fits(operands: &Operands) -> u64 {
-    let mut sum = 0u64;
-    for n in 0..COUNT {
-        let a = operands.replaced_left[n];
-        if let Some(value) = replaced_decimals::fitted(a, DIGITS, DECIMALS) {
-            sum = told_replaced(sum, value);
-        }
-    }
-    sum
-}
-
 fn plain_fits(operands: &Operands) -> u64 {
     let mut sum = 0u64;
     for n in 0..COUNT {
@@ -376,15 +294,6 @@ fn cuts(operands: &Operands) -> u64 {
     for n in 0..COUNT {
         let a = operands.left[n];
         sum = told(sum, a.cut(DIGITS, DECIMALS, Rounding::Truncated));
-    }
-    sum
-}
-
-fn replaced_cuts(operands: &Operands) -> u64 {
-    let mut sum = 0u64;
-    for n in 0..COUNT {
-        let a = operands.replaced_left[n];
-        sum = told_replaced(sum, replaced_decimals::low_digits(a, DIGITS, DECIMALS));
     }
     sum
 }
@@ -417,16 +326,6 @@ fn orders(operands: &Operands) -> u64 {
     less(&orders)
 }
 
-fn replaced_orders(operands: &Operands) -> u64 {
-    let mut sum = 0u64;
-    for n in 0..COUNT {
-        let a = operands.replaced_left[n];
-        let b = operands.replaced_right[n];
-        sum = sum.wrapping_add(replaced_decimals::is_less(a, b) as u64);
-    }
-    sum
-}
-
 fn plain_orders(operands: &Operands) -> u64 {
     let mut orders = [Ordering::Equal; COUNT];
     for n in 0..COUNT {
@@ -444,16 +343,6 @@ fn texts(operands: &Operands) -> u64 {
     let mut bytes = [0; TEXT];
     for n in 0..COUNT {
         operands.left[n].digits_into(&mut bytes);
-        sum = sum.wrapping_add(bytes[n % TEXT] as u64);
-    }
-    sum
-}
-
-fn replaced_texts(operands: &Operands) -> u64 {
-    let mut sum = 0u64;
-    let mut bytes = [0; TEXT];
-    for n in 0..COUNT {
-        replaced_decimals::write_digits(operands.replaced_left[n], &mut bytes);
         sum = sum.wrapping_add(bytes[n % TEXT] as u64);
     }
     sum
@@ -496,17 +385,6 @@ fn numbers(operands: &Operands) -> u64 {
     sum
 }
 
-fn replaced_numbers(operands: &Operands) -> u64 {
-    let mut sum = 0u64;
-    for n in 0..COUNT {
-        let text = text_of(n);
-        if let Some(value) = replaced_decimals::from_digits(n % 2 == 0, text, DECIMALS) {
-            sum = sum.wrapping_add(u64::try_from(value.coefficient.unsigned_abs()).unwrap_or(0));
-        }
-    }
-    sum
-}
-
 fn plain_numbers(operands: &Operands) -> u64 {
     let mut sum = 0u64;
     for n in 0..COUNT {
@@ -535,8 +413,7 @@ enum Operation {
 /// Who does it.
 #[derive(Clone, Copy)]
 enum Body {
-    Now,
-    Replaced,
+    Ours,
     Plain,
 }
 
@@ -549,13 +426,13 @@ impl Operation {
             Operation::Quotient => "div",
             Operation::Fit => "fit",
             Operation::Cut => "cut",
-            Operation::Order => "cmp, of which the replaced code told only what is less",
+            Operation::Order => "cmp",
             Operation::Text => "digits_into, 18 bytes",
             Operation::Digits => "from_digits, 18 bytes",
         }
     }
 
-    fn now(self, operands: &Operands) -> u64 {
+    fn ours(self, operands: &Operands) -> u64 {
         match self {
             Operation::Sum => sums(operands),
             Operation::Difference => differences(operands),
@@ -566,20 +443,6 @@ impl Operation {
             Operation::Order => orders(operands),
             Operation::Text => texts(operands),
             Operation::Digits => numbers(operands),
-        }
-    }
-
-    fn replaced(self, operands: &Operands) -> u64 {
-        match self {
-            Operation::Sum => replaced_sums(operands),
-            Operation::Difference => replaced_differences(operands),
-            Operation::Product => replaced_products(operands),
-            Operation::Quotient => replaced_quotients(operands),
-            Operation::Fit => replaced_fits(operands),
-            Operation::Cut => replaced_cuts(operands),
-            Operation::Order => replaced_orders(operands),
-            Operation::Text => replaced_texts(operands),
-            Operation::Digits => replaced_numbers(operands),
         }
     }
 
@@ -599,8 +462,7 @@ impl Operation {
 
     fn run(self, body: Body, operands: &Operands) -> u64 {
         match body {
-            Body::Now => self.now(operands),
-            Body::Replaced => self.replaced(operands),
+            Body::Ours => self.ours(operands),
             Body::Plain => self.plain(operands),
         }
     }

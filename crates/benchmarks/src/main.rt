@@ -6,7 +6,6 @@ mod halves;
 mod moves;
 mod plain_decimals;
 mod programs;
-mod replaced_decimals;
 mod sources;
 mod sparse;
 mod texts;
