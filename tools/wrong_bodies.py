@@ -9,7 +9,7 @@ TYPE = re.compile(r"^(?:pub(?:\(\w+\))? )?(?:struct|enum) (\w+)", re.M)
 CONSTANT = re.compile(r"\s*(?:pub(?:\(\w+\))? )?(?:const|static) (\w+):")
 CYCLE = re.compile(r"\s*#\[cycle\((\w+)\)\]")
 # What a proof says that names what the body lacks.
-LACKING = re.compile(r"has no field|is not in scope|has no `|was not admitted|is no name|no such")
+LACKING = re.compile(r"has no field|is not in scope|has no `|was not admitted|is no name|no such|record `[^`]+` \(nearest: ")
 LIMIT = re.compile(r"antt ran out of|outgrew the memory limit|stopped at the step limit")
 
 # A function: the file and lines that it takes, the type and trait of its impl if it is a method, and its text.
