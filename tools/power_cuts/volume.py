@@ -84,16 +84,20 @@ def ascends(values):
 
 def read_files(volume):
     """The files in an open file, by ascending name. `volume` has `read_sector(n)` and `count`."""
-    need(volume.count >= 2)
-    roots = [root for root in (read_root(volume, which) for which in (0, 1)) if root]
-    need(roots)
-    newest = max(roots, key=lambda root: root.generation)
-    if len(roots) == 2:
-        need(abs(roots[0].generation - roots[1].generation) == 1)
-        need(roots[0].mark == roots[1].mark and roots[0].sectors == roots[1].sectors)
+    newest = newest_root(volume)
     files = read_trees(volume, newest) if newest.mark == TREES else read_half(volume, newest)
     need(len(files) <= MOST_FILES and ascends([file.name for file in files]))
     return files
+
+
+def newest_root(volume):
+    need(volume.count >= 2)
+    roots = [root for root in (read_root(volume, which) for which in (0, 1)) if root]
+    need(roots)
+    if len(roots) == 2:
+        need(abs(roots[0].generation - roots[1].generation) == 1)
+        need(roots[0].mark == roots[1].mark and roots[0].sectors == roots[1].sectors)
+    return max(roots, key=lambda root: root.generation)
 
 
 def read_root(volume, which):
@@ -129,9 +133,9 @@ class Pages:
             if sector:
                 need(2 <= sector < root.sectors)
                 self.read_map(i, volume.read_sector(sector))
-        named = [sector for sector in maps if sector] + list(self.sectors.values())
-        need(all(2 <= sector < root.sectors for sector in named))
-        need(len(set(named)) == len(named) and 0 not in self.sectors)
+        self.named = [sector for sector in maps if sector] + list(self.sectors.values())
+        need(all(2 <= sector < root.sectors for sector in self.named))
+        need(len(set(self.named)) == len(self.named) and 0 not in self.sectors)
 
     def read_map(self, i, entries):
         for j, sector in enumerate(struct.unpack(">1024I", entries)):
@@ -151,6 +155,12 @@ def read_trees(volume, root):
     files = [read_file(pages, root.generation, name, value) for name, value in catalog]
     need(reaches_all(pages))
     return files
+
+
+def free_sectors(volume):
+    """How many sectors of a volume of trees its newest root doesn't use: it names neither them nor a map that names them. None for halves."""
+    root = newest_root(volume)
+    return root.sectors - 2 - len(Pages(volume, root).named) if root.mark == TREES else None
 
 
 def reaches_all(pages):
@@ -302,9 +312,10 @@ class HostFile:
         return self.file.read(SECTOR)
 
 
-def read_volume(path):
+def read_volume(path, read=read_files):
+    """What `read` finds in a host file: the files, or the number of free sectors."""
     with open(path, "rb") as file:
-        return read_files(HostFile(file))
+        return read(HostFile(file))
 
 
 def printed(text):

@@ -1,5 +1,5 @@
-//! Runs each program of `data/ROWS`, by both ways that the product offers, and compares what it shows and how it ends with
-//! what its files say.
+//! Runs each program of `data/ROWS` by run_source, and by compile and run_image, with files over both stores, and compares what it shows and
+//! how it ends with what its files say.
 #![tactic(auto)]
 
 mod ending;

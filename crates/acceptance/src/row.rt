@@ -22,10 +22,35 @@ pub struct Row {
     pub files: Option<Vec<u8>>,
 }
 
+/// What is to be seen of a run: its bytes, its end, and its statuses and its files if they are known.
+#[derive(Clone, Copy)]
+pub struct Expected<'a> {
+    pub shown: &'a [u8],
+    pub end: &'a str,
+    pub notes: Option<&'a [u8]>,
+    pub files: Option<&'a [u8]>,
+}
+
 impl Row {
+    pub fn expected(&self) -> Expected<'_> {
+        Expected {
+            shown: self.shown.as_slice(),
+            end: self.end.as_str(),
+            notes: bytes_of(&self.notes),
+            files: bytes_of(&self.files),
+        }
+    }
+
     /// Whether it runs over a volume.
     pub fn has_volume(&self) -> bool {
         self.notes.is_some() || self.files.is_some()
+    }
+}
+
+fn bytes_of(file: &Option<Vec<u8>>) -> Option<&[u8]> {
+    match file {
+        Some(bytes) => Some(bytes.as_slice()),
+        None => None,
     }
 }
 

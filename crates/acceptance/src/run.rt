@@ -1,24 +1,61 @@
-//! Running a row in both ways.
+//! Running a row in each way that there is.
 
 use crate::ending::Ending;
-use crate::row::Row;
-use crate::volume::{listed, new_volume, noted};
-use run_unit::{compile, run_image, run_source};
+use crate::row::{Expected, Row};
+use crate::volume::{Layout, listed, new_volume, noted};
+use alternate_keys::PagedStore;
+use code_image::{from_bytes, verify};
+use run_unit::{Ended, Refusal, compile, run_image, run_over, run_source};
 use station::MemoryStation;
 use std::alloc::{AllocError, Global};
 
 /// The day that each row is run on, YYMMDD.
 const DAY: [u8; 6] = *b"000000";
 
-/// How a row differs from what its files say, if it does.
-pub fn check_row(alloc: Global, row: &Row) -> Result<Option<String>, AllocError> {
-    let by_source = see_source(alloc, row)?;
-    if let Some(difference) = difference(alloc, row, &by_source)? {
-        return Ok(Some(format!(in alloc; "by run_source: {difference}")?));
+/// How a row is run.
+#[derive(Clone, Copy, PartialEq, Eq)]
+enum Way {
+    Source,
+    Image,
+    /// As an image, over a volume of halves.
+    Halves,
+    /// As an image, with one page of a volume of trees in memory.
+    OnePage,
+}
+
+impl Way {
+    fn name(self) -> &'static str {
+        match self {
+            Way::Source => "by run_source",
+            Way::Image => "by compile and run_image",
+            Way::Halves => "over halves",
+            Way::OnePage => "with one page",
+        }
     }
-    let by_image = see_image(alloc, row)?;
-    if let Some(difference) = difference(alloc, row, &by_image)? {
-        return Ok(Some(format!(in alloc; "by compile and run_image: {difference}")?));
+
+    fn layout(self) -> Layout {
+        match self {
+            Way::Halves => Layout::Halves,
+            _ => Layout::Trees,
+        }
+    }
+}
+
+/// The ways besides the first one.
+const WAYS: [Way; 3] = [Way::Image, Way::Halves, Way::OnePage];
+
+/// How a row differs from what its files say, or how a way of running it differs from another one, if any does.
+pub fn check_row(alloc: Global, row: &Row) -> Result<Option<String>, AllocError> {
+    let by_source = see(alloc, row, Way::Source)?;
+    if let Some(difference) = by_source.difference(alloc, Way::Source, row.expected())? {
+        return Ok(Some(difference));
+    }
+    let count = if row.has_volume() { WAYS.len() } else { 1 };
+    for way in &WAYS[..count] {
+        let seen = see(alloc, row, *way)?;
+        if let Some(difference) = seen.difference(alloc, *way, by_source.expected())? {
+            return Ok(Some(difference));
+        }
     }
     Ok(None)
 }
@@ -32,63 +69,112 @@ struct Seen {
     files: Vec<u8>,
 }
 
-fn difference(alloc: Global, row: &Row, seen: &Seen) -> Result<Option<String>, AllocError> {
-    let end = seen.end.as_str();
-    if end != row.end.as_str() {
-        return Ok(Some(format!(in alloc; "it ended as {end}")?));
+impl Seen {
+    fn expected(&self) -> Expected<'_> {
+        Expected {
+            shown: self.shown.as_slice(),
+            end: self.end.as_str(),
+            notes: Some(self.notes.as_slice()),
+            files: Some(self.files.as_slice()),
+        }
     }
-    if seen.shown.as_slice() != row.shown.as_slice() {
-        let count = seen.shown.len();
-        return Ok(Some(format!(in alloc; "it showed other {count} bytes")?));
+
+    fn difference(
+        &self,
+        alloc: Global,
+        way: Way,
+        expected: Expected<'_>,
+    ) -> Result<Option<String>, AllocError> {
+        let way = way.name();
+        let end = self.end.as_str();
+        let count = self.shown.len();
+        if end != expected.end {
+            return Ok(Some(format!(in alloc; "{way}: it ended as {end}")?));
+        }
+        if self.shown.as_slice() != expected.shown {
+            return Ok(Some(format!(in alloc; "{way}: it showed other {count} bytes")?));
+        }
+        if differs(expected.notes, &self.notes) {
+            return Ok(Some(format!(in alloc; "{way}: it received other statuses")?));
+        }
+        if differs(expected.files, &self.files) {
+            return Ok(Some(format!(in alloc; "{way}: it left other files")?));
+        }
+        Ok(None)
     }
-    if differs(&row.notes, &seen.notes) {
-        return Ok(Some("it received other statuses".to_string(alloc)?));
-    }
-    if differs(&row.files, &seen.files) {
-        return Ok(Some("it left other files".to_string(alloc)?));
-    }
-    Ok(None)
 }
 
-/// What is seen isn't what is told, if that is told.
-fn differs(told: &Option<Vec<u8>>, seen: &Vec<u8>) -> bool {
-    match told {
-        Some(told) => told.as_slice() != seen.as_slice(),
+/// What is seen isn't what is expected, if something is.
+fn differs(expected: Option<&[u8]>, seen: &Vec<u8>) -> bool {
+    match expected {
+        Some(expected) => expected != seen.as_slice(),
         None => false,
     }
 }
 
 /// A station with the row's console lines, and with a new volume where the row has one.
-fn station_of(alloc: Global, row: &Row) -> Result<MemoryStation, AllocError> {
+fn station_of(alloc: Global, row: &Row, way: Way) -> Result<MemoryStation, AllocError> {
     let mut lines = Vec::new(alloc);
     for line in row.lines.as_slice() {
         lines.push(line.clone()?)?;
     }
     if row.has_volume() {
-        return new_volume(alloc, lines);
+        return new_volume(alloc, way.layout(), lines);
     }
     MemoryStation::new(alloc, Vec::new(alloc), lines)
 }
 
-fn see_source(alloc: Global, row: &Row) -> Result<Seen, AllocError> {
-    let mut station = station_of(alloc, row)?;
-    let ending = match run_source(alloc, row.source.as_slice(), &mut station, DAY, row.budget) {
-        Ok(ended) => Ending::Run(ended),
-        Err(fault) => Ending::Compile(fault),
+fn see(alloc: Global, row: &Row, way: Way) -> Result<Seen, AllocError> {
+    let mut station = station_of(alloc, row, way)?;
+    let ending = match way {
+        Way::Source => run_text(alloc, row, &mut station),
+        _ => match compile(alloc, row.source.as_slice()) {
+            Ok(image) => Ending::Run(run_bytes(alloc, row, image.as_slice(), &mut station, way)),
+            Err(fault) => Ending::Compile(fault),
+        },
     };
     told(alloc, row, &mut station, ending)
 }
 
-fn see_image(alloc: Global, row: &Row) -> Result<Seen, AllocError> {
-    let mut station = station_of(alloc, row)?;
-    let ending = match compile(alloc, row.source.as_slice()) {
-        Ok(image) => {
-            let ended = run_image(alloc, image.as_slice(), &mut station, DAY, row.budget);
-            Ending::Run(ended)
-        }
+fn run_text(alloc: Global, row: &Row, station: &mut MemoryStation) -> Ending {
+    match run_source(alloc, row.source.as_slice(), station, DAY, row.budget) {
+        Ok(ended) => Ending::Run(ended),
         Err(fault) => Ending::Compile(fault),
+    }
+}
+
+fn run_bytes(
+    alloc: Global,
+    row: &Row,
+    image: &[u8],
+    station: &mut MemoryStation,
+    way: Way,
+) -> Ended {
+    match way {
+        Way::OnePage => run_with_one_page(alloc, image, station, row.budget),
+        _ => run_image(alloc, image, station, DAY, row.budget),
+    }
+}
+
+/// An image that isn't read, or a volume that isn't opened, ends as no row does here.
+const NOT_RUN: Ended = Ended::Refused(Refusal::Memory);
+
+fn run_with_one_page(
+    alloc: Global,
+    image: &[u8],
+    station: &mut MemoryStation,
+    budget: u64,
+) -> Ended {
+    let Ok(code) = from_bytes(alloc, image) else {
+        return NOT_RUN;
     };
-    told(alloc, row, &mut station, ending)
+    let Ok(code) = verify(alloc, code) else {
+        return NOT_RUN;
+    };
+    match PagedStore::open(alloc, station, 1) {
+        Ok(store) => run_over(alloc, code, station, store, DAY, budget),
+        Err(_) => NOT_RUN,
+    }
 }
 
 fn told(

@@ -1,19 +1,32 @@
 //! The volume of a row: made new, and told in words.
 
-use alternate_keys::format;
 use file_recovery::{StoredFile, StoredRow, recover};
 use records::Organization;
 use station::{Device, MemoryStation, Note};
 use std::alloc::{AllocError, Global};
 
+/// Which store a volume is made for.
+#[derive(Clone, Copy, PartialEq, Eq)]
+pub enum Layout {
+    Halves,
+    Trees,
+}
+
 /// A station with a new volume of 1,024 sectors and these console lines.
-pub fn new_volume(alloc: Global, lines: Vec<Vec<u8>>) -> Result<MemoryStation, AllocError> {
+pub fn new_volume(
+    alloc: Global,
+    layout: Layout,
+    lines: Vec<Vec<u8>>,
+) -> Result<MemoryStation, AllocError> {
     let sectors = vec![in alloc; [0; 4096]; 1024]?;
     let mut station = MemoryStation::new(alloc, sectors, lines)?;
     let count = station.count();
     if 1024 <= count && count <= 921600 {
-        // A row whose volume isn't made is told so by its run, which is refused.
-        let _ = format(&mut station);
+        // The run of a row whose volume isn't made is refused.
+        let _ = match layout {
+            Layout::Halves => half_store::format(&mut station),
+            Layout::Trees => alternate_keys::format(&mut station),
+        };
     }
     Ok(station)
 }

@@ -9,7 +9,7 @@ use crate::command::command;
 use failing::{FailsAtFlush, Full};
 use host_volume::{Access, HostDevice, HostVolume, NewVolume};
 use seen::{Row, WORDS, expect, see, words_of};
-use sources::{BYTES, FAULTY, HELLO, MANY, READS_ON, SALES, TODAY};
+use sources::{BYTES, FAULTY, HELLO, READS_ON, SALES, TODAY};
 use std::fs::{OpenOptions, Permissions};
 use std::io::Write;
 use std::os::unix::fs::{FileExt, PermissionsExt};
@@ -508,49 +508,5 @@ fn output_that_fails(rt: HostRuntime) -> Result<(), Fail> {
         assert!(rt; is_refused(&rt, line, FailsAtFlush)?, "{line}");
     }
     fs::remove_dir_all(&rt, "output")?;
-    Ok(())
-}
-
-/// The lines of 0000, 0002 and so on, up to 4998.
-fn even_numbers(rt: &HostRuntime) -> Result<String, Fail> {
-    let mut lines = String::new(rt.alloc());
-    for half in 0..2500u32 {
-        let number = half * 2;
-        lines.push_str(format!(in rt.alloc(); "{number:04}\n")?.as_str())?;
-    }
-    Ok(lines)
-}
-
-/// A command in a folder must end with exit status 0 and write this.
-fn expect_in(
-    rt: &HostRuntime,
-    folder: &str,
-    line: &str,
-    console: &str,
-    out: &str,
-) -> Result<(), Fail> {
-    let line = line.replace(rt.alloc(), "FOLDER", folder)?;
-    let seen = see(rt, line.as_str(), console)?;
-    if seen.status == 0 && seen.out.as_slice() == out.as_bytes() {
-        return Ok(());
-    }
-    Err(Fail::new(format_args!("{line}: {}", seen.status)))
-}
-
-/// The volume is in memory, where syncs take no time.
-#[test]
-fn many_rows_in_three_orders(rt: HostRuntime) -> Result<(), Fail> {
-    let process = fs::read_link(&rt, "/proc/self")?;
-    let folder = format!(in rt.alloc(); "/dev/shm/cobol-{}", process.as_str())?;
-    let folder = folder.as_str();
-    prepare(&rt, folder, MANY)?;
-    let lines = even_numbers(&rt)?;
-    for order in ["A", "D", "X"] {
-        expect_in(&rt, folder, "format FOLDER/V 1024", "", "")?;
-        expect_in(&rt, folder, "run FOLDER/I FOLDER/V", order, "")?;
-        expect_in(&rt, folder, "list FOLDER/V", "", "MANY indexed 4 2500\n")?;
-        expect_in(&rt, folder, "dump FOLDER/V MANY", "", lines.as_str())?;
-    }
-    fs::remove_dir_all(&rt, folder)?;
     Ok(())
 }

@@ -3,7 +3,7 @@
 use crate::asserted::{holds, same};
 use crate::programs::SCATTERED_ROWS;
 use crate::told::files_left;
-use crate::volume::{DAY, Layout, image_of, new_volume_of, notes, shown};
+use crate::volume::{DAY, Layout, image_of, new_volume, notes, shown};
 use alternate_keys::PagedStore;
 use code_image::{Verified, from_bytes, verify};
 use half_store::HalfStore;
@@ -61,7 +61,7 @@ fn run_with_pages(rt: &impl Abort, alloc: Global, pages: usize) -> RunResult {
     assert!(rt; pages <= 4096);
     let image = image_of(rt, alloc, SCATTERED_ROWS);
     let code = code_of(rt, alloc, image.as_slice());
-    let mut station = new_volume_of(rt, alloc, Layout::Trees, &[]);
+    let mut station = new_volume(rt, alloc, Layout::Trees, &[]);
     let Ok(store) = PagedStore::open(alloc, &mut station, pages) else {
         panic!(rt; "not opened");
     };
@@ -73,7 +73,7 @@ fn run_with_pages(rt: &impl Abort, alloc: Global, pages: usize) -> RunResult {
 fn run_on_halves(rt: &impl Abort, alloc: Global) -> RunResult {
     let image = image_of(rt, alloc, SCATTERED_ROWS);
     let code = code_of(rt, alloc, image.as_slice());
-    let mut station = new_volume_of(rt, alloc, Layout::Halves, &[]);
+    let mut station = new_volume(rt, alloc, Layout::Halves, &[]);
     let Ok(store) = HalfStore::open(alloc, &mut station) else {
         panic!(rt; "not opened");
     };

@@ -1,5 +1,6 @@
-//! What programs mean over a volume, written down by hand: the statuses that they receive, and what the volume holds after each.
-use crate::programs::{EQUAL_VALUES, FIVE_WIDE_ROWS, PLACES, THREE_WRITES, WIDE_CHANGES};
+//! What programs mean over a volume, written by hand: the statuses that they receive, what the volume holds after each, and what they show.
+use crate::programs::{EQUAL_VALUES, FIVE_WIDE_ROWS, PLACES, TALKS, THREE_WRITES, WIDE_CHANGES};
+use crate::volume::Layout;
 
 /// A run, and what it means.
 pub struct Case {
@@ -11,15 +12,26 @@ pub struct Case {
     pub files: &'static str,
     /// For each file statement the status that was received, and what the volume holds after it, as `told` says it.
     pub moments: &'static [(&'static str, &'static str)],
-    pub shown: &'static [u8],
-    /// Which of the values of the sectors that a change writes at once a crash leaves.
-    pub choices: &'static [[u32; 2]],
-    /// How many calls on the station it makes: to open the volume a sync and a read of each root by the store over trees, which finds the
-    /// other store's mark, and then a sync, a read of each root and of each sector of the half in use; a status is a note; before it a change is a write of each sector of the other half, a sync, a write of a root and a sync.
-    pub calls: u64,
+    /// What has been shown after so many texts.
+    pub shown: &'static [&'static str],
+    /// The calls on the station, as `calls` says, over halves and over trees.
+    ///
+    /// Each opening syncs and reads the roots. The store over trees opens first. It reads the sectors of the map, or finds the mark of halves;
+    /// then the store over halves opens, and reads the sectors of the half in use. A change writes sectors, syncs, writes a root and syncs. Over
+    /// halves it writes all sectors of the half, over trees a sector for each page that it gives bytes and one for the map. A change of a row gives
+    /// the catalog bytes, if only those that it has. A page is read when it is needed first. Each file statement ends with a note.
+    pub halves: &'static str,
+    pub trees: &'static str,
 }
 
 impl Case {
+    pub fn calls(&self, layout: Layout) -> &'static str {
+        match layout {
+            Layout::Halves => self.halves,
+            Layout::Trees => self.trees,
+        }
+    }
+
     /// What the volume holds after so many file statements; there may be fewer.
     pub fn files_after(&self, count: usize) -> &'static str {
         match count.min(self.moments.len()).checked_sub(1) {
@@ -28,12 +40,6 @@ impl Case {
         }
     }
 }
-
-/// Of one sector the stable value, or the last written.
-const ONE_SECTOR: [[u32; 2]; 2] = [[0, 0], [1, 1]];
-
-/// Of two sectors the stable values, the last written, and one written alone.
-const TWO_SECTORS: [[u32; 2]; 4] = [[0, 0], [1, 1], [1, 0], [0, 1]];
 
 /// OPEN, three WRITEs and CLOSE.
 pub const WRITING: Case = Case {
@@ -48,10 +54,10 @@ pub const WRITING: Case = Case {
         ("00", "LOG sequential 4 [ONE][TWO][SIX]"),
         ("00", "LOG sequential 4 [ONE][TWO][SIX]"),
     ],
-    shown: b"",
-    choices: &ONE_SECTOR,
-    // an empty volume is opened; four changes of one sector; CLOSE
-    calls: 6 + 4 * 5 + 1,
+    shown: &[""],
+    halves: "SRRSRR WSCSN WSCSN WSCSN WSCSN N",
+    // OPEN writes the catalog, each WRITE the catalog and the page of the rows
+    trees: "SRR WWSCSN WWWSCSN WWWSCSN WWWSCSN N",
 };
 
 /// OPEN, three lines and WRITEs, two REWRITEs, START, five READs and what they show, DELETE and CLOSE.
@@ -77,10 +83,17 @@ pub const EQUALS: Case = Case {
         ("00", "ROWS indexed 2 [1X 1][3X 0]"),
         ("00", "ROWS indexed 2 [1X 1][3X 0]"),
     ],
-    shown: b"022\n023\n001\n101\n461\n",
-    choices: &ONE_SECTOR,
-    // seven changes of one sector, three lines, five texts, and seven statuses without a change
-    calls: 6 + 7 * 5 + 3 + 5 + 7,
+    shown: &[
+        "",
+        "022\n",
+        "022\n023\n",
+        "022\n023\n001\n",
+        "022\n023\n001\n101\n",
+        "022\n023\n001\n101\n461\n",
+    ],
+    halves: "SRRSRR WSCSN LWSCSN LWSCSN LWSCSN WSCSN WSCSN N ND ND ND ND ND WSCSN N",
+    // each change of a row writes the catalog, the page of the rows and that of the alternate key
+    trees: "SRR WWSCSN LWWWWSCSN LWWWWSCSN LWWWWSCSN WWWWSCSN WWWWSCSN N ND ND ND ND ND WWWWSCSN N",
 };
 
 /// OPEN, WRITE, READ and what it shows, a WRITE and a READ without a number, WRITE, REWRITE, DELETE and CLOSE.
@@ -100,13 +113,13 @@ pub const PLACING: Case = Case {
         ("00", "PLACES relative 4 [5 FIFE]"),
         ("00", "PLACES relative 4 [5 FIFE]"),
     ],
-    shown: b"0005\n",
-    choices: &ONE_SECTOR,
-    // five changes of one sector, a text, and four statuses without a change
-    calls: 6 + 5 * 5 + 1 + 4,
+    shown: &["", "0005\n"],
+    halves: "SRRSRR WSCSN WSCSN ND N N WSCSN WSCSN WSCSN N",
+    // each change of a row writes the catalog and the page of the rows
+    trees: "SRR WWSCSN WWWSCSN ND N N WWWSCSN WWWSCSN WWWSCSN N",
 };
 
-/// OPEN, READ, REWRITE, CLOSE, OPEN, WRITE and CLOSE, where the files fill two sectors.
+/// OPEN, READ, REWRITE, CLOSE, OPEN, WRITE and CLOSE of a file that fills two sectors of a half, or two leaves under an inner page.
 pub const CHANGING: Case = Case {
     before: Some(FIVE_WIDE_ROWS),
     source: WIDE_CHANGES,
@@ -121,8 +134,27 @@ pub const CHANGING: Case = Case {
         ("00", "WIDE sequential 1000 [X][2][3][4][5][6]"),
         ("00", "WIDE sequential 1000 [X][2][3][4][5][6]"),
     ],
-    shown: b"",
-    choices: &TWO_SECTORS,
-    // a volume of two sectors is opened, two changes of two, and five statuses without a change
-    calls: 8 + 2 * 6 + 5,
+    shown: &[""],
+    halves: "SRRSRRRR N N WWSCSN N N WWSCSN N",
+    // OPEN reads the catalog, READ the inner page and the first leaf, WRITE the second leaf
+    trees: "SRRR RN RRN WWWSCSN N N RWWWSCSN N",
+};
+
+/// A text, OPEN, a line and WRITE, a text, CLOSE, OPEN, READ and a text, over the file of THREE_WRITES.
+pub const TALKING: Case = Case {
+    before: Some(THREE_WRITES),
+    source: TALKS,
+    lines: &[b"FOUR"],
+    files: "LOG sequential 4 [ONE][TWO][SIX]",
+    moments: &[
+        ("00", "LOG sequential 4 [ONE][TWO][SIX]"),
+        ("00", "LOG sequential 4 [ONE][TWO][SIX][FOUR]"),
+        ("00", "LOG sequential 4 [ONE][TWO][SIX][FOUR]"),
+        ("00", "LOG sequential 4 [ONE][TWO][SIX][FOUR]"),
+        ("00", "LOG sequential 4 [ONE][TWO][SIX][FOUR]"),
+    ],
+    shown: &["", "READY\n", "READY\n00\n", "READY\n00\nONE \n"],
+    halves: "SRRSRRR D N LWSCSND N N ND",
+    // OPEN reads the catalog, WRITE the page of the rows
+    trees: "SRRR D RN LRWWWSCSND N N ND",
 };

@@ -5,13 +5,15 @@
 #[cfg(test)]
 mod asserted;
 #[cfg(test)]
-mod call_tests;
+mod calls;
 #[cfg(test)]
 mod capacity_tests;
 #[cfg(test)]
 mod cases;
 #[cfg(test)]
 mod damage_tests;
+#[cfg(test)]
+mod disturbance;
 #[cfg(test)]
 mod drawing;
 #[cfg(test)]

@@ -1,12 +1,12 @@
-//! Drawn programs, each of them run to its end, and once more on a new volume, stopped at a drawn call: what recovery finds then is what
-//! the model has after as many file statements as statuses were received, or after one more. Programs of even seeds run over volumes of
-//! halves, those of odd ones over volumes of trees.
+//! Drawn programs, each over both layouts: run to its end, and then on new volumes once stopped and once failed at drawn calls. What recovery
+//! finds after a crash is what the model has after as many file statements as statuses were received, or after one more.
 use crate::asserted::same_in;
+use crate::disturbance::Disturbance;
 use crate::drawing::{Choice, Draw, SECTORS};
 use crate::met::{Left, Met};
 use crate::random_program::Drawn;
 use crate::told::files_left;
-use crate::volume::{Layout, new_volume_of, notes, run};
+use crate::volume::{BOTH, Layout, new_volume, notes, run};
 use run_unit::{Ended, Refusal};
 use station::{MemoryStation, Note};
 use std::alloc::Global;
@@ -15,19 +15,23 @@ use std::process::Abort;
 /// So many programs has a test.
 const SEEDS: u64 = 50;
 
-/// A call at which the run of a program is stopped, and what a crash leaves then.
+/// A call at which the run of a program is disturbed, and what a crash leaves then.
 #[derive(Clone, Copy, Debug)]
-struct Stop {
+struct Crash {
     seed: u64,
+    layout: Layout,
+    how: Disturbance,
     call: u32,
     choose: Choice,
 }
 
-impl Stop {
-    /// Behind the run.
-    fn none(seed: u64) -> Stop {
-        Stop {
+impl Crash {
+    /// After the run.
+    fn none(seed: u64, layout: Layout) -> Crash {
+        Crash {
             seed,
+            layout,
+            how: Disturbance::Stop,
             call: 0,
             choose: [0; SECTORS],
         }
@@ -42,8 +46,8 @@ struct Seen {
 }
 
 impl Seen {
-    fn after(rt: &impl Abort, alloc: Global, station: &mut MemoryStation, stop: &Stop) -> Seen {
-        station.crash(&stop.choose);
+    fn after(rt: &impl Abort, alloc: Global, station: &mut MemoryStation, crash: &Crash) -> Seen {
+        station.crash(&crash.choose);
         Seen {
             notes: notes(rt, station),
             files: match files_left(rt, alloc, station) {
@@ -61,7 +65,7 @@ impl Seen {
     }
 
     // The files are those after the statuses that were received, or after one more.
-    fn are_files(&self, rt: &impl Abort, alloc: Global, stop: &Stop, drawn: &Drawn) -> Left {
+    fn are_files(&self, rt: &impl Abort, alloc: Global, crash: &Crash, drawn: &Drawn) -> Left {
         let received = self.notes.len();
         let found = self.files.as_str();
         let before = drawn.files_after(rt, alloc, received);
@@ -69,7 +73,7 @@ impl Seen {
         let is_before = found == before.as_str();
         let is_after = found == after.as_str();
         if !is_before {
-            same_in(rt, stop, found, after.as_str());
+            same_in(rt, crash, found, after.as_str());
         }
         match (is_before, is_after) {
             (true, true) => Left::Either,
@@ -89,33 +93,55 @@ fn calls(rt: &impl Abort, station: &MemoryStation) -> u64 {
 }
 
 // The run to its end receives all statuses, and leaves the last files. The answer is how many calls it makes.
-fn undisturbed(rt: &impl Abort, alloc: Global, drawn: &Drawn) -> u32 {
-    let stop = Stop::none(drawn.seed);
-    let mut station = new_volume_of(rt, alloc, Layout::of_seed(drawn.seed), &[]);
+fn undisturbed(rt: &impl Abort, alloc: Global, layout: Layout, drawn: &Drawn) -> u32 {
+    let none = Crash::none(drawn.seed, layout);
+    let mut station = new_volume(rt, alloc, layout, &[]);
     let before = calls(rt, &station);
     same_in(
         rt,
-        &stop,
+        &none,
         run(alloc, &drawn.image, &mut station),
         Ended::Stopped,
     );
     let count = calls(rt, &station).saturating_sub(before);
-    let seen = Seen::after(rt, alloc, &mut station, &stop);
+    let seen = Seen::after(rt, alloc, &mut station, &none);
     seen.is_beginning(rt, drawn);
-    same_in(rt, &stop, seen.notes.len(), drawn.steps.len());
-    seen.are_files(rt, alloc, &stop, drawn);
+    same_in(rt, &none, seen.notes.len(), drawn.steps.len());
+    seen.are_files(rt, alloc, &none, drawn);
     u32::try_from(count).unwrap_or(u32::MAX)
 }
 
-// The run that is stopped.
-fn stopped(rt: &impl Abort, alloc: Global, stop: &Stop, drawn: &Drawn) -> Left {
-    let mut station = new_volume_of(rt, alloc, Layout::of_seed(drawn.seed), &[]);
-    station.stop_at(u64::from(stop.call));
+// The call ends the run.
+fn disturbed(rt: &impl Abort, alloc: Global, crash: &Crash, drawn: &Drawn) -> Left {
+    let mut station = new_volume(rt, alloc, crash.layout, &[]);
+    crash.how.disturb(&mut station, u64::from(crash.call));
     let refused = Ended::Refused(Refusal::Device);
-    same_in(rt, stop, run(alloc, &drawn.image, &mut station), refused);
-    let seen = Seen::after(rt, alloc, &mut station, stop);
+    same_in(rt, crash, run(alloc, &drawn.image, &mut station), refused);
+    let seen = Seen::after(rt, alloc, &mut station, crash);
     seen.is_beginning(rt, drawn);
-    seen.are_files(rt, alloc, stop, drawn)
+    seen.are_files(rt, alloc, crash, drawn)
+}
+
+// A stop and a failure over a layout.
+fn passes_over(
+    rt: &impl Abort,
+    alloc: Global,
+    layout: Layout,
+    draw: &mut Draw,
+    drawn: &Drawn,
+    met: &mut Met,
+) {
+    let calls = undisturbed(rt, alloc, layout, drawn);
+    for how in [Disturbance::Stop, Disturbance::Failure] {
+        let crash = Crash {
+            seed: drawn.seed,
+            layout,
+            how,
+            call: draw.below(calls).saturating_add(1),
+            choose: draw.choice(),
+        };
+        met.leave(disturbed(rt, alloc, &crash, drawn));
+    }
 }
 
 // The program of a seed.
@@ -123,11 +149,9 @@ fn passes(rt: &impl Abort, alloc: Global, seed: u64, met: &mut Met) {
     let mut draw = Draw::new(seed);
     let drawn = Drawn::new(rt, alloc, seed, &mut draw);
     met.see_all(drawn.statuses.as_slice());
-    let calls = undisturbed(rt, alloc, &drawn);
-    let call = draw.below(calls).saturating_add(1);
-    let choose = draw.choice();
-    let stop = Stop { seed, call, choose };
-    met.leave(stopped(rt, alloc, &stop, &drawn));
+    for layout in BOTH {
+        passes_over(rt, alloc, layout, &mut draw, &drawn, met);
+    }
 }
 
 // The programs of the seeds from this one on.

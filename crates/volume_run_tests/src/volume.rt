@@ -18,19 +18,10 @@ pub enum Layout {
     Trees,
 }
 
-impl Layout {
-    /// Each store for one half of the seeds.
-    pub fn of_seed(seed: u64) -> Layout {
-        if seed % 2 == 0 {
-            Layout::Halves
-        } else {
-            Layout::Trees
-        }
-    }
-}
+pub const BOTH: [Layout; 2] = [Layout::Halves, Layout::Trees];
 
 /// A new volume of 1,024 sectors, and a console with these lines.
-pub fn new_volume_of(
+pub fn new_volume(
     rt: &impl Abort,
     alloc: Global,
     layout: Layout,
@@ -47,11 +38,6 @@ pub fn new_volume_of(
     };
     holds(rt, made.is_ok());
     station
-}
-
-/// A new volume of halves: `cases` counts the calls of its store.
-pub fn new_volume(rt: &impl Abort, alloc: Global, lines: &[&[u8]]) -> MemoryStation {
-    new_volume_of(rt, alloc, Layout::Halves, lines)
 }
 
 /// The image of a source text.
