@@ -84,16 +84,34 @@ def ascends(values):
 
 def read_files(volume):
     """The files in an open file, by ascending name. `volume` has `read_sector(n)` and `count`."""
-    need(volume.count >= 2)
-    roots = [root for root in (read_root(volume, which) for which in (0, 1)) if root]
-    need(roots)
-    newest = max(roots, key=lambda root: root.generation)
-    if len(roots) == 2:
-        need(abs(roots[0].generation - roots[1].generation) == 1)
-        need(roots[0].mark == roots[1].mark and roots[0].sectors == roots[1].sectors)
+    newest = newest_root(volume)
     files = read_trees(volume, newest) if newest.mark == TREES else read_half(volume, newest)
     need(len(files) <= MOST_FILES and ascends([file.name for file in files]))
     return files
+
+
+def newest_root(volume):
+    """The root that counts."""
+    need(volume.count >= 2)
+    roots = [root for root in (read_root(volume, which) for which in (0, 1)) if root]
+    need(roots)
+    if len(roots) == 2:
+        need(abs(roots[0].generation - roots[1].generation) == 1)
+        need(roots[0].mark == roots[1].mark and roots[0].sectors == roots[1].sectors)
+    return max(roots, key=lambda root: root.generation)
+
+
+def is_openable(volume):
+    """Whether the roots and the map are sound, or all of a volume of halves."""
+    try:
+        root = newest_root(volume)
+        if root.mark == TREES:
+            Pages(volume, root)
+        else:
+            read_files(volume)
+    except Damaged:
+        return False
+    return True
 
 
 def read_root(volume, which):
