@@ -19,7 +19,7 @@ class ByteChange:
 
     def __init__(self, random, volume, lengths):
         self.random, self.volume, self.lengths, self.made = random, volume, lengths, []
-        self.count, self.used = volume.count, sorted(volume.sectors)
+        self.count, self.used = volume.length // SECTOR, sorted(volume.sectors)
 
     def sector(self, sector):
         return self.volume.sector(sector)

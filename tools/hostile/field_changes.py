@@ -68,7 +68,7 @@ class FieldChange:
     # Fields that agree
 
     def free_sector(self):
-        free = [sector for sector in range(2, self.volume.count) if sector not in self.volume.sectors]
+        free = [sector for sector in range(2, self.volume.length // SECTOR) if sector not in self.volume.sectors]
         return self.random.choice(free[:5] + free[-5:])
 
     def move_page(self):

@@ -89,7 +89,7 @@ class RunTrial(Trial):
 
     def __init__(self, product, name, volume, image, program):
         self.original, self.volume, self.program = volume, f"{product.folder}/copy", program
-        self.reader, self.before = f"{product.folder}/reader", read(volume)
+        self.reader, self.read_by, self.before = f"{product.folder}/reader", None, read(volume)
         super().__init__(product, name, "run", image, self.volume)
         if (self.whole.status, self.whole.out) != (0, program.shown):
             raise Failure(f"{name}: the run ends with {self.whole.status} {self.whole.err}, and shows {self.whole.out[-200:]}")
@@ -123,9 +123,18 @@ class RunTrial(Trial):
         if not files:
             return
         program = ReadingProgram(files)
-        with open(f"{self.reader}.cob", "wb") as file:
-            file.write(program.text)
-        compiled = self.product.do("compile", f"{self.reader}.cob", f"{self.reader}.image")
+        self.compile(program.text)
         ran = self.product.do("run", f"{self.reader}.image", self.volume)
-        if compiled != Ran(0, b"", b"") or ran != Ran(0, program.shown(files), b""):
+        if ran != Ran(0, program.shown(files), b""):
             raise Failure(f"a later run that reads all files ends with {ran.status} {ran.err}")
+
+    def compile(self, text):
+        """Makes the image of the reading program, if it is another one than before."""
+        if text == self.read_by:
+            return
+        with open(f"{self.reader}.cob", "wb") as file:
+            file.write(text)
+        compiled = self.product.do("compile", f"{self.reader}.cob", f"{self.reader}.image")
+        if compiled != Ran(0, b"", b""):
+            raise Failure(f"the program that reads all files isn't compiled: {compiled}")
+        self.read_by = text
