@@ -5,7 +5,7 @@ import tempfile
 from hostile import refusal_trials
 from hostile.refusing import WITHOUT_WORDS, Refusing, count_up
 from power_cuts.parallel import folder_in_memory
-from power_cuts.product import Failure, Ran
+from power_cuts.product import NOTHING, Failure, Ran
 
 COMPILE, RUN, LIST, DUMP = refusal_trials.FEW
 REFUSED = Ran(4, b"", b"refused 83\n")
@@ -18,8 +18,8 @@ class Broken(Refusing):
         super().__init__(program, folder, library)
         self.change = change
 
-    def refuse(self, which, *words):
-        ran, report = super().refuse(which, *words)
+    def refuse(self, which, words, given=NOTHING):
+        ran, report = super().refuse(which, words, given)
         return self.change(self, ran, report, words), report
 
 

@@ -2,14 +2,16 @@
 import shutil
 
 from hostile.alternate_keys import DATA, NAME, ROW, AlternateKeys
-from hostile.refused_commands import SECTORS, MakingTrial, RunTrial, VolumeTrial
+from hostile.refused_commands import SECTORS, ConsoleTrial, MakingTrial, RunTrial, VolumeTrial
 from power_cuts.cases import Case, make_halves
 from power_cuts.product import Failure
 
 LAYOUTS = ("trees", "halves")
 SOURCES = ("size_errors", "perform_overlapping_ranges", "duplicates_in_order")
+CONSOLE = f"{DATA}/console_lines"
+ROWS = 100
 FEW = ["compile duplicates_in_order", "run over trees", "list of trees", "dump of trees"]
-ALL = ["format", *(f"compile {source}" for source in SOURCES),
+ALL = ["format", *(f"compile {source}" for source in SOURCES), "run with a console",
        *(f"{what} {layout}" for layout in LAYOUTS for what in ("run over", "second run over", "list of", "dump of"))]
 
 
@@ -22,6 +24,8 @@ def make(name, product):
     words = name.split()
     if words[0] == "compile":
         return MakingTrial(product, name, "compile", f"{DATA}/{words[1]}.cob", "made", made="made")
+    if words[-1] == "console":
+        return run_with_a_console(name, product)
     return of_a_volume(name, product, words[-1])
 
 
@@ -29,6 +33,13 @@ def must(product, *words):
     ran = product.do(*words)
     if ran.status:
         raise Failure(f"{words[0]}: {ran}")
+
+
+def run_with_a_console(name, product):
+    volume, image = f"{product.folder}/volume", f"{product.folder}/image"
+    must(product, "format", volume, SECTORS)
+    must(product, "compile", f"{CONSOLE}.cob", image)
+    return ConsoleTrial(product, name, volume, image, f"{CONSOLE}.in")
 
 
 def of_a_volume(name, product, layout):
@@ -51,10 +62,12 @@ def of_a_volume(name, product, layout):
 
 
 def random_run(seed, product):
-    """A random program over a volume with the files of earlier ones."""
+    """A random program over a volume with the files of earlier ones, or with a file of a hundred rows."""
     case = Case(product.program, seed, product.folder)
     case.make_volume(share_of_halves=0.5)
-    for _ in range(2):
+    if case.random.random() < 0.5:
+        case.fill(ROWS)
+    for _ in range(case.random.choice([0, 2])):
         program = case.next_program(20)
         case.run_whole(program)
         case.content = program.states[-1]

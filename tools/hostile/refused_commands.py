@@ -9,21 +9,22 @@ from collections import Counter
 from hostile.reading import ReadingProgram
 from hostile.refusing import judge
 from power_cuts.checking import examine, holds, summary
-from power_cuts.product import Failure, Ran, read
+from power_cuts.product import NOTHING, Failure, Ran, read
 
 SECTORS = "1024"
 OLD = b"what the file held before\n"
 
 
 class Trial:
-    """A command without a refusal: its words, and its whole answer."""
+    """A command without a refusal: its words, its standard input, and its whole answer."""
+
+    given = NOTHING
 
     def __init__(self, product, name, *words):
         self.product, self.name, self.words, self.command = product, name, words, words[0]
-        self.figures, self.allocations = Counter(), 0
+        self.figures, self.note = Counter(), name
         self.prepare(1)
-        self.whole = product.do(*words)
-        self.note = name
+        self.whole = product.run(words, self.given, os.environ)
 
     def prepare(self, number):
         """Makes what the command works on."""
@@ -31,11 +32,10 @@ class Trial:
     def attempt(self, which):
         self.note = f"{self.name}, allocation {which.number}{' and all later ones' if which.and_later else ''} refused"
         self.prepare(which.number)
-        ran, report = self.product.refuse(which, *self.words)
+        ran, report = self.product.refuse(which, self.words, self.given)
         end = judge(self.command, ran, report, self.whole)
         self.examine(ran, end)
         self.figures[end] += report.is_refused
-        self.allocations = report.calls
         return report.is_refused
 
     def examine(self, ran, end):
@@ -82,6 +82,22 @@ class VolumeTrial(Trial):
             raise Failure(f"{self.command} is refused, and shows {ran.out[:200]}")
         if read(self.volume) != self.before:
             raise Failure(f"{self.command} changes the volume")
+
+
+class ConsoleTrial(Trial):
+    """A run of a program without files that reads the console. It is refused before it shows anything, and leaves the volume alone."""
+
+    def __init__(self, product, name, volume, image, given):
+        self.volume, self.before, self.given = volume, read(volume), given
+        super().__init__(product, name, "run", image, volume)
+        if self.whole.status or not self.whole.out:
+            raise Failure(f"{name}: {self.whole}")
+
+    def examine(self, ran, end):
+        if end != "whole" and ran.out:
+            raise Failure(f"the run is refused in the middle, and shows {ran.out[:200]}")
+        if read(self.volume) != self.before:
+            raise Failure("a program without files changes the volume")
 
 
 class RunTrial(Trial):

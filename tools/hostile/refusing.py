@@ -56,13 +56,13 @@ class Refusing(Product):
         super().__init__(program, folder)
         self.folder, self.library, self.report = folder, library, f"{folder}/report"
 
-    def refuse(self, which, *words):
-        """The answer of a command with these allocations refused, and the library's report."""
+    def refuse(self, which, words, given=NOTHING):
+        """The answer of a command with these allocations refused, and the library's report. `given` is its standard input."""
         if os.path.exists(self.report):
             os.remove(self.report)
         word = f"{which.number}{'+' if which.and_later else ''}"
         environment = {**os.environ, "LD_PRELOAD": self.library, "REFUSE": word, "REFUSE_REPORT": self.report}
-        ran = self.run(words, NOTHING, environment)
+        ran = self.run(words, given, environment)
         return ran, self.read_report(ran)
 
     def read_report(self, ran):
