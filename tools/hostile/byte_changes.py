@@ -54,7 +54,8 @@ class ByteChange:
     def change_number(self):
         """A number of four bytes becomes a neighbour, a small one, or one of another place."""
         sector, length = self.any_used(), self.random.choice([1, 2, 4, 8])
-        places = [at for at in range(0, SECTOR - 8, 4) if any(self.sector(sector)[at:at + 4])]
+        text = self.sector(sector)
+        places = [at for at in range(0, SECTOR - 8, 4) if any(text[at:at + 4])]
         at = SECTOR * sector + (self.random.choice(places) if places and self.random.random() < 0.8 else self.random.randrange(0, 100, 4))
         old = self.volume.number(at, length)
         new = self.random.choice([old + 1, old - 1, old + 2, 0, 1, 2, self.random.choice(self.used), self.count, self.count - 1])
@@ -74,7 +75,8 @@ class ByteChange:
         """The sector of a page becomes another one, or none, or a page that wasn't used gets one."""
         root = max((self.sector(which) for which in (0, 1)), key=lambda sector: sector[8:16])
         sector = int.from_bytes(root[28:32], "big") % self.count
-        entries = [at for at in range(0, SECTOR, 4) if any(self.sector(sector)[at:at + 4])]
+        text = self.sector(sector)
+        entries = [at for at in range(0, SECTOR, 4) if any(text[at:at + 4])]
         at = self.random.choice(entries[:40] + [4 * self.random.randrange(1024)])
         unused = next((it for it in range(self.count - 1, 1, -1) if it not in self.used), 2)
         new = self.random.choice([0, unused, unused, self.random.choice(self.used), 1, self.count])

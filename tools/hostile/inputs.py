@@ -16,7 +16,7 @@ from hostile.volume_runs import make_volume, writing_image
 from power_cuts.answers import check_answer
 from power_cuts.cases import Case
 from power_cuts.checking import examine
-from power_cuts.product import NOTHING, Failure, Product, read
+from power_cuts.product import Failure, Product, read
 from power_cuts.scratch import Scratch
 
 INPUTS = 500
@@ -59,7 +59,7 @@ class Inputs:
 
     def run(self):
         """Runs the image over the copy. A run over a sound volume leaves one."""
-        ran = self.product.run(("run", self.image, self.scratch.path, *OPTIONS), self.console, os.environ)
+        ran = self.product.run(("run", self.image, self.scratch.path, *OPTIONS), self.console)
         check_answer("run", ran)
         if ran.err == b"refused 82\n":
             raise Failure("a run over a sound volume reports damage")
@@ -160,7 +160,7 @@ class Volumes:
         self.figures["changed volumes damaged"] += status == 4
 
     def answer(self, *words):
-        ran = self.product.run(words, NOTHING, os.environ)
+        ran = self.product.do(*words)
         check_answer(words[0], ran)
         return ran
 

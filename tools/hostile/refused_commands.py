@@ -24,7 +24,7 @@ class Trial:
         self.product, self.name, self.words, self.command = product, name, words, words[0]
         self.figures, self.note = Counter(), name
         self.prepare(1)
-        self.whole = product.run(words, self.given, os.environ)
+        self.whole = product.run(words, self.given)
 
     def prepare(self, number):
         """Makes what the command works on."""

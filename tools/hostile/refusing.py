@@ -8,7 +8,7 @@ import subprocess
 from collections import namedtuple
 from itertools import count
 
-from power_cuts.product import NOTHING, Failure, Product, Ran, read
+from power_cuts.product import ENVIRONMENT, NOTHING, Failure, Product, Ran, read
 from repository import find_on_path
 
 SOURCE = f"{os.path.dirname(os.path.abspath(__file__))}/refuse.c"
@@ -61,7 +61,7 @@ class Refusing(Product):
         if os.path.exists(self.report):
             os.remove(self.report)
         word = f"{which.number}{'+' if which.and_later else ''}"
-        environment = {**os.environ, "LD_PRELOAD": self.library, "REFUSE": word, "REFUSE_REPORT": self.report}
+        environment = {**ENVIRONMENT, "LD_PRELOAD": self.library, "REFUSE": word, "REFUSE_REPORT": self.report}
         ran = self.run(words, given, environment)
         return ran, self.read_report(ran)
 

@@ -7,6 +7,7 @@ from collections import namedtuple
 MOST_SECONDS = 10
 MOST_SECONDS_ON_THE_WALL = 300
 NOTHING = "/dev/null"
+ENVIRONMENT = dict(os.environb)
 Ran = namedtuple("Ran", "status out err")
 
 
@@ -26,15 +27,15 @@ class Product:
         self.calls = 0
 
     def do(self, *words):
-        return self.run(words, NOTHING, os.environ)
+        return self.run(words)
 
-    def run(self, words, given, environment):
+    def run(self, words, given=NOTHING, environment=None):
         """Runs a command with the file `given` as standard input."""
         flags = os.O_WRONLY | os.O_CREAT | os.O_TRUNC
         actions = [(os.POSIX_SPAWN_OPEN, 0, given, os.O_RDONLY, 0), (os.POSIX_SPAWN_OPEN, 1, self.out, flags, 0o600),
                    (os.POSIX_SPAWN_OPEN, 2, self.err, flags, 0o600)]
         words = [self.program, *words]
-        child = os.posix_spawn(words[0], words, environment, file_actions=actions)
+        child = os.posix_spawn(words[0], words, environment or ENVIRONMENT, file_actions=actions)
         self.calls += 1
         status = wait_for(child, words)
         return Ran(status, read(self.out), read(self.err))
