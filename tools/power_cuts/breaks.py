@@ -49,7 +49,7 @@ class Run:
 
     def run_in_doubt(self):
         """The calls of a run over a volume whose last root was written, but not synced."""
-        syncs = len([event for event in self.trace() if isinstance(event, Sync)]) - 1
+        syncs = len([event for event in self.trace() if isinstance(event, Sync)])
         ran, events = self.trace_again(("fdatasync", syncs))
         cuts = Cuts(self.case, self.program)
         cuts.follow(events)
