@@ -1,16 +1,12 @@
 """What a wrong program would have done: each break of a right run must be reported, or the tool shows nothing.
 
-A break changes the traced calls of a run, or what the model says, or one rule of the reader."""
+A break changes the traced calls of a run, or what the model says."""
 import shutil
 from dataclasses import replace
 
-from power_cuts import volume
 from power_cuts.cases import Case, Cuts
-from power_cuts.mutations import change_one
 from power_cuts.product import Failure
 from power_cuts.trace import Show, Sync, Write, trace_run
-
-MOST_CHANGES = 1000
 
 
 def self_test(program, seed, folder):
@@ -53,7 +49,7 @@ class Run:
 
     def run_in_doubt(self):
         """The calls of a run over a volume whose last root was written, but not synced."""
-        syncs = len([event for event in self.trace() if isinstance(event, Sync)]) - 1
+        syncs = len([event for event in self.trace() if isinstance(event, Sync)])
         ran, events = self.trace_again(("fdatasync", syncs))
         cuts = Cuts(self.case, self.program)
         cuts.follow(events)
@@ -80,8 +76,6 @@ class Run:
         doubt = self.run_in_doubt()
         yield "a run after a failed sync of a root", False, lambda: self.follow(doubt)
         yield "that run doesn't write the roots again", True, lambda: self.follow(self.without_old_roots(doubt))
-        for rule in ("ascends", "is_index", "reaches_all"):
-            yield f"the reader takes anything for what `{rule}` asks", True, lambda rule=rule: self.with_a_blind_reader(rule)
 
     def follow(self, events):
         cuts = Cuts(self.case, self.program)
@@ -138,14 +132,3 @@ class Run:
     def with_another_byte(self):
         self.with_changed_states(lambda file: replace(file, rows=tuple(
             row._replace(record=row.record[:-1] + b"~") for row in file.rows)))
-
-    def with_a_blind_reader(self, rule):
-        """Changes volumes, up to one on which a reader without one rule differs from the program."""
-        kinds = {"ascends": ["swap_entries"], "is_index": ["change_entry"], "reaches_all": ["change_map"]}[rule]
-        old = getattr(volume, rule)
-        setattr(volume, rule, lambda *_: True)
-        try:
-            for _ in range(MOST_CHANGES):
-                change_one(self.case, kinds)
-        finally:
-            setattr(volume, rule, old)

@@ -29,13 +29,13 @@ class Case:
         self.source, self.image = f"{folder}/program.cob", f"{folder}/program.image"
         self.doubtful, self.others, self.note = {}, [], "format"
 
-    def make_volume(self):
+    def make_volume(self, share_of_halves=0.15):
         sectors = self.random.choice(SIZES)
         self.must("format", self.volume, str(sectors))
-        if self.random.random() < 0.15:
-            with open(self.volume, "r+b") as file:
-                file.write(empty_half(sectors))
-            self.figures["of them of halves"] += 1
+        if self.random.random() < share_of_halves:
+            make_halves(self.volume, sectors)
+            self.figures["volumes of halves"] += 1
+        self.figures["volumes"] += 1
         names = self.random.sample(NAMES, self.random.choice([1, 1, 2, 3]))
         self.shapes = [random_shape(self.random, name) for name in names]
         self.content = ()
@@ -45,10 +45,13 @@ class Case:
         if ran.status or ran.out:
             raise Failure(f"{words[0]}: {ran}")
 
-    def compile(self, program):
+    def compile_text(self, text):
         with open(self.source, "wb") as file:
-            file.write(program.text)
+            file.write(text)
         self.must("compile", self.source, self.image)
+
+    def compile(self, program):
+        self.compile_text(program.text)
         self.figures["programs"] += 1
         self.figures["file statements"] += len(program.states) - 1
 
@@ -215,9 +218,10 @@ class Cuts:
                     raise Failure("the volume isn't what the traced calls wrote")
 
 
-def empty_half(sectors):
-    """The root of a volume of halves without files, which no command makes."""
-    return (HALVES + bytes(8) + sectors.to_bytes(4, "big")).ljust(SECTOR, b"\0")
+def make_halves(volume, sectors):
+    """Makes a new volume one of halves without files, which no command makes."""
+    with open(volume, "r+b") as file:
+        file.write((HALVES + bytes(8) + sectors.to_bytes(4, "big")).ljust(SECTOR, b"\0"))
 
 
 def large_shape(random, name):

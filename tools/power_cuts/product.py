@@ -1,9 +1,13 @@
 """The program's commands as processes. What a command wrote is read from files in a folder of its own, which is quick."""
 import os
 import signal
+import time
 from collections import namedtuple
 
 MOST_SECONDS = 10
+MOST_SECONDS_ON_THE_WALL = 300
+NOTHING = "/dev/null"
+ENVIRONMENT = dict(os.environb)
 Ran = namedtuple("Ran", "status out err")
 
 
@@ -12,7 +16,7 @@ class Failure(Exception):
 
 
 class Hangs(Failure):
-    """A command ran for more than ten seconds."""
+    """A command used more than ten seconds of a processor, or waited for five minutes."""
 
 
 class Product:
@@ -23,11 +27,15 @@ class Product:
         self.calls = 0
 
     def do(self, *words):
+        return self.run(words)
+
+    def run(self, words, given=NOTHING, environment=None):
+        """Runs a command with the file `given` as standard input."""
         flags = os.O_WRONLY | os.O_CREAT | os.O_TRUNC
-        actions = [(os.POSIX_SPAWN_OPEN, 0, "/dev/null", os.O_RDONLY, 0), (os.POSIX_SPAWN_OPEN, 1, self.out, flags, 0o600),
+        actions = [(os.POSIX_SPAWN_OPEN, 0, given, os.O_RDONLY, 0), (os.POSIX_SPAWN_OPEN, 1, self.out, flags, 0o600),
                    (os.POSIX_SPAWN_OPEN, 2, self.err, flags, 0o600)]
         words = [self.program, *words]
-        child = os.posix_spawn(words[0], words, os.environ, file_actions=actions)
+        child = os.posix_spawn(words[0], words, environment or ENVIRONMENT, file_actions=actions)
         self.calls += 1
         status = wait_for(child, words)
         return Ran(status, read(self.out), read(self.err))
@@ -35,16 +43,33 @@ class Product:
 
 def wait_for(child, words):
     """The exit status of a child process, or minus the signal that ended it."""
-    def stop(*_):
+    last = time.monotonic() + MOST_SECONDS_ON_THE_WALL
+
+    def look(*_):
+        seconds = processor_seconds(child)
+        if seconds is None:
+            return
+        if seconds < MOST_SECONDS and time.monotonic() < last:
+            signal.alarm(MOST_SECONDS)
+            return
         os.kill(child, signal.SIGKILL)
         os.waitpid(child, 0)
         raise Hangs(" ".join(os.fsdecode(word) for word in words))
 
-    signal.signal(signal.SIGALRM, stop)
+    signal.signal(signal.SIGALRM, look)
     signal.alarm(MOST_SECONDS)
     _, status = os.waitpid(child, 0)
     signal.alarm(0)
     return os.waitstatus_to_exitcode(status)
+
+
+def processor_seconds(child):
+    """How long a process has been running on a processor, or nothing if it is gone."""
+    try:
+        user, system = read(f"/proc/{child}/stat").rpartition(b")")[2].split()[11:13]
+    except (FileNotFoundError, ProcessLookupError):
+        return None
+    return (int(user) + int(system)) / os.sysconf("SC_CLK_TCK")
 
 
 def read(path):

@@ -5,6 +5,7 @@ source, `shown` what a whole run shows, `states` the volume's files after the fi
 which of these are possible after a stop, by the number of bytes that were shown before it."""
 from bisect import bisect_left
 from dataclasses import dataclass, field
+from itertools import accumulate
 
 from power_cuts.model import Connector, Files
 from power_cuts.volume import Description, Key
@@ -133,12 +134,13 @@ class Program:
     def finish(self):
         """The text of the program with all that was emitted."""
         self.text = "\n".join(self.head() + self.lines + ["           STOP RUN.", ""]).encode()
+        return self.add_up()
+
+    def add_up(self):
+        """Adds up the steps: what is shown before each, and how many file statements are done after each."""
         self.shown = b"".join(step.shown for step in self.steps)
-        self.begun, self.done = [], [0]
-        for step in self.steps:
-            self.begun.append(self.begun[-1] + length if self.begun else 0)
-            length = len(step.shown)
-            self.done.append(self.done[-1] + step.statements)
+        self.begun = [0, *accumulate(len(step.shown) for step in self.steps)][:len(self.steps)]
+        self.done = [0, *accumulate(step.statements for step in self.steps)]
         return self
 
     def head(self):

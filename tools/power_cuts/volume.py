@@ -91,6 +91,7 @@ def read_files(volume):
 
 
 def newest_root(volume):
+    """The root that counts."""
     need(volume.count >= 2)
     roots = [root for root in (read_root(volume, which) for which in (0, 1)) if root]
     need(roots)
@@ -98,6 +99,19 @@ def newest_root(volume):
         need(abs(roots[0].generation - roots[1].generation) == 1)
         need(roots[0].mark == roots[1].mark and roots[0].sectors == roots[1].sectors)
     return max(roots, key=lambda root: root.generation)
+
+
+def is_openable(volume):
+    """Whether the roots and the map are sound, or all of a volume of halves."""
+    try:
+        root = newest_root(volume)
+        if root.mark == TREES:
+            Pages(volume, root)
+        else:
+            read_files(volume)
+    except Damaged:
+        return False
+    return True
 
 
 def read_root(volume, which):

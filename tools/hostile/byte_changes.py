@@ -1,48 +1,7 @@
-"""Volumes that were changed at random: the program and the reader of the format must find the same files, or damage, on each.
+"""Changes of a volume at places that are chosen at random: bytes, numbers, sectors, and entries of lengths that its trees may have.
 
-Changes are of all parts that a reader follows: roots, map sectors, pages of trees and their entries, and the length of the file."""
-import os
-import shutil
-
-from power_cuts.cases import Case
-from power_cuts.checking import examine
-from power_cuts.product import Failure
+They hit all parts that a reader follows: roots, map sectors, pages of trees and their entries, and the length of the file."""
 from power_cuts.volume import SECTOR, prime_length
-
-
-def run_mutations(program, seed, folder):
-    """A case of one volume with the files of some runs, of which 50 copies are changed."""
-    case = Case(program, seed, folder)
-    random = case.random
-    try:
-        case.make_volume()
-        if random.random() < 0.5:
-            case.fill(random.choice([30, 200, 600]))
-        for _ in range(random.choice([1, 3])):
-            program = case.next_program(random.choice([10, 40]))
-            case.run_whole(program)
-            case.content = program.states[-1]
-            case.confirm(case.content)
-        for _ in range(50):
-            change_one(case)
-    except Failure as failure:
-        return case, failure
-    return case, None
-
-
-def change_one(case, kinds=()):
-    """Changes a copy of the volume, by these kinds of changes or by all, and compares what is found."""
-    changed = f"{case.folder}/cut"
-    shutil.copyfile(case.volume, changed)
-    case.note = Change(case.random, changed, entry_lengths(case.content)).make(kinds)
-    found = examine(case.product, changed)
-    case.figures["changed volumes"] += 1
-    case.figures["of them damaged" if found.refused else "of them sound"] += 1
-    if not kinds and case.random.random() < 0.3:
-        ran = case.product.do("run", case.image, changed)
-        if not 0 <= ran.status <= 5:
-            raise Failure(f"run ends with {ran.status}")
-        case.figures["runs over changed volumes"] += 1
 
 
 def entry_lengths(content):
@@ -55,24 +14,15 @@ def entry_lengths(content):
     return sorted(lengths)
 
 
-ZEROS = bytes(SECTOR)
+class ByteChange:
+    """One to three changes of a scratch copy of a volume."""
 
-
-class Change:
-    """One to three changes of a volume."""
-
-    def __init__(self, random, path, lengths):
-        self.random, self.path, self.lengths, self.made = random, path, lengths, []
-        with open(path, "rb") as file:
-            self.text = bytearray(file.read())
-        self.count = len(self.text) // SECTOR
-        self.used = [sector for sector in range(self.count) if self.sector(sector) != ZEROS]
+    def __init__(self, random, volume, lengths):
+        self.random, self.volume, self.lengths, self.made = random, volume, lengths, []
+        self.count, self.used = volume.length // SECTOR, sorted(volume.sectors)
 
     def sector(self, sector):
-        return self.text[SECTOR * sector:SECTOR * (sector + 1)]
-
-    def put(self, sector, text):
-        self.text[SECTOR * sector:SECTOR * (sector + 1)] = text
+        return self.volume.sector(sector)
 
     def make(self, names=()):
         """Makes changes in the file, of the kinds with these names or of all, and says which."""
@@ -80,8 +30,7 @@ class Change:
         chosen = [self.random.choice(kinds) for _ in range(self.random.choice([1, 1, 1, 2, 3]))]
         for kind in sorted(chosen, key=lambda kind: kind == self.change_length):
             self.made.append(kind())
-        with open(self.path, "wb") as file:
-            file.write(self.text)
+        self.volume.flush()
         return "changed: " + "; ".join(self.made)
 
     def all_kinds(self):
@@ -93,58 +42,62 @@ class Change:
         """A sector that isn't zeros; a root or an early one oftener than its share."""
         return self.random.choice(self.used[:2] + [self.random.choice(self.used), self.random.choice(self.used[:8])])
 
+    def add_to_byte(self, at, more):
+        self.volume.write_number(at, 1, self.volume.number(at, 1) + more)
+
     def change_byte(self):
         sector = self.any_used()
         at = SECTOR * sector + self.random.choice([self.random.randrange(SECTOR), self.random.randrange(64), self.random.randrange(400)])
-        self.text[at] = (self.text[at] + self.random.choice([1, 255, self.random.randrange(1, 256)])) % 256
+        self.add_to_byte(at, self.random.choice([1, 255, self.random.randrange(1, 256)]))
         return f"byte {at % SECTOR} of sector {sector}"
 
     def change_number(self):
         """A number of four bytes becomes a neighbour, a small one, or one of another place."""
         sector, length = self.any_used(), self.random.choice([1, 2, 4, 8])
-        places = [at for at in range(0, SECTOR - 8, 4) if any(self.sector(sector)[at:at + 4])]
+        text = self.sector(sector)
+        places = [at for at in range(0, SECTOR - 8, 4) if any(text[at:at + 4])]
         at = SECTOR * sector + (self.random.choice(places) if places and self.random.random() < 0.8 else self.random.randrange(0, 100, 4))
-        old = int.from_bytes(self.text[at:at + length], "big")
+        old = self.volume.number(at, length)
         new = self.random.choice([old + 1, old - 1, old + 2, 0, 1, 2, self.random.choice(self.used), self.count, self.count - 1])
-        self.text[at:at + length] = (new % 256 ** length).to_bytes(length, "big")
+        self.volume.write_number(at, length, new)
         return f"number at {at % SECTOR} of sector {sector}: {old} becomes {new}"
 
     def change_root(self):
         sector = self.random.choice([0, 1])
         at, length = self.random.choice([(0, 8), (8, 8), (16, 4), (20, 4), (24, 4), (28, 4), (32, 4), (4092, 4)])
-        place = SECTOR * sector + at
-        old = int.from_bytes(self.text[place:place + length], "big")
+        old = self.volume.number(SECTOR * sector + at, length)
         half = int.from_bytes(b"COBHALF1", "big")
         new = self.random.choice([old + 1, old - 1, old + 2, old - 2, 0, half if at == 0 else 1, 2**63 + old % 2])
-        self.text[place:place + length] = (new % 256 ** length).to_bytes(length, "big")
+        self.volume.write_number(SECTOR * sector + at, length, new)
         return f"root {sector}, number at {at}: {old} becomes {new}"
 
     def change_map(self):
         """The sector of a page becomes another one, or none, or a page that wasn't used gets one."""
         root = max((self.sector(which) for which in (0, 1)), key=lambda sector: sector[8:16])
         sector = int.from_bytes(root[28:32], "big") % self.count
-        entries = [at for at in range(0, SECTOR, 4) if any(self.sector(sector)[at:at + 4])]
+        text = self.sector(sector)
+        entries = [at for at in range(0, SECTOR, 4) if any(text[at:at + 4])]
         at = self.random.choice(entries[:40] + [4 * self.random.randrange(1024)])
         unused = next((it for it in range(self.count - 1, 1, -1) if it not in self.used), 2)
         new = self.random.choice([0, unused, unused, self.random.choice(self.used), 1, self.count])
-        self.text[SECTOR * sector + at:SECTOR * sector + at + 4] = new.to_bytes(4, "big")
+        self.volume.write_number(SECTOR * sector + at, 4, new)
         return f"page {at // 4} in map sector {sector} is in sector {new}"
 
     def swap(self):
         one, two = self.any_used(), self.any_used()
         first, second = self.sector(one), self.sector(two)
-        self.put(one, second)
-        self.put(two, first)
+        self.volume.put(one, second)
+        self.volume.put(two, first)
         return f"sectors {one} and {two} change places"
 
     def copy(self):
         one, two = self.any_used(), self.any_used()
-        self.put(two, self.sector(one))
+        self.volume.put(two, self.sector(one))
         return f"sector {two} becomes a copy of sector {one}"
 
     def blank(self):
         sector = self.any_used()
-        self.put(sector, bytes(SECTOR))
+        self.volume.put(sector, bytes(SECTOR))
         return f"sector {sector} becomes zeros"
 
     def page(self):
@@ -157,42 +110,41 @@ class Change:
     def swap_entries(self):
         """Two entries of a page change places."""
         sector, length, count = self.page()
-        one, two = (16 + length * self.random.randrange(count) for _ in range(2))
-        page = self.sector(sector)
-        page[one:one + length], page[two:two + length] = page[two:two + length], page[one:one + length]
-        self.put(sector, page)
-        return f"page in sector {sector}: entries of {length} bytes at {one} and {two} change places"
+        one, two = (SECTOR * sector + 16 + length * self.random.randrange(count) for _ in range(2))
+        first, second = self.volume.read(one, length), self.volume.read(two, length)
+        self.volume.write(one, second)
+        self.volume.write(two, first)
+        return f"page in sector {sector}: entries of {length} bytes at {one % SECTOR} and {two % SECTOR} change places"
 
     def change_entry(self):
         """A byte of an entry changes, mostly near its beginning or its end, where keys, arrivals and pages are."""
         sector, length, count = self.page()
         near = self.random.choice([0, length - 1, length - 5, length - 9, self.random.randrange(length)])
         at = SECTOR * sector + 16 + length * self.random.randrange(count) + near % length
-        self.text[at] = (self.text[at] + self.random.choice([1, 255, 2, 128])) % 256
+        self.add_to_byte(at, self.random.choice([1, 255, 2, 128]))
         return f"byte {at % SECTOR} of sector {sector}, in an entry of {length} bytes"
 
     def change_count(self):
         """A page has an entry more or less."""
         sector, _, _ = self.page()
-        at = SECTOR * sector + 2
-        count = (int.from_bytes(self.text[at:at + 2], "big") + self.random.choice([1, -1, 2])) % 65536
-        self.text[at:at + 2] = count.to_bytes(2, "big")
-        return f"page in sector {sector} has {count} entries"
+        count = self.volume.number(SECTOR * sector + 2, 2) + self.random.choice([1, -1, 2])
+        self.volume.write_number(SECTOR * sector + 2, 2, count)
+        return f"page in sector {sector} has {count % 65536} entries"
 
     def change_kind(self):
-        sector = self.any_used()
-        self.text[SECTOR * sector] = self.random.choice([0, 1, 2, 3])
-        return f"the first byte of sector {sector} becomes {self.text[SECTOR * sector]}"
+        sector, kind = self.any_used(), self.random.choice([0, 1, 2, 3])
+        self.volume.write_number(SECTOR * sector, 1, kind)
+        return f"the first byte of sector {sector} becomes {kind}"
 
     def change_unnamed(self):
         """A byte that the format doesn't name."""
         sector = self.any_used()
         at = self.random.choice([1, self.random.randrange(4, 16), self.random.randrange(3900, SECTOR)])
-        self.text[SECTOR * sector + at] ^= 1
+        self.volume.write_number(SECTOR * sector + at, 1, self.volume.number(SECTOR * sector + at, 1) ^ 1)
         return f"byte {at} of sector {sector}, which a page doesn't name"
 
     def change_length(self):
-        length = len(self.text)
+        length = self.volume.length
         new = self.random.choice([length - 1, length + 3, length - SECTOR, length + SECTOR, length // 2, SECTOR, 2 * SECTOR, 5000, 100, 0])
-        self.text = (self.text + bytes(max(0, new - length)))[:new]
+        self.volume.set_length(new)
         return f"the file has {new} bytes"

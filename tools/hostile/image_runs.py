@@ -1,0 +1,72 @@
+"""Runs of an image with a byte changed, or cut short, over a volume with a file."""
+import os
+from collections import Counter
+
+from hostile.alternate_keys import DATA, ROW
+from power_cuts.answers import check_answer
+from power_cuts.checking import examine
+from power_cuts.product import Failure, read
+from power_cuts.scratch import Scratch
+
+ROWS = {"loops": "perform_varying", "PERFORM": "perform_overlapping_ranges", "conditions": "condition_names_by_range",
+        "INSPECT": "inspect_counters", "files": "duplicates_in_order"}
+SECTORS, BUDGET = "1024", "3000"
+MARK = 8
+REFUSALS = tuple(b"refused %d\n" % number for number in range(70, 75))
+
+
+class ImageRuns:
+    """An image and a volume, both in a folder. `figures` counts the runs by their ends."""
+
+    def __init__(self, product, folder, row):
+        self.product, self.row, self.figures, self.note = product, row, Counter(), row
+        self.image, self.volume = f"{folder}/image", f"{folder}/volume"
+        self.must("compile", f"{ROW}.cob", self.image)
+        self.must("format", self.volume, SECTORS)
+        self.must("run", self.image, self.volume)
+        self.must("compile", f"{DATA}/{row}.cob", self.image)
+        self.text = read(self.image)
+        self.file = os.open(self.image, os.O_RDWR)
+        self.scratch = Scratch(self.volume, f"{folder}/cut")
+
+    def must(self, *words):
+        ran = self.product.do(*words)
+        if ran.status:
+            raise Failure(f"{words[0]}: {ran}")
+
+    def change_byte(self, at):
+        """Runs the image with a byte changed to each other value."""
+        for more in range(1, 256):
+            value = (self.text[at] + more) % 256
+            os.pwrite(self.file, bytes([value]), at)
+            self.try_image(f"byte {at} of the image of {self.row} is {value} and not {self.text[at]}")
+        os.pwrite(self.file, self.text[at:at + 1], at)
+
+    def cut(self, length):
+        """Runs the first bytes of the image: 70 if they aren't the mark, or else 71 or 72."""
+        os.ftruncate(self.file, length)
+        ran = self.try_image(f"the image of {self.row} is cut to {length} bytes")
+        if ran.err not in (REFUSALS[:1] if length < MARK else REFUSALS[1:3]):
+            raise Failure(f"a part of an image ends with {ran.status} {ran.err}")
+        os.pwrite(self.file, self.text, 0)
+
+    def try_image(self, note):
+        self.note = note
+        ran = self.product.do("run", self.image, self.scratch.path, "--budget", BUDGET)
+        check_answer("run", ran)
+        self.figures["runs"] += 1
+        self.figures[ran.err.decode().strip() if ran.status == 4 else f"exit status {ran.status}"] += 1
+        if ran.err == b"refused 82\n":
+            raise Failure("a run over a sound volume reports damage")
+        if not self.scratch.is_unchanged():
+            self.examine_volume(ran)
+        return ran
+
+    def examine_volume(self, ran):
+        """The run wrote to the volume: it was no refused image, and the volume still holds files."""
+        if ran.err in REFUSALS:
+            raise Failure(f"the image is {ran.err.decode().strip()}, and the volume is another one")
+        if examine(self.product, self.scratch.path).refused:
+            raise Failure("the volume is damaged after the run")
+        self.figures["runs that changed files"] += 1
+        self.scratch.build()

@@ -1,0 +1,72 @@
+"""Cases of a tool, in several processes, each with a seed and a folder of its own.
+
+`words` has the tool's options: `program`, `seed`, `jobs`, and `keep`, the folder for what fails."""
+import os
+import shutil
+import tempfile
+import time
+from collections import Counter
+from concurrent.futures import FIRST_COMPLETED, ProcessPoolExecutor, wait
+
+from power_cuts.cases import keep
+
+MEMORY = "/dev/shm"
+MOST_FAILURES = 10
+
+
+def folder_in_memory():
+    """A new folder, in memory if the host has room there."""
+    return tempfile.mkdtemp(prefix="cobol-tools-", dir=MEMORY if os.access(MEMORY, os.W_OK) else None)
+
+
+def work(task, words, seed):
+    """One case in a folder of its own: its figures, and what failed with the folder where it is kept."""
+    folder = folder_in_memory()
+    try:
+        case, failure = task(words.program, seed, folder)
+        kept = keep(case, failure, words.keep) if failure else None
+        return case.figures, failure and f"seed {seed}: {case.note}: {failure}\n    kept in {kept}"
+    finally:
+        shutil.rmtree(folder)
+
+
+class Cases:
+    """Cases of rising seeds, until a figure has reached a count."""
+
+    def __init__(self, task, words, name, count):
+        self.task, self.words, self.name, self.count = task, words, name, count
+        self.figures, self.failures, self.seed, self.began = Counter(), 0, words.seed, time.time()
+
+    def run(self):
+        """Runs all cases, prints their figures, and returns how many failed."""
+        with ProcessPoolExecutor(self.words.jobs) as pool:
+            running = self.begun(pool, set())
+            while running:
+                done, running = wait(running, return_when=FIRST_COMPLETED)
+                for future in done:
+                    self.add(*future.result())
+                running = self.begun(pool, running)
+        print(f"{self.summary()}; {self.failures} failed; {time.time() - self.began:.0f} seconds", flush=True)
+        return self.failures
+
+    def begun(self, pool, running):
+        """The running cases, and new ones if more are needed."""
+        while len(running) < self.words.jobs and self.figures[self.name] < self.count and self.failures < MOST_FAILURES:
+            running.add(pool.submit(work, self.task, self.words, self.seed))
+            self.seed += 1
+        return running
+
+    def add(self, figures, failure):
+        self.figures += figures
+        if failure:
+            self.failures += 1
+            print(f"FAILED: {failure}", flush=True)
+
+    def summary(self):
+        figures = [f"{count:,} {name}" for name, count in sorted(self.figures.items())]
+        return f"seeds {self.words.seed} to {self.seed - 1}: {', '.join(figures)}"
+
+
+def run_cases(task, words, name, count):
+    """Runs cases until the figure `name` has reached this count, and returns how many failed."""
+    return Cases(task, words, name, count).run()
