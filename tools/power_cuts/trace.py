@@ -29,15 +29,16 @@ class UnknownCall(Failure):
     """A call that changes the volume in a way that this tool doesn't know."""
 
 
-def trace_run(words, volume, folder, fault=None):
-    """Runs a command that opens the volume. `fault` is (call, n): the n-th call of this kind fails with an I/O error."""
+def trace_run(words, volume, folder, fault=None, given="/dev/null"):
+    """Runs a command that opens the volume, with the file `given` as standard input. `fault` is (call, n): the n-th call of this kind
+    fails with an I/O error."""
     calls = f"{folder}/calls"
     strace = ["strace", "-f", "-qq", "--seccomp-bpf", "-xx", "-s", str(MOST_BYTES), "-e", f"trace={CALLS}", "-o", calls]
     if fault:
         strace += ["-e", f"inject={fault[0]}:error=EIO:when={fault[1]}"]
-    with open(f"{folder}/out", "wb") as out, open(f"{folder}/err", "wb") as err:
+    with open(given, "rb") as console, open(f"{folder}/out", "wb") as out, open(f"{folder}/err", "wb") as err:
         try:
-            ran = subprocess.run(strace + words, stdin=subprocess.DEVNULL, stdout=out, stderr=err, timeout=MOST_SECONDS)
+            ran = subprocess.run(strace + words, stdin=console, stdout=out, stderr=err, timeout=MOST_SECONDS)
         except subprocess.TimeoutExpired:
             raise Hangs(" ".join(words)) from None
     ran = Ran(ran.returncode, read(f"{folder}/out"), read(f"{folder}/err"))

@@ -1,0 +1,13 @@
+      * Two texts that overlap in TALLYING.
+       IDENTIFICATION DIVISION.
+       PROGRAM-ID. DIFFERENCE.
+       DATA DIVISION.
+       WORKING-STORAGE SECTION.
+       01  T PIC X(4) VALUE "ABAB".
+       01  M PIC 9 VALUE 0.
+       01  N PIC 9 VALUE 0.
+       PROCEDURE DIVISION.
+       MAIN-PARAGRAPH.
+           INSPECT T TALLYING M FOR ALL "BA" N FOR ALL "AB".
+           DISPLAY M N.
+           STOP RUN.

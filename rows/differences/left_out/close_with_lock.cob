@@ -1,0 +1,22 @@
+      * CLOSE WITH LOCK.
+       IDENTIFICATION DIVISION.
+       PROGRAM-ID. LEFT-OUT.
+       ENVIRONMENT DIVISION.
+       INPUT-OUTPUT SECTION.
+       FILE-CONTROL.
+           SELECT F ASSIGN TO "LEFT-OUT".
+       DATA DIVISION.
+       FILE SECTION.
+       FD  F.
+       01  R PIC X(4).
+       WORKING-STORAGE SECTION.
+       01  N PIC 9 VALUE 1.
+       01  M PIC 9 VALUE 2.
+       01  X PIC X(8) VALUE "ABCDEFGH".
+       PROCEDURE DIVISION.
+       MAIN-PARAGRAPH.
+           OPEN OUTPUT F
+           CLOSE F WITH LOCK.
+           STOP RUN.
+       OTHER-PARAGRAPH.
+           DISPLAY N.

@@ -1,0 +1,14 @@
+      * A comment after a statement.
+       IDENTIFICATION DIVISION.
+       PROGRAM-ID. LEFT-OUT.
+       DATA DIVISION.
+       WORKING-STORAGE SECTION.
+       01  N PIC 9 VALUE 1.
+       01  M PIC 9 VALUE 2.
+       01  X PIC X(8) VALUE "ABCDEFGH".
+       PROCEDURE DIVISION.
+       MAIN-PARAGRAPH.
+           CONTINUE *> NOTHING
+           STOP RUN.
+       OTHER-PARAGRAPH.
+           DISPLAY N.

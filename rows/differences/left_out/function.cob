@@ -1,0 +1,14 @@
+      * An intrinsic function.
+       IDENTIFICATION DIVISION.
+       PROGRAM-ID. LEFT-OUT.
+       DATA DIVISION.
+       WORKING-STORAGE SECTION.
+       01  N PIC 9 VALUE 1.
+       01  M PIC 9 VALUE 2.
+       01  X PIC X(8) VALUE "ABCDEFGH".
+       PROCEDURE DIVISION.
+       MAIN-PARAGRAPH.
+           MOVE FUNCTION UPPER-CASE (X) TO X.
+           STOP RUN.
+       OTHER-PARAGRAPH.
+           DISPLAY N.

@@ -1,0 +1,15 @@
+      * USAGE INDEX.
+       IDENTIFICATION DIVISION.
+       PROGRAM-ID. LEFT-OUT.
+       DATA DIVISION.
+       WORKING-STORAGE SECTION.
+       01  N PIC 9 VALUE 1.
+       01  M PIC 9 VALUE 2.
+       01  X PIC X(8) VALUE "ABCDEFGH".
+       01  IX USAGE INDEX.
+       PROCEDURE DIVISION.
+       MAIN-PARAGRAPH.
+           CONTINUE.
+           STOP RUN.
+       OTHER-PARAGRAPH.
+           DISPLAY N.

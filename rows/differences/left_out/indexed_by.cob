@@ -1,0 +1,16 @@
+      * INDEXED BY.
+       IDENTIFICATION DIVISION.
+       PROGRAM-ID. LEFT-OUT.
+       DATA DIVISION.
+       WORKING-STORAGE SECTION.
+       01  N PIC 9 VALUE 1.
+       01  M PIC 9 VALUE 2.
+       01  X PIC X(8) VALUE "ABCDEFGH".
+       01  T.
+           05  E PIC 9 OCCURS 3 TIMES INDEXED BY IX.
+       PROCEDURE DIVISION.
+       MAIN-PARAGRAPH.
+           CONTINUE.
+           STOP RUN.
+       OTHER-PARAGRAPH.
+           DISPLAY N.

@@ -1,0 +1,16 @@
+      * LINKAGE SECTION.
+       IDENTIFICATION DIVISION.
+       PROGRAM-ID. LEFT-OUT.
+       DATA DIVISION.
+       WORKING-STORAGE SECTION.
+       01  N PIC 9 VALUE 1.
+       01  M PIC 9 VALUE 2.
+       01  X PIC X(8) VALUE "ABCDEFGH".
+       LINKAGE SECTION.
+       01  L PIC X.
+       PROCEDURE DIVISION.
+       MAIN-PARAGRAPH.
+           CONTINUE.
+           STOP RUN.
+       OTHER-PARAGRAPH.
+           DISPLAY N.

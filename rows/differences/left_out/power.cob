@@ -1,0 +1,14 @@
+      * A power.
+       IDENTIFICATION DIVISION.
+       PROGRAM-ID. LEFT-OUT.
+       DATA DIVISION.
+       WORKING-STORAGE SECTION.
+       01  N PIC 9 VALUE 1.
+       01  M PIC 9 VALUE 2.
+       01  X PIC X(8) VALUE "ABCDEFGH".
+       PROCEDURE DIVISION.
+       MAIN-PARAGRAPH.
+           COMPUTE N = M ** 2.
+           STOP RUN.
+       OTHER-PARAGRAPH.
+           DISPLAY N.

@@ -1,0 +1,25 @@
+      * SORT.
+       IDENTIFICATION DIVISION.
+       PROGRAM-ID. LEFT-OUT.
+       ENVIRONMENT DIVISION.
+       INPUT-OUTPUT SECTION.
+       FILE-CONTROL.
+           SELECT F ASSIGN TO "LEFT-OUT".
+           SELECT SF ASSIGN TO "SORTED".
+       DATA DIVISION.
+       FILE SECTION.
+       FD  F.
+       01  R PIC X(4).
+       SD  SF.
+       01  SR.
+           05  SK PIC X(4).
+       WORKING-STORAGE SECTION.
+       01  N PIC 9 VALUE 1.
+       01  M PIC 9 VALUE 2.
+       01  X PIC X(8) VALUE "ABCDEFGH".
+       PROCEDURE DIVISION.
+       MAIN-PARAGRAPH.
+           SORT SF ON ASCENDING KEY SK USING F GIVING F.
+           STOP RUN.
+       OTHER-PARAGRAPH.
+           DISPLAY N.

@@ -1,0 +1,10 @@
+      * An item of 70,000 bytes.
+       IDENTIFICATION DIVISION.
+       PROGRAM-ID. DIFFERENCE.
+       DATA DIVISION.
+       WORKING-STORAGE SECTION.
+       01  A PIC X(70000) VALUE SPACES.
+       PROCEDURE DIVISION.
+       MAIN-PARAGRAPH.
+           DISPLAY "LONG".
+           STOP RUN.

@@ -1,0 +1,11 @@
+      * A longer REDEFINES at 77.
+       IDENTIFICATION DIVISION.
+       PROGRAM-ID. DIFFERENCE.
+       DATA DIVISION.
+       WORKING-STORAGE SECTION.
+       77  A PIC X VALUE "A".
+       77  B REDEFINES A PIC XX.
+       PROCEDURE DIVISION.
+       MAIN-PARAGRAPH.
+           DISPLAY A.
+           STOP RUN.

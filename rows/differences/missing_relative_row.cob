@@ -1,0 +1,34 @@
+      * REWRITE and DELETE of a missing row below the last row.
+       IDENTIFICATION DIVISION.
+       PROGRAM-ID. DIFFERENCE.
+       ENVIRONMENT DIVISION.
+       INPUT-OUTPUT SECTION.
+       FILE-CONTROL.
+           SELECT F ASSIGN TO "DIFFER"
+               ORGANIZATION IS RELATIVE
+               ACCESS MODE IS DYNAMIC
+               RELATIVE KEY IS N
+               FILE STATUS IS S.
+       DATA DIVISION.
+       FILE SECTION.
+       FD  F.
+       01  R PIC X(4).
+       WORKING-STORAGE SECTION.
+       01  S PIC XX.
+       01  N PIC 9.
+       PROCEDURE DIVISION.
+       MAIN-PARAGRAPH.
+           OPEN OUTPUT F.
+           MOVE 4 TO N.
+           MOVE "FOUR" TO R.
+           WRITE R.
+           CLOSE F.
+           OPEN I-O F.
+           MOVE 3 TO N.
+           REWRITE R.
+           DISPLAY S.
+           MOVE 2 TO N.
+           DELETE F.
+           DISPLAY S.
+           CLOSE F.
+           STOP RUN.

@@ -1,0 +1,12 @@
+      * REDEFINES of a table.
+       IDENTIFICATION DIVISION.
+       PROGRAM-ID. DIFFERENCE.
+       DATA DIVISION.
+       WORKING-STORAGE SECTION.
+       01  T.
+           05  U PIC X OCCURS 3 TIMES VALUE "U".
+           05  V REDEFINES U PIC X(3).
+       PROCEDURE DIVISION.
+       MAIN-PARAGRAPH.
+           DISPLAY V.
+           STOP RUN.

@@ -1,0 +1,32 @@
+      * START with NOT GREATER.
+       IDENTIFICATION DIVISION.
+       PROGRAM-ID. DIFFERENCE.
+       ENVIRONMENT DIVISION.
+       INPUT-OUTPUT SECTION.
+       FILE-CONTROL.
+           SELECT F ASSIGN TO "DIFFER"
+               ORGANIZATION IS INDEXED
+               ACCESS MODE IS DYNAMIC
+               RECORD KEY IS K
+               ALTERNATE RECORD KEY IS A WITH DUPLICATES
+               FILE STATUS IS S.
+       DATA DIVISION.
+       FILE SECTION.
+       FD  F.
+       01  R.
+           05  K PIC X(2).
+           05  A PIC X(2).
+           05  B PIC X(2).
+       WORKING-STORAGE SECTION.
+       01  S PIC XX.
+       PROCEDURE DIVISION.
+       MAIN-PARAGRAPH.
+           OPEN OUTPUT F.
+           MOVE "01XX" TO R.
+           WRITE R.
+           CLOSE F.
+           OPEN INPUT F.
+           START F KEY IS NOT GREATER THAN K.
+           DISPLAY S.
+           CLOSE F.
+           STOP RUN.

@@ -1,0 +1,10 @@
+      * A VALUE that doesn't fit.
+       IDENTIFICATION DIVISION.
+       PROGRAM-ID. DIFFERENCE.
+       DATA DIVISION.
+       WORKING-STORAGE SECTION.
+       01  A PIC X(2) VALUE "ABC".
+       PROCEDURE DIVISION.
+       MAIN-PARAGRAPH.
+           DISPLAY A.
+           STOP RUN.
