@@ -14,6 +14,7 @@ use crate::run_command::run;
 use crate::verdict::Verdict;
 use crate::words::{Request, read_words};
 use std::convert::AsStr;
+use std::env::Env;
 use std::fs::File;
 use std::io::{BufRead, Write};
 use std::rt::Files;
@@ -23,7 +24,7 @@ use std::time::Clock;
 /// dumps go to `out`, and the reason of a refusal to `err`. The answer is the exit status.
 pub fn command<R, C, O, E>(rt: &R, words: &[String], console: C, out: O, mut err: E) -> u8
 where
-    R: Files<File = File> + AllocGlobal + Clock,
+    R: Files<File = File> + AllocGlobal + Clock + Env + Clone + Drop,
     C: BufRead + Drop,
     O: Write + Drop,
     E: Reasons + Drop,
@@ -40,7 +41,7 @@ where
 /// Does what is asked for.
 fn carry_out<R, C, O, E>(rt: &R, request: Request, console: C, mut out: O, err: &mut E) -> Verdict
 where
-    R: Files<File = File> + AllocGlobal + Clock,
+    R: Files<File = File> + AllocGlobal + Clock + Env + Clone + Drop,
     C: BufRead + Drop,
     O: Write + Drop,
     E: Reasons,

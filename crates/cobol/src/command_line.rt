@@ -53,12 +53,18 @@ fn run_line<'a>(alloc: Global) -> Result<Command<'a>, AllocError> {
         .long("date")
         .value_name("YYMMDD")
         .help("The date that the program receives, in place of 000000");
+    let today = Arg::new(alloc, "today")
+        .long("today")
+        .action(ArgAction::SetTrue)
+        .help("The program receives the day of this machine")
+        .conflicts_with("date")?;
     Command::new(alloc, "run")
         .about("Runs an image over a volume")
         .arg(required(alloc, "IMAGE", "An image that `compile` wrote"))?
         .arg(required(alloc, "VOLUME", "A volume that `format` made"))?
         .arg(budget)?
-        .arg(date)
+        .arg(date)?
+        .arg(today)
 }
 
 fn list_line<'a>(alloc: Global) -> Result<Command<'a>, AllocError> {

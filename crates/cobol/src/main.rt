@@ -16,6 +16,7 @@ mod progress;
 mod run_command;
 #[cfg(test)]
 mod tests;
+mod today;
 mod verdict;
 mod words;
 

@@ -1,28 +1,34 @@
-//! `run IMAGE VOLUME [--budget N] [--date YYMMDD]`.
+//! `run IMAGE VOLUME [--budget N] [--date YYMMDD | --today]`.
 
-ghost use Rattle.std.specs.Prelude.{All};
+ghost use Rattle.std.specs.Prelude.{All, IfOk};
 ghost use Rattle.machine.specs.Ends.{IsDigit};
 
 use crate::host_file::read_image;
 use crate::host_station::HostStation;
+use crate::today::today;
 use crate::verdict::Verdict;
 use crate::words::RunRequest;
 use host_volume::{Access, HostDevice, HostVolume};
 use run_unit::run_volume;
 use station::Device;
 use std::alloc::Global;
+use std::env::Env;
 use std::fs::File;
 use std::io::{BufRead, Write};
 use std::rt::Files;
+use std::time::Clock;
 
 /// Runs an image over a volume. Both host files are opened before the image is examined.
 pub fn run<R, C, O>(rt: &R, request: RunRequest, console: C, out: O) -> Verdict
 where
-    R: Files<File = File> + AllocGlobal,
+    R: Files<File = File> + AllocGlobal + Clock + Env + Clone + Drop,
     C: BufRead + Drop,
     O: Write + Drop,
     requires { All IsDigit request.day }
 {
+    let Ok(day) = day_of_run(rt, &request) else {
+        return Verdict::device();
+    };
     let image = match read_image(rt, request.image) {
         Ok(image) => image,
         Err(verdict) => return verdict,
@@ -32,15 +38,22 @@ where
         Err(error) => return Verdict::refusing_host_file(error),
     };
     match HostStation::new(rt.alloc(), console, out, volume) {
-        Ok(station) => run_on(
-            rt.alloc(),
-            image.as_slice(),
-            station,
-            request.day,
-            request.budget,
-        ),
+        Ok(station) => run_on(rt.alloc(), image.as_slice(), station, day, request.budget),
         Err(_) => Verdict::memory(),
     }
+}
+
+/// The date that the program receives.
+fn day_of_run<R>(rt: &R, request: &RunRequest) -> Result<[u8; 6], jiff::Error>
+where
+    R: Files<File = File> + AllocGlobal + Clock + Env + Clone + Drop,
+    requires { All IsDigit request.now.day }
+    ensures { IfOk result (λ day. All IsDigit day) }
+{
+    if request.is_today {
+        return today(rt);
+    }
+    Ok(request.day)
 }
 
 /// Runs an image over a station, and flushes what it shows.

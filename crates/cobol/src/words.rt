@@ -37,6 +37,8 @@ pub struct RunRequest<'a> {
     pub budget: u64,
     /// The date that the program receives, YYMMDD.
     pub day: [u8; 6],
+    /// Whether it receives the host's day in place of that date.
+    pub is_today: bool,
 }
 
 /// Why words are no request.
@@ -101,7 +103,7 @@ fn read_compile<'a>(matches: &ArgMatches<'a>) -> Request<'a>
     }
 }
 
-/// The words of `run IMAGE VOLUME [--budget N] [--date YYMMDD]`.
+/// The words of `run IMAGE VOLUME [--budget N] [--date YYMMDD | --today]`.
 fn read_run<'a>(matches: &ArgMatches<'a>) -> Result<Request<'a>, Fault>
     ensures asks { IfOk result (AsksToRun matches.now) }
     ensures bounds { IfOk result IsWithinBounds }
@@ -119,6 +121,7 @@ fn read_run<'a>(matches: &ArgMatches<'a>) -> Result<Request<'a>, Fault>
         volume: word(matches, "VOLUME"),
         budget,
         day,
+        is_today: matches.get_flag("today"),
     }))
 }
 
