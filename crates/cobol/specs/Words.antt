@@ -1,9 +1,9 @@
 -- What the words of a command mean: budgets, dates and sizes of volumes, and which word is what of a request.
-use Rattle.std.specs.Prelude.{◌≡◌, true, ◌<◌, ◌≤◌, ◌^◌, ℕ, List, [], ◌∷◌, length, Option, Some, None, SomeIff, All, ⊤, codes}
+use Rattle.std.specs.Prelude.{◌≡◌, Bool, true, false, ◌<◌, ◌≤◌, ◌^◌, ℕ, List, [], ◌∷◌, length, Option, Some, None, SomeIff, All, ⊤, codes}
 use Rattle.std.specs.Char.{is_ascii_digit}
 use Rattle.std.specs.List.{list_all}
 use Rattle.std.specs.Str.Parse.{IsNumeral, digits_value}
-use Rattle.clap.specs.Matches.{found_of, first_value}
+use Rattle.clap.specs.Matches.{found_of, first_value, one_text}
 use Rattle.clap.specs.declared.parser.matches.ArgMatches.{ArgMatches}
 use Rattle.machine.specs.Ends.{IsDigit}
 use Rattle.cobol.specs.declared.words.Request.{Request}
@@ -30,6 +30,11 @@ ReadsBudget (Some word) budget = SomeIff budget (IsNumber word) (digits_value 10
 abbrev pub ReadsDate : Option (List ℕ) → Option (List ℕ) → Type 0
 ReadsDate None day = day ≡ Some (48 ∷ 48 ∷ 48 ∷ 48 ∷ 48 ∷ 48 ∷ [])
 ReadsDate (Some word) day = SomeIff day (IsDate word) word
+
+-- Whether a flag is there, by the text that `clap` gives it.
+abbrev pub ReadsFlag : Option (List ℕ) → Bool → Type 0
+ReadsFlag None flag = flag ≡ false
+ReadsFlag (Some text) flag = (text ≡ codes "true" → flag ≡ true) × (text ≡ codes "false" → flag ≡ false)
 
 -- The word that was found for an argument.
 abbrev pub option_of : ArgMatches → List ℕ → Option (List ℕ)
@@ -60,6 +65,7 @@ AsksToRun found (Run run) =
     (run.image.now ≡ word_of found (codes "IMAGE")) × (run.volume.now ≡ word_of found (codes "VOLUME"))
     × ReadsBudget (option_of found (codes "budget")) (Some run.budget)
     × ReadsDate (option_of found (codes "date")) (Some run.day)
+    × ReadsFlag (one_text (found_of found) (codes "today")) run.is_today
 AsksToRun found other = ⊥
 
 abbrev pub AsksToList : ArgMatches → Request → Type 0
