@@ -2,7 +2,7 @@
 # Runs a COBOL program as a job: job.sh PROGRAM VOLUME [OPTION OF cobol run ..] < INPUT > OUTPUT
 #
 # PROGRAM.cob is in the folder of this script, and the image in the folder of the volume. The first job makes the volume, of SECTORS
-# sectors (4096). After a whole run VOLUME.saved is a copy of the volume. Otherwise standard error says what to do. The exit status is
+# sectors (1024). After a whole run VOLUME.saved is a copy of the volume. Otherwise standard error says what to do. The exit status is
 # that of the command that ended the job.
 set -u
 cobol=${COBOL:-cobol}
@@ -19,7 +19,7 @@ advise() {
 
 # The new volume has its name only when it is whole.
 if [ ! -e "$volume" ]; then
-    "$cobol" format "$volume.new" "${SECTORS:-4096}" && mv "$volume.new" "$volume" || exit
+    "$cobol" format "$volume.new" "${SECTORS:-1024}" && mv "$volume.new" "$volume" || exit
 fi
 "$cobol" compile "$source" "$image" || exit
 "$cobol" run "$image" "$volume" "$@" 2> "$errors"
