@@ -12,6 +12,22 @@ use std::alloc::{AllocError, Global};
 /// The day that each row is run on, YYMMDD.
 const DAY: [u8; 6] = *b"000000";
 
+/// How a row differs from what its files say, or how a way of running it differs from another one, if any does.
+pub fn check_row(alloc: Global, row: &Row) -> Result<Option<String>, AllocError> {
+    let by_source = see(alloc, row, Way::Source)?;
+    if let Some(difference) = by_source.difference(alloc, Way::Source, row.expected())? {
+        return Ok(Some(difference));
+    }
+    let count = if row.has_volume() { WAYS.len() } else { 1 };
+    for way in &WAYS[..count] {
+        let seen = see(alloc, row, *way)?;
+        if let Some(difference) = seen.difference(alloc, *way, by_source.expected())? {
+            return Ok(Some(difference));
+        }
+    }
+    Ok(None)
+}
+
 /// How a row is run.
 #[derive(Clone, Copy, PartialEq, Eq)]
 enum Way {
@@ -43,22 +59,6 @@ impl Way {
 
 /// The ways besides the first one.
 const WAYS: [Way; 3] = [Way::Image, Way::Halves, Way::OnePage];
-
-/// How a row differs from what its files say, or how a way of running it differs from another one, if any does.
-pub fn check_row(alloc: Global, row: &Row) -> Result<Option<String>, AllocError> {
-    let by_source = see(alloc, row, Way::Source)?;
-    if let Some(difference) = by_source.difference(alloc, Way::Source, row.expected())? {
-        return Ok(Some(difference));
-    }
-    let count = if row.has_volume() { WAYS.len() } else { 1 };
-    for way in &WAYS[..count] {
-        let seen = see(alloc, row, *way)?;
-        if let Some(difference) = seen.difference(alloc, *way, by_source.expected())? {
-            return Ok(Some(difference));
-        }
-    }
-    Ok(None)
-}
 
 /// What is seen of a run.
 #[derive(Drop)]
