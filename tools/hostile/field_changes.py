@@ -134,10 +134,9 @@ class FieldChange:
         arrival = self.volume.read(at + length + 8 * i, 8)
         offset, by = self.random.choice([0, key.length - 1, self.random.randrange(key.length)]), self.random.choice([1, 1, -1])
         old = self.volume.read(at + key.offset, key.length)
-        places = [at + key.offset + offset]
-        for entry_at, _ in file.alternates[i] if file.alternates else []:
-            if self.volume.read(entry_at, key.length + 8) == old + arrival:
-                places.append(entry_at + offset)
+        entries = [entry_at for entry_at, _ in (file.alternates[i] if file.alternates else [])
+                   if self.volume.read(entry_at, key.length + 8) == old + arrival]
+        places = [at + key.offset + offset, *(entry_at + offset for entry_at in entries)]
         for place in places:
             self.volume.write_number(place, 1, self.volume.number(place, 1) + by)
         return f"byte {offset} of a value of alternate key {i} changes by {by}, in the record at {at} and {len(places) - 1} entries"

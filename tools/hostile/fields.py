@@ -68,15 +68,14 @@ class Fields:
     def add_trees(self):
         self.pages = Pages(Sectors(self.volume), self.root)
         self.maps = [number(self.root.payload, 8 + 4 * i, 4) for i in range(map_count(self.root.sectors))]
-        for i, sector in enumerate(self.maps):
-            self.add_map(i, sector)
+        self.add_map()
         catalog = number(self.root.payload, 0, 4)
         for _, value in self.add_tree("catalog: ", catalog, CATALOG_KEY, catalog_parts(0)):
             self.add_file(value)
 
-    def add_map(self, i, sector):
-        """Adds the entries of a map sector: those of pages, and some that are free."""
-        entries = [(1024 * i + j, SECTOR * sector + 4 * j) for j in range(1024)] if sector else []
+    def add_map(self):
+        """Adds the entries of the map sectors: those of pages, and free ones."""
+        entries = [(1024 * i + j, SECTOR * sector + 4 * j) for i, sector in enumerate(self.maps) if sector for j in range(1024)]
         for page, at in entries:
             self.add("map: page" if page in self.pages.sectors else "map: free page", at, 4)
 

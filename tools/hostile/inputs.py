@@ -24,6 +24,7 @@ INPUTS_OF_A_SOURCE = 25
 SECTORS = "1024"
 OPTIONS = ["--budget", "2000", "--date", "850917"]
 CONSOLE = b"12\nABC\n-1.5\n\n" + b"Z" * 300 + b"\n00007\n"
+SHARE_OF_DUMPS = 0.25
 MOST_MEMORY = 2 * 1024 ** 3
 # How often a volume is made anew.
 SOURCES_OF_A_VOLUME = 3
@@ -125,7 +126,7 @@ class Images(Inputs):
 
 
 class Volumes:
-    """Changed volumes, of which `list`, `dump` and two runs have to give an answer."""
+    """Changed volumes, of which `list`, `dump` and a run have to give an answer."""
 
     def __init__(self, program, seed, folder):
         self.case = Case(program, seed, folder)
@@ -148,16 +149,21 @@ class Volumes:
         return ByteChange(self.random, self.scratch, self.lengths).make()
 
     def try_one(self):
-        """`list` and `dump` give answers that fit, and so do a run that writes and `list` after it."""
-        path, name = self.scratch.path, (self.case.content[0].name if self.case.content else b"A")
+        """`list` and a run that writes give answers that fit. So does `dump` at times, and `list` again if the run changed the volume."""
+        path = self.scratch.path
         status = self.answer("list", path).status
-        if self.answer("dump", "--", path, name).status not in ((0, 2) if status == 0 else (4,)):
-            raise Failure(f"list ends with {status}, and dump otherwise")
+        if self.random.random() < SHARE_OF_DUMPS:
+            self.dump(path, status)
         ran = self.answer("run", writing_image(self.case), path, *OPTIONS)
-        if status == 0 and (ran.err == b"refused 82\n" or self.answer("list", path).status):
+        if status == 0 and (ran.err == b"refused 82\n" or not self.scratch.is_unchanged() and self.answer("list", path).status):
             raise Failure(f"the volume was sound, the run ends with {ran.status} {ran.err}, and the volume is damaged")
         self.figures["changed volumes"] += 1
         self.figures["changed volumes damaged"] += status == 4
+
+    def dump(self, path, status):
+        name = self.case.content[0].name if self.case.content else b"A"
+        if self.answer("dump", "--", path, name).status not in ((0, 2) if status == 0 else (4,)):
+            raise Failure(f"list ends with {status}, and dump otherwise")
 
     def answer(self, *words):
         ran = self.product.do(*words)

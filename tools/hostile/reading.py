@@ -74,13 +74,19 @@ def shown_of(file, description):
         return (b"39\n" if file else b"35\n") + b"47\n" * len(description.alternates)
     orders = [b"00\n" + b"".join(b"00%s\n" % row.record for row in file.rows) + b"10\n"]
     for i, key in enumerate(description.alternates):
-        orders.append(shown_in_order(key, sorted(file.rows, key=lambda row: (key.of(row.record), row.arrivals[i]))))
+        rows = [((key.of(row.record), row.arrivals[i]), row.record) for row in file.rows]
+        orders.append(shown_in_order(sorted(rows, key=lambda row: row[0])))
     return b"".join(orders)
 
 
-def shown_in_order(key, rows):
+def shown_in_order(rows):
+    """What the rows show in the order of an alternate key. Each is a value with its arrival, and a record. READ NEXT goes to the next
+    value or arrival, so it passes over a row with the arrival of the row before it. Only a volume of halves that something else wrote has
+    such rows."""
     if not rows:
         return b"23\n"
-    nexts = [key.of(row.record) for row in rows[1:]] + [None]
-    shown = [b"%s%s\n" % (b"02" if key.of(row.record) == value else b"00", row.record) for row, value in zip(rows, nexts)]
+    nexts = [value for (value, _), _ in rows[1:]] + [None]
+    befores = [None] + [place for place, _ in rows]
+    shown = [b"%s%s\n" % (b"02" if place[0] == value else b"00", record)
+             for (place, record), value, before in zip(rows, nexts, befores) if place != before]
     return b"00\n" + b"".join(shown) + b"10\n"

@@ -12,11 +12,12 @@ FORMS = ("examples/*.cob", "rows/*/*.cob", "crates/acceptance/data/*.cob")
 MOST_BYTES = 6000
 MANY = 40
 PIECE = re.compile(rb"\n|[ \t\r]+|\"[^\"\n]*\"?|'[^'\n]*'?|[A-Za-z0-9-]+|[^\s]")
-NUMBERS = [b"0", b"1", b"2", b"7", b"18", b"19", b"49", b"66", b"77", b"88", b"99", b"160", b"1000", b"1001", b"65535", b"65536", b"1000001",
-           b"999999999999999999", b"9999999999999999999", b"0.5", b"-1", b"+3", b"1.", b".5"]
+NUMBERS = [b"0", b"1", b"2", b"7", b"18", b"19", b"49", b"66", b"77", b"88", b"99", b"160", b"1000", b"1001", b"65535", b"65536",
+           b"1000001", b"999999999999999999", b"9999999999999999999", b"0.5", b"-1", b"+3", b"1.", b".5"]
 PICTURES = [b"9(18)", b"9(19)", b"S9(4)V99", b"X(65535)", b"X(65536)", b"ZZ9.99CR", b"$$,$$9", b"+++9", b"XXBXX/X", b"A(3)", b"9(0)", b"X(",
             b"P9", b"9V9V9", b"*(3)9", b"Z(9)9(9)", b"X(1000)", b"X(1001)"]
-BYTES = [b"\0", b"\t", b"\r", b"\x7f", b"\xe9", b"\xff", b"\n", b"-", b"*", b"D", b"(", b")", b'"', b"'", b".", b",", b";", b":", b"=", b"<"]
+BYTES = [b"\0", b"\t", b"\r", b"\x7f", b"\xe9", b"\xff", b"\n", b"-", b"*", b"D", b"(", b")", b'"', b"'", b".", b",", b";", b":", b"=",
+         b"<"]
 
 
 @cache
@@ -90,7 +91,8 @@ class SourceEdit:
 
     def rename(self):
         """A name or a literal is another one of the source."""
-        names = [i for i in self.places if self.pieces[i] not in common_words() and (self.pieces[i][:1].isalnum() or self.pieces[i][:1] == b'"')]
+        others = [i for i in self.places if self.pieces[i] not in common_words()]
+        names = [i for i in others if self.pieces[i][:1].isalnum() or self.pieces[i][:1] == b'"']
         if names:
             self.pieces[self.random.choice(names)] = self.pieces[self.random.choice(names)]
 

@@ -42,12 +42,16 @@ class Cases:
         with ProcessPoolExecutor(self.words.jobs) as pool:
             running = self.begun(pool, set())
             while running:
-                done, running = wait(running, return_when=FIRST_COMPLETED)
-                for future in done:
-                    self.add(*future.result())
-                running = self.begun(pool, running)
+                running = self.begun(pool, self.take_ended(running))
         print(f"{self.summary()}; {self.failures} failed; {time.time() - self.began:.0f} seconds", flush=True)
         return self.failures
+
+    def take_ended(self, running):
+        """Adds the figures of the cases that have ended, and returns those that still run."""
+        done, running = wait(running, return_when=FIRST_COMPLETED)
+        for future in done:
+            self.add(*future.result())
+        return running
 
     def begun(self, pool, running):
         """The running cases, and new ones if more are needed."""
