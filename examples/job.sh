@@ -3,9 +3,9 @@
 #
 # PROGRAM.cob is in the folder of this script, and the image in the folder of the volume. The first job makes the volume, of SECTORS
 # sectors (1024). After a whole run VOLUME.saved is a copy of the volume. Otherwise standard error says what to do. The exit status is
-# that of the command that ended the job.
+# that of the command that ended the job. The program is that of the variable COBOL, or `cobol` on the PATH, or that of the repository.
 set -u
-cobol=${COBOL:-cobol}
+cobol=${COBOL:-$(command -v cobol || echo "$(dirname "$0")/../cobol")}
 program=$1
 volume=$2
 shift 2
