@@ -1,5 +1,6 @@
-# Stops a program after each of its statements, on a copy of the volume BEFORE, and runs it again with the same input. The second run
-# has to show what a run without a stop shows. Prints the budgets after which it doesn't, and then how many volumes were run again.
+# Stops a program after each statement that changes a file, on a copy of the volume BEFORE, and runs it again with the same input. The
+# second run has to show what a run without a stop shows. Prints the budgets after which it doesn't, and then how many volumes were run
+# again. It tries each second budget: the number of volumes says whether that is enough.
 # Called as: stop.sh PROGRAM BEFORE INPUT OUTPUT [--date YYMMDD]
 program=$1 before=$2 input=$3 output=$4
 shift 4
@@ -7,7 +8,7 @@ cobol compile "$program" I || exit
 cp "$before" last
 budget=0 count=0
 while
-    budget=$((budget + 1))
+    budget=$((budget + 2))
     cp "$before" V
     cobol run I V --budget $budget "$@" < "$input" > /dev/null 2>&1
     [ $? = 5 ]

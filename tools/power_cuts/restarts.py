@@ -5,6 +5,8 @@ import os
 import shutil
 import subprocess
 from collections import Counter, namedtuple
+from itertools import product
+from math import prod
 
 from power_cuts.checking import essence, examine
 from power_cuts.images import Disk
@@ -14,6 +16,8 @@ from power_cuts.trace import Show, Sync, Write, trace_run
 # A program's source, the files with its console lines and with what its run shows, and the further words of `cobol run`.
 Job = namedtuple("Job", "source given shown options")
 KILLED = -9
+# So many images of a moment are all tried.
+MOST_IMAGES = 512
 MOST_SECONDS = 60
 
 
@@ -69,7 +73,7 @@ class Restarts:
         seen = set()
         for number, event in enumerate([None, *events]):
             disk.follow(event)
-            for image in list(disk.images()):
+            for image in self.images(disk):
                 total = disk.sum_of(image)
                 if total not in seen:
                     seen.add(total)
@@ -77,6 +81,14 @@ class Restarts:
                         self.run_again(path, level, f"call {number}, {type(event).__name__}, sectors {sorted(image)}")
         self.figures["images"] += len(seen)
         disk.close()
+
+    def images(self, disk):
+        """All images that a power cut may leave at this moment, or a choice of them if they are many."""
+        choices = {sector: [None, *texts] for sector, texts in disk.pending.items()}
+        if prod(map(len, choices.values())) > MOST_IMAGES:
+            self.figures["moments with a choice of images"] += 1
+            return list(disk.images())
+        return [{sector: text for sector, text in zip(choices, chosen) if text is not None} for chosen in product(*choices.values())]
 
     def run_again(self, path, level, note):
         volume = f"{self.folder}/next-{level}"
@@ -118,7 +130,7 @@ class Restarts:
 
 
 def calls_of(events):
-    """The calls of the host behind the events, each as its name and its number among those of its name. A call that wrote several
+    """The calls of the host that the events show, each as its name and its number among those of its name. A call that wrote several
     sectors is several events, so there are at most as many calls."""
     names = {Write: "pwrite64", Sync: "fdatasync", Show: "write"}
     for kind, name in names.items():
