@@ -12,7 +12,7 @@ const EXIT_STATUSES: &str = "Exit status:
   4  something was refused: a file of the host, the device, the volume, the image or memory
   5  the budget of statements was used up";
 
-/// The five commands.
+/// The commands.
 pub fn command_line<'a>(alloc: Global) -> Result<Command<'a>, AllocError> {
     Command::new(alloc, "cobol")
         .about("Compiles COBOL-85 programs, and runs them over volumes of files")
@@ -23,7 +23,10 @@ pub fn command_line<'a>(alloc: Global) -> Result<Command<'a>, AllocError> {
         .subcommand(compile_line(alloc)?)?
         .subcommand(run_line(alloc)?)?
         .subcommand(list_line(alloc)?)?
-        .subcommand(dump_line(alloc)?)
+        .subcommand(dump_line(alloc)?)?
+        .subcommand(check_line(alloc)?)?
+        .subcommand(explain_line(alloc)?)?
+        .subcommand(layout_line(alloc)?)
 }
 
 fn format_line<'a>(alloc: Global) -> Result<Command<'a>, AllocError> {
@@ -76,6 +79,24 @@ fn dump_line<'a>(alloc: Global) -> Result<Command<'a>, AllocError> {
             "NAME",
             "The file's name; write `--` before VOLUME if it begins with a hyphen",
         ))
+}
+
+fn check_line<'a>(alloc: Global) -> Result<Command<'a>, AllocError> {
+    Command::new(alloc, "check")
+        .about("Checks a source, and shows what is wrong and what to do")
+        .arg(required(alloc, "SOURCE", "The program's text, in fixed format"))
+}
+
+fn explain_line<'a>(alloc: Global) -> Result<Command<'a>, AllocError> {
+    Command::new(alloc, "explain")
+        .about("Explains the number of a fault, a refusal or a FILE STATUS")
+        .arg(required(alloc, "N", "The number that was printed, such as 40"))
+}
+
+fn layout_line<'a>(alloc: Global) -> Result<Command<'a>, AllocError> {
+    Command::new(alloc, "layout")
+        .about("Shows the place and size of each item and file of a source")
+        .arg(required(alloc, "SOURCE", "The program's text, in fixed format"))
 }
 
 /// A word that has to be there.
