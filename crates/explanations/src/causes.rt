@@ -20,6 +20,10 @@ Only columns 8 to 72 count. Write two literals, or continue this one: an
 indicator - in column 7 of the next line, and its mark again in column 12 or
 later.
 
+@ comment
+a comment has its asterisk in column 7
+The text of a program begins in column 8.
+
 @ end of nothing
 no statement is open that this word could end
 Remove it, or look for a word END- that is too many before it.
@@ -41,6 +45,14 @@ names of paragraphs begin in column 8 and statements in column 12.
 @ misspelt
 this is no word of the language
 Look for a misspelt word.
+
+@ no identification
+the program begins with IDENTIFICATION DIVISION
+Write IDENTIFICATION DIVISION and a period, and then PROGRAM-ID with a name.
+
+@ no program id
+PROGRAM-ID is missing
+Write PROGRAM-ID, a period and a name after IDENTIFICATION DIVISION.
 
 @ no statement
 a statement is missing before this word

@@ -237,7 +237,7 @@ Fault 42 (sources: files): this name is given twice
 A file's name in a second SELECT or FD, at that name.
 
 What to do:
-Give each file a name of its own.
+Give each file and each procedure a name of its own.
 
 Fault 42 (sources: statements): this name is given twice
 
@@ -245,7 +245,7 @@ The name of two paragraphs or sections, also in two sections, at the second
 one.
 
 What to do:
-Give each procedure a name of its own.
+Give each file and each procedure a name of its own.
 
 FILE STATUS 42
 
@@ -388,7 +388,8 @@ condition or TRUE, or a condition for a value. A name alone is a value if no
 condition has it. `EVALUATE N WHEN N = 1`
 
 What to do:
-`EVALUATE TRUE WHEN N = 1`, or `EVALUATE N WHEN 1`. ANY if it does not matter.
+Write `EVALUATE TRUE WHEN N = 1`, or `EVALUATE N WHEN 1`. Write ANY for an
+object that does not matter.
 
 @ 54
 Fault 54 (sources: statements): this PERFORM repeats its own paragraph
@@ -406,7 +407,7 @@ Fault 55 (sources: entries): the range ends before it begins
 A range of values whose first value is the greater, at its first literal.
 
 What to do:
-Exchange the two values.
+Exchange the two ends of the range.
 
 Fault 55 (sources: statements): the range ends before it begins
 
@@ -414,7 +415,7 @@ THRU whose last procedure is before its first, at the name after THRU. `PERFORM
 C THRU B` where B is first in the text.
 
 What to do:
-Exchange the two names.
+Exchange the two ends of the range.
 
 @ 56
 Fault 56 (sources: statements): there is no paragraph and no sentence
@@ -452,7 +453,7 @@ FILE STATUS, at its name. It must be an alphanumeric item of two characters in
 working storage, without subscripts.
 
 What to do:
-`01 STATE PIC XX.`
+Declare `01 STATE PIC XX.` in WORKING-STORAGE SECTION.
 
 @ 60
 Fault 60 (sources: files): RELATIVE KEY is missing or does not fit
@@ -462,7 +463,8 @@ without subscripts. It is required, at the file's name, if access is random or
 dynamic or if a START names the file.
 
 What to do:
-`01 ROW-NUMBER PIC 9(6).`
+Declare `01 ROW-NUMBER PIC 9(6).` in WORKING-STORAGE SECTION, and write
+RELATIVE KEY IS ROW-NUMBER.
 
 @ 61
 Fault 61 (sources: files): the file never permits this statement
@@ -507,10 +509,10 @@ is edited; `INSPECT T REPLACING ALL 0 BY " "`; `INSPECT T REPLACING ALL "AB" BY
 "C"`
 
 What to do:
-A counter `PIC 99`. The literal in quotation marks, or ZERO. MOVE the number to
-an item without S in DISPLAY usage first. Fill the shorter text with spaces, or
-write a figurative constant, which takes the size: `REPLACING ALL "0" BY
-SPACE`.
+Use a counter `PIC 99`. Write a literal in quotation marks, or ZERO. MOVE the
+number to an item without S in DISPLAY usage first. Fill the shorter text with
+spaces, or write a figurative constant, which takes the size: `REPLACING ALL
+"0" BY SPACE`.
 
 @ 65
 Fault 65 (sources: statements): STRING cannot use this operand

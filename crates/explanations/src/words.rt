@@ -217,16 +217,8 @@ XML statements are not in this language
 Build the text by STRING.
 "#;
 
-/// Other words, pairs of words and signs: the part is right if reading stopped at it.
+/// Other words, and pairs of words or signs: the part is right if reading stopped at it.
 pub(crate) const WORDS: &[u8] = br#"
-@ *
-a comment has its asterisk in column 7
-The text of a program begins in column 8.
-
-@ /
-a comment has its slash in column 7
-The text of a program begins in column 8.
-
 @ *>
 comments at the end of a line are not in this language
 Give the comment a line of its own, with an asterisk in column 7.
@@ -250,41 +242,6 @@ Write `IF A >= B`.
 @ =<
 the relation is written <=
 Write `IF A <= B`.
-
-@ :
-a colon begins no word or literal
-Reference modification, as in NAME (1:3), is not in this language. Give the
-part a name by REDEFINES. SQL with host variables is not in it either.
-
-@ _
-an underscore is not part of a word
-Write a hyphen: CUSTOMER-NAME.
-
-@ &
-an ampersand is not in this language
-Continue a long literal on the next line, or show two literals one after the
-other.
-
-@ $
-a dollar sign is allowed in pictures only
-Put it into a literal.
-
-@ #
-a number sign begins no word or literal
-Put it into a literal.
-
-@ @
-an at sign begins no word or literal
-Put it into a literal.
-
-@ .
-a period needs a space after it
-Write a space after the period that ends the sentence. A number does not end
-with its point: write 5 or 5.0.
-
-@ !
-an exclamation mark begins no word or literal
-Put it into a literal. The relation is written NOT =.
 
 @ ACCEPT FROM
 ACCEPT takes FROM DATE only
@@ -635,4 +592,42 @@ Remove the phrase. Count the lines in an item.
 @ WRITE BEFORE
 there are no printers
 Remove BEFORE ADVANCING. DISPLAY shows a line, and WRITE adds a row to a file.
+"#;
+
+/// Characters that begin no token.
+pub(crate) const SIGNS: &[u8] = br#"
+@ :
+a colon begins no word or literal
+Reference modification, as in NAME (1:3), is not in this language. Give the
+part a name by REDEFINES. SQL with host variables is not in it either.
+
+@ _
+an underscore is not part of a word
+Write a hyphen: CUSTOMER-NAME.
+
+@ &
+an ampersand is not in this language
+Continue a long literal on the next line, or show two literals one after the
+other.
+
+@ $
+a dollar sign is allowed in pictures only
+Put it into a literal.
+
+@ #
+a number sign begins no word or literal
+Put it into a literal.
+
+@ @
+an at sign begins no word or literal
+Put it into a literal.
+
+@ .
+a period needs a space after it
+Write a space after the period that ends the sentence. A number does not end
+with its point: write 5 or 5.0.
+
+@ !
+an exclamation mark begins no word or literal
+Put it into a literal. The relation is written NOT =.
 "#;

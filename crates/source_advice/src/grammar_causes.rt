@@ -11,11 +11,17 @@ use crate::word_causes::word_cause;
 use std::alloc::{AllocError, Global};
 use tokens::{Kind, Sign, Token};
 
+/// The number of the token after `IDENTIFICATION DIVISION.`.
+const AFTER_IDENTIFICATION: usize = 3;
+
 /// Verbs whose operands are no expressions.
 const WITHOUT_EXPRESSIONS: &[u8] = b"ACCEPT ADD DISPLAY DIVIDE INITIALIZE MOVE MULTIPLY SET STRING SUBTRACT";
 
 /// The advice about the token at which reading stopped.
 pub fn grammar_cause(alloc: Global, view: View<'_>, number: u8) -> Found {
+    if let Some(advice) = beginning_cause(alloc, view)? {
+        return Ok(Some(advice));
+    }
     if let Some(advice) = period_cause(alloc, view)? {
         return Ok(Some(advice));
     }
@@ -35,6 +41,21 @@ pub fn grammar_cause(alloc: Global, view: View<'_>, number: u8) -> Found {
         return Ok(Some(advice));
     }
     form_cause(alloc, view, number)
+}
+
+/// The advice about the first words of a program, and about a comment that begins in column 8.
+fn beginning_cause(alloc: Global, view: View<'_>) -> Found {
+    let here = view.written(alloc, Some(view.at))?;
+    if view.is_operator(Some(view.at)) && view.is_first_of_line(view.at) {
+        return Advice::for_cause(alloc, b"comment", b"");
+    }
+    if view.at == 0 {
+        return Advice::for_cause(alloc, b"no identification", here.as_slice());
+    }
+    if view.at == AFTER_IDENTIFICATION && !view.reads(alloc, Some(view.at), b"PROGRAM-ID")? {
+        return Advice::for_cause(alloc, b"no program id", here.as_slice());
+    }
+    Ok(None)
 }
 
 /// The advice about conditions that aren't written in full, expressions where none may be, and numbers with a sign.

@@ -2,12 +2,12 @@
 
 use crate::advice::{Advice, Found};
 use crate::view::View;
-use std::alloc::{AllocError, Global};
+use std::alloc::Global;
 
 /// The advice that a period is missing, before the place or after a name at it.
 pub fn period_cause(alloc: Global, view: View<'_>) -> Found {
     let here = view.written(alloc, Some(view.at))?;
-    if is_period_missing(alloc, view)? {
+    if is_period_missing(view) {
         return Advice::for_cause(alloc, b"period before a line", here.as_slice());
     }
     if is_paragraph_without_period(view) {
@@ -17,24 +17,14 @@ pub fn period_cause(alloc: Global, view: View<'_>) -> Found {
 }
 
 /// Whether the place begins a line in area A, or an entry, and no period is before it.
-fn is_period_missing(alloc: Global, view: View<'_>) -> Result<bool, AllocError> {
+fn is_period_missing(view: View<'_>) -> bool {
     if view.is_period(view.before(1)) || view.at == 0 || !view.is_first_of_line(view.at) {
-        return Ok(false);
+        return false;
     }
     if view.is_in_area_a(view.at) {
-        return Ok(true);
+        return true;
     }
-    Ok(view.is_numeric(Some(view.at)) && !is_in_procedures(alloc, view)?)
-}
-
-/// Whether the place is in the procedure division.
-pub fn is_in_procedures(alloc: Global, view: View<'_>) -> Result<bool, AllocError> {
-    for number in 0..view.at {
-        if view.is_reserved(Some(number)) && view.reads(alloc, Some(number), b"PROCEDURE")? {
-            return Ok(true);
-        }
-    }
-    Ok(false)
+    view.is_numeric(Some(view.at)) && !view.is_in_procedures(view.at)
 }
 
 /// Whether a word is alone in its line, in area A, after a period.

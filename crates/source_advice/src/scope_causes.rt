@@ -1,7 +1,6 @@
 //! Statements that are ended too early, too late or not at all.
 
 use crate::advice::{Advice, Found};
-use crate::period_causes::is_in_procedures;
 use crate::spelling::has_word;
 use crate::statement_forms::is_verb;
 use crate::view::View;
@@ -53,7 +52,7 @@ fn is_open(alloc: Global, view: View<'_>, verb: &[u8]) -> Result<bool, AllocErro
 
 /// The advice about a period that ends no statement: a PERFORM is open, or the program ends before its procedures.
 fn period_cause(alloc: Global, view: View<'_>) -> Found {
-    if view.after(1) == Some(view.tokens.len()) && !is_in_procedures(alloc, view)? {
+    if view.after(1) == Some(view.tokens.len()) && !view.is_in_procedures(view.at) {
         return Advice::for_cause(alloc, b"no procedure division", b"");
     }
     let Some(perform) = open_perform(alloc, view)? else {

@@ -37,9 +37,10 @@ pub fn reserved_like(alloc: Global, word: &[u8]) -> Result<Option<&'static [u8]>
     Ok(nearest)
 }
 
-/// Whether two words are spelled almost alike.
+/// Whether two words are spelled almost alike, and not the same.
 pub fn is_alike(alloc: Global, one: &[u8], other: &[u8]) -> Result<bool, AllocError> {
-    Ok(edits(alloc, one, other)? <= most_edits(other))
+    let edits = edits(alloc, one, other)?;
+    Ok(edits > 0 && edits <= most_edits(other))
 }
 
 /// How many letters may be wrong in a word that is misspelt: one in five.

@@ -19,6 +19,8 @@ const FIRST_OF_TREES: u8 = 20;
 const GRAMMAR: u8 = 30;
 
 const UNDECLARED: u8 = 40;
+/// The numbers of faults of items, which are reported at the level number.
+const ITEM_FAULTS: [u8; 3] = [44, 45, 48];
 
 /// What is said of the fault of this number at this place of a source text: what is wrong, and what to do.
 pub fn advise(
@@ -36,10 +38,13 @@ pub fn advise(
     let Ok(tokens) = scan(alloc, &lines) else {
         return Advice::for_number(alloc, number, b"");
     };
-    let view = View::at_place(tokens.as_slice(), lines.characters(), place);
+    let view = View::at_end(tokens.as_slice(), lines.characters()).at_place(place);
     match tree_cause(alloc, source, view, number)? {
         Some(advice) => Ok(advice),
-        None => Advice::for_number(alloc, number, view.written(alloc, Some(view.at))?.as_slice()),
+        None => {
+            let word = view.written(alloc, named(view, number))?;
+            Advice::for_number(alloc, number, word.as_slice())
+        }
     }
 }
 
@@ -71,13 +76,24 @@ fn name_cause(alloc: Global, view: View<'_>) -> Found {
     Ok(None)
 }
 
-/// The advice that the line of the place, or the line before it with text, is cut.
+/// The token that a fault is about: the item's name after the level number where an entry is refused, and else the one at the place.
+fn named(view: View<'_>, number: u8) -> Option<usize> {
+    if ITEM_FAULTS.contains(&number) && view.is_word(view.after(1)) {
+        return view.after(1);
+    }
+    Some(view.at)
+}
+
+/// The advice that the line of the place is cut after it, or the line before.
 fn cut_around(alloc: Global, source: &[u8], view: View<'_>) -> Found {
     let before = view.line(view.before(1));
-    if before > 0 {
+    if before > 0 && view.is_first_of_line(view.at) {
         if let Some(advice) = cut_cause(alloc, source, before, b"column 72")? {
             return Ok(Some(advice));
         }
     }
-    cut_cause(alloc, source, view.line(Some(view.at)), b"column 72")
+    if view.is_last_of_line(view.at) {
+        return cut_cause(alloc, source, view.line(Some(view.at)), b"column 72");
+    }
+    Ok(None)
 }

@@ -3,7 +3,7 @@
 use lexical::Place;
 use source_lines::Character;
 use std::alloc::{AllocError, Global};
-use tokens::{Kind, Token};
+use tokens::{Kind, Reserved, Token};
 
 /// The last column of area A.
 const AREA_A: u8 = 11;
@@ -15,15 +15,18 @@ pub struct View<'a> {
     pub characters: &'a [Character],
     /// The number of the token at the place.
     pub at: usize,
+    /// The number of the token PROCEDURE that begins the procedures, or of the end.
+    procedures: usize,
 }
 
 impl<'a> View<'a> {
-    /// Seen from the token at a place, or from the end if none is there.
-    pub fn at_place(tokens: &'a [Token], characters: &'a [Character], place: Place) -> View<'a> {
-        let mut at = tokens.len();
+    /// Seen from the end.
+    pub fn at_end(tokens: &'a [Token], characters: &'a [Character]) -> View<'a> {
+        let at = tokens.len();
+        let mut procedures = tokens.len();
         for (number, token) in tokens.iter().enumerate() {
-            if token.place == place {
-                at = number;
+            if matches!(token.kind, Kind::Reserved(Reserved::Procedure)) {
+                procedures = number;
                 break;
             }
         }
@@ -31,7 +34,33 @@ impl<'a> View<'a> {
             tokens,
             characters,
             at,
+            procedures,
         }
+    }
+
+    /// Seen from the token at a place, or from the end if none is there.
+    pub fn at_place(self, place: Place) -> View<'a> {
+        for (at, token) in self.tokens.iter().enumerate() {
+            if token.place == place {
+                return View { at, ..self };
+            }
+        }
+        self
+    }
+
+    /// Seen from a token.
+    pub fn from_token(self, at: usize) -> View<'a> {
+        View { at, ..self }
+    }
+
+    /// Whether a token is in the procedure division.
+    pub fn is_in_procedures(&self, number: usize) -> bool {
+        self.procedures < number
+    }
+
+    /// Whether a token is the last of its line.
+    pub fn is_last_of_line(&self, number: usize) -> bool {
+        self.line(Some(number)) != self.line(number.checked_add(1))
     }
 
     /// The number of the token so many before the place.

@@ -24,13 +24,9 @@ pub fn warnings(alloc: Global, source: &[u8]) -> Result<Vec<Warning>, AllocError
     let Ok(tokens) = scan(alloc, &lines) else {
         return Ok(found);
     };
-    let view = View {
-        tokens: tokens.as_slice(),
-        characters: lines.characters(),
-        at: tokens.len(),
-    };
+    let view = View::at_end(tokens.as_slice(), lines.characters());
     for number in 0..tokens.len() {
-        if let Some(warning) = paragraph_warning(alloc, View { at: number, ..view })? {
+        if let Some(warning) = paragraph_warning(alloc, view.from_token(number))? {
             found.push(warning)?;
         }
     }
@@ -39,7 +35,8 @@ pub fn warnings(alloc: Global, source: &[u8]) -> Result<Vec<Warning>, AllocError
 
 /// The warning about a paragraph at the place, if its name is in area B or almost that of a verb, and a word follows in area B.
 fn paragraph_warning(alloc: Global, view: View<'_>) -> Result<Option<Warning>, AllocError> {
-    let is_paragraph = view.is_word(Some(view.at))
+    let is_paragraph = view.is_in_procedures(view.at)
+        && view.is_word(Some(view.at))
         && view.is_period(view.before(1))
         && view.is_period(view.after(1));
     let Some(token) = view.token(Some(view.at)) else {

@@ -7,7 +7,7 @@ use crate::view::View;
 use explanations::Book;
 use std::alloc::{AllocError, Global};
 
-/// The advice about a word, a pair or a sign of other COBOLs, at the place or around it.
+/// The advice about a word, a pair of words or of signs of other COBOLs, at the place or around it.
 pub fn word_cause(alloc: Global, view: View<'_>) -> Found {
     if let Some(advice) = pair_cause(alloc, view)? {
         return Ok(Some(advice));
@@ -16,7 +16,7 @@ pub fn word_cause(alloc: Global, view: View<'_>) -> Found {
         return Ok(Some(advice));
     }
     let here = view.text(alloc, Some(view.at))?;
-    if view.is_word(Some(view.at)) && is_declared(alloc, view, here.as_slice())? {
+    if !view.is_word(Some(view.at)) || is_declared(alloc, view, here.as_slice())? {
         return Ok(None);
     }
     Advice::under(alloc, Book::Words, here.as_slice())
