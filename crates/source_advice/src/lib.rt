@@ -9,16 +9,16 @@ mod format_causes;
 mod grammar_causes;
 mod lines;
 mod name_causes;
+mod paragraph_warnings;
 mod period_causes;
 mod scope_causes;
 mod spelling;
 mod statement_forms;
 mod token_causes;
 mod view;
-mod warnings;
 mod word_causes;
 
 pub use advice::Advice;
 pub use lines::{line_of, shown_line};
+pub use paragraph_warnings::{Warning, warnings};
 pub use token_causes::advise;
-pub use warnings::{Warning, warnings};
