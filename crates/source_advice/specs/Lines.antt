@@ -4,14 +4,6 @@ use Rattle.std.specs.Str.Lines.{strip_carriage_return}
 use Rattle.source_lines.specs.Cut.{lines}
 use Rattle.source_lines.specs.Line.{is_in_character_set, tab_width}
 
-abbrev pub after_first : List (List ℕ) → List (List ℕ)
-after_first [] = []
-after_first (line ∷ more) = more
-
-abbrev pub first_of : List (List ℕ) → List ℕ
-first_of [] = []
-first_of (line ∷ more) = line
-
 abbrev pub without_return : List ℕ → List ℕ
 without_return line = strip_carriage_return line
 

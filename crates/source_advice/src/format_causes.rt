@@ -109,12 +109,10 @@ fn sign_at(line: &[u8], place: Place) -> &[u8] {
 /// The characters from a column up to the next space.
 fn word_at(line: &[u8], place: Place) -> &[u8] {
     let rest = from_column(line, place);
-    let mut size = 0;
-    for byte in rest {
+    for (size, byte) in rest.iter().enumerate() {
         if *byte == b' ' {
-            break;
+            return &rest[..size];
         }
-        size += 1;
     }
-    &rest[..size]
+    rest
 }

@@ -1,6 +1,6 @@
 //! The lines of a source text as they are shown.
 
-ghost use Rattle.std.specs.Prelude.{◌≡◌, ◌-◌, [], get_or, IfOk, OnOk};
+ghost use Rattle.std.specs.Prelude.{◌≡◌, [], drop, get_or, IfOk, OnOk};
 ghost use Rattle.source_lines.specs.Cut.{lines};
 ghost use Rattle.source_advice.specs.Lines as spec;
 
@@ -26,7 +26,7 @@ pub fn line_of(source: &[u8], number: u32) -> &[u8]
 
 /// What is after the first line.
 fn after_line(rest: &[u8]) -> &[u8]
-    ensures { lines result.now ≡ spec.after_first (lines rest.now) }
+    ensures { lines result.now ≡ drop 1 (lines rest.now) }
 {
     match memchr(b'\n', rest) {
         Some(end) => &rest[end + 1..],
@@ -36,7 +36,7 @@ fn after_line(rest: &[u8]) -> &[u8]
 
 /// The first line, without its end.
 fn line_at(rest: &[u8]) -> &[u8]
-    ensures { result.now ≡ spec.first_of (lines rest.now) }
+    ensures { result.now ≡ get_or (lines rest.now) 0 [] }
 {
     match memchr(b'\n', rest) {
         Some(end) => without_return(&rest[..end]),

@@ -1,5 +1,7 @@
 //! Words that are spelled almost alike.
 
+ghost use Rattle.std.specs.Prelude.{◌≤◌};
+
 use explanations::reserved_words;
 use std::alloc::{AllocError, Global};
 use std::str::from_utf8;
@@ -44,7 +46,9 @@ pub fn is_alike(alloc: Global, one: &[u8], other: &[u8]) -> Result<bool, AllocEr
 }
 
 /// How many letters may be wrong in a word that is misspelt: one in five.
-fn most_edits(word: &[u8]) -> usize {
+fn most_edits(word: &[u8]) -> usize
+    ensures { result ≤ 2 }
+{
     if word.len() < 3 {
         0
     } else if word.len() <= SHORT {
