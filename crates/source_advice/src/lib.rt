@@ -19,6 +19,6 @@ mod view;
 mod word_causes;
 
 pub use advice::Advice;
-pub use lines::{line_of, shown_line};
+pub use lines::{line_of, shown_byte, shown_line};
 pub use paragraph_warnings::{Warning, warnings};
 pub use token_causes::advise;

@@ -87,7 +87,7 @@ fn push_columns(text: &mut Vec<u8>, byte: u8) -> Result<(), AllocError>
 }
 
 /// A byte as it is shown.
-pub(crate) fn shown_byte(byte: u8) -> u8
+pub fn shown_byte(byte: u8) -> u8
     ensures { result ≡ spec.shown_byte byte }
 {
     if b' ' <= byte && byte <= b'~' {
