@@ -1,2 +1,3 @@
 pub mod Report
 pub mod Check
+pub mod Layout

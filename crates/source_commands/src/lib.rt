@@ -4,6 +4,8 @@
 #![tactic(auto)]
 
 mod check;
+mod file_line;
+mod item_line;
 mod layout_text;
 mod report;
 mod source_layout;
