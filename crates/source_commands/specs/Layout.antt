@@ -109,11 +109,16 @@ prime_key_text (organization.Indexed key) = key_text (codes " key") key
 abbrev pub alternate_text : AlternateKey → List ℕ
 alternate_text one = key_text (codes " alternate key") one.place ++ (if one.duplicates then codes " duplicates" else [])
 
+abbrev pub assigned_text : List ℕ → List ℕ
+assigned_text name = codes " as " ++ name
+
+abbrev pub record_text : Organization → ℕ → List ℕ
+record_text kind size = organization_text kind ++ decimal size
+
 -- the name on the volume, the organization, the bytes of a record, and the keys
 abbrev pub volume_text : List ℕ → Organization → ℕ → List AlternateKey → List ℕ
 volume_text name kind size alternates =
-    codes " on the volume " ++ name ++ organization_text kind ++ decimal size ++ prime_key_text kind
-    ++ flat_map alternate_text alternates
+    assigned_text name ++ record_text kind size ++ prime_key_text kind ++ flat_map alternate_text alternates
 
 abbrev pub described_text : Option ProgramFile → List ℕ
 described_text None = []

@@ -35,14 +35,26 @@ fn push_described(out: &mut Vec<u8>, file: &ProgramFile<'_>) -> Result<(), Alloc
         ++ spec.volume_text file.now.select.now.assigned.characters file.now.organization
         file.now.record_length file.now.alternates.items) }
 {
-    out.extend_from_slice(b" on the volume ")?;
-    out.extend_from_slice(file.select.assigned.characters.as_slice())?;
-    out.extend_from_slice(organization_text(file.organization))?;
-    push_number(out, u32::from(file.record_length))?;
-    if let Organization::Indexed(key) = file.organization {
-        push_key(out, b" key", key)?;
-    }
+    push_assigned(out, file.select.assigned.characters.as_slice())?;
+    push_record(out, file.organization, file.record_length)?;
+    push_prime_key(out, file.organization)?;
     push_alternates(out, file.alternates.as_slice())
+}
+
+/// Adds the name on the volume.
+fn push_assigned(out: &mut Vec<u8>, name: &[u8]) -> Result<(), AllocError>
+    ensures { OnOk result (out.new.items ≡ out.old.items ++ spec.assigned_text name.now) }
+{
+    out.extend_from_slice(b" as ")?;
+    out.extend_from_slice(name)
+}
+
+/// Adds the organization and the bytes of a record.
+fn push_record(out: &mut Vec<u8>, organization: Organization, size: u16) -> Result<(), AllocError>
+    ensures { OnOk result (out.new.items ≡ out.old.items ++ spec.record_text organization size) }
+{
+    out.extend_from_slice(organization_text(organization))?;
+    push_number(out, u32::from(size))
 }
 
 fn organization_text(organization: Organization) -> &'static [u8]
@@ -52,6 +64,16 @@ fn organization_text(organization: Organization) -> &'static [u8]
         Organization::Sequential => b" sequential record ",
         Organization::Relative => b" relative record ",
         Organization::Indexed(_) => b" indexed record ",
+    }
+}
+
+/// Adds the key that tells rows apart, if the file is indexed.
+fn push_prime_key(out: &mut Vec<u8>, organization: Organization) -> Result<(), AllocError>
+    ensures { OnOk result (out.new.items ≡ out.old.items ++ spec.prime_key_text organization) }
+{
+    match organization {
+        Organization::Indexed(key) => push_key(out, b" key", key),
+        Organization::Sequential | Organization::Relative => Ok(()),
     }
 }
 
