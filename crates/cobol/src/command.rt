@@ -6,11 +6,14 @@ ghost use Rattle.cobol.specs.Words.{IsWithinBounds};
 ghost use Rattle.cobol.specs.declared.verdict.Verdict.{Verdict};
 
 use crate::compile_command::compile_file;
+use crate::copy_command::copy;
 use crate::dump_command::dump;
 use crate::format_command::format;
 use crate::list_command::list;
+use crate::load_command::load;
 use crate::progress::Reasons;
 use crate::run_command::run;
+use crate::stat_command::stat;
 use crate::verdict::Verdict;
 use crate::words::{Request, read_words};
 use std::convert::AsStr;
@@ -48,6 +51,9 @@ where
 {
     match request {
         Request::Format { volume, sectors } => format(rt, volume, sectors, err),
+        Request::Copy { old, new, sectors } => copy(rt, old, new, sectors, err),
+        Request::Load { volume, name } => load(rt, volume, name, console, &mut out, err),
+        Request::Stat { volume } => stat(rt, volume, &mut out),
         Request::Compile { source, image } => compile_file(rt, source, image),
         Request::Run(request) => run(rt, request, console, out),
         Request::List { volume } => list(rt, volume, &mut out),
@@ -70,7 +76,10 @@ fn show<O: Write>(out: &mut O, text: &str) -> Verdict {
 
 /// Writes the line of a verdict that has one. If that fails, only the exit status says how the command ended.
 pub fn explain<E: Write>(err: &mut E, verdict: Verdict) {
-    if !matches!(verdict, Verdict::Done | Verdict::WrongCommand) {
+    if !matches!(
+        verdict,
+        Verdict::Done | Verdict::WrongCommand | Verdict::RefusedLine
+    ) {
         let _ = err.writeln(verdict);
     }
     let _ = err.flush();

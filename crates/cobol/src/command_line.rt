@@ -3,6 +3,9 @@
 use clap::{Arg, ArgAction, Command};
 use std::alloc::{AllocError, Global};
 
+/// What the name of a file is.
+const FILE_NAME: &str = "The file's name; write `--` before VOLUME if it begins with a hyphen";
+
 /// The end of the help.
 const EXIT_STATUSES: &str = "Exit status:
   0  the command has done what it was asked
@@ -12,7 +15,7 @@ const EXIT_STATUSES: &str = "Exit status:
   4  something was refused: a file of the host, the device, the volume, the image or memory
   5  the budget of statements was used up";
 
-/// The five commands.
+/// The commands.
 pub fn command_line<'a>(alloc: Global) -> Result<Command<'a>, AllocError> {
     Command::new(alloc, "cobol")
         .about("Compiles COBOL-85 programs, and runs them over volumes of files")
@@ -20,6 +23,10 @@ pub fn command_line<'a>(alloc: Global) -> Result<Command<'a>, AllocError> {
         .version("0.1.0")
         .subcommand_required(true)
         .subcommand(format_line(alloc)?)?
+        .subcommand(copy_line(alloc)?)?
+        .subcommand(stat_line(alloc)?)?
+        .subcommand(load_line(alloc)?)?
+        .subcommand(unload_line(alloc)?)?
         .subcommand(compile_line(alloc)?)?
         .subcommand(run_line(alloc)?)?
         .subcommand(list_line(alloc)?)?
@@ -35,6 +42,38 @@ fn format_line<'a>(alloc: Global) -> Result<Command<'a>, AllocError> {
             "SECTORS",
             "Its size, 1024 to 921600 sectors of 4096 bytes",
         ))
+}
+
+fn copy_line<'a>(alloc: Global) -> Result<Command<'a>, AllocError> {
+    Command::new(alloc, "copy")
+        .about("Makes a volume with the files of another one; NEW is whole or stays as it was")
+        .arg(required(alloc, "OLD", "The volume whose files are copied"))?
+        .arg(required(alloc, "NEW", "The host file that is to be the new volume"))?
+        .arg(required(
+            alloc,
+            "SECTORS",
+            "Its size, 1024 to 921600 sectors of 4096 bytes",
+        ))
+}
+
+fn stat_line<'a>(alloc: Global) -> Result<Command<'a>, AllocError> {
+    Command::new(alloc, "stat")
+        .about("Prints the layout, size and free sectors of a volume, and the rows of its files")
+        .arg(required(alloc, "VOLUME", "A volume that `format` made"))
+}
+
+fn load_line<'a>(alloc: Global) -> Result<Command<'a>, AllocError> {
+    Command::new(alloc, "load")
+        .about("Makes each line of standard input a row of a file")
+        .arg(required(alloc, "VOLUME", "A volume that `format` made"))?
+        .arg(required(alloc, "NAME", FILE_NAME))
+}
+
+fn unload_line<'a>(alloc: Global) -> Result<Command<'a>, AllocError> {
+    Command::new(alloc, "unload")
+        .about("Prints the rows of a file, a line each, in the form that `load` reads")
+        .arg(required(alloc, "VOLUME", "A volume that `format` made"))?
+        .arg(required(alloc, "NAME", FILE_NAME))
 }
 
 fn compile_line<'a>(alloc: Global) -> Result<Command<'a>, AllocError> {

@@ -5,17 +5,21 @@ mod command;
 mod command_line;
 mod compile_command;
 mod console;
+mod copy_command;
 mod descriptors;
 mod dump_command;
 mod format_command;
 mod host_file;
 mod host_station;
 mod list_command;
+mod load_command;
 mod numbers;
 mod progress;
 mod run_command;
+mod stat_command;
 #[cfg(test)]
 mod tests;
+mod unknown_name;
 mod verdict;
 mod words;
 

@@ -10,6 +10,7 @@ use station::DeviceError;
 use std::io::ErrorKind;
 use std::{fmt, io};
 use volume_commands::VolumeError;
+use volume_copies::CopyError;
 
 /// The number of a host file that can't be opened, read or written.
 const HOST_FILE: u8 = 85;
@@ -23,6 +24,8 @@ pub enum Verdict {
     SourceFault { line: u32, column: u8, number: u8 },
     /// The words are no command, for a reason that is already printed.
     WrongCommand,
+    /// A line of a text is refused, for a reason that is already printed.
+    RefusedLine,
     /// A word of the command isn't text.
     NotText,
     /// The device, memory, an image or a host file refused something, by this number.
@@ -106,6 +109,11 @@ impl Verdict {
         Verdict::Refused(error.number())
     }
 
+    /// Why a volume wasn't copied.
+    pub fn refusing_copy(error: CopyError) -> Verdict {
+        Verdict::Refused(error.number())
+    }
+
     /// Output failed.
     pub fn device() -> Verdict
         ensures { result ≡ verdict_after (Ended.Refused Refusal.Device) }
@@ -126,7 +134,7 @@ impl Verdict {
     {
         match self {
             Verdict::Done => 0,
-            Verdict::SourceFault { .. } => 1,
+            Verdict::SourceFault { .. } | Verdict::RefusedLine => 1,
             Verdict::WrongCommand | Verdict::NotText => 2,
             Verdict::Refused(_) => 4,
             Verdict::Budget => 5,
@@ -138,7 +146,7 @@ impl Verdict {
 impl fmt::Display for Verdict {
     fn fmt<W: fmt::Write>(&self, f: &mut fmt::Formatter<W>) -> fmt::Result {
         match self {
-            Verdict::Done | Verdict::WrongCommand => Ok(()),
+            Verdict::Done | Verdict::WrongCommand | Verdict::RefusedLine => Ok(()),
             Verdict::NotText => write!(f, "error: an argument isn't text"),
             Verdict::SourceFault {
                 line,
