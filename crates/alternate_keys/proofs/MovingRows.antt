@@ -1,19 +1,19 @@
 -- A row comes to the tree of rows, gets another record there, or leaves it, and its pairs may move.
-use Rattle.std.proofs.Common.{◌≡◌, ◌+◌, ◌++◌, ℕ, true, List, sym, ap, subst, ◌∙◌}
+use Rattle.std.proofs.Common.{◌≡◌, ◌+◌, ◌++◌, ℕ, true, List, [], sym, ap, subst, ◌∙◌}
 use Rattle.std.specs.Prelude.{map, take, drop, if◌then◌else◌}
 use Rattle.std.specs.List.{flat_map, list_any}
 use Rattle.byteorder.specs.Endian.{big_bytes, big_number}
 use Rattle.station.specs.declared.device.Device.{Ghosts as Devices}
 use Rattle.pages.specs.declared.page_map.PageMap.{PageMap}
 use Rattle.btree.specs.Calls.{pages_on}
-use Rattle.btree.specs.Entries.{Entry, with_value}
+use Rattle.btree.specs.Entries.{Entry, with_value, without_entry}
 use Rattle.btree.specs.Results.{FewChanged}
 use Rattle.btree.specs.Rooted.{RootedTree}
 use Rattle.records.specs.declared.answer.Outcome.{Outcome}
 use Rattle.records.specs.declared.key.KeyOfReference.TheVariants.{Prime}
 use Rattle.records.specs.Spec.{Spec, is_spec}
-use Rattle.records.specs.Rows.{Row, named_pair}
-use Rattle.records.specs.Changes.{changes, arrivals_after, replacement}
+use Rattle.records.specs.Rows.{Row, Pair, named_pair}
+use Rattle.records.specs.Changes.{changes, arrivals_after, replacement, removal}
 use Rattle.records.specs.Files.{NamedFile}
 use Rattle.file_bytes.specs.Rows.{row_value}
 use Rattle.volume_format.specs.Calls.{LooksAt}
@@ -21,7 +21,7 @@ use Rattle.volume_format.specs.Trees.{entry_under, layout_under}
 use Rattle.volume_format.specs.Forest.{TreeLevels}
 use Rattle.volume_format.specs.Grows.{IsTreeAmong}
 use Rattle.volume_format.specs.Pairs.{IsPair}
-use Rattle.alternate_keys.specs.declared.row_verb.RowVerb.TheVariants.{Replace}
+use Rattle.alternate_keys.specs.declared.row_verb.RowVerb.TheVariants.{Replace, Remove}
 use Rattle.alternate_keys.specs.Among.{OnAmong}
 use Rattle.alternate_keys.specs.Calls.{Edits}
 use Rattle.alternate_keys.specs.Listed.{root_in}
@@ -29,6 +29,7 @@ use Rattle.alternate_keys.specs.Moved.{HasChangedRows, PairsMayMove, IsRowOf, na
 use Rattle.alternate_keys.proofs.FileTrees.{kept_in, arrival_is, prime_stands}
 use Rattle.alternate_keys.proofs.HeldTrees.{HoldsRow, still_holds}
 use Rattle.alternate_keys.proofs.Moving.{IsMoving, moving_from, moving_since, moving_as}
+use Rattle.alternate_keys.proofs.RemoveRow.{named_without, removed_done, removed_may, remove_moving}
 use Rattle.alternate_keys.proofs.ReplaceRow.{Replaces, entry_as, named_changed, found_here, value_here, next_told}
 use Rattle.alternate_keys.proofs.ReplaceRow.{entry_changed, replace_moving, replaced_may}
 
@@ -81,3 +82,38 @@ module _ {D : Type 0} (d : Devices D) where
       moving_since d honest finds (moving_since d found.trees.honest looks (moving_as d done
       (moving_from d held edits few (subst (λ (n : ℕ). HasChangedRows Replace spec named after generation
       (pages_on d r c) left right listing n value bytes arrival next) (sym root_is) changes) may)))
+
+  -- A row was found, and left the tree of rows.
+  pub removed_moves : {A C : Type 0} {spec : Spec} {named : NamedFile} {generation : ℕ} {left right : List TreeLevels}
+      {listing : List ℕ} {pair : Pair} {entry : Entry} {o p q : PageMap} {a b c : D} {root arrival : ℕ}
+      {key value : List ℕ} {prime tree : RootedTree} → is_spec spec ≡ true → d.is_honest a → LooksAt d A o a p b
+      → HoldsRow d spec named generation left right listing pair entry p b → Edits d C p b q c
+      → OnAmong d tree p b (λ left right entries. FewChanged 42 p q) → arrival ≡ big_number 8 (drop 75 listing)
+      → key ≡ entry.key → value ≡ entry.value → prime.layout ≡ tree.layout → tree.layout ≡ layout_under spec Prime
+      → tree.root ≡ root_in Prime listing → root ≡ prime.root
+      → OnAmong d tree p b (λ left right entries.
+      IsTreeAmong (pages_on d q b) left right prime (without_entry entries key)) →
+      IsMoving d Remove spec named (named_after named (removal pair named.file)) generation left right listing root value
+      [] arrival arrival o a q c
+  removed_moves {spec} {named} {generation} {left} {right} {listing} {pair} {p} {q} {b} {arrival} {key} {value} {prime}
+      is honest finds found edits few arrival_at key_at value_at same_layout layout_at root_at root_is put =
+      let held = found.trees in
+      let has = held.has in
+      let row = found.row in
+      let same : arrival ≡ named.file.next_arrival = arrival_at ∙ arrival_is _ _ _ _ _ _ _ has in
+      let value_is : value ≡ row_value row.old = value_at ∙ ap (λ (e : Entry). e.value) row.is in
+      let there = prime_stands _ _ _ _ _ _ _ has _ layout_at root_at in
+      let stands = subst (λ (k : List ℕ). IsTreeAmong (pages_on d q b) left
+      ((kept_in spec named generation (pages_on d p b) left right listing has).alternates ++ right) prime
+      (without_entry (map (entry_under spec Prime) named.file.rows) k)) (key_at ∙ row.key)
+      (put held.honest held.agrees left _ _ there) in
+      let moved = remove_moving _ _ _ _ _ _ _ has is pair row.old row.there [] arrival same row.good (pages_on d q b)
+      prime (same_layout ∙ layout_at) stands in
+      let changes = subst (λ (v : List ℕ). HasChangedRows Remove spec named (named_without pair named) generation
+      (pages_on d q b) left right listing prime.root v [] arrival arrival) (sym value_is) moved in
+      let may = subst (λ (v : List ℕ). PairsMayMove Remove named.file v [] arrival) (sym value_is)
+      (removed_may _ _ _ _ _ _ _ has is pair row.old row.there [] arrival) in
+      moving_since d honest finds (moving_as d (removed_done pair named.file row.old row.there)
+      (moving_from d held edits (few held.honest held.agrees left _ _ there)
+      (subst (λ (n : ℕ). HasChangedRows Remove spec named (named_without pair named) generation (pages_on d q b) left
+      right listing n value [] arrival arrival) (sym root_is) changes) may))
