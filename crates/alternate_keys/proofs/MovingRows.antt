@@ -1,19 +1,20 @@
 -- A row comes to the tree of rows, gets another record there, or leaves it, and its pairs may move.
-use Rattle.std.proofs.Common.{◌≡◌, ◌+◌, ◌++◌, ℕ, true, List, [], sym, ap, subst, ◌∙◌}
-use Rattle.std.specs.Prelude.{map, take, drop, if◌then◌else◌}
+use Rattle.std.proofs.Common.{◌≡◌, ◌+◌, ◌++◌, ℕ, Bool, true, List, [], Result, Ok, sym, ap, subst, ◌∙◌}
+use Rattle.std.specs.Prelude.{None, map, take, drop, if◌then◌else◌}
 use Rattle.std.specs.List.{flat_map, list_any}
 use Rattle.byteorder.specs.Endian.{big_bytes, big_number}
 use Rattle.station.specs.declared.device.Device.{Ghosts as Devices}
 use Rattle.pages.specs.declared.page_map.PageMap.{PageMap}
 use Rattle.btree.specs.Calls.{pages_on}
-use Rattle.btree.specs.Entries.{Entry, with_value, without_entry}
+use Rattle.btree.specs.Entries.{Entry, entry_with, with_new_entry, with_value, without_entry}
 use Rattle.btree.specs.Results.{FewChanged}
 use Rattle.btree.specs.Rooted.{RootedTree}
 use Rattle.records.specs.declared.answer.Outcome.{Outcome}
+use Rattle.records.specs.declared.fault.StoreFault.{StoreFault}
 use Rattle.records.specs.declared.key.KeyOfReference.TheVariants.{Prime}
 use Rattle.records.specs.Spec.{Spec, is_spec}
 use Rattle.records.specs.Rows.{Row, Pair, named_pair}
-use Rattle.records.specs.Changes.{changes, arrivals_after, replacement, removal}
+use Rattle.records.specs.Changes.{changes, arrivals_after, new_number, insertion, replacement, removal}
 use Rattle.records.specs.Files.{NamedFile}
 use Rattle.file_bytes.specs.Rows.{row_value}
 use Rattle.volume_format.specs.Calls.{LooksAt}
@@ -21,19 +22,81 @@ use Rattle.volume_format.specs.Trees.{entry_under, layout_under}
 use Rattle.volume_format.specs.Forest.{TreeLevels}
 use Rattle.volume_format.specs.Grows.{IsTreeAmong}
 use Rattle.volume_format.specs.Pairs.{IsPair}
-use Rattle.alternate_keys.specs.declared.row_verb.RowVerb.TheVariants.{Replace, Remove}
+use Rattle.alternate_keys.specs.declared.row_verb.RowVerb.TheVariants.{Insert, Replace, Remove}
 use Rattle.alternate_keys.specs.Among.{OnAmong}
 use Rattle.alternate_keys.specs.Calls.{Edits}
 use Rattle.alternate_keys.specs.Listed.{root_in}
 use Rattle.alternate_keys.specs.Moved.{HasChangedRows, PairsMayMove, IsRowOf, named_after}
+use Rattle.alternate_keys.specs.NewRow.{row_with, named_with}
 use Rattle.alternate_keys.proofs.FileTrees.{kept_in, arrival_is, prime_stands}
-use Rattle.alternate_keys.proofs.HeldTrees.{HoldsRow, still_holds}
+use Rattle.alternate_keys.proofs.HeldTrees.{HoldsTrees, HoldsRow, still_holds}
+use Rattle.alternate_keys.proofs.InsertRow.{IsNew, Inserts, row_new, found_new, insert_moving, pairs_may}
 use Rattle.alternate_keys.proofs.Moving.{IsMoving, moving_from, moving_since, moving_as}
 use Rattle.alternate_keys.proofs.RemoveRow.{named_without, removed_done, removed_may, remove_moving}
 use Rattle.alternate_keys.proofs.ReplaceRow.{Replaces, entry_as, named_changed, found_here, value_here, next_told}
 use Rattle.alternate_keys.proofs.ReplaceRow.{entry_changed, replace_moving, replaced_may}
 
 module _ {D : Type 0} (d : Devices D) where
+  -- a new row, which the tree of rows of the pages `q` has
+  pub record HasNewRow (spec : Spec) (named : NamedFile) (generation : ℕ) (left right : List TreeLevels)
+      (listing : List ℕ) (number arrival : ℕ) (bytes : List ℕ) (prime : RootedTree) (p : PageMap) (b : D) (q : PageMap)
+      : Type 0 where
+    pub trees : HoldsTrees d spec named generation left right listing p b
+    pub new : IsNew spec named.file number arrival bytes
+    pub none : found_new spec number arrival bytes named.file.rows ≡ None
+    pub put : IsTreeAmong (pages_on d q b) left
+        ((kept_in spec named generation (pages_on d p b) left right listing trees.has).alternates ++ right) prime
+        (with_new_entry (map (entry_under spec Prime) named.file.rows)
+        (entry_under spec Prime (row_new spec number arrival bytes)))
+
+  pub has_new_row : {spec : Spec} {named : NamedFile} {generation : ℕ} {left right : List TreeLevels} {listing : List ℕ}
+      {number arrival : ℕ} {bytes : List ℕ} {prime tree : RootedTree} {p q : PageMap} {b : D} {own : ℕ}
+      {given : Result Bool StoreFault} → HoldsTrees d spec named generation left right listing p b
+      → IsNew spec named.file number arrival bytes → own ≡ new_number spec.organization number arrival
+      → tree.layout ≡ layout_under spec Prime → tree.root ≡ root_in Prime listing → given ≡ Ok true
+      → OnAmong d tree p b (λ left right entries. given ≡ Ok true →
+      (entry_with entries (entry_under spec Prime (row_with spec own arrival bytes)).key ≡ None)
+      × IsTreeAmong (pages_on d q b) left right prime
+      (with_new_entry entries (entry_under spec Prime (row_with spec own arrival bytes)))) →
+      HasNewRow spec named generation left right listing number arrival bytes prime p b q
+  has_new_row {spec} {named} {generation} {left} {right} {listing} {number} {arrival} {bytes} {prime} {p} {q} {b} trees
+      new own_is layout_at root_at is came =
+      let entries : List Entry = map (entry_under spec Prime) named.file.rows in
+      let here =
+      came trees.honest trees.agrees left _ _ (prime_stands _ _ _ _ _ _ _ trees.has _ layout_at root_at) is in
+      record {
+        trees = trees;
+        new = new;
+        none = subst (λ (n : ℕ). entry_with entries (entry_under spec Prime (row_with spec n arrival bytes)).key ≡ None)
+            own_is here.0;
+        put = subst (λ (n : ℕ). IsTreeAmong (pages_on d q b) left
+            ((kept_in spec named generation (pages_on d p b) left right listing trees.has).alternates ++ right) prime
+            (with_new_entry entries (entry_under spec Prime (row_with spec n arrival bytes)))) own_is here.1;
+      }
+
+  -- it came to the tree of rows
+  pub inserted_moves : {A C : Type 0} {spec : Spec} {named : NamedFile} {generation : ℕ} {left right : List TreeLevels}
+      {listing : List ℕ} {number arrival : ℕ} {bytes : List ℕ} {outcome : Outcome} {prime tree : RootedTree}
+      {o p q : PageMap} {a b c : D} {root : ℕ} → d.is_honest a → LooksAt d A o a p b
+      → HasNewRow spec named generation left right listing number arrival bytes prime p b q
+      → Inserts spec number arrival bytes named.file outcome → Edits d C p b q c
+      → OnAmong d tree p b (λ left right entries. FewChanged 42 p q) → prime.layout ≡ tree.layout
+      → tree.layout ≡ layout_under spec Prime → tree.root ≡ root_in Prime listing → root ≡ prime.root →
+      IsMoving d Insert spec named (named_after named (insertion number bytes named.file)) generation left right listing
+      root [] bytes arrival (arrival + 1) o a q c
+  inserted_moves {spec} {named} {generation} {left} {right} {listing} {number} {arrival} {bytes} {prime} {q} {b} honest
+      finds came done edits few same_layout layout_at root_at root_is =
+      let held = came.trees in
+      let new = came.new in
+      let moved = insert_moving _ _ _ _ _ _ _ held.has number arrival bytes new.same new.good new.long new.low
+      new.numbered (pages_on d q b) prime (same_layout ∙ layout_at) came.put in
+      let may = pairs_may _ _ _ _ _ _ _ held.has number arrival bytes new.same new.good new.long new.low
+      new.numbered in
+      moving_since d honest finds (moving_as d done (moving_from d held edits
+      (few held.honest held.agrees left _ _ (prime_stands _ _ _ _ _ _ _ held.has _ layout_at root_at))
+      (subst (λ (n : ℕ). HasChangedRows Insert spec named (named_with (row_new spec number arrival bytes) named)
+      generation (pages_on d q b) left right listing n [] bytes arrival (arrival + 1)) (sym root_is) moved) may))
+
   -- A row was found, no value of its new record bars it, and the row got the record in the tree of rows.
   pub replaced_moves :
       {A B C : Type 0} {spec : Spec} {named : NamedFile} {generation : ℕ} {left right : List TreeLevels}
@@ -93,7 +156,8 @@ module _ {D : Type 0} (d : Devices D) where
       → tree.root ≡ root_in Prime listing → root ≡ prime.root
       → OnAmong d tree p b (λ left right entries.
       IsTreeAmong (pages_on d q b) left right prime (without_entry entries key)) →
-      IsMoving d Remove spec named (named_after named (removal pair named.file)) generation left right listing root value
+      IsMoving d Remove spec named (named_after named (removal pair named.file)) generation left right listing root
+      value
       [] arrival arrival o a q c
   removed_moves {spec} {named} {generation} {left} {right} {listing} {pair} {p} {q} {b} {arrival} {key} {value} {prime}
       is honest finds found edits few arrival_at key_at value_at same_layout layout_at root_at root_is put =

@@ -32,7 +32,6 @@ use Rattle.volume_format.specs.Pairs.{IsPair}
 use Rattle.volume_format.specs.Forest.{TreeLevels}
 use Rattle.volume_format.specs.Grows.{IsTreeAmong}
 use Rattle.volume_format.specs.Volume.{tree_levels}
-use Rattle.alternate_keys.specs.declared.row_verb.RowVerb.{RowVerb}
 use Rattle.alternate_keys.specs.declared.row_verb.RowVerb.TheVariants.{Replace}
 use Rattle.alternate_keys.specs.Moved.{HasChangedRows, PairsMove, PairsMayMove, old_key, pair_entry}
 use Rattle.alternate_keys.specs.Moved.{changes_at, is_new}
@@ -42,7 +41,7 @@ use Rattle.alternate_keys.proofs.Arrivals.{arrival_at}
 use Rattle.alternate_keys.proofs.FileTrees.{kept_in, arrival_low, arrival_few, rows_under, rows_ascend, indexes_then}
 use Rattle.alternate_keys.proofs.FoundRow.{FoundRow}
 use Rattle.alternate_keys.proofs.Fresh.{not_there, arrivals_before}
-use Rattle.alternate_keys.proofs.InsertRow.{none_by, told_by, told_free, told_taken}
+use Rattle.alternate_keys.proofs.InsertRow.{change_to, told_of, none_by, told_by, told_free, told_taken}
 use Rattle.alternate_keys.proofs.PairEdits.{pair_there, pair_leaves, pair_comes_in_place, pair_stays}
 use Rattle.alternate_keys.proofs.RemoveRow.{Known, known, key_is, some_by}
 use Rattle.alternate_keys.proofs.RowEdits.{row_there, row_changes, left_of, one_at}
@@ -174,20 +173,10 @@ module _ (number : ℕ) (bytes : List ℕ) (file : File) where
       }
   replaced_done old is taken = ap (replaced_row pair_here bytes file) is ∙ ap (answer old) taken
 
-abbrev change_to : Outcome → File → FileChange
-change_to outcome file = record { outcome = outcome; file = file }
-
 -- the file after the record replaced that of a row
 abbrev pub Replaces : ℕ → List ℕ → File → Row → Outcome → Type 0
 Replaces number bytes file old outcome = replacement number bytes file
     ≡ change_to outcome (file_changed (named_pair file.spec.organization number bytes) bytes old file)
-
--- what `find_duplicate_key` answers
-abbrev pub told_of : RowVerb → Spec → List ℕ → List ℕ → List Row → Outcome
-told_of verb spec value bytes all =
-    if is_taken (filter (is_new verb (take spec.record_length value) bytes) spec.alternates) all bytes then Taken
-    else done_outcome
-    (is_duplicate (filter (is_new verb (take spec.record_length value) bytes) spec.alternates) all bytes)
 
 abbrev pub entry_as : List ℕ → List ℕ → Entry
 entry_as key value = record { key = key; value = value }
@@ -412,7 +401,8 @@ module _ (spec : Spec) (named : NamedFile) (generation : ℕ) (pages : List (Opt
       bytes ++ flat_map (big_bytes 8) (arrivals_after old.bytes bytes a of_file.spec.alternates old.arrivals)) same)
 
   -- what the new values come to
-  module _ (outcome : Outcome) (told : outcome ≡ told_of Replace spec value bytes of_file.rows) where
+  module _ (outcome : Outcome)
+      (told : outcome ≡ told_of Replace spec (take spec.record_length value) bytes of_file.rows) where
     abbrev keys_now : List AlternateKey
     keys_now = filter (changes old.bytes bytes) of_file.spec.alternates
 

@@ -96,7 +96,8 @@ returns-in_err-listing-clause-damaged g c = λ honest agrees named generation le
 
 pub returns-clause-outcome : goal.returns-clause-outcome
 returns-clause-outcome g c = λ honest agrees named generation left right has.
-    let found = row_found g (goal.at.returns-clause-outcome g c).In-Some honest agrees named generation left right has in
+    let found =
+    row_found g (goal.at.returns-clause-outcome g c).In-Some honest agrees named generation left right has in
     sym (ap (λ (ch : FileChange). ch.outcome) (removed_done (pair_of c.args.file.now.organization c.args.key.now
     c.args.number) named.file found.row.old found.row.there))
 
