@@ -44,4 +44,5 @@ pub mod MadeFile
 pub mod HeldTrees
 pub mod Moving
 pub mod MovingRows
+pub mod ListedFile
 mod TakenRow

@@ -1,4 +1,4 @@
-use Rattle.std.proofs.Common.{◌≡◌, ◌+◌, ◌*◌, Err, ℕ, List, [], length, refl, sym, ap, ◌∙◌}
+use Rattle.std.proofs.Common.{◌≡◌, Err, ℕ, List, [], length, refl, sym, ap, ◌∙◌}
 use Rattle.records.specs.declared.fault.StoreFault.TheVariants.{Device}
 use Rattle.records.specs.Changes.{FileChange, removal}
 use Rattle.records.specs.Files.{NamedFile}
