@@ -9,11 +9,12 @@ use Rattle.run_unit.specs.declared.ended.Refusal.TheVariants as refusal
 use Rattle.run_unit.specs.declared.fault.CompileError.{CompileError}
 use Rattle.run_unit.specs.declared.fault.CompileError.TheVariants as compiling
 use Rattle.cobol.specs.declared.verdict.Verdict.{Verdict}
-use Rattle.cobol.specs.declared.verdict.Verdict.TheVariants.{Done, SourceFault, WrongCommand, NotText, Refused, Budget, ProgramFault}
+use Rattle.cobol.specs.declared.verdict.Verdict.TheVariants.{Done, SourceFault, Reported, WrongCommand, NotText, Refused, Budget, ProgramFault}
 
 abbrev pub status_of : Verdict → ℕ
 status_of Done = 0
 status_of (SourceFault line column number) = 1
+status_of Reported = 1
 status_of WrongCommand = 2
 status_of NotText = 2
 status_of (Refused number) = 4

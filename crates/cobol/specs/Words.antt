@@ -7,7 +7,7 @@ use Rattle.clap.specs.Matches.{found_of, first_value, one_text}
 use Rattle.clap.specs.declared.parser.matches.ArgMatches.{ArgMatches}
 use Rattle.machine.specs.Ends.{IsDigit}
 use Rattle.cobol.specs.declared.words.Request.{Request}
-use Rattle.cobol.specs.declared.words.Request.TheVariants.{Format, Compile, Run, List as ListFiles, Dump, Show, Wrong}
+use Rattle.cobol.specs.declared.words.Request.TheVariants.{Format, Compile, Run, List as ListFiles, Dump, Explain, Check, Layout, Show, Wrong}
 
 -- A number of 64 bits: digits alone.
 abbrev pub IsNumber : List ℕ → Type 0
@@ -48,7 +48,7 @@ word_or_none (Some word) = word
 abbrev pub word_of : ArgMatches → List ℕ → List ℕ
 word_of found name = word_or_none (option_of found name)
 
--- The words found ask for this request of `format`, `compile`, `run`, `list`, `dump`.
+-- The words found ask for this request of `format`, `compile`, `run`, `list`, `dump`, `explain`, `check`, `layout`.
 abbrev pub AsksToFormat : ArgMatches → Request → Type 0
 AsksToFormat found (Format volume sectors) =
     let size = word_of found (codes "SECTORS") in
@@ -76,6 +76,19 @@ abbrev pub AsksToDump : ArgMatches → Request → Type 0
 AsksToDump found (Dump volume name) =
     (volume.now ≡ word_of found (codes "VOLUME")) × (name.now ≡ word_of found (codes "NAME"))
 AsksToDump found other = ⊥
+
+abbrev pub AsksToExplain : ArgMatches → Request → Type 0
+AsksToExplain found (Explain number) =
+    let word = word_of found (codes "N") in SomeIff (Some number) (IsNumber word) (digits_value 10 word)
+AsksToExplain found other = ⊥
+
+abbrev pub AsksToCheck : ArgMatches → Request → Type 0
+AsksToCheck found (Check source) = source.now ≡ word_of found (codes "SOURCE")
+AsksToCheck found other = ⊥
+
+abbrev pub AsksToLayout : ArgMatches → Request → Type 0
+AsksToLayout found (Layout source) = source.now ≡ word_of found (codes "SOURCE")
+AsksToLayout found other = ⊥
 
 -- A request that can be carried out: a date of digits, a size that a volume can have.
 abbrev pub IsWithinBounds : Request → Type 0

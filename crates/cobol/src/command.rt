@@ -5,9 +5,12 @@ ghost use Rattle.cobol.specs.Status.{status_of};
 ghost use Rattle.cobol.specs.Words.{IsWithinBounds};
 ghost use Rattle.cobol.specs.declared.verdict.Verdict.{Verdict};
 
+use crate::check_command::check;
 use crate::compile_command::compile_file;
 use crate::dump_command::dump;
+use crate::explain_command::explain_number;
 use crate::format_command::format;
+use crate::layout_command::show_layout;
 use crate::list_command::list;
 use crate::progress::Reasons;
 use crate::run_command::run;
@@ -53,6 +56,9 @@ where
         Request::Run(request) => run(rt, request, console, out),
         Request::List { volume } => list(rt, volume, &mut out),
         Request::Dump { volume, name } => dump(rt, volume, name, out, err),
+        Request::Explain { number } => explain_number(rt.alloc(), number, &mut out, err),
+        Request::Check { source } => check(rt, source, &mut out),
+        Request::Layout { source } => show_layout(rt, source, &mut out),
         Request::Show(text) => show(&mut out, text.as_str()),
         Request::Wrong(text) => {
             let _ = err.write_all(text.as_str().as_bytes());
@@ -63,7 +69,12 @@ where
 
 /// Shows a text that was asked for.
 fn show<O: Write>(out: &mut O, text: &str) -> Verdict {
-    if out.write_all(text.as_bytes()).is_err() || out.flush().is_err() {
+    show_bytes(out, text.as_bytes())
+}
+
+/// Shows the bytes of a text.
+pub fn show_bytes<O: Write>(out: &mut O, text: &[u8]) -> Verdict {
+    if out.write_all(text).is_err() || out.flush().is_err() {
         return Verdict::device();
     }
     Verdict::Done
@@ -71,7 +82,7 @@ fn show<O: Write>(out: &mut O, text: &str) -> Verdict {
 
 /// Writes the line of a verdict that has one. If that fails, only the exit status says how the command ended.
 pub fn explain<E: Write>(err: &mut E, verdict: Verdict) {
-    if !matches!(verdict, Verdict::Done | Verdict::WrongCommand) {
+    if !matches!(verdict, Verdict::Done | Verdict::Reported | Verdict::WrongCommand) {
         let _ = err.writeln(verdict);
     }
     let _ = err.flush();

@@ -9,10 +9,17 @@ const EXIT_STATUSES: &str = "Exit status:
   1  the source has a fault, which is printed with its line and column
   2  the command was called wrongly, or the volume has no such file
   3  the program did something wrong
-  4  something was refused: a file of the host, the device, the volume, the image or memory
-  5  the budget of statements was used up";
+  4  something was refused: a file of the host, the device, the volume,
+     the image or memory
+  5  the budget of statements was used up
 
-/// The five commands.
+Example:
+  cobol check stock.cob
+  cobol compile stock.cob STOCK.image
+  cobol format SHOP 1024
+  cobol run STOCK.image SHOP";
+
+/// The commands.
 pub fn command_line<'a>(alloc: Global) -> Result<Command<'a>, AllocError> {
     Command::new(alloc, "cobol")
         .about("Compiles COBOL-85 programs, and runs them over volumes of files")
@@ -23,12 +30,16 @@ pub fn command_line<'a>(alloc: Global) -> Result<Command<'a>, AllocError> {
         .subcommand(compile_line(alloc)?)?
         .subcommand(run_line(alloc)?)?
         .subcommand(list_line(alloc)?)?
-        .subcommand(dump_line(alloc)?)
+        .subcommand(dump_line(alloc)?)?
+        .subcommand(check_line(alloc)?)?
+        .subcommand(explain_line(alloc)?)?
+        .subcommand(layout_line(alloc)?)
 }
 
 fn format_line<'a>(alloc: Global) -> Result<Command<'a>, AllocError> {
     Command::new(alloc, "format")
         .about("Makes a volume without files; what VOLUME held before is lost")
+        .after_help("Example:\n  cobol format SHOP 1024")
         .arg(required(alloc, "VOLUME", "The host file that is to be the volume"))?
         .arg(required(
             alloc,
@@ -40,6 +51,7 @@ fn format_line<'a>(alloc: Global) -> Result<Command<'a>, AllocError> {
 fn compile_line<'a>(alloc: Global) -> Result<Command<'a>, AllocError> {
     Command::new(alloc, "compile")
         .about("Compiles a source; a refused source leaves IMAGE as it is")
+        .after_help("Example:\n  cobol compile stock.cob STOCK.image")
         .arg(required(alloc, "SOURCE", "The program's text, in fixed format"))?
         .arg(required(alloc, "IMAGE", "The host file that the image is written to"))
 }
@@ -60,6 +72,7 @@ fn run_line<'a>(alloc: Global) -> Result<Command<'a>, AllocError> {
         .conflicts_with("date")?;
     Command::new(alloc, "run")
         .about("Runs an image over a volume")
+        .after_help("Example:\n  cobol run STOCK.image SHOP --date 261127 < stock.in")
         .arg(required(alloc, "IMAGE", "An image that `compile` wrote"))?
         .arg(required(alloc, "VOLUME", "A volume that `format` made"))?
         .arg(budget)?
@@ -70,18 +83,41 @@ fn run_line<'a>(alloc: Global) -> Result<Command<'a>, AllocError> {
 fn list_line<'a>(alloc: Global) -> Result<Command<'a>, AllocError> {
     Command::new(alloc, "list")
         .about("Lists the files of a volume: name, organization, record length, rows")
+        .after_help("Example:\n  cobol list SHOP")
         .arg(required(alloc, "VOLUME", "A volume that `format` made"))
 }
 
 fn dump_line<'a>(alloc: Global) -> Result<Command<'a>, AllocError> {
     Command::new(alloc, "dump")
         .about("Prints the rows of a file, a line each, in the order of the prime key")
+        .after_help("Example:\n  cobol dump SHOP STOCK")
         .arg(required(alloc, "VOLUME", "A volume that `format` made"))?
         .arg(required(
             alloc,
             "NAME",
-            "The file's name; write `--` before VOLUME if it begins with a hyphen",
+            "The file's name; with `--` before VOLUME if it begins with a hyphen",
         ))
+}
+
+fn check_line<'a>(alloc: Global) -> Result<Command<'a>, AllocError> {
+    Command::new(alloc, "check")
+        .about("Checks a source, and shows what is wrong and what to do")
+        .after_help("Example:\n  cobol check stock.cob")
+        .arg(required(alloc, "SOURCE", "The program's text, in fixed format"))
+}
+
+fn explain_line<'a>(alloc: Global) -> Result<Command<'a>, AllocError> {
+    Command::new(alloc, "explain")
+        .about("Explains the number of a fault, a refusal or a FILE STATUS")
+        .after_help("Example:\n  cobol explain 40")
+        .arg(required(alloc, "N", "The number that was printed, such as 40"))
+}
+
+fn layout_line<'a>(alloc: Global) -> Result<Command<'a>, AllocError> {
+    Command::new(alloc, "layout")
+        .about("Shows the place and size of each item and file of a source")
+        .after_help("Example:\n  cobol layout stock.cob")
+        .arg(required(alloc, "SOURCE", "The program's text, in fixed format"))
 }
 
 /// A word that has to be there.

@@ -1,15 +1,18 @@
 //! The program `cobol`: it makes volumes, compiles COBOL sources, runs their images over volumes, and prints what volumes hold.
 #![tactic(auto)]
 
+mod check_command;
 mod command;
 mod command_line;
 mod compile_command;
 mod console;
 mod descriptors;
 mod dump_command;
+mod explain_command;
 mod format_command;
 mod host_file;
 mod host_station;
+mod layout_command;
 mod list_command;
 mod numbers;
 mod progress;

@@ -57,7 +57,7 @@ pub fn read_sector_count(word: &str) -> Option<u32>
 }
 
 /// The number that digits are, if it has at most 64 bits.
-fn read_number(word: &str) -> Option<u64>
+pub fn read_number(word: &str) -> Option<u64>
     ensures { SomeIff result (IsNumber word.now) (digits_value 10 word.now) }
 {
     // `parse` takes a leading plus.

@@ -21,6 +21,8 @@ pub enum Verdict {
     Done,
     /// The source is refused at this place. Lines and columns count from 1.
     SourceFault { line: u32, column: u8, number: u8 },
+    /// The source is refused, for a reason that is already shown.
+    Reported,
     /// The words are no command, for a reason that is already printed.
     WrongCommand,
     /// A word of the command isn't text.
@@ -126,7 +128,7 @@ impl Verdict {
     {
         match self {
             Verdict::Done => 0,
-            Verdict::SourceFault { .. } => 1,
+            Verdict::SourceFault { .. } | Verdict::Reported => 1,
             Verdict::WrongCommand | Verdict::NotText => 2,
             Verdict::Refused(_) => 4,
             Verdict::Budget => 5,
@@ -138,7 +140,7 @@ impl Verdict {
 impl fmt::Display for Verdict {
     fn fmt<W: fmt::Write>(&self, f: &mut fmt::Formatter<W>) -> fmt::Result {
         match self {
-            Verdict::Done | Verdict::WrongCommand => Ok(()),
+            Verdict::Done | Verdict::Reported | Verdict::WrongCommand => Ok(()),
             Verdict::NotText => write!(f, "error: an argument isn't text"),
             Verdict::SourceFault {
                 line,

@@ -1,10 +1,10 @@
 //! The words of a command.
 
 ghost use Rattle.std.specs.Prelude.{◌≡◌, ◌⊎◌, None, IfOk, OnErr, codes};
-ghost use Rattle.cobol.specs.Words.{IsWithinBounds, AsksToFormat, AsksToCompile, AsksToRun, AsksToList, AsksToDump, IsSectorCount, ReadsBudget, ReadsDate, option_of, word_of};
+ghost use Rattle.cobol.specs.Words.{IsWithinBounds, AsksToFormat, AsksToCompile, AsksToRun, AsksToList, AsksToDump, AsksToExplain, AsksToCheck, AsksToLayout, IsNumber, IsSectorCount, ReadsBudget, ReadsDate, option_of, word_of};
 
 use crate::command_line::command_line;
-use crate::numbers::{read_budget, read_day, read_sector_count};
+use crate::numbers::{read_budget, read_day, read_number, read_sector_count};
 use clap::error::ErrorKind;
 use clap::{ArgMatches, Error};
 use std::alloc::{AllocError, Global};
@@ -22,6 +22,12 @@ pub enum Request<'a> {
     List { volume: &'a str },
     /// To dump the rows of a file.
     Dump { volume: &'a str, name: &'a str },
+    /// To explain a number.
+    Explain { number: u64 },
+    /// To check a source.
+    Check { source: &'a str },
+    /// To show where the items of a source are.
+    Layout { source: &'a str },
     /// To show this text: help, or the version.
     Show(String),
     /// Nothing: the words are no command, for this reason.
@@ -74,6 +80,9 @@ fn read_request<'a>(alloc: Global, words: &'a [String]) -> Result<Request<'a>, F
         "compile" => Ok(read_compile(matches)),
         "run" => read_run(matches),
         "list" => Ok(read_list(matches)),
+        "explain" => read_explain(matches),
+        "check" => Ok(read_check(matches)),
+        "layout" => Ok(read_layout(matches)),
         _ => Ok(read_dump(matches)),
     }
 }
@@ -141,6 +150,36 @@ fn read_dump<'a>(matches: &ArgMatches<'a>) -> Request<'a>
     Request::Dump {
         volume: word(matches, "VOLUME"),
         name: word(matches, "NAME"),
+    }
+}
+
+/// The words of `explain N`.
+fn read_explain<'a>(matches: &ArgMatches<'a>) -> Result<Request<'a>, Fault>
+    ensures asks { IfOk result (AsksToExplain matches.now) }
+    ensures bounds { IfOk result IsWithinBounds }
+    ensures refused { OnErr result (IsNumber (word_of matches.now (codes "N")) → ⊥) }
+{
+    match read_number(word(matches, "N")) {
+        Some(number) => Ok(Request::Explain { number }),
+        None => Err(Fault::Value("a number has digits alone")),
+    }
+}
+
+/// The words of `check SOURCE`.
+fn read_check<'a>(matches: &ArgMatches<'a>) -> Request<'a>
+    ensures { AsksToCheck matches.now result }
+{
+    Request::Check {
+        source: word(matches, "SOURCE"),
+    }
+}
+
+/// The words of `layout SOURCE`.
+fn read_layout<'a>(matches: &ArgMatches<'a>) -> Request<'a>
+    ensures { AsksToLayout matches.now result }
+{
+    Request::Layout {
+        source: word(matches, "SOURCE"),
     }
 }
 

@@ -1,0 +1,24 @@
+//! `layout SOURCE`.
+
+use crate::command::show_bytes;
+use crate::host_file::read_source;
+use crate::verdict::Verdict;
+use source_commands::layout_of_source;
+use std::io::Write;
+use std::rt::Files;
+
+/// Shows where the items of the source at a path are, and its files.
+pub fn show_layout<R, O>(rt: &R, path: &str, out: &mut O) -> Verdict
+where
+    R: Files + AllocGlobal,
+    O: Write,
+{
+    let source = match read_source(rt, path) {
+        Ok(source) => source,
+        Err(verdict) => return verdict,
+    };
+    match layout_of_source(rt.alloc(), source.as_slice()) {
+        Ok(text) => show_bytes(out, text.as_slice()),
+        Err(fault) => Verdict::refusing(fault),
+    }
+}

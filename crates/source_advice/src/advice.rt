@@ -1,0 +1,104 @@
+//! What is said of a fault.
+
+use explanations::{Book, between, explanation, first_line, other_lines, part_under};
+use std::alloc::{AllocError, Global};
+
+/// How much of a word is shown.
+const MOST_SHOWN: usize = 40;
+
+/// What is wrong, in one line without a line feed, and what to do, in lines that each end with one.
+#[derive(Drop)]
+pub struct Advice {
+    pub message: Vec<u8>,
+    pub cure: Vec<u8>,
+}
+
+/// An advice, if there is a reason for it.
+pub type Found = Result<Option<Advice>, AllocError>;
+
+impl Advice {
+    /// The advice about a word or a sign; nothing is named if it is empty.
+    pub fn about(
+        alloc: Global,
+        word: &[u8],
+        message: &[u8],
+        cure: &[u8],
+    ) -> Result<Advice, AllocError> {
+        let mut text = Vec::new(alloc);
+        if !word.is_empty() {
+            text.push(b'`')?;
+            text.extend_from_slice(beginning(word))?;
+            text.extend_from_slice(b"`: ")?;
+        }
+        text.extend_from_slice(message)?;
+        let cure = Vec::from_slice(alloc, cure)?;
+        Ok(Advice {
+            message: text,
+            cure,
+        })
+    }
+
+    /// The advice of a part: its first line says what is wrong, the others what to do.
+    fn of_part(alloc: Global, word: &[u8], part: &[u8]) -> Result<Advice, AllocError> {
+        Advice::about(alloc, word, first_line(part), other_lines(part))
+    }
+
+    /// The advice that a book has under a head.
+    pub fn under(alloc: Global, book: Book, head: &[u8]) -> Found {
+        match part_under(alloc, book, head)? {
+            Some(part) => Ok(Some(Advice::of_part(alloc, b"", part)?)),
+            None => Ok(None),
+        }
+    }
+
+    /// The advice for a cause, about a word.
+    pub fn for_cause(alloc: Global, head: &[u8], word: &[u8]) -> Found {
+        match part_under(alloc, Book::Causes, head)? {
+            Some(part) => Ok(Some(Advice::of_part(alloc, word, part)?)),
+            None => Ok(None),
+        }
+    }
+
+    /// What is said of each fault of a number.
+    pub fn for_number(alloc: Global, number: u8, word: &[u8]) -> Result<Advice, AllocError> {
+        match explanation(alloc, u64::from(number))? {
+            Some(part) => {
+                let message = between(part, b"): ", b"\n").unwrap_or(b"the source has a fault");
+                let cure = between(part, b"What to do:\n", b"\n\n").unwrap_or(b"");
+                let mut advice = Advice::about(alloc, word, message, cure)?;
+                advice.end_line()?;
+                Ok(advice)
+            }
+            None => Advice::about(alloc, word, b"the source has a fault", b""),
+        }
+    }
+
+    /// Adds a line to what to do.
+    pub fn add_line(&mut self, parts: &[&[u8]]) -> Result<(), AllocError> {
+        for part in parts {
+            self.cure.extend_from_slice(part)?;
+        }
+        Ok(self.cure.push(b'\n')?)
+    }
+
+    /// Adds a line that proposes a word.
+    pub fn propose(&mut self, word: &[u8]) -> Result<(), AllocError> {
+        self.add_line(&[b"Perhaps ", word, b" is meant."])
+    }
+
+    /// Ends the last line if it isn't ended.
+    fn end_line(&mut self) -> Result<(), AllocError> {
+        match self.cure.as_slice() {
+            [] | [.., b'\n'] => Ok(()),
+            _ => Ok(self.cure.push(b'\n')?),
+        }
+    }
+}
+
+/// The beginning of a word that may be long.
+fn beginning(word: &[u8]) -> &[u8] {
+    if word.len() > MOST_SHOWN {
+        return &word[..MOST_SHOWN];
+    }
+    word
+}

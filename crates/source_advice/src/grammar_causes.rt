@@ -1,0 +1,118 @@
+//! Causes of a text that doesn't follow the grammar.
+
+use crate::advice::{Advice, Found};
+use crate::name_causes::{is_declared, reserved_cause};
+use crate::period_causes::period_cause;
+use crate::scope_causes::scope_cause;
+use crate::spelling::{has_word, reserved_like};
+use crate::statement_forms::{form_cause, verb_before};
+use crate::view::View;
+use crate::word_causes::word_cause;
+use std::alloc::{AllocError, Global};
+use tokens::{Kind, Sign, Token};
+
+/// The number of the token after `IDENTIFICATION DIVISION.`.
+const AFTER_IDENTIFICATION: usize = 3;
+
+/// Verbs whose operands are no expressions.
+const WITHOUT_EXPRESSIONS: &[u8] = b"ACCEPT ADD DISPLAY DIVIDE INITIALIZE MOVE MULTIPLY SET STRING SUBTRACT";
+
+/// The advice about the token at which reading stopped.
+pub fn grammar_cause(alloc: Global, view: View<'_>, number: u8) -> Found {
+    if let Some(advice) = beginning_cause(alloc, view)? {
+        return Ok(Some(advice));
+    }
+    if let Some(advice) = period_cause(alloc, view)? {
+        return Ok(Some(advice));
+    }
+    if let Some(advice) = word_cause(alloc, view)? {
+        return Ok(Some(advice));
+    }
+    if let Some(advice) = scope_cause(alloc, view)? {
+        return Ok(Some(advice));
+    }
+    if let Some(advice) = reserved_cause(alloc, view)? {
+        return Ok(Some(advice));
+    }
+    if let Some(advice) = expression_cause(alloc, view)? {
+        return Ok(Some(advice));
+    }
+    if let Some(advice) = spelling_cause(alloc, view)? {
+        return Ok(Some(advice));
+    }
+    form_cause(alloc, view, number)
+}
+
+/// The advice about the first words of a program, and about a comment that begins in column 8.
+fn beginning_cause(alloc: Global, view: View<'_>) -> Found {
+    let here = view.written(alloc, Some(view.at))?;
+    if view.is_operator(Some(view.at)) && view.is_first_of_line(view.at) {
+        return Advice::for_cause(alloc, b"comment", b"");
+    }
+    if view.at == 0 {
+        return Advice::for_cause(alloc, b"no identification", here.as_slice());
+    }
+    if view.at == AFTER_IDENTIFICATION && !view.reads(alloc, Some(view.at), b"PROGRAM-ID")? {
+        return Advice::for_cause(alloc, b"no program id", here.as_slice());
+    }
+    Ok(None)
+}
+
+/// The advice about conditions that aren't written in full, expressions where none may be, and numbers with a sign.
+fn expression_cause(alloc: Global, view: View<'_>) -> Found {
+    let here = view.written(alloc, Some(view.at))?;
+    if is_abbreviated(alloc, view)? {
+        return Advice::for_cause(alloc, b"abbreviated condition", b"");
+    }
+    if is_signed(view.token(Some(view.at))) && view.before(1).is_some() {
+        return Advice::for_cause(alloc, b"sign", here.as_slice());
+    }
+    let verb = view.text(alloc, verb_before(alloc, view)?)?;
+    if view.is_operator(Some(view.at)) && has_word(WITHOUT_EXPRESSIONS, verb.as_slice()) {
+        return Advice::for_cause(alloc, b"expression", here.as_slice());
+    }
+    Ok(None)
+}
+
+/// Whether a literal, or a relation without its left side, follows AND or OR.
+fn is_abbreviated(alloc: Global, view: View<'_>) -> Result<bool, AllocError> {
+    let before = view.text(alloc, view.before(1))?;
+    let second = view.text(alloc, view.before(2))?;
+    Ok(view.is_operator(Some(view.at)) && has_word(b"AND OR", before.as_slice())
+        || view.is_literal(view.before(1))
+            && has_word(b"AND OR", second.as_slice())
+            && !view.is_operator(Some(view.at)))
+}
+
+/// Whether a token is a number with a sign.
+fn is_signed(token: Option<&Token>) -> bool {
+    match token {
+        Some(token) => match &token.kind {
+            Kind::Numeric(number) => number.sign != Sign::Unsigned,
+            _ => false,
+        },
+        None => false,
+    }
+}
+
+/// The advice that a word is misspelt: the one at the place, the next one, or the one before.
+fn spelling_cause(alloc: Global, view: View<'_>) -> Found {
+    for number in [Some(view.at), view.after(1), view.before(1)] {
+        let word = view.text(alloc, number)?;
+        if view.is_word(number) && !is_declared(alloc, view, word.as_slice())? {
+            if let Some(meant) = reserved_like(alloc, word.as_slice())? {
+                return misspelt(alloc, view.written(alloc, number)?.as_slice(), meant);
+            }
+        }
+    }
+    Ok(None)
+}
+
+/// The advice to write another word.
+fn misspelt(alloc: Global, word: &[u8], meant: &[u8]) -> Found {
+    let Some(mut advice) = Advice::for_cause(alloc, b"misspelt", word)? else {
+        return Ok(None);
+    };
+    advice.propose(meant)?;
+    Ok(Some(advice))
+}

@@ -1,0 +1,139 @@
+//! Names: reserved words in their place, undeclared names, and names of another kind.
+
+use crate::advice::{Advice, Found};
+use crate::spelling::{has_word, is_alike, reserved_like};
+use crate::view::View;
+use std::alloc::{AllocError, Global};
+
+/// Words after which a name follows.
+const BEFORE_NAMES: &[u8] = b"ACCEPT ADD BY CLOSE COMPUTE DELETE DISPLAY DIVIDE EXTEND FD FROM GIVING I-O IN INITIALIZE INPUT INSPECT INTO
+MOVE MULTIPLY OF OUTPUT PERFORM READ REDEFINES REWRITE SELECT SET START SUBTRACT THROUGH THRU TO VARYING WRITE";
+
+/// Words that are no name by mistake, because they go on with a statement.
+const CONNECTIVES: &[u8] = b"BY ELSE FROM GIVING INTO IS NOT TO UNTIL WHEN";
+
+/// Words after which a file is named, and a record.
+const BEFORE_FILES: &[u8] = b"CLOSE DELETE EXTEND I-O INPUT OUTPUT READ START";
+
+const BEFORE_RECORDS: &[u8] = b"REWRITE WRITE";
+
+const BEFORE_PROCEDURES: &[u8] = b"PERFORM THROUGH THRU";
+
+/// What a name is declared as.
+#[derive(Clone, Copy, PartialEq, Eq)]
+enum NameKind {
+    Item,
+    File,
+    /// A paragraph or a section.
+    Procedure,
+}
+
+/// The advice that a reserved word is in the place of a name.
+pub fn reserved_cause(alloc: Global, view: View<'_>) -> Found {
+    if !view.is_reserved(Some(view.at)) {
+        return Ok(None);
+    }
+    let here = view.text(alloc, Some(view.at))?;
+    let before = view.text(alloc, view.before(1))?;
+    let is_entry = view.is_numeric(view.before(1)) && view.is_period(view.before(2));
+    let is_name = is_entry || has_word(BEFORE_NAMES, before.as_slice());
+    if !is_name || has_word(CONNECTIVES, here.as_slice()) || here.starts_with(b"END-") {
+        return Ok(None);
+    }
+    Advice::for_cause(alloc, b"reserved", here.as_slice())
+}
+
+/// The advice about a name that nothing has: what kind of name is needed here, and a name that is spelled almost alike.
+pub fn undeclared_cause(alloc: Global, view: View<'_>, number: u8) -> Found {
+    let name = view.text(alloc, Some(view.at))?;
+    let kind = kind_after(view.text(alloc, view.before(1))?.as_slice());
+    let mut advice = match kind_cause(alloc, view, name.as_slice())? {
+        Some(advice) => advice,
+        None => Advice::for_number(alloc, number, name.as_slice())?,
+    };
+    if let Some(word) = proposal(alloc, view, kind, name.as_slice())? {
+        advice.propose(word.as_slice())?;
+    }
+    Ok(Some(advice))
+}
+
+/// The kind of name that follows a word.
+fn kind_after(word: &[u8]) -> NameKind {
+    if has_word(BEFORE_FILES, word) {
+        NameKind::File
+    } else if has_word(BEFORE_PROCEDURES, word) {
+        NameKind::Procedure
+    } else {
+        NameKind::Item
+    }
+}
+
+/// The advice that a file, a record or a paragraph is needed here.
+fn kind_cause(alloc: Global, view: View<'_>, name: &[u8]) -> Found {
+    let before = view.text(alloc, view.before(1))?;
+    let cause: &[u8] = if has_word(BEFORE_FILES, before.as_slice()) {
+        b"file needed"
+    } else if has_word(BEFORE_RECORDS, before.as_slice()) {
+        b"record needed"
+    } else if has_word(BEFORE_PROCEDURES, before.as_slice()) {
+        b"paragraph needed"
+    } else {
+        return Ok(None);
+    };
+    Advice::for_cause(alloc, cause, name)
+}
+
+/// A word that is perhaps meant: a reserved word at the beginning of a line, or a declared name of the kind that is needed.
+fn proposal(
+    alloc: Global,
+    view: View<'_>,
+    kind: NameKind,
+    name: &[u8],
+) -> Result<Option<Vec<u8>>, AllocError> {
+    if view.is_first_of_line(view.at) {
+        if let Some(word) = reserved_like(alloc, name)? {
+            return Ok(Some(Vec::from_slice(alloc, word)?));
+        }
+    }
+    for number in 0..view.tokens.len() {
+        if declared_kind(alloc, view, number)? == Some(kind) {
+            let declared = view.text(alloc, Some(number))?;
+            if is_alike(alloc, declared.as_slice(), name)? {
+                return Ok(Some(declared));
+            }
+        }
+    }
+    Ok(None)
+}
+
+/// Whether a name is declared in the text.
+pub fn is_declared(alloc: Global, view: View<'_>, name: &[u8]) -> Result<bool, AllocError> {
+    for number in 0..view.tokens.len() {
+        if declared_kind(alloc, view, number)?.is_some() && view.reads(alloc, Some(number), name)? {
+            return Ok(true);
+        }
+    }
+    Ok(false)
+}
+
+/// What a word is declared as where it is: after a level number, SELECT or FD, or as the name of a paragraph or a section.
+fn declared_kind(
+    alloc: Global,
+    view: View<'_>,
+    number: usize,
+) -> Result<Option<NameKind>, AllocError> {
+    if !view.is_word(Some(number)) {
+        return Ok(None);
+    }
+    let before = number.checked_sub(1);
+    let after = number.checked_add(1);
+    if view.is_in_procedures(number) {
+        let is_name = view.is_period(after) || view.reads(alloc, after, b"SECTION")?;
+        return Ok((is_name && view.is_period(before)).then_some(NameKind::Procedure));
+    }
+    if view.is_numeric(before) && view.is_period(number.checked_sub(2)) {
+        return Ok(Some(NameKind::Item));
+    }
+    let word = view.text(alloc, before)?;
+    Ok(has_word(b"FD SELECT OPTIONAL", word.as_slice()).then_some(NameKind::File))
+}

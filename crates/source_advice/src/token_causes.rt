@@ -1,0 +1,99 @@
+//! What is said of any fault.
+
+use crate::advice::{Advice, Found};
+use crate::cut_lines::cut_cause;
+use crate::format_causes::format_cause;
+use crate::grammar_causes::grammar_cause;
+use crate::name_causes::undeclared_cause;
+use crate::period_causes::period_cause;
+use crate::view::View;
+use crate::word_causes::verb_cause;
+use lexical::Place;
+use source_lines::logical;
+use std::alloc::{AllocError, Global};
+use tokens::scan;
+
+/// The first number of a fault that is found among tokens.
+const FIRST_OF_TREES: u8 = 20;
+
+const GRAMMAR: u8 = 30;
+
+const UNDECLARED: u8 = 40;
+/// The numbers of faults of items, which are reported at the level number.
+const ITEM_FAULTS: [u8; 3] = [44, 45, 48];
+
+/// What is said of the fault of this number at this place of a source text: what is wrong, and what to do.
+pub fn advise(
+    alloc: Global,
+    source: &[u8],
+    number: u8,
+    place: Place,
+) -> Result<Advice, AllocError> {
+    if number < FIRST_OF_TREES {
+        return format_cause(alloc, source, number, place);
+    }
+    let Ok(lines) = logical(alloc, source) else {
+        return Advice::for_number(alloc, number, b"");
+    };
+    let Ok(tokens) = scan(alloc, &lines) else {
+        return Advice::for_number(alloc, number, b"");
+    };
+    let view = View::at_end(tokens.as_slice(), lines.characters()).at_place(place);
+    match tree_cause(alloc, source, view, number)? {
+        Some(advice) => Ok(advice),
+        None => {
+            let word = view.written(alloc, named(view, number))?;
+            Advice::for_number(alloc, number, word.as_slice())
+        }
+    }
+}
+
+/// The advice about a fault at a token, if its cause is known.
+fn tree_cause(alloc: Global, source: &[u8], view: View<'_>, number: u8) -> Found {
+    if number != GRAMMAR && number != UNDECLARED {
+        return Ok(None);
+    }
+    if let Some(advice) = cut_around(alloc, source, view)? {
+        return Ok(Some(advice));
+    }
+    if number == GRAMMAR {
+        return grammar_cause(alloc, view, number);
+    }
+    if let Some(advice) = name_cause(alloc, view)? {
+        return Ok(Some(advice));
+    }
+    undeclared_cause(alloc, view, number)
+}
+
+/// The advice about a name that is a verb of other COBOLs, or that follows a missing period.
+fn name_cause(alloc: Global, view: View<'_>) -> Found {
+    if let Some(advice) = verb_cause(alloc, view)? {
+        return Ok(Some(advice));
+    }
+    if view.is_period(view.after(1)) {
+        return period_cause(alloc, view);
+    }
+    Ok(None)
+}
+
+/// The token that a fault is about: the item's name after the level number where an entry is refused, and else the one at the place.
+fn named(view: View<'_>, number: u8) -> Option<usize> {
+    if ITEM_FAULTS.contains(&number) && view.is_word(view.after(1)) {
+        return view.after(1);
+    }
+    Some(view.at)
+}
+
+/// The advice that the line of the place is cut after it, or the line before.
+fn cut_around(alloc: Global, source: &[u8], view: View<'_>) -> Found {
+    let before = view.line(view.before(1));
+    if before > 0 && view.is_first_of_line(view.at) {
+        if let Some(advice) = cut_cause(alloc, source, before, b"column 72")? {
+            return Ok(Some(advice));
+        }
+    }
+    if view.is_last_of_line(view.at) {
+        return cut_cause(alloc, source, view.line(Some(view.at)), b"column 72");
+    }
+    Ok(None)
+}

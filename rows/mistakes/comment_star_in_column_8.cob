@@ -1,0 +1,6 @@
+       IDENTIFICATION DIVISION.
+       PROGRAM-ID. TRIAL.
+       PROCEDURE DIVISION.
+       * SHOWS A GREETING
+       MAIN-PARA.
+           STOP RUN.

@@ -1,0 +1,5 @@
+identification division.
+program-id. trial.
+procedure division.
+    display "HELLO".
+    stop run.

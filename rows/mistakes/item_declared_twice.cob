@@ -1,0 +1,12 @@
+       IDENTIFICATION DIVISION.
+       PROGRAM-ID. TRIAL.
+       DATA DIVISION.
+       WORKING-STORAGE SECTION.
+       01  ORDERED.
+           05  PIECES PIC 9(3).
+       01  DELIVERED.
+           05  PIECES PIC 9(3).
+       PROCEDURE DIVISION.
+       MAIN-PARA.
+           ADD 1 TO PIECES
+           STOP RUN.

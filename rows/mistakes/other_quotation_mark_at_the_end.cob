@@ -1,0 +1,6 @@
+       IDENTIFICATION DIVISION.
+       PROGRAM-ID. TRIAL.
+       PROCEDURE DIVISION.
+       MAIN-PARA.
+           DISPLAY "HELLO'
+           STOP RUN.

@@ -1,0 +1,8 @@
+       IDENTIFICATION DIVISION.
+       PROGRAM-ID. TRIAL.
+       DATA DIVISION.
+       WORKING-STORAGE SECTION.
+       01  ORDERED.
+           05  DATE PIC 9(6).
+       PROCEDURE DIVISION.
+           STOP RUN.

@@ -1,0 +1,8 @@
+       IDENTIFICATION DIVISION.
+       PROGRAM-ID. TRIAL.
+       DATA DIVISION.
+       FILE SECTION.
+       FD  STOCK-FILE.
+       01  STOCK-ROW PIC X(20).
+       PROCEDURE DIVISION.
+           STOP RUN.

@@ -1,0 +1,11 @@
+       IDENTIFICATION DIVISION.
+       PROGRAM-ID. TRIAL.
+       DATA DIVISION.
+       WORKING-STORAGE SECTION.
+       01  I PIC 99.
+       01  PRICES.
+           05  PRICE PIC 9(3) OCCURS 10 TIMES.
+       PROCEDURE DIVISION.
+       MAIN-PARA.
+           MOVE 5 TO PRICE (I -1)
+           STOP RUN.
