@@ -7,7 +7,7 @@ use Rattle.clap.specs.Matches.{found_of, first_value, one_text}
 use Rattle.clap.specs.declared.parser.matches.ArgMatches.{ArgMatches}
 use Rattle.machine.specs.Ends.{IsDigit}
 use Rattle.cobol.specs.declared.words.Request.{Request}
-use Rattle.cobol.specs.declared.words.Request.TheVariants.{Format, Compile, Run, List as ListFiles, Dump, Explain, Check, Layout, Show, Wrong}
+use Rattle.cobol.specs.declared.words.Request.TheVariants.{Format, Copy, Load, Stat, Compile, Run, List as ListFiles, Dump, Explain, Check, Layout, Show, Wrong}
 
 -- A number of 64 bits: digits alone.
 abbrev pub IsNumber : List ℕ → Type 0
@@ -48,12 +48,28 @@ word_or_none (Some word) = word
 abbrev pub word_of : ArgMatches → List ℕ → List ℕ
 word_of found name = word_or_none (option_of found name)
 
--- The words found ask for this request of `format`, `compile`, `run`, `list`, `dump`, `explain`, `check`, `layout`.
+-- The words found ask for this request of `format`, `copy`, `load`, `stat`, `compile`, `run`, `list`, `dump`, `explain`, `check`, `layout`.
 abbrev pub AsksToFormat : ArgMatches → Request → Type 0
 AsksToFormat found (Format volume sectors) =
     let size = word_of found (codes "SECTORS") in
     (volume.now ≡ word_of found (codes "VOLUME")) × SomeIff (Some sectors) (IsSectorCount size) (digits_value 10 size)
 AsksToFormat found other = ⊥
+
+abbrev pub AsksToCopy : ArgMatches → Request → Type 0
+AsksToCopy found (Copy old new sectors) =
+    let size = word_of found (codes "SECTORS") in
+    (old.now ≡ word_of found (codes "OLD")) × (new.now ≡ word_of found (codes "NEW"))
+    × SomeIff (Some sectors) (IsSectorCount size) (digits_value 10 size)
+AsksToCopy found other = ⊥
+
+abbrev pub AsksToLoad : ArgMatches → Request → Type 0
+AsksToLoad found (Load volume name) =
+    (volume.now ≡ word_of found (codes "VOLUME")) × (name.now ≡ word_of found (codes "NAME"))
+AsksToLoad found other = ⊥
+
+abbrev pub AsksToStat : ArgMatches → Request → Type 0
+AsksToStat found (Stat volume) = volume.now ≡ word_of found (codes "VOLUME")
+AsksToStat found other = ⊥
 
 abbrev pub AsksToCompile : ArgMatches → Request → Type 0
 AsksToCompile found (Compile source image) =
@@ -93,5 +109,6 @@ AsksToLayout found other = ⊥
 -- A request that can be carried out: a date of digits, a size that a volume can have.
 abbrev pub IsWithinBounds : Request → Type 0
 IsWithinBounds (Format volume sectors) = (1024 ≤ sectors) × (sectors ≤ 921600)
+IsWithinBounds (Copy old new sectors) = (1024 ≤ sectors) × (sectors ≤ 921600)
 IsWithinBounds (Run run) = All IsDigit run.day
 IsWithinBounds other = ⊤

@@ -7,13 +7,16 @@ ghost use Rattle.cobol.specs.declared.verdict.Verdict.{Verdict};
 
 use crate::check_command::check;
 use crate::compile_command::compile_file;
+use crate::copy_command::copy;
 use crate::dump_command::dump;
 use crate::explain_command::explain_number;
 use crate::format_command::format;
 use crate::layout_command::show_layout;
 use crate::list_command::list;
+use crate::load_command::load;
 use crate::progress::Reasons;
 use crate::run_command::run;
+use crate::stat_command::stat;
 use crate::verdict::Verdict;
 use crate::words::{Request, read_words};
 use std::convert::AsStr;
@@ -52,6 +55,9 @@ where
 {
     match request {
         Request::Format { volume, sectors } => format(rt, volume, sectors, err),
+        Request::Copy { old, new, sectors } => copy(rt, old, new, sectors, err),
+        Request::Load { volume, name } => load(rt, volume, name, console, &mut out, err),
+        Request::Stat { volume } => stat(rt, volume, &mut out),
         Request::Compile { source, image } => compile_file(rt, source, image),
         Request::Run(request) => run(rt, request, console, out),
         Request::List { volume } => list(rt, volume, &mut out),

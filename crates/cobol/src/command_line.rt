@@ -3,6 +3,9 @@
 use clap::{Arg, ArgAction, Command};
 use std::alloc::{AllocError, Global};
 
+/// What the name of a file is.
+const FILE_NAME: &str = "The file's name; write `--` before VOLUME if it begins with a hyphen";
+
 /// The end of the help.
 const EXIT_STATUSES: &str = "Exit status:
   0  the command has done what it was asked
@@ -27,6 +30,10 @@ pub fn command_line<'a>(alloc: Global) -> Result<Command<'a>, AllocError> {
         .version("0.1.0")
         .subcommand_required(true)
         .subcommand(format_line(alloc)?)?
+        .subcommand(copy_line(alloc)?)?
+        .subcommand(stat_line(alloc)?)?
+        .subcommand(load_line(alloc)?)?
+        .subcommand(unload_line(alloc)?)?
         .subcommand(compile_line(alloc)?)?
         .subcommand(run_line(alloc)?)?
         .subcommand(list_line(alloc)?)?
@@ -46,6 +53,38 @@ fn format_line<'a>(alloc: Global) -> Result<Command<'a>, AllocError> {
             "SECTORS",
             "Its size, 1024 to 921600 sectors of 4096 bytes",
         ))
+}
+
+fn copy_line<'a>(alloc: Global) -> Result<Command<'a>, AllocError> {
+    Command::new(alloc, "copy")
+        .about("Makes a volume with the files of another one; NEW is whole or stays as it was")
+        .arg(required(alloc, "OLD", "The volume whose files are copied"))?
+        .arg(required(alloc, "NEW", "The host file that is to be the new volume"))?
+        .arg(required(
+            alloc,
+            "SECTORS",
+            "Its size, 1024 to 921600 sectors of 4096 bytes",
+        ))
+}
+
+fn stat_line<'a>(alloc: Global) -> Result<Command<'a>, AllocError> {
+    Command::new(alloc, "stat")
+        .about("Prints the layout, size and free sectors of a volume, and the rows of its files")
+        .arg(required(alloc, "VOLUME", "A volume that `format` made"))
+}
+
+fn load_line<'a>(alloc: Global) -> Result<Command<'a>, AllocError> {
+    Command::new(alloc, "load")
+        .about("Makes each line of standard input a row of a file")
+        .arg(required(alloc, "VOLUME", "A volume that `format` made"))?
+        .arg(required(alloc, "NAME", FILE_NAME))
+}
+
+fn unload_line<'a>(alloc: Global) -> Result<Command<'a>, AllocError> {
+    Command::new(alloc, "unload")
+        .about("Prints the rows of a file, a line each, in the form that `load` reads")
+        .arg(required(alloc, "VOLUME", "A volume that `format` made"))?
+        .arg(required(alloc, "NAME", FILE_NAME))
 }
 
 fn compile_line<'a>(alloc: Global) -> Result<Command<'a>, AllocError> {

@@ -6,6 +6,7 @@ mod command;
 mod command_line;
 mod compile_command;
 mod console;
+mod copy_command;
 mod descriptors;
 mod dump_command;
 mod explain_command;
@@ -14,12 +15,15 @@ mod host_file;
 mod host_station;
 mod layout_command;
 mod list_command;
+mod load_command;
 mod numbers;
 mod progress;
 mod run_command;
+mod stat_command;
 #[cfg(test)]
 mod tests;
 mod today;
+mod unknown_name;
 mod verdict;
 mod words;
 

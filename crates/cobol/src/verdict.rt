@@ -10,6 +10,7 @@ use station::DeviceError;
 use std::io::ErrorKind;
 use std::{fmt, io};
 use volume_commands::VolumeError;
+use volume_copies::CopyError;
 
 /// The number of a host file that can't be opened, read or written.
 const HOST_FILE: u8 = 85;
@@ -21,7 +22,7 @@ pub enum Verdict {
     Done,
     /// The source is refused at this place. Lines and columns count from 1.
     SourceFault { line: u32, column: u8, number: u8 },
-    /// The source is refused, for a reason that is already shown.
+    /// The source, or a line of a text, is refused for a reason that is already printed.
     Reported,
     /// The words are no command, for a reason that is already printed.
     WrongCommand,
@@ -105,6 +106,11 @@ impl Verdict {
     pub fn refusing_volume(error: VolumeError) -> Verdict
         ensures { result ≡ Verdict.Refused (number_of error) }
     {
+        Verdict::Refused(error.number())
+    }
+
+    /// Why a volume wasn't copied.
+    pub fn refusing_copy(error: CopyError) -> Verdict {
         Verdict::Refused(error.number())
     }
 

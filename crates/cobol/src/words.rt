@@ -1,7 +1,7 @@
 //! The words of a command.
 
 ghost use Rattle.std.specs.Prelude.{◌≡◌, ◌⊎◌, None, IfOk, OnErr, codes};
-ghost use Rattle.cobol.specs.Words.{IsWithinBounds, AsksToFormat, AsksToCompile, AsksToRun, AsksToList, AsksToDump, AsksToExplain, AsksToCheck, AsksToLayout, IsNumber, IsSectorCount, ReadsBudget, ReadsDate, option_of, word_of};
+ghost use Rattle.cobol.specs.Words.{IsWithinBounds, AsksToFormat, AsksToCopy, AsksToLoad, AsksToStat, AsksToCompile, AsksToRun, AsksToList, AsksToDump, AsksToExplain, AsksToCheck, AsksToLayout, IsNumber, IsSectorCount, ReadsBudget, ReadsDate, option_of, word_of};
 
 use crate::command_line::command_line;
 use crate::numbers::{read_budget, read_day, read_number, read_sector_count};
@@ -14,6 +14,12 @@ use std::alloc::{AllocError, Global};
 pub enum Request<'a> {
     /// To make a volume of so many sectors.
     Format { volume: &'a str, sectors: u32 },
+    /// To make a volume of so many sectors with the files of another one.
+    Copy { old: &'a str, new: &'a str, sectors: u32 },
+    /// To put lines into a file as rows.
+    Load { volume: &'a str, name: &'a str },
+    /// To print what a volume is.
+    Stat { volume: &'a str },
     /// To compile a source to an image.
     Compile { source: &'a str, image: &'a str },
     /// To run an image over a volume.
@@ -47,6 +53,9 @@ pub struct RunRequest<'a> {
     pub is_today: bool,
 }
 
+/// What a word that is no size of a volume is told.
+const SIZES: &str = "a volume has 1024 to 921600 sectors";
+
 /// Why words are no request.
 enum Fault {
     /// These words are no command, as `clap` says it.
@@ -77,6 +86,10 @@ fn read_request<'a>(alloc: Global, words: &'a [String]) -> Result<Request<'a>, F
     };
     match command {
         "format" => read_format(matches),
+        "copy" => read_copy(matches),
+        "load" => Ok(read_load(matches)),
+        "stat" => Ok(read_stat(matches)),
+        "unload" => Ok(read_dump(matches)),
         "compile" => Ok(read_compile(matches)),
         "run" => read_run(matches),
         "list" => Ok(read_list(matches)),
@@ -98,7 +111,42 @@ fn read_format<'a>(matches: &ArgMatches<'a>) -> Result<Request<'a>, Fault>
             volume: word(matches, "VOLUME"),
             sectors,
         }),
-        None => Err(Fault::Value("a volume has 1024 to 921600 sectors")),
+        None => Err(Fault::Value(SIZES)),
+    }
+}
+
+/// The words of `copy OLD NEW SECTORS`.
+fn read_copy<'a>(matches: &ArgMatches<'a>) -> Result<Request<'a>, Fault>
+    ensures asks { IfOk result (AsksToCopy matches.now) }
+    ensures bounds { IfOk result IsWithinBounds }
+    ensures refused { OnErr result (IsSectorCount (word_of matches.now (codes "SECTORS")) → ⊥) }
+{
+    match read_sector_count(word(matches, "SECTORS")) {
+        Some(sectors) => Ok(Request::Copy {
+            old: word(matches, "OLD"),
+            new: word(matches, "NEW"),
+            sectors,
+        }),
+        None => Err(Fault::Value(SIZES)),
+    }
+}
+
+/// The words of `load VOLUME NAME`.
+fn read_load<'a>(matches: &ArgMatches<'a>) -> Request<'a>
+    ensures { AsksToLoad matches.now result }
+{
+    Request::Load {
+        volume: word(matches, "VOLUME"),
+        name: word(matches, "NAME"),
+    }
+}
+
+/// The words of `stat VOLUME`.
+fn read_stat<'a>(matches: &ArgMatches<'a>) -> Request<'a>
+    ensures { AsksToStat matches.now result }
+{
+    Request::Stat {
+        volume: word(matches, "VOLUME"),
     }
 }
 

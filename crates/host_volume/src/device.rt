@@ -24,6 +24,8 @@ pub struct HostDevice {
     volume: HostVolume,
     gathered: GatheredWrites,
     failures: u64,
+    /// Whether a sync only gives the host what was gathered.
+    is_deferring: bool,
 }
 
 impl HostDevice {
@@ -36,7 +38,19 @@ impl HostDevice {
             volume,
             gathered: GatheredWrites::new(alloc),
             failures: 0,
+            is_deferring: false,
         }
+    }
+
+    /// A device whose syncs wait: after `into_volume` the volume is to be synced. Until then a crash may leave any of its writes, so
+    /// nothing may depend on the file before.
+    pub fn deferring(alloc: Global, volume: HostVolume) -> HostDevice
+        ensures volume { volume_of result ≡ volume }
+        ensures failures { failure_count result ≡ 0 }
+    {
+        let mut device = HostDevice::new(alloc, volume);
+        device.is_deferring = true;
+        device
     }
 
     /// The volume without the count of failures. What was gathered is written; it fails if the host refuses that.
@@ -139,6 +153,9 @@ impl Device for HostDevice {
 
     fn sync(&mut self) -> Result<(), DeviceError> {
         self.write_gathered()?; // The host syncs what it was given.
+        if self.is_deferring {
+            return Ok(());
+        }
         let done = self.volume.sync();
         self.count_failure(done)
     }

@@ -7,11 +7,13 @@ mod device;
 mod gathering;
 mod host_file;
 mod new_volume;
+mod replacement;
 mod roots;
 mod volume;
 
 pub use device::HostDevice;
 pub use new_volume::NewVolume;
+pub use replacement::Replacement;
 pub use roots::rewrite_roots;
 pub use volume::{Access, HostVolume};
 

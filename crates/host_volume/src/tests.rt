@@ -176,6 +176,42 @@ fn file_that_cannot_be_synced(rt: HostRuntime) -> Result<(), Fail> {
     Ok(())
 }
 
+/// A device whose syncs wait, over the same file: the volume's own sync fails.
+#[test]
+fn sync_that_waits(rt: HostRuntime) -> Result<(), Fail> {
+    let volume = HostVolume::open(&rt, "/proc/self/comm", Access::Read)?;
+    let mut device = HostDevice::deferring(rt.alloc(), volume);
+    assert!(rt; device.sync().is_ok());
+    assert_eq!(rt; device.failures(), 0);
+    let Ok(volume) = device.into_volume() else {
+        return Err(Fail::new("nothing was gathered"));
+    };
+    assert!(rt; volume.sync().is_err());
+    Ok(())
+}
+
+/// What is at a path while a volume is made that replaces it, and after that; also if it is given up.
+#[test]
+fn volume_that_replaces_a_file(rt: HostRuntime) -> Result<(), Fail> {
+    for is_whole in [false, true] {
+        fs::write(&rt, "replaced", "OLD")?;
+        let replacement = Replacement::open(&rt, "replaced")?;
+        assert!(rt; HostVolume::open(&rt, "replaced", Access::Read).is_err());
+        let volume = replacement.begin(&rt)?.fill(rt.alloc(), 3, |_| {})?;
+        assert_eq!(rt; fs::read(&rt, "replaced")?.as_slice(), b"OLD");
+        if is_whole {
+            replacement.end(&rt, volume)?;
+            assert_eq!(rt; fs::read(&rt, "replaced")?.len(), 3 * 4096);
+        } else {
+            replacement.give_up(&rt);
+            assert_eq!(rt; fs::read(&rt, "replaced")?.as_slice(), b"OLD");
+        }
+        assert!(rt; !fs::exists(&rt, "replaced.cobol-copy")?);
+    }
+    fs::remove_file(&rt, "replaced")?;
+    Ok(())
+}
+
 /// A device of so many sectors: how often it is read, written and synced while its roots are written again.
 #[test]
 fn roots_that_are_written_again(rt: HostRuntime) -> Result<(), Fail> {

@@ -2,4 +2,5 @@ pub mod Beginnings
 pub mod Lines
 pub mod Reading
 pub mod Faithful
+pub mod States
 mod Examples

@@ -15,14 +15,14 @@ use Rattle.volume_commands.specs.declared.volume_error.VolumeError.TheVariants.{
 use Rattle.volume_commands.specs.Faults.{error_of}
 use Rattle.volume_commands.specs.Calls.{ReadsVolume, IsVolumeRefusal}
 
-abbrev refused : (T E : Type 0) → E → Result T E
+abbrev pub refused : (T E : Type 0) → E → Result T E
 refused T E error = Err error
 
-same_error : (A B : Type 0) (error other : VolumeError) → refused B VolumeError error ≡ refused B VolumeError other
+pub same_error : (A B : Type 0) (error other : VolumeError) → refused B VolumeError error ≡ refused B VolumeError other
     → refused A VolumeError error ≡ refused A VolumeError other
 same_error A B error other e = let same : error ≡ other = cc in ap (refused A VolumeError) same
 
-failed_device : (A B : Type 0) (fault : StoreFault)
+pub failed_device : (A B : Type 0) (fault : StoreFault)
     → refused B VolumeError (error_of fault) ≡ refused B VolumeError Device
     → refused A StoreFault fault ≡ refused A StoreFault store.Device
 failed_device A B store.Device e = refl
@@ -77,7 +77,7 @@ module _ {D : Type 0} (d : Devices D) where
       } in
       subst (λ (x : VolumeError). ReadsVolume d (refused B VolumeError x) old new) (sym is) reads
 
-  same_refusal : (A B : Type 0) (error : VolumeError) (old new : D)
+  pub same_refusal : (A B : Type 0) (error : VolumeError) (old new : D)
       → ReadsVolume d (refused A VolumeError error) old new
       → ReadsVolume d (refused B VolumeError error) old new
   same_refusal A B error old new reads = record {

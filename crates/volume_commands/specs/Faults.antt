@@ -26,3 +26,17 @@ IsWriteCause Device = ⊥
 IsWriteCause Output = ⊤
 IsWriteCause Damaged = ⊥
 IsWriteCause Memory = ⊤
+
+-- the device failed, or memory ran out
+abbrev pub IsReadCause : VolumeError → Type 0
+IsReadCause Device = ⊤
+IsReadCause Output = ⊥
+IsReadCause Damaged = ⊥
+IsReadCause Memory = ⊤
+
+-- the device, the volume or memory
+abbrev pub IsReadError : VolumeError → Type 0
+IsReadError Device = ⊤
+IsReadError Output = ⊥
+IsReadError Damaged = ⊤
+IsReadError Memory = ⊤

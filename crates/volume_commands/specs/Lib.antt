@@ -1,6 +1,8 @@
 pub mod Text
 pub mod Listing
 pub mod Dump
+pub mod State
+pub mod Stat
 pub mod Faults
 pub mod Output
 pub mod Calls

@@ -33,7 +33,7 @@ fn push_file_line(out: &mut Vec<u8>, file: &StoredFile) -> Result<(), AllocError
 }
 
 /// Appends a space and a word.
-fn push_word(out: &mut Vec<u8>, word: &[u8]) -> Result<(), AllocError>
+pub(crate) fn push_word(out: &mut Vec<u8>, word: &[u8]) -> Result<(), AllocError>
     ensures { OnOk result (out.new.items ≡ out.old.items ++ spec.space ∷ word.now) }
 {
     out.push(b' ')?;
@@ -41,7 +41,7 @@ fn push_word(out: &mut Vec<u8>, word: &[u8]) -> Result<(), AllocError>
 }
 
 /// Appends a space and a number.
-fn push_number(out: &mut Vec<u8>, number: u64) -> Result<(), AllocError>
+pub(crate) fn push_number(out: &mut Vec<u8>, number: u64) -> Result<(), AllocError>
     ensures { OnOk result (out.new.items ≡ out.old.items ++ spec.space ∷ decimal number) }
 {
     let mut digits = Buffer::new();

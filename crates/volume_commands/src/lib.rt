@@ -1,7 +1,7 @@
-//! The commands on a volume: `format`, `list` and `dump`.
+//! The commands on a volume: `format`, `list`, `dump` and `stat`.
 //!
-//! Promise: what `list` and `dump` print is the listing and the dump of the files that the volume
-//! holds.
+//! Promise: what `list`, `dump` and `stat` print is the listing, the dump and the state of what the
+//! volume holds.
 #![tactic(auto)]
 
 mod dump;
@@ -12,8 +12,11 @@ mod format_command;
 mod laws;
 mod list_command;
 mod output;
+mod stat;
+mod stat_command;
 mod volume_error;
 mod volume_files;
+mod volume_state;
 
 pub use dump::dump_text;
 pub use dump_command::{FileDump, dump_volume};
@@ -22,4 +25,7 @@ pub use file_line::listing;
 pub use format_command::format_volume;
 pub use laws::text_determines_bytes;
 pub use list_command::list_volume;
+pub use stat::stat_text;
+pub use stat_command::stat_volume;
 pub use volume_error::VolumeError;
+pub use volume_state::{Layout, VolumeState};

@@ -1,8 +1,9 @@
 //! The files of a volume, as a command reads them.
-ghost use Rattle.std.specs.Prelude.{◌≡◌, IfOk};
+ghost use Rattle.std.specs.Prelude.{◌≡◌, IfOk, IfErr};
 ghost use Rattle.records.specs.Files.{Files};
 ghost use Rattle.file_recovery.specs.Recovered.{HoldsFiles};
 ghost use Rattle.file_bytes.specs.Stored.{files_of};
+ghost use Rattle.volume_commands.specs.Faults.{IsReadError};
 ghost use Rattle.volume_commands.specs.Calls.{ReadsVolume};
 
 use crate::volume_error::VolumeError;
@@ -18,6 +19,7 @@ pub(crate) fn read_files<D: Device>(
     ensures reads { ReadsVolume D.Device result device.old device.new }
     ensures files { D.is_honest device.old → IfOk result (λ files.
         HoldsFiles (D.state device.old).disk.present (files_of files.items)) }
+    ensures cause { IfErr result IsReadError }
 {
     match recover(alloc, device) {
         Ok(files) => Ok(files),

@@ -1,0 +1,10 @@
+pub mod Zips
+pub mod Ascending
+pub mod LineLists
+pub mod Spelling
+pub mod Keeping
+pub mod Durable
+pub mod Inserted
+pub mod OneRow
+pub mod LinesAdded
+pub mod LoadsOfVolumes

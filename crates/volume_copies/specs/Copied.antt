@@ -1,0 +1,48 @@
+-- What `copy` leaves, and what its refusal says.
+use Rattle.std.specs.Prelude.{◌≡◌, ◌↔◌, ℕ, List, ⊤}
+use Rattle.station.specs.Disk.{Sector}
+use Rattle.station.specs.Failures.{Blames}
+use Rattle.station.specs.History.{EachImage}
+use Rattle.station.specs.State.{State}
+use Rattle.station.specs.declared.device.Device.{Ghosts as Devices}
+use Rattle.records.specs.Files.{Files}
+use Rattle.records.specs.Faults.{number_of as fault_number}
+use Rattle.file_recovery.specs.Recovered.{HoldsFiles, IsRecoveryRefusal, IsReadCause}
+use Rattle.volume_copies.specs.Same.{AreSameFiles}
+use Rattle.volume_copies.specs.declared.copy_error.CopyError.{CopyError}
+use Rattle.volume_copies.specs.declared.copy_error.CopyError.TheVariants.{Old, New}
+
+-- The old volume held files, and whatever a crash leaves of the new one holds the same.
+pub record IsCopied (old new : State) : Type 0 where
+  pub files : Files
+  pub holds : HoldsFiles old.disk.present files
+  pub copies : Files
+  pub durable : EachImage (λ image. HoldsFiles image copies) new
+  pub same : AreSameFiles files copies
+
+-- whatever a crash leaves holds the same files as these
+pub record IsReadBack (files : Files) (new : State) : Type 0 where
+  pub copies : Files
+  pub durable : EachImage (λ image. HoldsFiles image copies) new
+  pub same : AreSameFiles files copies
+
+-- the number that the product prints
+abbrev pub number_of : CopyError → ℕ
+number_of (Old fault) = fault_number fault
+number_of (New fault) = fault_number fault
+
+-- Of the old volume a refusal says what recovery says of it.
+abbrev pub IsCopyRefusal : List Sector → CopyError → Type 0
+IsCopyRefusal image (Old fault) = IsRecoveryRefusal image fault
+IsCopyRefusal image (New fault) = ⊤
+
+-- where the old volume holds files, it is refused for its device and for memory alone
+abbrev pub IsOldCause : CopyError → Type 0
+IsOldCause (Old fault) = IsReadCause fault
+IsOldCause (New fault) = ⊤
+
+-- What a call keeps of a device that it makes a volume. Where `blamed` holds, the device failed.
+pub record KeepsDevice {D : Type 0} (d : Devices D) (blamed : Type 0) (old new : D) : Type 0 where
+  pub honest : d.is_honest old ↔ d.is_honest new
+  pub sectors : d.sectors new ≡ d.sectors old
+  pub failures : Blames blamed (d.failures old) (d.failures new)

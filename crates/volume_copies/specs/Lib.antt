@@ -1,0 +1,9 @@
+pub mod Same
+pub mod Ascents
+pub mod Copied
+pub mod Lines
+pub mod Record
+pub mod LineErrors
+pub mod Loaded
+pub mod Loads
+pub mod OneLine

@@ -1,0 +1,41 @@
+       IDENTIFICATION DIVISION.
+       PROGRAM-ID. READ-ORDERS.
+       ENVIRONMENT DIVISION.
+       INPUT-OUTPUT SECTION.
+       FILE-CONTROL.
+           SELECT F ASSIGN TO "ORDERS" ORGANIZATION IS INDEXED
+               ACCESS MODE IS DYNAMIC RECORD KEY IS K
+               ALTERNATE RECORD KEY IS CITY WITH DUPLICATES
+               ALTERNATE RECORD KEY IS FLAG WITH DUPLICATES
+               ALTERNATE RECORD KEY IS TAG.
+       DATA DIVISION.
+       FILE SECTION.
+       FD  F.
+       01  R.
+           05  K     PIC X(3).
+           05  CITY  PIC X(2).
+           05  FLAG  PIC X.
+           05  TAG   PIC X(2).
+       WORKING-STORAGE SECTION.
+       01  MORE  PIC X.
+       PROCEDURE DIVISION.
+       MAIN.
+           OPEN INPUT F.
+           MOVE LOW-VALUES TO R.
+           START F KEY NOT LESS THAN CITY.
+           PERFORM SHOW-ALL.
+           MOVE LOW-VALUES TO R.
+           START F KEY NOT LESS THAN FLAG.
+           PERFORM SHOW-ALL.
+           MOVE LOW-VALUES TO R.
+           START F KEY NOT LESS THAN TAG.
+           PERFORM SHOW-ALL.
+           CLOSE F.
+           STOP RUN.
+       SHOW-ALL.
+           MOVE "Y" TO MORE.
+           PERFORM SHOW-ONE UNTIL MORE = "N".
+       SHOW-ONE.
+           READ F NEXT AT END MOVE "N" TO MORE
+               NOT AT END DISPLAY K " " CITY " " FLAG
+           END-READ.
