@@ -57,7 +57,7 @@ where
     let volume = new
         .fill(rt.alloc(), sectors, |_| {})
         .map_err(Verdict::refusing_device)?;
-    let mut device = HostDevice::deferring(rt.alloc(), volume);
+    let mut device = HostDevice::with_roots_last(rt.alloc(), volume);
     let mut watched = Watched {
         rt,
         progress: Progress::new(rt, &*err, 100),

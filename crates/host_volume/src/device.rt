@@ -12,20 +12,18 @@ ghost use Rattle.host_volume.specs.Volume.{sector_count, volume_of, failure_coun
 
 use crate::gathering::GatheredWrites;
 use crate::volume::HostVolume;
+use crate::withheld::{ROOTS, WithheldRoots};
 use station::{Device, DeviceError};
 use std::alloc::Global;
 use std::io;
-
-/// How many roots a volume has. A root is written by itself and synced, so it isn't gathered.
-const ROOTS: u32 = 2;
 
 #[derive(Drop)]
 pub struct HostDevice {
     volume: HostVolume,
     gathered: GatheredWrites,
     failures: u64,
-    /// Whether a sync only gives the host what was gathered.
-    is_deferring: bool,
+    /// The roots of a volume that is being made. Until they are written, a sync only gives the host what was gathered.
+    withheld: Option<WithheldRoots>,
 }
 
 impl HostDevice {
@@ -38,26 +36,28 @@ impl HostDevice {
             volume,
             gathered: GatheredWrites::new(alloc),
             failures: 0,
-            is_deferring: false,
+            withheld: None,
         }
     }
 
-    /// A device whose syncs wait: after `into_volume` the volume is to be synced. Until then a crash may leave any of its writes, so
-    /// nothing may depend on the file before.
-    pub fn deferring(alloc: Global, volume: HostVolume) -> HostDevice
+    /// A device over a new volume of zeros, whose roots and syncs wait for `into_volume`. Until then its file holds no files, whatever a
+    /// crash leaves of it.
+    pub fn with_roots_last(alloc: Global, volume: HostVolume) -> HostDevice
         ensures volume { volume_of result ≡ volume }
         ensures failures { failure_count result ≡ 0 }
     {
         let mut device = HostDevice::new(alloc, volume);
-        device.is_deferring = true;
+        device.withheld = Some(WithheldRoots::new());
         device
     }
 
-    /// The volume without the count of failures. What was gathered is written; it fails if the host refuses that.
+    /// The volume without the count of failures. What was gathered is written, and then the roots that wait, after a sync. It fails if
+    /// the host refuses that. Roots that waited aren't synced yet.
     pub fn into_volume(mut self) -> Result<HostVolume, DeviceError>
         ensures { IfOk result (λ volume. volume ≡ volume_of self) }
     {
         self.write_gathered()?; // The device is all that has it.
+        self.write_withheld()?;
         Ok(self.volume)
     }
 
@@ -110,6 +110,56 @@ impl HostDevice {
         }
         self.write_gathered()
     }
+
+    /// Syncs what was written, and writes the roots that wait.
+    fn write_withheld(&mut self) -> Result<(), DeviceError>
+        ensures volume { volume_of self.new ≡ volume_of self.old }
+        ensures failures { CountsFailure result (failure_count self.old) (failure_count self.new) }
+    {
+        let Some(roots) = self.withheld.take() else {
+            return Ok(());
+        };
+        let done = write_roots(&self.volume, &roots);
+        self.count_failure(done)
+    }
+
+    /// Takes what is written to a root, if the roots wait.
+    fn withhold(&mut self, sector: u32, bytes: &[u8; 4096]) -> bool
+        ensures volume { volume_of self.new ≡ volume_of self.old }
+        ensures failures { failure_count self.new ≡ failure_count self.old }
+        ensures gathered { self.new.gathered ≡ self.old.gathered }
+    {
+        if sector >= ROOTS {
+            return false;
+        }
+        match &mut self.withheld {
+            Some(roots) => {
+                roots.write(sector, bytes);
+                true
+            }
+            None => false,
+        }
+    }
+
+    /// What was written to a root, if the roots wait.
+    fn withheld_root(&self, sector: u32) -> Option<&[u8; 4096]> {
+        if sector >= ROOTS {
+            return None;
+        }
+        match &self.withheld {
+            Some(roots) => Some(roots.read(sector)),
+            None => None,
+        }
+    }
+}
+
+/// Syncs a volume, and writes its roots after that.
+fn write_roots(volume: &HostVolume, roots: &WithheldRoots) -> io::Result<()> {
+    volume.sync()?;
+    for sector in 0..ROOTS {
+        volume.write(sector, roots.read(sector))?;
+    }
+    Ok(())
 }
 
 impl Device for HostDevice {
@@ -136,12 +186,20 @@ impl Device for HostDevice {
     }
 
     fn read(&mut self, sector: u32, bytes: &mut [u8; 4096]) -> Result<(), DeviceError> {
+        if let Some(root) = self.withheld_root(sector) {
+            *bytes = *root;
+            return Ok(());
+        }
         self.write_gathered()?; // It may have the newest bytes of this sector.
         let done = self.volume.read(sector, bytes);
         self.count_failure(done)
     }
 
+    // A root is written by itself and synced, so it isn't gathered.
     fn write(&mut self, sector: u32, bytes: &[u8; 4096]) -> Result<(), DeviceError> {
+        if self.withhold(sector, bytes) {
+            return Ok(());
+        }
         self.make_place_for(sector)?;
         if sector >= ROOTS && self.gathered.add(sector, bytes).is_ok() {
             return Ok(());
@@ -153,7 +211,7 @@ impl Device for HostDevice {
 
     fn sync(&mut self) -> Result<(), DeviceError> {
         self.write_gathered()?; // The host syncs what it was given.
-        if self.is_deferring {
+        if self.withheld.is_some() {
             return Ok(());
         }
         let done = self.volume.sync();

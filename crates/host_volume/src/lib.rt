@@ -10,6 +10,7 @@ mod new_volume;
 mod replacement;
 mod roots;
 mod volume;
+mod withheld;
 
 pub use device::HostDevice;
 pub use new_volume::NewVolume;

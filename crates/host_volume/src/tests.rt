@@ -176,17 +176,34 @@ fn file_that_cannot_be_synced(rt: HostRuntime) -> Result<(), Fail> {
     Ok(())
 }
 
-/// A device whose syncs wait, over the same file: the volume's own sync fails.
+/// A device whose roots wait, over the same file: its syncs do nothing, and the one before the roots fails.
 #[test]
 fn sync_that_waits(rt: HostRuntime) -> Result<(), Fail> {
     let volume = HostVolume::open(&rt, "/proc/self/comm", Access::Read)?;
-    let mut device = HostDevice::deferring(rt.alloc(), volume);
+    let mut device = HostDevice::with_roots_last(rt.alloc(), volume);
     assert!(rt; device.sync().is_ok());
     assert_eq!(rt; device.failures(), 0);
-    let Ok(volume) = device.into_volume() else {
-        return Err(Fail::new("nothing was gathered"));
-    };
-    assert!(rt; volume.sync().is_err());
+    assert!(rt; device.into_volume().is_err());
+    Ok(())
+}
+
+/// Roots that wait: a read gives them, the file has zeros in their place, and gets them by `into_volume`.
+#[test]
+fn roots_that_wait(rt: HostRuntime) -> Result<(), Fail> {
+    let volume = NewVolume::open(&rt, "wait.V")?.fill(rt.alloc(), 4, |_| {})?;
+    let mut device = HostDevice::with_roots_last(rt.alloc(), volume);
+    assert!(rt; write_all(&mut device, &[(1, 1), (0, 2), (2, 3), (1, 4), (3, 5)]));
+    device.sync()?;
+    assert_eq!(rt; first_bytes(&rt, "wait.V")?.as_slice(), [0, 0, 3, 5].as_slice());
+    let mut bytes = [0; 4096];
+    for (sector, byte) in [(0, 2), (1, 4), (2, 3), (3, 5)] {
+        assert!(rt; sector < device.count());
+        device.read(sector, &mut bytes)?;
+        assert!(rt; bytes == sector_of(byte), "{sector}");
+    }
+    let _volume = device.into_volume()?;
+    assert_eq!(rt; first_bytes(&rt, "wait.V")?.as_slice(), [2, 4, 3, 5].as_slice());
+    fs::remove_file(&rt, "wait.V")?;
     Ok(())
 }
 

@@ -8,3 +8,4 @@ pub mod Inserted
 pub mod OneRow
 pub mod LinesAdded
 pub mod LoadsOfVolumes
+pub mod Unloads

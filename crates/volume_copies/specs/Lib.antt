@@ -7,3 +7,4 @@ pub mod LineErrors
 pub mod Loaded
 pub mod Loads
 pub mod OneLine
+pub mod Unloaded

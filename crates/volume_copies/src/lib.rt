@@ -9,6 +9,7 @@ mod copy_command;
 mod copy_error;
 mod file_writes;
 mod key_order;
+mod laws;
 mod line_record;
 mod lines;
 mod load_command;
@@ -22,6 +23,7 @@ mod write_order;
 
 pub use copy_command::{VolumeCopy, copy_volume};
 pub use copy_error::CopyError;
+pub use laws::unloaded_lines_spell_records;
 pub use load_command::load_volume;
 pub use load_end::{LineFault, Load, LoadEnd};
 pub use progress::Progress;
