@@ -4,10 +4,18 @@
 #[cfg(test)]
 mod asserted;
 #[cfg(test)]
+mod copy_tests;
+#[cfg(test)]
 mod dump_tests;
 #[cfg(test)]
 mod list_tests;
 #[cfg(test)]
+mod load_tests;
+#[cfg(test)]
 mod narrow_writer;
+#[cfg(test)]
+mod stat_tests;
+#[cfg(test)]
+mod unseen;
 #[cfg(test)]
 mod volume;

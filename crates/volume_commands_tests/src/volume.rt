@@ -4,7 +4,7 @@ use records::{FileSpec, KeyPlace, Organization, Outcome, Store};
 use station::{Device, MemoryStation};
 use std::alloc::{AllocError, Global};
 use std::process::Abort;
-use volume_commands::format_volume;
+use volume_commands::{FileDump, dump_volume, format_volume};
 
 /// So many pages are kept in memory.
 const CACHED: usize = 4;
@@ -68,6 +68,13 @@ pub fn add_file(
     for (number, record) in (1..).zip(records) {
         add_row(rt, &mut store, station, file, number, record);
     }
+}
+
+/// The dump of a file that is there.
+pub fn dump_of(rt: &impl Abort, alloc: Global, station: &mut MemoryStation, name: &[u8]) -> Vec<u8> {
+    let mut out = Vec::new(alloc);
+    assert!(rt; dump_volume(alloc, station, name, &mut out) == Ok(FileDump::Written));
+    out
 }
 
 fn station_of_zeros(alloc: Global) -> Result<MemoryStation, AllocError> {
