@@ -74,31 +74,25 @@ fn volumes_without_files(rt: HostRuntime) {
     holds(&rt, copy(&rt, alloc, &mut blank_station(&rt, alloc), &mut new) == Err(error));
 }
 
-/// Whether a copy fails whose new device fails at this call.
-fn new_fails_at(rt: &impl Abort, alloc: Global, call: u64) -> bool {
-    let mut old = volume_of_four(rt, alloc);
-    let mut new = blank_station(rt, alloc);
-    new.fail_at(call);
-    let answer = copy(rt, alloc, &mut old, &mut new);
-    if answer == Ok(VolumeCopy::Done) {
-        holds_four(rt, alloc, &mut new);
-        return false;
-    }
-    holds(rt, answer == Err(CopyError::New(StoreFault::Device)));
-    true
-}
-
 // No failure of the new device is passed over: each of its calls is needed.
 #[test]
 fn new_devices_that_fail(rt: HostRuntime) {
+    let alloc = rt.alloc();
+    let mut old = new_volume(&rt, alloc);
+    add_file(&rt, alloc, &mut old, &indexed(&rt, alloc, b"KEYS", 2), &[b"C3", b"A1"]);
+    let mut new = blank_station(&rt, alloc);
     let mut failed = 0u64;
-    for call in 1..400 {
-        if !new_fails_at(&rt, rt.alloc(), call) {
+    for call in 1..200 {
+        new.fail_at(call);
+        let answer = copy(&rt, alloc, &mut old, &mut new);
+        if answer == Ok(VolumeCopy::Done) {
             break;
         }
+        same_in(&rt, &call, answer == Err(CopyError::New(StoreFault::Device)), true);
         failed = call;
     }
-    holds(&rt, 50 < failed && failed < 399);
+    holds(&rt, 20 < failed && failed < 199);
+    same(&rt, dump_of(&rt, alloc, &mut new, b"KEYS").as_slice(), b"A1\nC3\n");
 }
 
 // The sync and the reads of the roots are the first three calls on the old device.

@@ -23,7 +23,8 @@ ascends_by count f next x (suc y) less there =
     let step : pair_cmp (f y) (f (suc y)) ≡ Less =
     subst (λ (n : ℕ). pair_cmp (f n) (f (suc y)) ≡ Less) (omega arith) (next (suc y) (omega arith) there) in
     ⊎_elim
-    (λ before. pair_total.trans (f x) (f y) (f (suc y)) (ascends_by count f next x y before (omega (arith, there))) step)
+    (λ before.
+    pair_total.trans (f x) (f y) (f (suc y)) (ascends_by count f next x y before (omega (arith, there))) step)
     (λ past. subst (λ (n : ℕ). pair_cmp (f n) (f (suc y)) ≡ Less) (omega (arith, past, less)) step)
     (cases_lt x y)
 
@@ -44,7 +45,8 @@ same_compared count f h first second x y there there' = ⊎_elim
 
 -- rows at the places of an order that has each
 module _ (place : KeyPlace) (key : ℕ) (one two : List Row) (order : List ℕ) (count : ℕ) where
-  pub same_order : HasEach count order → IsAscent place key one order → IsAscent place key two order → (p q : ℕ) (d : Row)
+  pub same_order : HasEach count order → IsAscent place key one order → IsAscent place key two order
+      → (p q : ℕ) (d : Row)
       → p < count → q < count
       → pair_cmp (pair_at place key (slice_index_or one p d)) (pair_at place key (slice_index_or one q d))
       ≡ pair_cmp (pair_at place key (slice_index_or two p d)) (pair_at place key (slice_index_or two q d))
@@ -56,8 +58,10 @@ module _ (place : KeyPlace) (key : ℕ) (one two : List Row) (order : List ℕ) 
       let y = slice_index_or has.places q 0 in
       let same = same_compared (length order) f h (λ next low high. first.each next d low high)
       (λ next low high. second.each next d low high) x y (has.at p there) (has.at q there') in
-      subst (λ (n : ℕ). pair_cmp (pair_at place key (slice_index_or one p d)) (pair_at place key (slice_index_or one n d))
-      ≡ pair_cmp (pair_at place key (slice_index_or two p d)) (pair_at place key (slice_index_or two n d))) (has.is q there')
+      subst
+      (λ (n : ℕ). pair_cmp (pair_at place key (slice_index_or one p d)) (pair_at place key (slice_index_or one n d))
+      ≡ pair_cmp (pair_at place key (slice_index_or two p d)) (pair_at place key (slice_index_or two n d)))
+      (has.is q there')
       (subst (λ (n : ℕ). pair_cmp (pair_at place key (slice_index_or one n d)) (f y)
       ≡ pair_cmp (pair_at place key (slice_index_or two n d)) (h y)) (has.is p there) same)
 

@@ -11,7 +11,8 @@ use Rattle.records.specs.Files.{File}
 use Rattle.records.specs.Changes.{FileChange, without_change, with_row, has_prime, is_taken, is_duplicate, done_outcome}
 use Rattle.records.specs.Changes.{new_number, new_row, insertion}
 use Rattle.records.specs.Stores.{IsNewNumber, is_change}
-use Rattle.volume_copies.specs.Loaded.{greatest_number, number_among, next_number, IsNext, following_number, file_change}
+use Rattle.volume_copies.specs.Loaded.{greatest_number, number_among, next_number, IsNext, following_number}
+use Rattle.volume_copies.specs.Loaded.{file_change}
 
 -- numbers that aren't past the greatest
 same_number : (n m : ℕ) → n ≤ 999999999 → min n 1000000000 ≡ min m 1000000000 → n ≡ m
@@ -79,7 +80,8 @@ greatest_with_row o new [] = refl
 greatest_with_row o new (row ∷ rows) =
     cond_both (is_lt (pair_cmp (prime_pair o row) (prime_pair o new))) (row ∷ with_row o new rows) (new ∷ row ∷ rows)
     (λ (l : List Row). greatest_number l ≡ max new.number (greatest_number (row ∷ rows)))
-    (λ _. later row.number new.number (greatest_number rows) (greatest_number (with_row o new rows)) (greatest_with_row o new rows))
+    (λ _. later row.number new.number (greatest_number rows) (greatest_number (with_row o new rows))
+    (greatest_with_row o new rows))
     (λ _. refl)
   where
     later : (a b c d : ℕ) → d ≡ max b c → max a d ≡ max b (max a c)
@@ -98,7 +100,8 @@ next_by Relative number arrival new rows is_new same has =
     omega (arith, this, has, whole)
 next_by (Indexed place) number arrival new rows is_new same has = refl
 
-pub next_after : (number : ℕ) (bytes : List ℕ) (file : File) → IsNewNumber file.spec.organization number → IsNext number file
+pub next_after : (number : ℕ) (bytes : List ℕ) (file : File) → IsNewNumber file.spec.organization number
+    → IsNext number file
     → is_change (file_change bytes file).outcome ≡ true
     → IsNext (following_number file.spec.organization number) (file_change bytes file).file
 unfolding added row

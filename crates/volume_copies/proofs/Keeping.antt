@@ -28,7 +28,8 @@ module _ {D : Type 0} (d : Devices D) where
   }
 
   -- a call after others, of which none failed
-  pub keeps_then : (A B C : Type 0) (a b c : D) → (C → A ⊎ B) → KeepsDevice d A a b → KeepsDevice d B b c → KeepsDevice d C a c
+  pub keeps_then : (A B C : Type 0) (a b c : D) → (C → A ⊎ B) → KeepsDevice d A a b → KeepsDevice d B b c
+      → KeepsDevice d C a c
   keeps_then A B C a b c which first second = record {
     honest = (λ h. second.honest.0 (first.honest.0 h), λ h. first.honest.1 (second.honest.1 h));
     sectors = second.sectors ∙ first.sectors;

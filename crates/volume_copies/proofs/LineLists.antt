@@ -1,5 +1,6 @@
 -- The first line of a text, and the others.
-use Rattle.std.proofs.Common.{◌≡◌, ◌<◌, ◌≤◌, ◌+◌, cond, Bool, true, false, not, ℕ, suc, List, [], ◌∷◌, length, take, drop, get_or}
+use Rattle.std.proofs.Common.{◌≡◌, ◌<◌, ◌≤◌, ◌+◌, cond, Bool, true, false, not, ℕ, suc, List, [], ◌∷◌, length, take}
+use Rattle.std.proofs.Common.{drop, get_or}
 use Rattle.std.specs.Prelude.{◌==◌}
 use Rattle.std.proofs.Common.{refl, ap, subst, sym, ◌∙◌, arith}
 use Rattle.std.specs.List.{position_or_len}
@@ -14,12 +15,14 @@ feed_at text = position_or_len (λ byte. byte == line_feed) text
 abbrev Splits : List ℕ → ℕ → Type 0
 Splits text n = lines_of text ≡ take n text ∷ lines_of (drop (n + 1) text)
 
-longer : (byte : ℕ) (more : List ℕ) (m n : ℕ) → n ≡ suc m → with_first byte (lines_of more) ≡ (byte ∷ take m more) ∷ lines_of (drop (m + 1) more)
+longer : (byte : ℕ) (more : List ℕ) (m n : ℕ) → n ≡ suc m
+    → with_first byte (lines_of more) ≡ (byte ∷ take m more) ∷ lines_of (drop (m + 1) more)
     → with_first byte (lines_of more) ≡ take n (byte ∷ more) ∷ lines_of (drop (n + 1) (byte ∷ more))
 longer byte more m n is same =
     let e : n + 1 ≡ suc (m + 1) = omega (arith, is) in
     subst (λ (k : ℕ). with_first byte (lines_of more) ≡ take n (byte ∷ more) ∷ lines_of (drop k (byte ∷ more))) (sym e)
-    (subst (λ (k : ℕ). with_first byte (lines_of more) ≡ take k (byte ∷ more) ∷ lines_of (drop (suc (m + 1)) (byte ∷ more))) (sym is) same)
+    (subst (λ (k : ℕ). with_first byte (lines_of more)
+    ≡ take k (byte ∷ more) ∷ lines_of (drop (suc (m + 1)) (byte ∷ more))) (sym is) same)
 
 split_by : (b : Bool) (byte : ℕ) (more : List ℕ) (m : ℕ)
     → with_first byte (lines_of more) ≡ (byte ∷ take m more) ∷ lines_of (drop (m + 1) more)

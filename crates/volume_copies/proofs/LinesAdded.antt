@@ -29,7 +29,8 @@ pub record IsFront (text rest : List ℕ) (rows : ℕ) : Type 0 where
 pub front_nothing : (text : List ℕ) → IsFront text text 0
 front_nothing text = record { front = []; splits = refl; many = refl }
 
-at_end : (front : List (List ℕ)) (line : List ℕ) (more : List (List ℕ)) → slice_index_or (front ++ line ∷ more) (length front) [] ≡ line
+at_end : (front : List (List ℕ)) (line : List ℕ) (more : List (List ℕ))
+    → slice_index_or (front ++ line ∷ more) (length front) [] ≡ line
 at_end [] line more = refl
 at_end (one ∷ front) line more = at_end front line more
 
@@ -80,7 +81,8 @@ module _ (holds : List Sector → Files → Type 0) (name : List ℕ) (lines : L
   }
 
   -- the lines so far, and one more or not
-  pub holds_either : (now : Files) (rows : ℕ) (line : List ℕ) (image : List Sector) → AddsLines name lines before rows now
+  pub holds_either : (now : Files) (rows : ℕ) (line : List ℕ) (image : List Sector)
+      → AddsLines name lines before rows now
       → slice_index_or lines rows [] ≡ line → WithOrWithout holds name line now image
       → HoldsLines holds name lines before (rows + 1) image
   holds_either now rows line image adds is (inl here) =
@@ -106,7 +108,8 @@ module _ (holds : List Sector → Files → Type 0) (name : List ℕ) (lines : L
       → Through past later state (CrashLeaves seen (HoldsLines holds name lines before many))
   through_few few many seen past later state le through =
       weakens past later state (CrashLeaves seen (HoldsLines holds name lines before few))
-      (CrashLeaves seen (HoldsLines holds name lines before many)) (λ s leaves. leaves_few few many seen s le leaves) through
+      (CrashLeaves seen (HoldsLines holds name lines before many)) (λ s leaves. leaves_few few many seen s le leaves)
+      through
 
   -- one line after the others
   pub through_more : (now : Files) (rows : ℕ) (line : List ℕ) (a b c : List State) (start mid new : State)
@@ -132,7 +135,8 @@ module _ {S : Type 0} (s : Stores S) {D : Type 0} (d : Devices D)
       held store (d.state device).disk image files stands.there crash
 
   -- the lines so far are rows
-  pub record IsSoFar (spec : FileSpec) (text : List ℕ) (before : Files) (start : D) (rows number : ℕ) (store : S) (device : D) : Type 0 where
+  pub record IsSoFar (spec : FileSpec) (text : List ℕ) (before : Files) (start : D) (rows number : ℕ) (store : S)
+      (device : D) : Type 0 where
     pub now : Files
     pub adds : AddsLines spec.name.items (lines_of text) before rows now
     pub stands : Represents s d store device now
@@ -142,7 +146,8 @@ module _ {S : Type 0} (s : Stores S) {D : Type 0} (d : Devices D)
     pub moments : Through (d.history start) (d.history device) (d.state device)
         (CrashLeaves (d.state start).events (HoldsLines s.holds spec.name.items (lines_of text) before rows))
 
-  pub nothing_so_far : (spec : FileSpec) (text : List ℕ) (before : Files) (file : File) (number : ℕ) (store : S) (device : D)
+  pub nothing_so_far :
+      (spec : FileSpec) (text : List ℕ) (before : Files) (file : File) (number : ℕ) (store : S) (device : D)
       → Represents s d store device before → Has before spec file → IsNext number file
       → IsSoFar spec text before device 0 number store device
   nothing_so_far spec text before file number store device stands has next = record {
@@ -164,7 +169,8 @@ module _ {S : Type 0} (s : Stores S) {D : Type 0} (d : Devices D)
     });
   }
 
-  module _ (spec : FileSpec) (text rest line more : List ℕ) (before : Files) (start : D) (rows number : ℕ) (store : S) (device : D)
+  module _ (spec : FileSpec) (text rest line more : List ℕ) (before : Files) (start : D) (rows number : ℕ) (store : S)
+      (device : D)
       (store' : S) (device' : D) (front : IsFront text rest rows) (splits : lines_of rest ≡ line ∷ lines_of more)
       (so : IsSoFar spec text before start rows number store device) where
     name : List ℕ
@@ -178,7 +184,8 @@ module _ {S : Type 0} (s : Stores S) {D : Type 0} (d : Devices D)
         → Through (d.history start) (d.history device') (d.state device')
         (CrashLeaves (d.state start).events (HoldsLines s.holds spec.name.items (lines_of text) before (rows + 1)))
     moments_more = through_more s.holds spec.name.items (lines_of text) before so.now rows line (d.history start)
-        (d.history device) (d.history device') (d.state start) (d.state device) (d.state device') so.adds line_is so.moments
+        (d.history device) (d.history device') (d.state start) (d.state device) (d.state device') so.adds line_is
+        so.moments
 
     pub one_more : AddsOne s d (Ok tt) spec number line so.now so.file device store' device'
         → IsSoFar spec text before start (rows + 1) (following_number spec.organization number) store' device'
@@ -229,7 +236,8 @@ module _ {S : Type 0} (s : Stores S) {D : Type 0} (d : Devices D)
       };
     }
 
-  pub all_loaded : (spec : FileSpec) (text rest : List ℕ) (before : Files) (start : D) (rows number : ℕ) (store : S) (device : D)
+  pub all_loaded :
+      (spec : FileSpec) (text rest : List ℕ) (before : Files) (start : D) (rows number : ℕ) (store : S) (device : D)
       → IsFront text rest rows → length rest ≡ 0 → IsSoFar spec text before start rows number store device
       → LoadsLines s.holds spec.name.items text before rows Done (d.history start) (d.state start) (d.history device)
       (d.state device)

@@ -12,7 +12,8 @@ use Rattle.records.specs.Files.{Files}
 use Rattle.file_recovery.specs.Recovered.{HoldsFiles, IsReadCause}
 use Rattle.volume_copies.specs.Lines.{lines_of}
 use Rattle.volume_copies.specs.Loaded.{HoldsLines}
-use Rattle.volume_copies.specs.Loads.{IsDurable, EndsLoad, LoadsLines, IsLoading, IsUnwritten, EndsOpened, Unopened, Opened}
+use Rattle.volume_copies.specs.Loads.{IsDurable, EndsLoad, LoadsLines, IsLoading, IsUnwritten, EndsOpened, Unopened}
+use Rattle.volume_copies.specs.Loads.{Opened}
 use Rattle.volume_copies.specs.Loads.{LoadsOpened, IsUnknown, LoadsVolume}
 use Rattle.volume_copies.specs.declared.load_end.LoadEnd.{LoadEnd}
 use Rattle.volume_copies.specs.declared.load_end.LoadEnd.TheVariants.{Done, UnknownName, Malformed, Rejected, Refused}
@@ -46,7 +47,8 @@ module _ (name text : List ℕ) (files : Files) (rows : ℕ) where
       → IsLoading name text files rows old state
   later old mid state opening loading = record {
     events = loading.events ∙ opening.events;
-    images = λ image crash. ⊎_elim (λ before. inl (opening.images image before)) (λ lines. inr lines) (loading.images image crash);
+    images = λ image crash.
+        ⊎_elim (λ before. inl (opening.images image before)) (λ lines. inr lines) (loading.images image crash);
   }
 
   pub opening_then : (a b c : List State) (old mid new : State) → Through a b mid (IsOpening old)
@@ -57,7 +59,8 @@ module _ (name text : List ℕ) (files : Files) (rows : ℕ) where
       (λ state loading. later old mid state first.now loading) second)
 
   -- lines over a store that was opened
-  module _ (holds : List Sector → Files → Type 0) (into : (image : List Sector) (files : Files) → holds image files → HoldsFiles image files) where
+  module _ (holds : List Sector → Files → Type 0) (into : (image : List Sector) (files : Files) → holds image files
+      → HoldsFiles image files) where
     lines_into : (image : List Sector) → HoldsLines holds name (lines_of text) files (rows + 1) image
         → HoldsLines HoldsFiles name (lines_of text) files (rows + 1) image
     lines_into image lines = record {
@@ -68,7 +71,8 @@ module _ (name text : List ℕ) (files : Files) (rows : ℕ) where
       there = into image lines.now lines.there;
     }
 
-    durable_into : (end : LoadEnd) (state : State) (now : Files) → IsDurable holds end state now → IsDurable HoldsFiles end state now
+    durable_into : (end : LoadEnd) (state : State) (now : Files) → IsDurable holds end state now
+        → IsDurable HoldsFiles end state now
     durable_into Done state now durable = λ image crash. into image now (durable image crash)
     durable_into UnknownName state now durable = λ image crash. into image now (durable image crash)
     durable_into (Malformed fault) state now durable = λ image crash. into image now (durable image crash)
@@ -148,7 +152,8 @@ module _ (name text : List ℕ) (files : Files) (rows : ℕ) where
   never_damaged fault (inl is) e = cc
   never_damaged fault (inr is) e = cc
 
-  never_ends : (end : LoadEnd) (old new : State) → EndsOpened name text files rows end old new → end ≡ Refused Damaged → ⊥
+  never_ends : (end : LoadEnd) (old new : State) → EndsOpened name text files rows end old new → end ≡ Refused Damaged
+      → ⊥
   never_ends end old new (Unopened fault is cause none unwritten) e = never_damaged fault cause cc
   never_ends end old new (Opened ends) e =
       let damaged : EndsLoad HoldsFiles name (lines_of text) files rows (Refused Damaged) new =

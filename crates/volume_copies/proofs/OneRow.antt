@@ -1,5 +1,6 @@
 -- A line that is inserted as a row, by any store.
-use Rattle.std.proofs.Common.{◌≡◌, Bool, true, false, cond, ℕ, List, Result, Ok, OnOk, inl, inr, ⊎_elim, refl, sym, ap, subst, ◌∙◌}
+use Rattle.std.proofs.Common.{◌≡◌, Bool, true, false, cond, ℕ, List, Result, Ok, OnOk, inl, inr, ⊎_elim, refl, sym, ap}
+use Rattle.std.proofs.Common.{subst, ◌∙◌}
 use Rattle.std.proofs.lemmas.Bool.{cond_both}
 use Rattle.station.specs.Blocks.{CrashLeaves}
 use Rattle.station.specs.Disk.{Sector}
@@ -20,7 +21,8 @@ use Rattle.volume_copies.specs.Loaded.{IsNext, following_number, file_change, Ad
 use Rattle.volume_copies.specs.OneLine.{WithOrWithout, IsAdded}
 use Rattle.volume_copies.proofs.Inserted.{same_insertion, same_spec_after, next_after}
 
-module _ (spec : FileSpec) (number : ℕ) (line bytes : List ℕ) (before : Files) (file : File) (has : Has before spec file)
+module _ (spec : FileSpec) (number : ℕ) (line bytes : List ℕ) (before : Files) (file : File)
+    (has : Has before spec file)
     (is_new : IsNewNumber spec.organization number) (next : IsNext number file)
     (reads : record_of spec.record_length line ≡ Ok bytes) where
   abbrev change : FileChange
@@ -73,7 +75,8 @@ module _ (spec : FileSpec) (number : ℕ) (line bytes : List ℕ) (before : File
               ⊎_elim (λ old. inl old) (λ new. with_or_without s.holds image new) (leaves.images image crash);
         }) turned.moments
 
-    pub row_added : is_change change.outcome ≡ true → OnOk result (Represents s d store' device' (with_file name change.file before))
+    pub row_added : is_change change.outcome ≡ true
+        → OnOk result (Represents s d store' device' (with_file name change.file before))
     row_added is = subst (λ (l : Files). OnOk result (Represents s d store' device' l)) (after_change is) turned.there
 
     pub row_refused : is_change change.outcome ≡ false → OnOk result (Represents s d store' device' before)

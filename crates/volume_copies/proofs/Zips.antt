@@ -1,5 +1,6 @@
 -- Lists that are compared place by place.
-use Rattle.std.proofs.Common.{◌≡◌, ◌<◌, ◌≤◌, ◌+◌, ℕ, List, [], ◌∷◌, ◌++◌, length, map, take, get_or, sym, ap, subst, ◌∙◌}
+use Rattle.std.proofs.Common.{◌≡◌, ◌<◌, ◌≤◌, ◌+◌, ℕ, List, [], ◌∷◌, ◌++◌, length, map, take, get_or, sym, ap, subst}
+use Rattle.std.proofs.Common.{◌∙◌}
 use Rattle.std.specs.List.{AllZip}
 use Rattle.std.proofs.lemmas.List.{take_more, take_all, get_or-map}
 use Rattle.records.specs.Rows.{Row}
@@ -12,7 +13,8 @@ module _ {X : Type 0} (R : X → X → Type 0) where
   zip_nothing xs ys = tt
 
   -- one more place
-  pub zip_more : (xs ys : List X) (i : ℕ) (x y : X) → i < length xs → i < length ys → x ≡ get_or xs i x → y ≡ get_or ys i y
+  pub zip_more : (xs ys : List X) (i : ℕ) (x y : X) → i < length xs → i < length ys → x ≡ get_or xs i x
+      → y ≡ get_or ys i y
       → AllZip R (take i xs) (take i ys) → R x y → AllZip R (take (i + 1) xs) (take (i + 1) ys)
   zip_more xs ys i x y lt lt' is is' zip here =
       subst (λ (l : List X). AllZip R l (take (i + 1) ys)) (sym (take_more xs i x lt))
@@ -21,7 +23,8 @@ module _ {X : Type 0} (R : X → X → Type 0) where
       (subst (λ (v : X). R v (get_or ys i y)) is (subst (R x) is' here))))
 
   -- all places
-  pub zip_all : (xs ys : List X) (i : ℕ) → length xs ≤ i → length ys ≤ i → AllZip R (take i xs) (take i ys) → AllZip R xs ys
+  pub zip_all : (xs ys : List X) (i : ℕ) → length xs ≤ i → length ys ≤ i → AllZip R (take i xs) (take i ys)
+      → AllZip R xs ys
   zip_all xs ys i all all' zip = subst (λ (l : List X). AllZip R l ys) (take_all i xs all)
       (subst (AllZip R (take i xs)) (take_all i ys all') zip)
 

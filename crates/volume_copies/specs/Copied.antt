@@ -1,9 +1,10 @@
 -- What `copy` leaves, and what its refusal says.
-use Rattle.std.specs.Prelude.{◌≡◌, ◌↔◌, ℕ, List, ⊤}
+use Rattle.std.specs.Prelude.{◌≡◌, ◌⊎◌, ◌↔◌, ℕ, List, ⊤}
 use Rattle.station.specs.Disk.{Sector}
 use Rattle.station.specs.Failures.{Blames}
-use Rattle.station.specs.History.{EachImage}
-use Rattle.station.specs.State.{State}
+use Rattle.station.specs.History.{Through, EachImage}
+use Rattle.station.specs.Opening.{IsOpening}
+use Rattle.station.specs.State.{State, state_after_sync}
 use Rattle.station.specs.declared.device.Device.{Ghosts as Devices}
 use Rattle.records.specs.Files.{Files}
 use Rattle.records.specs.Faults.{number_of as fault_number}
@@ -46,3 +47,8 @@ pub record KeepsDevice {D : Type 0} (d : Devices D) (blamed : Type 0) (old new :
   pub honest : d.is_honest old ↔ d.is_honest new
   pub sectors : d.sectors new ≡ d.sectors old
   pub failures : Blames blamed (d.failures old) (d.failures new)
+
+-- A device was read, after a sync. At each moment a crash leaves what was possible before.
+pub record IsOpened {D : Type 0} (d : Devices D) (old new : D) : Type 0 where
+  pub moments : Through (d.history old) (d.history new) (d.state new) (IsOpening (d.state old))
+  pub unwritten : (d.state new ≡ d.state old) ⊎ (d.state new ≡ state_after_sync (d.state old))

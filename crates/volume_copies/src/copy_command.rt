@@ -1,14 +1,11 @@
 //! The command `copy`.
-ghost use Rattle.std.specs.Prelude.{◌≡◌, ◌⊎◌, ◌≤◌, true, Ok, Err, IfErr, IfOk, OnOk, OnErr};
+ghost use Rattle.std.specs.Prelude.{◌≡◌, ◌≤◌, true, Ok, Err, IfErr, IfOk, OnOk, OnErr};
 ghost use Rattle.station.specs.Calls.{OnlyWrites};
-ghost use Rattle.station.specs.History.{Through, EachImage};
-ghost use Rattle.station.specs.Opening.{IsOpening};
-ghost use Rattle.station.specs.State.{state_after_sync};
 ghost use Rattle.records.specs.Files.{Files};
 ghost use Rattle.file_recovery.specs.Recovered.{HoldsFiles};
 ghost use Rattle.file_bytes.specs.Stored.{files_of};
 ghost use Rattle.volume_copies.specs.Same.{AreSameFiles};
-ghost use Rattle.volume_copies.specs.Copied.{IsCopied, IsReadBack, IsCopyRefusal, KeepsDevice, IsOldCause};
+ghost use Rattle.volume_copies.specs.Copied.{IsCopied, IsOpened, IsReadBack, IsCopyRefusal, KeepsDevice, IsOldCause};
 
 use crate::copy_error::CopyError;
 use crate::file_writes::write_file;
@@ -46,10 +43,7 @@ pub fn copy_volume<D: Device, E: Device, P: Progress>(
     // The old volume is only read, as recovery reads it.
     ensures only { OnlyWrites D.Device
         (result ≡ Err (CopyError.Old StoreFault.Device)) old.old old.new }
-    ensures moments { D.is_honest old.old → Through (D.history old.old) (D.history old.new)
-        (D.state old.new) (IsOpening (D.state old.old)) }
-    ensures unwritten { D.is_honest old.old → (D.state old.new ≡ D.state old.old)
-        ⊎ (D.state old.new ≡ state_after_sync (D.state old.old)) }
+    ensures opened { D.is_honest old.old → IsOpened D.Device old.old old.new }
     ensures refused { D.is_honest old.old
         → IfErr result (IsCopyRefusal (D.state old.old).disk.present) }
     ensures opens { D.is_honest old.old → (files : Files) →

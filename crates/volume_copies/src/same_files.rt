@@ -32,7 +32,8 @@ pub(crate) fn are_same_files(
 }
 
 fn is_same_file(alloc: Global, one: &StoredFile, two: &StoredFile) -> Result<bool, AllocError>
-    ensures { IfOk result (λ same. same ≡ true → IsSameNamed (named_of one.now) (named_of two.now)) }
+    ensures { IfOk result
+        (λ same. same ≡ true → IsSameNamed (named_of one.now) (named_of two.now)) }
 {
     if !is_same_spec(&one.spec, &two.spec)
         || !are_same_rows(one.spec.organization, &one.rows, &two.rows)

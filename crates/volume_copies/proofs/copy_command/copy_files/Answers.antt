@@ -13,8 +13,10 @@ returns-then-branch-clause-copied g c = λ honest done.
     let copies = files_of c.in_ok-copied.copied.items in
     record {
       copies = copies;
-      durable = synced_holds (λ image. HoldsFiles image copies) (d.state c.write_files.new.new) (d.state c.recover.new.device)
+      durable =
+          synced_holds (λ image. HoldsFiles image copies) (d.state c.write_files.new.new) (d.state c.recover.new.device)
           (c.in_ok-copied.ensures.state still) (c.in_ok-copied.ensures.holds still);
-      same = subst (λ (l : List StoredFile). AreSameFiles (files_of c.args.files.now) (files_of l)) c.deref.ensures.value
+      same =
+          subst (λ (l : List StoredFile). AreSameFiles (files_of c.args.files.now) (files_of l)) c.deref.ensures.value
           (c.in_ok-are_same_files.ensures c.if-branch.true);
     }

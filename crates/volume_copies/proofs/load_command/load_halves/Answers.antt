@@ -18,7 +18,8 @@ returns-in-Ok-clause-loads g c = λ honest files holds there next.
     let loads = c.load_lines.ensures.loads files _
     (record {
       honest = c.in-Ok.ensures.only.honest.0 honest;
-      there = subst (λ (l : Files). RepresentsHalf c.in-Ok.store (d.state mid).disk l) same (c.in-Ok.ensures.stands honest);
+      there =
+          subst (λ (l : Files). RepresentsHalf c.in-Ok.store (d.state mid).disk l) same (c.in-Ok.ensures.stands honest);
     })
     (record { there = there; spec = refl }) next in
     opened_loads name c.args.text.now files c.load_lines.result.rows HoldsHalf (λ image some half. inr half)

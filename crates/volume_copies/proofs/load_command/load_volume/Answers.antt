@@ -7,7 +7,8 @@ use Rattle.file_bytes.specs.Stored.{files_of}
 use Rattle.file_recovery.specs.Recovered.{HoldsFiles, IsRecoveryRefusal}
 use Rattle.file_recovery.proofs.Reopened.{same_present}
 use Rattle.volume_copies.specs.Loads.{LoadsVolume}
-use Rattle.volume_copies.proofs.LoadsOfVolumes.{volume_later, volume_of_opened, unopened_loads, never_found_damaged, same_fault}
+use Rattle.volume_copies.proofs.LoadsOfVolumes.{volume_later, volume_of_opened, unopened_loads, never_found_damaged}
+use Rattle.volume_copies.proofs.LoadsOfVolumes.{same_fault}
 use Rattle.volume_copies.proofs.load_command.load_volume.Goals as goal
 
 pub returns-in-Ok-clause-loads : goal.returns-in-Ok-clause-loads
@@ -64,5 +65,7 @@ returns-in-Err-clause-loads g c = λ honest files holds.
 pub returns-in-Err-clause-damaged : goal.returns-in-Err-clause-damaged
 returns-in-Err-clause-damaged g c = λ honest e.
     let image = (g.D.Device.state c.args.device.now).disk.present in
-    let is : c.in-Err.fault ≡ Damaged = same_fault _ _ (sym c.refused.ensures.end ∙ e) in
-    (subst (λ (f : StoreFault). IsRecoveryRefusal image f) is (c.in-Err.ensures.refused honest), c.in-Err.ensures.unwritten honest)
+    let is : c.in-Err.fault ≡ Damaged = same_fault _ _ (sym c.refused.ensures.end ∙ e) in (
+      subst (λ (f : StoreFault). IsRecoveryRefusal image f) is (c.in-Err.ensures.refused honest),
+      c.in-Err.ensures.unwritten honest,
+    )

@@ -18,9 +18,11 @@ returns-then-is_row-clause-adds g c = λ files file stands has next.
     let turns = c.in-Ok-insert.ensures.turns files file stands has in
     let is : is_change (file_change bytes file).outcome ≡ true =
     ap (λ (change : FileChange). is_change change.outcome) (sym same)
-    ∙ ap is_change (sym (c.in-Ok-insert.ensures.outcome files file stands has)) ∙ sym c.is_row.ensures ∙ c.if-is_row.true in
+    ∙ ap is_change (sym (c.in-Ok-insert.ensures.outcome files file stands has)) ∙ sym c.is_row.ensures
+    ∙ c.if-is_row.true in
     record {
-      moments = row_moments spec number line bytes files file has is_new next reads g.S.Keeps g.D.Device c.args.store.now
+      moments =
+          row_moments spec number line bytes files file has is_new next reads g.S.Keeps g.D.Device c.args.store.now
           c.args.device.now c.insert.new.self c.insert.new.device _ turns;
       added = is_added spec number line bytes files file has is_new next reads g.S.Keeps g.D.Device c.args.store.now
           c.args.device.now c.insert.new.self c.insert.new.device _ turns is
@@ -42,9 +44,11 @@ returns-in-Ok-insert-clause-adds g c = λ files file stands has next.
     let turns = c.in-Ok-insert.ensures.turns files file stands has in
     let is : is_change (file_change bytes file).outcome ≡ false =
     ap (λ (change : FileChange). is_change change.outcome) (sym same)
-    ∙ ap is_change (sym (c.in-Ok-insert.ensures.outcome files file stands has)) ∙ sym c.is_row.ensures ∙ c.if-is_row.false in
+    ∙ ap is_change (sym (c.in-Ok-insert.ensures.outcome files file stands has)) ∙ sym c.is_row.ensures
+    ∙ c.if-is_row.false in
     record {
-      moments = row_moments spec number line bytes files file has is_new next reads g.S.Keeps g.D.Device c.args.store.now
+      moments =
+          row_moments spec number line bytes files file has is_new next reads g.S.Keeps g.D.Device c.args.store.now
           c.args.device.now c.insert.new.self c.insert.new.device _ turns;
       added = tt;
       why = record {
@@ -66,7 +70,8 @@ returns-clause-adds g c = λ files file stands has next.
     let reads = c.in-Ok.ensures ∙ ap Ok (sym c.deref.ensures.value) in
     let turns = c.in-Err.ensures.turns files file stands has in
     record {
-      moments = row_moments spec number line bytes files file has is_new next reads g.S.Keeps g.D.Device c.args.store.now
+      moments =
+          row_moments spec number line bytes files file has is_new next reads g.S.Keeps g.D.Device c.args.store.now
           c.args.device.now c.insert.new.self c.insert.new.device _ turns;
       added = tt;
       why = λ damaged. turns.sound (ap Err damaged);

@@ -28,7 +28,8 @@ loop-rest-preserved g c =
       (λ files file stands has next.
           let held = g.met.S.Store.held in
           let so = l.invariant.4 files file stands has next in
-          subst (λ (n : ℕ). IsSoFar g.S.Keeps d held spec text files c.args.device.now (l.rows + 1) n c.add_line.new.store
+          subst
+          (λ (n : ℕ). IsSoFar g.S.Keeps d held spec text files c.args.device.now (l.rows + 1) n c.add_line.new.store
           c.add_line.new.device) (sym c.next_number-number.ensures)
           (one_more g.S.Keeps d held spec text l.rest.now c.split_line.result.0.now c.split_line.result.1.now files
           c.args.device.now l.rows l.number l.store l.device c.add_line.new.store c.add_line.new.device l.invariant.3
@@ -38,6 +39,7 @@ loop-rest-preserved g c =
 pub returns-clause-loads : goal.returns-clause-loads
 returns-clause-loads g c = λ files file stands has next.
     let l = c.loop-rest in
-    all_loaded g.S.Keeps g.D.Device g.met.S.Store.held c.args.file.now c.args.text.now l.rest.now files c.args.device.now
+    all_loaded g.S.Keeps g.D.Device g.met.S.Store.held c.args.file.now c.args.text.now l.rest.now files
+    c.args.device.now
     l.rows l.number l.store l.device l.invariant.3
     (omega (arith, c.loop-rest-test.false)) (l.invariant.4 files file stands has next)

@@ -15,7 +15,8 @@ invariant-loop-rest g l =
     × IsFront l.text l.rest l.rows
     × ((files : Files) (held : File) → Represents g.S.Keeps g.D.Device l.initial.store l.initial.device files
     → Has files l.file held → IsNext l.first held
-    → IsSoFar g.S.Keeps g.D.Device g.met.S.Store.held l.file l.text files l.initial.device l.rows l.number l.store l.device)
+    → IsSoFar g.S.Keeps g.D.Device g.met.S.Store.held l.file l.text files l.initial.device l.rows l.number l.store
+    l.device)
 
 abbrev pub decreases-loop-rest : goal.decreases-loop-rest
 decreases-loop-rest g l = length l.rest

@@ -8,7 +8,8 @@ pub loop-place-preserved : goal.loop-place-preserved
 loop-place-preserved c =
     zip_more (λ x y. IsSameNamed (named_of x) (named_of y)) c.args.one.now c.args.two.now c.loop-place.place
     c.index-one-place.result c.index-two-place.result c.loop-place-test.true
-    (omega (arith, c.loop-place-test.true, c.if-one-two.false)) c.index-one-place.is c.index-two-place.is c.loop-place.invariant (c.in_ok-is_same_file.ensures (search rules))
+    (omega (arith, c.loop-place-test.true, c.if-one-two.false)) c.index-one-place.is c.index-two-place.is
+    c.loop-place.invariant (c.in_ok-is_same_file.ensures (search rules))
 
 pub returns : goal.returns
 returns c = λ _.
