@@ -91,6 +91,7 @@ fn new_devices_that_fail(rt: HostRuntime) {
         same_in(&rt, &call, answer == Err(CopyError::New(StoreFault::Device)), true);
         failed = call;
     }
+    new.crash(&[]); // It doesn't fail from now on.
     holds(&rt, 20 < failed && failed < 199);
     same(&rt, dump_of(&rt, alloc, &mut new, b"KEYS").as_slice(), b"A1\nC3\n");
 }
