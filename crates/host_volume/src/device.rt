@@ -51,8 +51,8 @@ impl HostDevice {
         device
     }
 
-    /// The volume without the count of failures. What was gathered is written, and then the roots that wait, after a sync. It fails if
-    /// the host refuses that. Roots that waited aren't synced yet.
+    /// The volume without the count of failures. What was gathered is written, and after a sync the roots that wait: the one that was
+    /// written last, and after a sync the other one, which isn't synced yet. It fails if the host refuses that.
     pub fn into_volume(mut self) -> Result<HostVolume, DeviceError>
         ensures { IfOk result (λ volume. volume ≡ volume_of self) }
     {
@@ -153,13 +153,14 @@ impl HostDevice {
     }
 }
 
-/// Syncs a volume, and writes its roots after that.
+/// Syncs a volume, and writes its roots after that: first the newest one, which names all files. The other one names those before the
+/// last change, so it may not be there alone.
 fn write_roots(volume: &HostVolume, roots: &WithheldRoots) -> io::Result<()> {
     volume.sync()?;
-    for sector in 0..ROOTS {
-        volume.write(sector, roots.read(sector))?;
-    }
-    Ok(())
+    let (newest, other) = roots.newest_first();
+    volume.write(newest, roots.read(newest))?;
+    volume.sync()?;
+    volume.write(other, roots.read(other))
 }
 
 impl Device for HostDevice {

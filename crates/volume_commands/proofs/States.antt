@@ -1,5 +1,5 @@
 -- The state of a volume, from what its calls answer.
-use Rattle.std.proofs.Common.{◌≡◌, ◌⊎◌, List, Result, Ok, Err, inl, inr, ⊎_elim, sym, ap, subst, ◌∙◌}
+use Rattle.std.proofs.Common.{◌≡◌, ◌⊎◌, ℕ, List, Result, Ok, Err, inl, inr, ⊎_elim, sym, ap, subst, ◌∙◌}
 use Rattle.std.specs.Prelude.{◌↔◌, IfOk, IfErr}
 use Rattle.station.specs.Calls.{OnlyWrites}
 use Rattle.station.specs.Disk.{Sector}
@@ -27,22 +27,34 @@ use Rattle.volume_commands.specs.Calls.{ReadsVolume, IsVolumeRefusal}
 use Rattle.volume_commands.proofs.Beginnings.{on_ok}
 use Rattle.volume_commands.proofs.Reading.{refused, failed_device}
 
-pub trees_state : (image : List Sector) (state : VolumeState) (v : Volume) → Reads image v
+ok_so : {T E : Type 0} {P Q : T → Type 0} (result : Result T E) → ((x : T) → P x → Q x) → IfOk result P
+    → IfOk result Q
+ok_so (Ok x) so p = so x p
+ok_so (Err e) so p = tt
+
+trees_state : (image : List Sector) (state : VolumeState) (v : Volume) → Reads image v
     → (state.layout ≡ Trees) × (state.free ≡ free_count v) × ((root : Root) × HasRoot page_marks image state root)
     → IsStateOf image state
 trees_state image state v reads (layout, free, root) =
     subst (λ (l : Layout). IsStateAs l image state) (sym layout)
     (record { root = root.0; has = root.1; volume = v; reads = reads; free = free })
 
+-- of a volume whose sectors were read again
+pub trees_states : (image present : List Sector) (r : Result VolumeState VolumeError) (v : Volume) (free : ℕ)
+    → present ≡ image → Reads present v → free ≡ free_count v
+    → IfOk r (λ state. (state.layout ≡ Trees) × (state.free ≡ free)
+    × ((root : Root) × HasRoot page_marks present state root)) → IfOk r (IsStateOf image)
+trees_states image present r v free same reads count = ok_so r (λ state is. trees_state image state v
+    (subst (λ (l : List Sector). Reads l v) same reads) (
+      is.0,
+      is.1 ∙ count,
+      (is.2.0, subst (λ (l : List Sector). HasRoot page_marks l state is.2.0) same is.2.1),
+    ))
+
 pub same_console : (old new : State) → (new ≡ old) ⊎ (new ≡ state_after_sync old) → SameConsole old new
 same_console old new same = ⊎_elim
     (λ e. record { events = ap (λ (s : State). s.events) e; lines = ap (λ (s : State). s.lines) e })
     (λ e. record { events = ap (λ (s : State). s.events) e; lines = ap (λ (s : State). s.lines) e }) same
-
-pub ok_so : {T E : Type 0} {P Q : T → Type 0} (result : Result T E) → ((x : T) → P x → Q x) → IfOk result P
-    → IfOk result Q
-ok_so (Ok x) so p = so x p
-ok_so (Err e) so p = tt
 
 -- no refusal of recovery is the writer's
 pub read_error : (fault : StoreFault) → IsReadError (error_of fault)

@@ -1,5 +1,6 @@
 -- Rows that ascend in one order of positions compare alike.
-use Rattle.std.proofs.Common.{◌≡◌, ◌<◌, ◌≤◌, ◌-◌, ℕ, zero, suc, List, length, ⊎_elim, sym, ap, ◌∙◌, subst, arith}
+use Rattle.std.proofs.Common.{◌≡◌, ◌<◌, ◌≤◌, ◌-◌, ℕ, zero, suc, List, length, get_or, ⊎_elim, sym, ap, ◌∙◌, subst}
+use Rattle.std.proofs.Common.{arith}
 use Rattle.std.specs.Prelude.{slice_index_or}
 use Rattle.std.specs.Ordering.{ordering_reverse}
 use Rattle.std.specs.declared.cmp.Ordering.TheVariants.{Less}
@@ -9,8 +10,9 @@ use Rattle.records.specs.declared.file_spec.KeyPlace.{KeyPlace}
 use Rattle.records.specs.Rows.{Row, Pair, pair_cmp}
 use Rattle.records.proofs.Ascending.{pair_total}
 use Rattle.file_bytes.specs.declared.stored.StoredRow.{StoredRow}
-use Rattle.file_bytes.specs.Stored.{rows_of}
+use Rattle.file_bytes.specs.Stored.{row_of, rows_of}
 use Rattle.volume_copies.specs.Ascents.{IsAscent, HasEach, pair_at}
+use Rattle.volume_copies.proofs.Zips.{row_here}
 
 -- pairs that ascend from each place to the next
 abbrev Ascends : ℕ → (ℕ → Pair) → Type 0
@@ -64,6 +66,18 @@ module _ (place : KeyPlace) (key : ℕ) (one two : List Row) (order : List ℕ) 
       (has.is q there')
       (subst (λ (n : ℕ). pair_cmp (pair_at place key (slice_index_or one n d)) (f y)
       ≡ pair_cmp (pair_at place key (slice_index_or two n d)) (h y)) (has.is p there) same)
+
+-- of rows in memory that were compared
+pub pairs_here : (place : KeyPlace) (key : ℕ) (rows : List StoredRow) (one two : ℕ) (row row' : StoredRow) (d : Row)
+    → one < length rows → two < length rows → row ≡ get_or rows one row → row' ≡ get_or rows two row'
+    → pair_cmp (pair_at place key (row_of row)) (pair_at place key (row_of row')) ≡ Less
+    → pair_cmp (pair_at place key (slice_index_or (rows_of rows) one d))
+    (pair_at place key (slice_index_or (rows_of rows) two d)) ≡ Less
+pairs_here place key rows one two row row' d there there' is is' less =
+    let pair = pair_at place key in
+    subst (λ (r : Row). pair_cmp (pair r) (pair (slice_index_or (rows_of rows) two d)) ≡ Less)
+    (sym (row_here rows one row d there is))
+    (subst (λ (r : Row). pair_cmp (pair (row_of row)) (pair r) ≡ Less) (sym (row_here rows two row' d there' is')) less)
 
 -- of rows in memory
 pub ascent_of : (place place' : KeyPlace) (key : ℕ) (rows rows' : List StoredRow) (order order' : List ℕ)

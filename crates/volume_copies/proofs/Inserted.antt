@@ -74,6 +74,19 @@ module _ (bytes : List ℕ) (file : File) where
   unfolding added
   same_spec_after = by_case (λ (c : FileChange). c.file.spec ≡ file.spec) refl refl
 
+  pub rows_after : is_change (file_change bytes file).outcome ≡ true → (file_change bytes file).file.rows
+      ≡ with_row file.spec.organization (new_row file (next_number file) bytes) file.rows
+  unfolding added row
+  rows_after = by_case (λ (c : FileChange). is_change c.outcome ≡ true
+      → c.file.rows ≡ with_row file.spec.organization (new_row file (next_number file) bytes) file.rows)
+      (λ e. cc) (λ _. refl)
+
+  pub arrival_after : is_change (file_change bytes file).outcome ≡ true
+      → (file_change bytes file).file.next_arrival ≡ file.next_arrival + 1
+  unfolding added row
+  arrival_after = by_case (λ (c : FileChange). is_change c.outcome ≡ true
+      → c.file.next_arrival ≡ file.next_arrival + 1) (λ e. cc) (λ _. refl)
+
 greatest_with_row : (o : Organization) (new : Row) (rows : List Row)
     → greatest_number (with_row o new rows) ≡ max new.number (greatest_number rows)
 greatest_with_row o new [] = refl

@@ -1,6 +1,8 @@
 -- What calls on a device keep that is made a volume.
 use Rattle.std.proofs.Common.{◌⊎◌, refl, ◌∙◌, arith}
+use Rattle.std.specs.Prelude.{◌≡◌, ◌↔◌}
 use Rattle.station.specs.Calls.{OnlyWrites}
+use Rattle.station.specs.Failures.{Blames}
 use Rattle.station.specs.declared.device.Device.{Ghosts as Devices}
 use Rattle.station.proofs.Calls.{blames_one}
 use Rattle.volume_copies.specs.Copied.{KeepsDevice}
@@ -11,6 +13,15 @@ module _ {D : Type 0} (d : Devices D) where
     honest = (λ h. h, λ h. h);
     sectors = refl;
     failures = record { no_fewer = omega arith; failed = λ blamed. absurd (never blamed) };
+  }
+
+  -- a call that succeeded
+  pub keeps_done : (A : Type 0) (a b : D) → (d.is_honest a ↔ d.is_honest b) → d.sectors b ≡ d.sectors a
+      → Blames A (d.failures a) (d.failures b) → KeepsDevice d ⊥ a b
+  keeps_done A a b honest sectors failures = record {
+    honest = honest;
+    sectors = sectors;
+    failures = record { no_fewer = failures.no_fewer; failed = λ never. absurd never };
   }
 
   pub writes_keep : (A B : Type 0) (a b : D) → (B → A) → OnlyWrites d A a b → KeepsDevice d B a b

@@ -9,3 +9,4 @@ pub mod OneRow
 pub mod LinesAdded
 pub mod LoadsOfVolumes
 pub mod Unloads
+pub mod LoadedAgain

@@ -187,7 +187,7 @@ module _ {S : Type 0} (s : Stores S) {D : Type 0} (d : Devices D)
         (d.history device) (d.history device') (d.state start) (d.state device) (d.state device') so.adds line_is
         so.moments
 
-    pub one_more : AddsOne s d (Ok tt) spec number line so.now so.file device store' device'
+    one_more : AddsOne s d (Ok tt) spec number line so.now so.file device store' device'
         → IsSoFar spec text before start (rows + 1) (following_number spec.organization number) store' device'
     one_more adds = record {
       now = adds.added.after;
@@ -199,6 +199,12 @@ module _ {S : Type 0} (s : Stores S) {D : Type 0} (d : Devices D)
       next = adds.added.next;
       moments = moments_more adds.moments;
     }
+
+    pub one_more_as : (number' : ℕ) → number' ≡ following_number spec.organization number
+        → AddsOne s d (Ok tt) spec number line so.now so.file device store' device'
+        → IsSoFar spec text before start (rows + 1) number' store' device'
+    one_more_as number' same adds =
+        subst (λ (n : ℕ). IsSoFar spec text before start (rows + 1) n store' device') (sym same) (one_more adds)
 
     is_end : (end : LoadEnd) → IsLineEnd end so.file line → IsEnd end (lines_of text) rows so.file
     is_end Done never = absurd never

@@ -10,6 +10,7 @@ use Rattle.records.specs.declared.fault.StoreFault.{StoreFault}
 use Rattle.records.specs.declared.fault.StoreFault.TheVariants.{Damaged, Layout}
 use Rattle.records.specs.Files.{Files}
 use Rattle.file_recovery.specs.Recovered.{HoldsFiles, IsReadCause}
+use Rattle.file_recovery.proofs.Reopened.{same_present}
 use Rattle.volume_copies.specs.Lines.{lines_of}
 use Rattle.volume_copies.specs.Loaded.{HoldsLines}
 use Rattle.volume_copies.specs.Loads.{IsDurable, EndsLoad, LoadsLines, IsLoading, IsUnwritten, EndsOpened, Unopened}
@@ -167,3 +168,24 @@ module _ (name text : List ℕ) (files : Files) (rows : ℕ) where
       (λ unknown.
       let clash : Refused Damaged ≡ UnknownName = sym e ∙ unknown.1.end_is in
       cc) loads.ends
+
+-- the same name, in a volume that was opened
+pub volume_as :
+    (name name' text : List ℕ) (files : Files) (rows : ℕ) (end : LoadEnd) (a c : List State) (old new : State)
+    → name ≡ name' → LoadsOpened name text files rows end a old c new
+    → LoadsVolume name' text files rows end a old c new
+volume_as name name' text files rows end a c old new same loads =
+    subst (λ (n : List ℕ). LoadsVolume n text files rows end a old c new) same
+    (volume_of_opened name text files rows end a c old new loads)
+
+-- The files of a volume were read first, and it was synced.
+pub volume_read : (name text : List ℕ) (own files : Files) (rows : ℕ) (end : LoadEnd) (a b c : List State)
+    (old mid new : State) → own ≡ files → Through a b mid (IsOpening old) → mid ≡ state_after_sync old
+    → HoldsFiles old.disk.present own
+    → (HoldsFiles mid.disk.present own → LoadsVolume name text own rows end b mid c new)
+    → LoadsVolume name text files rows end a old c new
+volume_read name text own files rows end a b c old mid new same opening synced held loads =
+    let present = same_present old mid (inr synced) in
+    subst (λ (l : Files). LoadsVolume name text l rows end a old c new) same
+    (volume_later name text own rows end a b c old mid new opening (inr synced)
+    (loads (subst (λ (l : List Sector). HoldsFiles l own) (sym present) held)))

@@ -1,5 +1,6 @@
 -- A line that is inserted as a row, by any store.
-use Rattle.std.proofs.Common.{◌≡◌, Bool, true, false, cond, ℕ, List, Result, Ok, OnOk, inl, inr, ⊎_elim, refl, sym, ap}
+use Rattle.std.proofs.Common.{◌≡◌, Bool, true, false, cond, ℕ, List, Result, Ok, Err, OnOk, inl, inr, ⊎_elim, refl, sym}
+use Rattle.std.proofs.Common.{ap}
 use Rattle.std.proofs.Common.{subst, ◌∙◌}
 use Rattle.std.proofs.lemmas.Bool.{cond_both}
 use Rattle.station.specs.Blocks.{CrashLeaves}
@@ -10,6 +11,8 @@ use Rattle.station.proofs.Spans.{weakens}
 use Rattle.records.specs.declared.fault.StoreFault.{StoreFault}
 use Rattle.records.specs.declared.file_spec.FileSpec.{FileSpec}
 use Rattle.records.specs.declared.keeps.Keeps.{Ghosts as Stores}
+use Rattle.records.specs.declared.answer.Outcome.{Outcome}
+use Rattle.records.specs.declared.status.Status.TheVariants.{DuplicateKey}
 use Rattle.records.specs.Spec.{Spec}
 use Rattle.records.specs.Files.{File, Files, with_file}
 use Rattle.records.specs.Changes.{FileChange, insertion}
@@ -18,8 +21,9 @@ use Rattle.records.specs.Calls.{Represents, ChangesFiles}
 use Rattle.records.proofs.Maps.{found_again}
 use Rattle.volume_copies.specs.Record.{record_of}
 use Rattle.volume_copies.specs.Loaded.{IsNext, following_number, file_change, AddsLine}
-use Rattle.volume_copies.specs.OneLine.{WithOrWithout, IsAdded}
-use Rattle.volume_copies.proofs.Inserted.{same_insertion, same_spec_after, next_after}
+use Rattle.volume_copies.specs.OneLine.{WithOrWithout, IsAdded, AddsOne}
+use Rattle.volume_copies.specs.declared.load_end.LoadEnd.TheVariants.{Rejected}
+use Rattle.volume_copies.proofs.Inserted.{not_added, same_insertion, same_spec_after, next_after}
 
 module _ (spec : FileSpec) (number : ℕ) (line bytes : List ℕ) (before : Files) (file : File)
     (has : Has before spec file)
@@ -93,3 +97,34 @@ module _ (spec : FileSpec) (number : ℕ) (line bytes : List ℕ) (before : File
       next = subst (λ (p : Spec). IsNext (following_number p.organization number) change.file) has.spec
           (next_after number bytes file new_in_file next is);
     }
+
+  module _ {S : Type 0} (s : Stores S) {D : Type 0} (d : Devices D) (store : S) (device : D) (store' : S) (device' : D)
+      (outcome : Outcome) (is : outcome ≡ (insertion number bytes file).outcome)
+      (turns : ChangesFiles s d (Ok outcome) false name before (files_after name before (insertion number bytes file))
+      store device store' device') where
+    outcome_is : is_change change.outcome ≡ is_change outcome
+    outcome_is = ap (λ (c : FileChange). is_change c.outcome) (sym same_change) ∙ ap is_change (sym is)
+
+    -- a record that became a row
+    pub row_adds : is_change outcome ≡ true → AddsOne s d (Ok tt) spec number line before file device store' device'
+    row_adds done =
+        let added = outcome_is ∙ done in
+        record {
+          moments = row_moments s d store device store' device' (Ok outcome) turns;
+          added = is_added s d store device store' device' (Ok outcome) turns added
+              (row_added s d store device store' device' (Ok outcome) turns added);
+          why = tt;
+          stays = tt;
+        }
+
+    -- a record that has another row's key
+    pub row_rejects : is_change outcome ≡ false
+        → AddsOne s d (Err (Rejected DuplicateKey)) spec number line before file device store' device'
+    row_rejects none =
+        let refused = outcome_is ∙ none in
+        record {
+          moments = row_moments s d store device store' device' (Ok outcome) turns;
+          added = tt;
+          why = record { bytes = bytes; reads = of_file; rejected = not_added bytes file refused };
+          stays = row_refused s d store device store' device' (Ok outcome) turns refused;
+        }

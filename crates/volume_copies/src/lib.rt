@@ -23,7 +23,7 @@ mod write_order;
 
 pub use copy_command::{VolumeCopy, copy_volume};
 pub use copy_error::CopyError;
-pub use laws::unloaded_lines_spell_records;
+pub use laws::{unloaded_lines_spell_records, unloaded_rows_come_back};
 pub use load_command::load_volume;
 pub use load_end::{LineFault, Load, LoadEnd};
 pub use progress::Progress;

@@ -2,36 +2,27 @@ use Rattle.std.proofs.Common.{List, inr, ⊎_elim, sym, ap, subst, ◌∙◌}
 use Rattle.station.specs.Disk.{Sector}
 use Rattle.roots.specs.Reading.{roots_in}
 use Rattle.pages.specs.Layout.{known_marks}
-use Rattle.pages.specs.Image.{Reads}
 use Rattle.pages.specs.Pages.{committed_of}
 use Rattle.pages.proofs.Roots.{behind}
 use Rattle.file_recovery.proofs.Foreign.{half_is_foreign}
 use Rattle.file_recovery.proofs.Reopened.{same_present}
 use Rattle.volume_commands.specs.Faults.{IsReadCause, IsReadError}
-use Rattle.volume_commands.specs.State.{HasRoot}
-use Rattle.volume_commands.proofs.States.{trees_state, ok_so, only_refused, read_cause, read_error}
+use Rattle.volume_commands.proofs.States.{trees_states, only_refused, read_cause, read_error}
 use Rattle.volume_commands.proofs.volume_state.read_state.Goals as goal
 
 pub returns-in-Ok-clause-state : goal.returns-in-Ok-clause-state
 returns-in-Ok-clause-state g c = λ honest files holds.
     let d = g.D.Device in
-    let image = (d.state c.args.device.now).disk.present in
-    let volume = committed_of c.in-Ok.store.pages in
-    let same =
-    same_present (d.state c.args.device.now) (d.state c.open.new.device) (inr (c.in-Ok.ensures.state honest)) in
+    let old = c.args.device.now in
+    let image = (d.state old).disk.present in
+    let same = same_present (d.state old) (d.state c.open.new.device) (inr (c.in-Ok.ensures.state honest)) in
     ⊎_elim
-    (λ trees.
-    let reads = subst (λ (l : List Sector). Reads l volume) same
-    (c.in-Ok.ensures.stands honest files trees).agrees.committed.reads in
-    ok_so c.read_trees.result
-    (λ state is. trees_state image state volume reads (
-      is.0,
-      is.1 ∙ c.free_sectors.ensures c.in-Ok.ensures.ready.0,
-      (is.2.0, subst (λ (l : List Sector). HasRoot known_marks l state is.2.0) same is.2.1),
-    ))
+    (λ trees. trees_states image (d.state c.open.new.device).disk.present c.read_trees.result
+    (committed_of c.in-Ok.store.pages) c.free_sectors.result same
+    (c.in-Ok.ensures.stands honest files trees).agrees.committed.reads
+    (c.free_sectors.ensures c.in-Ok.ensures.ready.0)
     (c.read_trees.ensures.state (c.in-Ok.ensures.honest.0 honest)))
-    (λ half. absurd (c.in-Ok.ensures.foreign honest (half_is_foreign image files half)))
-    holds
+    (λ half. absurd (c.in-Ok.ensures.foreign honest (half_is_foreign image files half))) holds
 
 pub returns-in-Ok-clause-opens : goal.returns-in-Ok-clause-opens
 returns-in-Ok-clause-opens g c = λ honest files holds.
@@ -49,10 +40,10 @@ returns-in-Ok-clause-opens g c = λ honest files holds.
 
 pub returns-in_default : goal.returns-in_default
 returns-in_default g c =
-    let d = g.D.Device in
     let of = c.in-Err.ensures in
     record {
-      only = only_refused d _ _ c.in-Err.fault c.of.result c.args.device.now c.open.new.device c.of.ensures of.honest
+      only = only_refused g.D.Device _ _ c.in-Err.fault c.of.result c.args.device.now c.open.new.device c.of.ensures
+          of.honest
           of.sectors of.failures of.unwritten;
       moments = of.moments;
       unwritten = of.unwritten;
@@ -60,6 +51,6 @@ returns-in_default g c =
       opens = λ honest files holds. subst IsReadCause (sym c.of.ensures) (read_cause c.in-Err.fault
           (⊎_elim (of.opens honest files)
           (λ half. ⊎_elim (λ layout. absurd (c.in_default.not-Layout layout)) (λ cause. cause)
-          (of.foreign honest (half_is_foreign (d.state c.args.device.now).disk.present files half))) holds));
+          (of.foreign honest (half_is_foreign (g.D.Device.state c.args.device.now).disk.present files half))) holds));
       cause = subst IsReadError (sym c.of.ensures) (read_error c.in-Err.fault);
     }

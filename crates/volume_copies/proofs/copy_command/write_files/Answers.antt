@@ -1,5 +1,5 @@
 use Rattle.std.proofs.Common.{inr}
-use Rattle.volume_copies.proofs.Keeping.{keeps_then}
+use Rattle.volume_copies.proofs.Keeping.{keeps_then, keeps_done}
 use Rattle.volume_copies.proofs.copy_command.write_files.Goals as goal
 
 pub returns : goal.returns
@@ -10,15 +10,7 @@ returns g c =
     record {
       keeps = keeps_then d ⊥ _ _ c.args.new.now c.open.new.device c.write_each.new.new (λ e. inr e)
           (keeps_then d ⊥ ⊥ ⊥ c.args.new.now c.format.new.device c.open.new.device (λ never. absurd never)
-          (record {
-            honest = made.honest;
-            sectors = made.sectors;
-            failures = record { no_fewer = made.failures.no_fewer; failed = λ never. absurd never };
-          })
-          (record {
-            honest = opened.honest;
-            sectors = opened.sectors;
-            failures = record { no_fewer = opened.failures.no_fewer; failed = λ never. absurd never };
-          }))
+          (keeps_done d _ c.args.new.now c.format.new.device made.honest made.sectors made.failures)
+          (keeps_done d _ c.format.new.device c.open.new.device opened.honest opened.sectors opened.failures))
           c.write_each.ensures.keeps;
     }

@@ -20,8 +20,7 @@ returns-in-Ok-clause-loads g c = λ honest files holds there.
     opened_loads c.args.file.now.spec.name.items c.args.text.now files c.load_lines.result.rows _
     (λ image some held. inl held) c.load_lines.result.end (d.history old) (d.history mid) (d.history new) (d.state old)
     (d.state mid) (d.state new) (c.in-Ok.ensures.moments honest) loads)
-    (λ half. absurd (c.in-Ok.ensures.foreign honest (half_is_foreign (d.state old).disk.present files half)))
-    holds
+    (λ half. absurd (c.in-Ok.ensures.foreign honest (half_is_foreign (d.state old).disk.present files half))) holds
 
 pub returns-in-Layout-clause-loads : goal.returns-in-Layout-clause-loads
 returns-in-Layout-clause-loads g c = λ honest files holds there.

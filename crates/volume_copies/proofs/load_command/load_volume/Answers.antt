@@ -2,12 +2,10 @@ use Rattle.std.proofs.Common.{◌≡◌, List, inr, sym, subst, ◌∙◌}
 use Rattle.station.specs.Disk.{Sector}
 use Rattle.records.specs.declared.fault.StoreFault.{StoreFault}
 use Rattle.records.specs.declared.fault.StoreFault.TheVariants.{Damaged}
-use Rattle.records.specs.Files.{Files}
 use Rattle.file_bytes.specs.Stored.{files_of}
 use Rattle.file_recovery.specs.Recovered.{HoldsFiles, IsRecoveryRefusal}
 use Rattle.file_recovery.proofs.Reopened.{same_present}
-use Rattle.volume_copies.specs.Loads.{LoadsVolume}
-use Rattle.volume_copies.proofs.LoadsOfVolumes.{volume_later, volume_of_opened, unopened_loads, never_found_damaged}
+use Rattle.volume_copies.proofs.LoadsOfVolumes.{volume_read, volume_of_opened, unopened_loads, never_found_damaged}
 use Rattle.volume_copies.proofs.LoadsOfVolumes.{same_fault}
 use Rattle.volume_copies.proofs.load_command.load_volume.Goals as goal
 
@@ -17,21 +15,14 @@ returns-in-Ok-clause-loads g c = λ honest files holds.
     let old = c.args.device.now in
     let mid = c.recover.new.device in
     let new = c.load_file.new.device in
-    let name = c.args.name.now in
-    let text = c.args.text.now in
-    let rows = c.load_file.result.rows in
-    let end = c.load_file.result.end in
     let own = files_of c.deref.result.now in
     let image = (d.state old).disk.present in
     let held : HoldsFiles image own =
     subst (λ l. HoldsFiles image (files_of l)) (sym c.deref.ensures.value) (c.in-Ok.ensures.holds honest) in
-    let same = same_present (d.state old) (d.state mid) (inr (c.in-Ok.ensures.state honest)) in
-    let loads = c.load_file.ensures.loads (c.in-Ok.ensures.only.honest.0 honest)
-    (subst (λ (l : List Sector). HoldsFiles l own) (sym same) held) in
-    subst (λ (l : Files). LoadsVolume name text l rows end (d.history old) (d.state old) (d.history new) (d.state new))
-    (c.one_list_of_files.ensures image own files held holds)
-    (volume_later name text own rows end (d.history old) (d.history mid) (d.history new) (d.state old) (d.state mid)
-    (d.state new) (c.in-Ok.ensures.moments honest) (inr (c.in-Ok.ensures.state honest)) loads)
+    volume_read c.args.name.now c.args.text.now own files c.load_file.result.rows c.load_file.result.end (d.history old)
+    (d.history mid) (d.history new) (d.state old) (d.state mid) (d.state new)
+    (c.one_list_of_files.ensures image own files held holds) (c.in-Ok.ensures.moments honest)
+    (c.in-Ok.ensures.state honest) held (c.load_file.ensures.loads (c.in-Ok.ensures.only.honest.0 honest))
 
 pub returns-in-Ok-clause-damaged : goal.returns-in-Ok-clause-damaged
 returns-in-Ok-clause-damaged g c = λ honest e.

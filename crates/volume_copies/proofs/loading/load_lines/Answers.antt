@@ -1,6 +1,6 @@
-use Rattle.std.proofs.Common.{◌+◌, ℕ, subst, sym, ◌∙◌, arith}
+use Rattle.std.proofs.Common.{◌∙◌, arith}
 use Rattle.station.proofs.Calls.{writes_then}
-use Rattle.volume_copies.proofs.LinesAdded.{IsSoFar, front_more, one_more, line_refused, all_loaded}
+use Rattle.volume_copies.proofs.LinesAdded.{front_more, one_more_as, line_refused, all_loaded}
 use Rattle.volume_copies.proofs.loading.load_lines.Goals as goal
 
 pub returns-in-Err-clause-loads : goal.returns-in-Err-clause-loads
@@ -16,24 +16,18 @@ returns-in-Err-clause-loads g c = λ files file stands has next.
 pub loop-rest-preserved : goal.loop-rest-preserved
 loop-rest-preserved g c =
     let d = g.D.Device in
-    let l = c.loop-rest in
-    let spec = c.args.file.now in
-    let text = c.args.text.now in (
+    let l = c.loop-rest in (
       omega (arith, l.invariant.0, c.split_line.ensures.shorter),
       c.add_line.ensures.needs ∙ l.invariant.1,
       writes_then d ⊥ _ ⊥ c.args.device.now l.device c.add_line.new.device (λ never. absurd never) l.invariant.2
           c.in-Ok.ensures.only,
-      front_more text l.rest.now l.rows l.invariant.3 c.split_line.result.0.now c.split_line.result.1.now
+      front_more c.args.text.now l.rest.now l.rows l.invariant.3 c.split_line.result.0.now c.split_line.result.1.now
           c.split_line.ensures.lines,
-      (λ files file stands has next.
-          let held = g.met.S.Store.held in
-          let so = l.invariant.4 files file stands has next in
-          subst
-          (λ (n : ℕ). IsSoFar g.S.Keeps d held spec text files c.args.device.now (l.rows + 1) n c.add_line.new.store
-          c.add_line.new.device) (sym c.next_number-number.ensures)
-          (one_more g.S.Keeps d held spec text l.rest.now c.split_line.result.0.now c.split_line.result.1.now files
-          c.args.device.now l.rows l.number l.store l.device c.add_line.new.store c.add_line.new.device l.invariant.3
-          c.split_line.ensures.lines so (c.in-Ok.ensures.adds so.now so.file so.stands so.has so.next))),
+      (λ files file stands has next. let so = l.invariant.4 files file stands has next in one_more_as g.S.Keeps d
+          g.met.S.Store.held c.args.file.now c.args.text.now l.rest.now c.split_line.result.0.now
+          c.split_line.result.1.now files c.args.device.now l.rows l.number l.store l.device c.add_line.new.store
+          c.add_line.new.device l.invariant.3 c.split_line.ensures.lines so c.next_number-number.result
+          c.next_number-number.ensures (c.in-Ok.ensures.adds so.now so.file so.stands so.has so.next)),
     )
 
 pub returns-clause-loads : goal.returns-clause-loads
