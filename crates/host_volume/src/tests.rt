@@ -194,7 +194,10 @@ fn roots_that_wait(rt: HostRuntime) -> Result<(), Fail> {
     let mut device = HostDevice::with_roots_last(rt.alloc(), volume);
     assert!(rt; write_all(&mut device, &[(1, 1), (0, 2), (2, 3), (1, 4), (3, 5)]));
     device.sync()?;
-    assert_eq!(rt; first_bytes(&rt, "wait.V")?.as_slice(), [0, 0, 3, 5].as_slice());
+    assert_eq!(rt;
+        first_bytes(&rt, "wait.V")?.as_slice(),
+        [0, 0, 3, 5].as_slice()
+    );
     let mut bytes = [0; 4096];
     for (sector, byte) in [(0, 2), (1, 4), (2, 3), (3, 5)] {
         assert!(rt; sector < device.count());
@@ -202,7 +205,10 @@ fn roots_that_wait(rt: HostRuntime) -> Result<(), Fail> {
         assert!(rt; bytes == sector_of(byte), "{sector}");
     }
     let _volume = device.into_volume()?;
-    assert_eq!(rt; first_bytes(&rt, "wait.V")?.as_slice(), [2, 4, 3, 5].as_slice());
+    assert_eq!(rt;
+        first_bytes(&rt, "wait.V")?.as_slice(),
+        [2, 4, 3, 5].as_slice()
+    );
     fs::remove_file(&rt, "wait.V")?;
     Ok(())
 }

@@ -38,7 +38,11 @@ impl WithheldRoots {
         ensures newest { result.0 < 2 }
         ensures other { result.1 < 2 }
     {
-        if self.is_second_newest { (1, 0) } else { (0, 1) }
+        if self.is_second_newest {
+            (1, 0)
+        } else {
+            (0, 1)
+        }
     }
 
     /// What was written to a root last.

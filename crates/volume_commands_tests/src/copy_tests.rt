@@ -9,7 +9,8 @@ use std::process::Abort;
 use volume_commands::list_volume;
 use volume_copies::{CopyError, VolumeCopy, copy_volume};
 
-const LISTING: &[u8] = b"BOXES relative 1 2\nEMPTY sequential 9 0\nKEYS indexed 2 3\nLOG sequential 1 3\n";
+const LISTING: &[u8] =
+    b"BOXES relative 1 2\nEMPTY sequential 9 0\nKEYS indexed 2 3\nLOG sequential 1 3\n";
 
 fn volume_of_four(rt: &impl Abort, alloc: Global) -> MemoryStation {
     let mut station = new_volume(rt, alloc);
@@ -39,16 +40,31 @@ fn holds_four(rt: &impl Abort, alloc: Global, station: &mut MemoryStation) {
     let mut listing = Vec::new(alloc);
     holds(rt, list_volume(alloc, station, &mut listing).is_ok());
     same(rt, listing.as_slice(), LISTING);
-    same(rt, dump_of(rt, alloc, station, b"KEYS").as_slice(), b"A1\nB2\nC3\n");
-    same(rt, dump_of(rt, alloc, station, b"BOXES").as_slice(), b"1\n2\n");
-    same(rt, dump_of(rt, alloc, station, b"LOG").as_slice(), b"Z\nA\nM\n");
+    same(
+        rt,
+        dump_of(rt, alloc, station, b"KEYS").as_slice(),
+        b"A1\nB2\nC3\n",
+    );
+    same(
+        rt,
+        dump_of(rt, alloc, station, b"BOXES").as_slice(),
+        b"1\n2\n",
+    );
+    same(
+        rt,
+        dump_of(rt, alloc, station, b"LOG").as_slice(),
+        b"Z\nA\nM\n",
+    );
 }
 
 fn copy_lasts(rt: &impl Abort, alloc: Global, choices: &[u32]) {
     let mut old = volume_of_four(rt, alloc);
     let mut new = blank_station(rt, alloc);
     let writes = old.writes();
-    holds(rt, copy(rt, alloc, &mut old, &mut new) == Ok(VolumeCopy::Done));
+    holds(
+        rt,
+        copy(rt, alloc, &mut old, &mut new) == Ok(VolumeCopy::Done),
+    );
     new.crash(choices);
     holds_four(rt, alloc, &mut new);
     same(rt, old.writes(), writes);
@@ -66,12 +82,18 @@ fn copies_that_are_done(rt: HostRuntime) {
 fn volumes_without_files(rt: HostRuntime) {
     let alloc = rt.alloc();
     let mut new = blank_station(&rt, alloc);
-    holds(&rt, copy(&rt, alloc, &mut new_volume(&rt, alloc), &mut new) == Ok(VolumeCopy::Done));
+    holds(
+        &rt,
+        copy(&rt, alloc, &mut new_volume(&rt, alloc), &mut new) == Ok(VolumeCopy::Done),
+    );
     let mut listing = Vec::new(alloc);
     holds(&rt, list_volume(alloc, &mut new, &mut listing).is_ok());
     same(&rt, listing.len(), 0);
     let error = CopyError::Old(StoreFault::Damaged);
-    holds(&rt, copy(&rt, alloc, &mut blank_station(&rt, alloc), &mut new) == Err(error));
+    holds(
+        &rt,
+        copy(&rt, alloc, &mut blank_station(&rt, alloc), &mut new) == Err(error),
+    );
 }
 
 // No failure of the new device is passed over: each of its calls is needed.
@@ -79,7 +101,13 @@ fn volumes_without_files(rt: HostRuntime) {
 fn new_devices_that_fail(rt: HostRuntime) {
     let alloc = rt.alloc();
     let mut old = new_volume(&rt, alloc);
-    add_file(&rt, alloc, &mut old, &indexed(&rt, alloc, b"KEYS", 2), &[b"C3", b"A1"]);
+    add_file(
+        &rt,
+        alloc,
+        &mut old,
+        &indexed(&rt, alloc, b"KEYS", 2),
+        &[b"C3", b"A1"],
+    );
     let mut new = blank_station(&rt, alloc);
     let mut failed = 0u64;
     for call in 1..200 {
@@ -88,12 +116,21 @@ fn new_devices_that_fail(rt: HostRuntime) {
         if answer == Ok(VolumeCopy::Done) {
             break;
         }
-        same_in(&rt, &call, answer == Err(CopyError::New(StoreFault::Device)), true);
+        same_in(
+            &rt,
+            &call,
+            answer == Err(CopyError::New(StoreFault::Device)),
+            true,
+        );
         failed = call;
     }
     new.crash(&[]); // It doesn't fail from now on.
     holds(&rt, 20 < failed && failed < 199);
-    same(&rt, dump_of(&rt, alloc, &mut new, b"KEYS").as_slice(), b"A1\nC3\n");
+    same(
+        &rt,
+        dump_of(&rt, alloc, &mut new, b"KEYS").as_slice(),
+        b"A1\nC3\n",
+    );
 }
 
 // The sync and the reads of the roots are the first three calls on the old device.
@@ -104,6 +141,11 @@ fn old_devices_that_fail(rt: HostRuntime) {
         let mut old = volume_of_four(&rt, alloc);
         old.fail_at(call);
         let answer = copy(&rt, alloc, &mut old, &mut blank_station(&rt, alloc));
-        same_in(&rt, &call, answer == Err(CopyError::Old(StoreFault::Device)), true);
+        same_in(
+            &rt,
+            &call,
+            answer == Err(CopyError::Old(StoreFault::Device)),
+            true,
+        );
     }
 }

@@ -71,7 +71,12 @@ pub fn add_file(
 }
 
 /// The dump of a file that is there.
-pub fn dump_of(rt: &impl Abort, alloc: Global, station: &mut MemoryStation, name: &[u8]) -> Vec<u8> {
+pub fn dump_of(
+    rt: &impl Abort,
+    alloc: Global,
+    station: &mut MemoryStation,
+    name: &[u8],
+) -> Vec<u8> {
     let mut out = Vec::new(alloc);
     assert!(rt; dump_volume(alloc, station, name, &mut out) == Ok(FileDump::Written));
     out

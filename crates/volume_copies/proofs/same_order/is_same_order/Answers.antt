@@ -21,8 +21,10 @@ returns c = λ e.
     let has : HasEach (length (rows_of one)) order =
     subst (λ (n : ℕ). HasEach n order) (omega (arith, c.len.ensures, c.args.one.now.rows.ok, length-map one row_of))
     (subst (HasEach c.len.result) c.deref.ensures.value (c.in_ok-is_each_there.ensures there)) in
-    record { each = same_order place c.args.key (rows_of one) (rows_of two) order (length (rows_of one)) has
-      (ascent_of c.index.result.now.place place c.args.key c.deref-2.result.now one c.deref-3.result.now order is_place
-      c.deref-2.ensures.value c.deref-3.ensures.value (c.is_ascending.ensures c.if-not-is_ascending.false))
-      (ascent_of c.index.result.now.place place c.args.key c.deref-4.result.now two c.deref-5.result.now order is_place
-      c.deref-4.ensures.value c.deref-5.ensures.value (c.is_ascending-2.ensures e)) }
+    record {
+      each = same_order place c.args.key (rows_of one) (rows_of two) order (length (rows_of one)) has
+          (ascent_of c.index.result.now.place place c.args.key c.deref-2.result.now one c.deref-3.result.now order is_place
+          c.deref-2.ensures.value c.deref-3.ensures.value (c.is_ascending.ensures c.if-not-is_ascending.false))
+          (ascent_of c.index.result.now.place place c.args.key c.deref-4.result.now two c.deref-5.result.now order is_place
+          c.deref-4.ensures.value c.deref-5.ensures.value (c.is_ascending-2.ensures e));
+    }
