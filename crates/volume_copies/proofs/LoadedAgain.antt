@@ -3,7 +3,7 @@ use Rattle.std.proofs.Common.{◌≡◌, ◌<◌, ◌≤◌, ◌+◌, ℕ, zero,
 use Rattle.std.proofs.Common.{Some, Ok, Result, true, refl, sym, ap, subst, ◌∙◌, arith}
 use Rattle.std.specs.List.{AllByRecursion}
 use Rattle.std.specs.Ordering.{is_lt, nat_cmp}
-use Rattle.std.specs.declared.cmp.Ordering.TheVariants.{Less, Equal, Greater}
+use Rattle.std.specs.declared.cmp.Ordering.TheVariants.{Less}
 use Rattle.std.proofs.lemmas.Bool.{cond-true, lt-ltb}
 use Rattle.std.proofs.lemmas.List.{take_more, take_all, get_or-map, length-map}
 use Rattle.std.proofs.lemmas.Map.Keys.{sorted_head, sorted_tail}
@@ -12,7 +12,7 @@ use Rattle.records.specs.declared.file_spec.Organization.{Organization}
 use Rattle.records.specs.declared.file_spec.Organization.TheVariants.{Sequential, Relative, Indexed}
 use Rattle.records.specs.Spec.{Spec}
 use Rattle.records.specs.Rows.{Row, Pair, part, key_pair, pair_cmp, prime_pair}
-use Rattle.records.specs.Files.{File, Files, IsFile, file_at, empty_file, with_file}
+use Rattle.records.specs.Files.{File, Files, IsFile, file_at, empty_file}
 use Rattle.records.specs.Changes.{new_number, new_row, with_row}
 use Rattle.records.specs.Stores.{is_change}
 use Rattle.records.specs.Laws.{RowsAscend}
@@ -214,7 +214,7 @@ module _ (file : File) (is : IsFile file) where
 
   line_more : (name : List ℕ) (k : ℕ) (mid after : Files) → k < length file.rows → IsFirst name k mid
       → AddsLine name (get_or (lines_of (dump_text file.rows)) k []) mid after → IsFirst name (k + 1) after
-  line_more name k mid after lt (now, (there, first)) adds =
+  line_more name k mid after lt (now, there, first) adds =
       let both : Some now ≡ Some adds.file = sym there ∙ adds.there in
       let same : now ≡ adds.file = cc in
       let here : HasFirst file k adds.file = subst (HasFirst file k) same first in
@@ -222,10 +222,8 @@ module _ (file : File) (is : IsFile file) where
       subst (λ (s : Spec). record_of s.record_length (get_or (lines_of (dump_text file.rows)) k []) ≡ Ok adds.bytes)
       here.spec adds.reads in (
         (file_change adds.bytes adds.file).file,
-        (
-          ap (file_at name) adds.after_is ∙ found_again name (file_change adds.bytes adds.file).file mid,
-          first_more k adds.file adds.bytes lt here (line_spells k adds.bytes lt reads) adds.added,
-        ),
+        ap (file_at name) adds.after_is ∙ found_again name (file_change adds.bytes adds.file).file mid,
+        first_more k adds.file adds.bytes lt here (line_spells k adds.bytes lt reads) adds.added,
       )
 
   first_lines : (name : List ℕ) (before : Files) → file_at name before ≡ Some (empty_file file.spec)
@@ -233,9 +231,10 @@ module _ (file : File) (is : IsFile file) where
       → IsFirst name k mid
   first_lines name before empty zero mid le adds = (
     empty_file file.spec,
-    (ap (file_at name) adds ∙ empty, record { spec = refl; records = refl; numbers = tt }),
+    ap (file_at name) adds ∙ empty,
+    record { spec = refl; records = refl; numbers = tt },
   )
-  first_lines name before empty (suc k) mid le (earlier, (adds, one)) =
+  first_lines name before empty (suc k) mid le (earlier, adds, one) =
       let more : k + 1 ≡ suc k = omega arith in
       subst (λ (n : ℕ). IsFirst name n mid) more
       (line_more name k earlier mid (omega (arith, le))
@@ -248,8 +247,8 @@ rows_come_back name file before after is empty adds =
     let first = first_lines file is name before empty (length file.rows) after (omega arith) adds in
     record {
       now = first.0;
-      there = first.1.0;
-      spec = first.1.1.spec;
-      records = first.1.1.records ∙ take_all (length file.rows) (records_of file.rows)
+      there = first.1;
+      spec = first.2.spec;
+      records = first.2.records ∙ take_all (length file.rows) (records_of file.rows)
           (omega (arith, length-map file.rows (λ (row : Row). row.bytes)));
     }

@@ -1,20 +1,20 @@
 -- The lines that `unload` prints spell the records again.
-use Rattle.std.proofs.Common.{◌≡◌, ◌⊎◌, ◌<◌, ◌≤◌, ◌+◌, ◌-◌, ◌*◌, ◌/◌, ◌%◌, ℕ, zero, suc, Bool, true, false, cond, ◌||◌}
+use Rattle.std.proofs.Common.{◌≡◌, ◌⊎◌, ◌<◌, ◌≤◌, ◌+◌, ◌-◌, ◌/◌, ◌%◌, ℕ, zero, suc, Bool, true, false, cond, ◌||◌}
 use Rattle.std.proofs.Common.{eqb, ltb, leb}
 use Rattle.std.proofs.Common.{List, [], ◌∷◌, ◌++◌, length, map, replicate, Some, None, Ok, Err, inl, inr, refl, sym, ap}
 use Rattle.std.proofs.Common.{subst, ◌∙◌, arith}
 use Rattle.std.proofs.Common.{append_assoc, append-nil}
 use Rattle.std.specs.Prelude.{Option, Result, codes, slice_index}
 use Rattle.std.specs.List.{AllByRecursion}
-use Rattle.std.proofs.lemmas.Bool.{eqb-true, ne_eqb, leb-true, le-ltb, and_parts, cond-true, cond-false}
+use Rattle.std.proofs.lemmas.Bool.{eqb-true, ne_eqb, leb-true, le-ltb, and_parts, cond-false}
 use Rattle.std.proofs.lemmas.Nat.{div-add-mod', div_below, mod_below}
 use Rattle.records.specs.Rows.{Row}
 use Rattle.records.specs.Spec.{Spec}
 use Rattle.records.specs.Files.{File, IsByte, IsRow, IsFile}
 use Rattle.volume_commands.specs.Text.{is_visible, hexadecimal_digit, hexadecimal_text, byte_text, bytes_text}
-use Rattle.volume_commands.specs.Dump.{row_line, dump_text}
+use Rattle.volume_commands.specs.Dump.{dump_text}
 use Rattle.volume_copies.specs.Lines.{line_feed, with_first, lines_of}
-use Rattle.volume_copies.specs.Record.{is_control, digit_value, digits_step, byte_step, after_step, bytes_from}
+use Rattle.volume_copies.specs.Record.{is_control, digit_value, digits_step, after_step, bytes_from}
 use Rattle.volume_copies.specs.Record.{line_bytes, with_byte, with_spaces, space, record_of}
 use Rattle.volume_copies.specs.declared.line_record.EscapeState.TheVariants.{Outside, Backslash}
 use Rattle.volume_copies.specs.declared.line_record.ByteStep.TheVariants.{Begins, Spells, Breaks}
@@ -46,7 +46,9 @@ all_digits = (
 )
 
 value_back : (value : ℕ) → value < 16 → digit_value (hexadecimal_digit value) ≡ Some value
-value_back value lt = digit_at 0 (codes "0123456789abcdef") value lt all_digits
+value_back value lt =
+    let same : 0 + value ≡ value = omega arith in
+    digit_at 0 (codes "0123456789abcdef") value lt all_digits ∙ ap Some same
 
 -- a byte that isn't a line feed
 abbrev IsNoFeed : ℕ → Type 0

@@ -1,5 +1,4 @@
-use Rattle.std.proofs.Common.{List, inr, ⊎_elim, sym, ap, subst, ◌∙◌}
-use Rattle.station.specs.Disk.{Sector}
+use Rattle.std.proofs.Common.{inr, ⊎_elim, sym, ap, subst, ◌∙◌}
 use Rattle.roots.specs.Reading.{roots_in}
 use Rattle.pages.specs.Layout.{known_marks}
 use Rattle.pages.specs.Pages.{committed_of}
