@@ -209,7 +209,7 @@ fn read_explain<'a>(matches: &ArgMatches<'a>) -> Result<Request<'a>, Fault>
 {
     match read_number(word(matches, "N")) {
         Some(number) => Ok(Request::Explain { number }),
-        None => Err(Fault::Value("a number has digits alone")),
+        None => Err(Fault::Value("a number has digits alone, and at most 18446744073709551615")),
     }
 }
 

@@ -75,8 +75,8 @@ Repeat by PERFORM VARYING until the element is found.
 
 @ END-UNSTRING
 UNSTRING is not in this language
-REDEFINE the item by a group of fields, or go through its characters as a table
-of PIC X.
+Describe the item again by REDEFINES as a group of fields, or go through its
+characters as a table of PIC X.
 
 @ ENTER
 ENTER is not in this language
@@ -205,8 +205,8 @@ One run at a time uses a volume, so no row is ever locked.
 
 @ UNSTRING
 UNSTRING is not in this language
-REDEFINE the item by a group of fields, or go through its characters as a table
-of PIC X.
+Describe the item again by REDEFINES as a group of fields, or go through its
+characters as a table of PIC X.
 
 @ USE
 USE and DECLARATIVES are not in this language

@@ -68,7 +68,7 @@ pub fn shown_line(alloc: Global, source: &[u8], number: u32) -> Result<Vec<u8>, 
 
 /// The bytes of a line that can be in the columns that are shown.
 fn beginning(line: &[u8]) -> &[u8]
-    ensures { result.now ≡ spec.beginning line.now }
+    ensures { result.now ≡ spec.first_bytes line.now }
 {
     if line.len() > MOST_COLUMNS {
         return &line[..MOST_COLUMNS];

@@ -19,15 +19,6 @@ const BEFORE_RECORDS: &[u8] = b"REWRITE WRITE";
 
 const BEFORE_PROCEDURES: &[u8] = b"PERFORM THROUGH THRU";
 
-/// What a name is declared as.
-#[derive(Clone, Copy, PartialEq, Eq)]
-enum NameKind {
-    Item,
-    File,
-    /// A paragraph or a section.
-    Procedure,
-}
-
 /// The advice that a reserved word is in the place of a name.
 pub fn reserved_cause(alloc: Global, view: View<'_>) -> Found {
     if !view.is_reserved(Some(view.at)) {
@@ -55,6 +46,15 @@ pub fn undeclared_cause(alloc: Global, view: View<'_>, number: u8) -> Found {
         advice.propose(word.as_slice())?;
     }
     Ok(Some(advice))
+}
+
+/// What a name is declared as.
+#[derive(Clone, Copy, PartialEq, Eq)]
+enum NameKind {
+    Item,
+    File,
+    /// A paragraph or a section.
+    Procedure,
 }
 
 /// The kind of name that follows a word.
