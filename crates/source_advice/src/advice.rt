@@ -1,5 +1,8 @@
 //! What is said of a fault.
 
+ghost use Rattle.std.specs.Prelude.{◌≡◌, true, OnOk};
+ghost use Rattle.source_advice.specs.Advice as spec;
+
 use explanations::{Book, between, explanation, first_line, other_lines, part_under};
 use std::alloc::{AllocError, Global};
 
@@ -86,12 +89,24 @@ impl Advice {
         self.add_line(&[b"Perhaps ", word, b" is meant."])
     }
 
-    /// Ends the last line if it isn't ended.
-    fn end_line(&mut self) -> Result<(), AllocError> {
-        match self.cure.as_slice() {
-            [] | [.., b'\n'] => Ok(()),
-            _ => Ok(self.cure.push(b'\n')?),
+    /// Ends the last line of what to do if it isn't ended.
+    pub(crate) fn end_line(&mut self) -> Result<(), AllocError>
+        ensures { OnOk result (spec.HasLines self.new) }
+    {
+        if are_lines(self.cure.as_slice()) {
+            return Ok(());
         }
+        Ok(self.cure.push(b'\n')?)
+    }
+}
+
+/// Whether a text is empty or ends with a line feed.
+fn are_lines(text: &[u8]) -> bool
+    ensures { result ≡ true → spec.AreLines text.now }
+{
+    match text {
+        [] | [.., b'\n'] => true,
+        _ => false,
     }
 }
 

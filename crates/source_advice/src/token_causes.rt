@@ -1,5 +1,8 @@
 //! What is said of any fault.
 
+ghost use Rattle.std.specs.Prelude.{IfOk};
+ghost use Rattle.source_advice.specs.Advice.{HasLines};
+
 use crate::advice::{Advice, Found};
 use crate::cut_lines::cut_cause;
 use crate::format_causes::format_cause;
@@ -24,6 +27,19 @@ const ITEM_FAULTS: [u8; 3] = [44, 45, 48];
 
 /// What is said of the fault of this number at this place of a source text: what is wrong, and what to do.
 pub fn advise(
+    alloc: Global,
+    source: &[u8],
+    number: u8,
+    place: Place,
+) -> Result<Advice, AllocError>
+    ensures { IfOk result HasLines }
+{
+    let mut advice = advice_about(alloc, source, number, place)?;
+    advice.end_line()?;
+    Ok(advice)
+}
+
+fn advice_about(
     alloc: Global,
     source: &[u8],
     number: u8,
