@@ -38,7 +38,7 @@ fn known_cause(alloc: Global, source: &[u8], number: u8, place: Place) -> Found 
         CHARACTER => mark_cause(alloc, line_of(source, place.line)),
         INDICATOR => free_cause(alloc, line.as_slice()),
         UNCLOSED => literal_cause(alloc, source, line.as_slice(), place),
-        STRAY => Advice::under(alloc, Book::Signs, sign_at(line.as_slice(), place)),
+        STRAY => Advice::under(alloc, Book::Signs, sign_at(line.as_slice(), place), b""),
         _ if number > STRAY => cut_cause(alloc, source, place.line, b"column 72"),
         _ => Ok(None),
     }

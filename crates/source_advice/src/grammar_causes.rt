@@ -17,6 +17,9 @@ const AFTER_IDENTIFICATION: usize = 3;
 /// Verbs whose operands are no expressions.
 const WITHOUT_EXPRESSIONS: &[u8] = b"ACCEPT ADD DISPLAY DIVIDE INITIALIZE MOVE MULTIPLY SET STRING SUBTRACT";
 
+/// Figurative constants.
+const FIGURATIVE: &[u8] = b"HIGH-VALUE HIGH-VALUES LOW-VALUE LOW-VALUES QUOTE QUOTES SPACE SPACES ZERO ZEROES ZEROS";
+
 /// The advice about the token at which reading stopped.
 pub fn grammar_cause(alloc: Global, view: View<'_>, number: u8) -> Found {
     if let Some(advice) = beginning_cause(alloc, view)? {
@@ -74,12 +77,13 @@ fn expression_cause(alloc: Global, view: View<'_>) -> Found {
     Ok(None)
 }
 
-/// Whether a literal, or a relation without its left side, follows AND or OR.
+/// Whether a literal or a figurative constant alone, or a relation without its left side, follows AND or OR.
 fn is_abbreviated(alloc: Global, view: View<'_>) -> Result<bool, AllocError> {
     let before = view.text(alloc, view.before(1))?;
     let second = view.text(alloc, view.before(2))?;
+    let is_constant = view.is_literal(view.before(1)) || has_word(FIGURATIVE, before.as_slice());
     Ok(view.is_operator(Some(view.at)) && has_word(b"AND OR", before.as_slice())
-        || view.is_literal(view.before(1))
+        || is_constant
             && has_word(b"AND OR", second.as_slice())
             && !view.is_operator(Some(view.at)))
 }

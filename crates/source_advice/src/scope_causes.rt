@@ -36,8 +36,11 @@ fn verb_of(word: &[u8]) -> Option<&[u8]> {
     word.strip_prefix(b"END-")
 }
 
-/// Whether a statement of this verb has no END word so far, in the sentence of the place.
+/// Whether a statement of this verb has no END word so far, in the sentence of the place. A PERFORM of a paragraph never has one.
 fn is_open(alloc: Global, view: View<'_>, verb: &[u8]) -> Result<bool, AllocError> {
+    if verb == b"PERFORM" {
+        return Ok(open_perform(alloc, view)?.is_some());
+    }
     let mut open: usize = 0;
     for number in view.sentence()..view.at {
         let word = view.text(alloc, Some(number))?;

@@ -26,9 +26,13 @@ pub fn verb_before(alloc: Global, view: View<'_>) -> Result<Option<usize>, Alloc
     Ok(found)
 }
 
-/// The advice to compare the statement or the entry with its form.
+/// The advice to compare the statement or the entry with its form, or to begin the statement with a verb.
 pub fn form_cause(alloc: Global, view: View<'_>, number: u8) -> Found {
     let Some(first) = beginning(alloc, view)? else {
+        if view.is_in_procedures(view.at) {
+            let here = view.written(alloc, Some(view.at))?;
+            return Advice::for_cause(alloc, b"verb needed", here.as_slice());
+        }
         return Ok(None);
     };
     let name = view.text(alloc, Some(first))?;

@@ -7,10 +7,10 @@ use crate::advice::{Advice, Found};
 use crate::cut_lines::cut_cause;
 use crate::format_causes::format_cause;
 use crate::grammar_causes::grammar_cause;
-use crate::name_causes::undeclared_cause;
+use crate::name_causes::{condition_cause, undeclared_cause};
 use crate::period_causes::period_cause;
 use crate::view::View;
-use crate::word_causes::verb_cause;
+use crate::word_causes::{exit_cause, verb_cause, word_alone_cause};
 use lexical::Place;
 use source_lines::logical;
 use std::alloc::{AllocError, Global};
@@ -81,15 +81,23 @@ fn tree_cause(alloc: Global, source: &[u8], view: View<'_>, number: u8) -> Found
     undeclared_cause(alloc, view, number)
 }
 
-/// The advice about a name that is a verb of other COBOLs, or that follows a missing period.
+/// The advice about a name that is a word of other COBOLs, that follows a missing period, or that is an item and no condition.
 fn name_cause(alloc: Global, view: View<'_>) -> Found {
     if let Some(advice) = verb_cause(alloc, view)? {
         return Ok(Some(advice));
     }
-    if view.is_period(view.after(1)) {
-        return period_cause(alloc, view);
+    if let Some(advice) = exit_cause(alloc, view)? {
+        return Ok(Some(advice));
     }
-    Ok(None)
+    if let Some(advice) = word_alone_cause(alloc, view)? {
+        return Ok(Some(advice));
+    }
+    if view.is_period(view.after(1)) {
+        if let Some(advice) = period_cause(alloc, view)? {
+            return Ok(Some(advice));
+        }
+    }
+    condition_cause(alloc, view)
 }
 
 /// The token that a fault is about: the item's name after the level number where an entry is refused, and else the one at the place.
