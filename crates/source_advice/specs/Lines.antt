@@ -1,5 +1,5 @@
 -- Lines of a source text, and how they are shown.
-use Rattle.std.specs.Prelude.{ℕ, ◌-◌, ◌%◌, ◌==◌, ◌++◌, List, [], ◌∷◌, get_or, length, take, replicate, if◌then◌else◌}
+use Rattle.std.specs.Prelude.{ℕ, ◌-◌, ◌==◌, ◌++◌, List, [], ◌∷◌, get_or, length, take, replicate, if◌then◌else◌}
 use Rattle.std.specs.Str.Lines.{strip_carriage_return}
 use Rattle.source_lines.specs.Cut.{lines}
 use Rattle.source_lines.specs.Line.{is_in_character_set, tab_width}

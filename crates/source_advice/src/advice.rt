@@ -45,7 +45,12 @@ impl Advice {
     /// The advice that a book has under a head, about a word: the first line says what is wrong, the others what to do.
     pub fn under(alloc: Global, book: Book, head: &[u8], word: &[u8]) -> Found {
         match part_under(alloc, book, head)? {
-            Some(part) => Ok(Some(Advice::about(alloc, word, first_line(part), other_lines(part))?)),
+            Some(part) => Ok(Some(Advice::about(
+                alloc,
+                word,
+                first_line(part),
+                other_lines(part),
+            )?)),
             None => Ok(None),
         }
     }

@@ -18,7 +18,12 @@ const UNCLOSED: u8 = 14;
 const STRAY: u8 = 15;
 
 /// The advice about a line or a character, before there are tokens.
-pub fn format_cause(alloc: Global, source: &[u8], number: u8, place: Place) -> Result<Advice, AllocError> {
+pub fn format_cause(
+    alloc: Global,
+    source: &[u8],
+    number: u8,
+    place: Place,
+) -> Result<Advice, AllocError> {
     if let Some(advice) = known_cause(alloc, source, number, place)? {
         return Ok(advice);
     }

@@ -6,7 +6,8 @@ use crate::view::View;
 use std::alloc::{AllocError, Global};
 
 /// Words after which a name follows.
-const BEFORE_NAMES: &[u8] = b"ACCEPT ADD BY CLOSE COMPUTE DELETE DISPLAY DIVIDE EXTEND FD FROM GIVING I-O IN INITIALIZE INPUT INSPECT INTO
+const BEFORE_NAMES: &[u8] =
+    b"ACCEPT ADD BY CLOSE COMPUTE DELETE DISPLAY DIVIDE EXTEND FD FROM GIVING I-O IN INITIALIZE INPUT INSPECT INTO
 MOVE MULTIPLY OF OUTPUT PERFORM READ REDEFINES REWRITE SELECT SET START SUBTRACT THROUGH THRU TO VARYING WRITE";
 
 /// Words that are no name by mistake, because they go on with a statement.
@@ -55,7 +56,8 @@ pub fn undeclared_cause(alloc: Global, view: View<'_>, number: u8) -> Found {
 pub fn condition_cause(alloc: Global, view: View<'_>) -> Found {
     let here = view.text(alloc, Some(view.at))?;
     let before = view.text(alloc, view.before(1))?;
-    let is_name = has_word(BEFORE_CONDITIONS, before.as_slice()) && is_declared(alloc, view, here.as_slice())?;
+    let is_name = has_word(BEFORE_CONDITIONS, before.as_slice())
+        && is_declared(alloc, view, here.as_slice())?;
     if !is_name {
         return Ok(None);
     }

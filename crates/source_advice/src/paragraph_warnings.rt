@@ -53,7 +53,8 @@ fn paragraph_warning(alloc: Global, view: View<'_>) -> Result<Option<Warning>, A
         return Ok(None);
     }
     let name = view.text(alloc, Some(view.at))?;
-    let Some(mut advice) = Advice::for_cause(alloc, b"paragraph of nothing", name.as_slice())? else {
+    let Some(mut advice) = Advice::for_cause(alloc, b"paragraph of nothing", name.as_slice())?
+    else {
         return Ok(None);
     };
     if let Some(word) = reserved_like(alloc, name.as_slice())? {

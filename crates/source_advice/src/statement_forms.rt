@@ -7,7 +7,8 @@ use explanations::{Book, part_under};
 use std::alloc::{AllocError, Global};
 
 /// The verbs.
-const VERBS: &[u8] = b"ACCEPT ADD CLOSE COMPUTE CONTINUE DELETE DISPLAY DIVIDE EVALUATE EXIT IF INITIALIZE INSPECT MOVE MULTIPLY OPEN
+const VERBS: &[u8] =
+    b"ACCEPT ADD CLOSE COMPUTE CONTINUE DELETE DISPLAY DIVIDE EVALUATE EXIT IF INITIALIZE INSPECT MOVE MULTIPLY OPEN
 PERFORM READ REWRITE SET START STOP STRING SUBTRACT WRITE";
 
 /// Whether a word is a verb.
@@ -44,7 +45,11 @@ pub fn form_cause(alloc: Global, view: View<'_>, number: u8) -> Found {
     let Some(form) = part_under(alloc, Book::Forms, head)? else {
         return Ok(None);
     };
-    let mut advice = Advice::for_number(alloc, number, view.written(alloc, Some(view.at))?.as_slice())?;
+    let mut advice = Advice::for_number(
+        alloc,
+        number,
+        view.written(alloc, Some(view.at))?.as_slice(),
+    )?;
     advice.cure.clear();
     advice.add_line(&[head, b" is written:"])?;
     advice.cure.extend_from_slice(form)?;

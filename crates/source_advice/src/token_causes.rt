@@ -26,12 +26,7 @@ const UNDECLARED: u8 = 40;
 const ITEM_FAULTS: [u8; 3] = [44, 45, 48];
 
 /// What is said of the fault of this number at this place of a source text: what is wrong, and what to do.
-pub fn advise(
-    alloc: Global,
-    source: &[u8],
-    number: u8,
-    place: Place,
-) -> Result<Advice, AllocError>
+pub fn advise(alloc: Global, source: &[u8], number: u8, place: Place) -> Result<Advice, AllocError>
     ensures { IfOk result HasLines }
 {
     let mut advice = advice_about(alloc, source, number, place)?;

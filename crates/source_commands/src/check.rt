@@ -57,11 +57,7 @@ fn accepted(alloc: Global, source: Source<'_>) -> Result<CheckReport, AllocError
 }
 
 /// The reports of warnings, one after the other.
-fn warning_text(
-    alloc: Global,
-    source: Source<'_>,
-    found: &[Warning],
-) -> Result<Vec<u8>, AllocError>
+fn warning_text(alloc: Global, source: Source<'_>, found: &[Warning]) -> Result<Vec<u8>, AllocError>
     ensures { IfOk result (λ text. text.items
         ≡ spec.warning_texts source.entry.name.now source.entry.text.now found.now) }
 {
