@@ -22,4 +22,4 @@ returns c =
     c.in_ok-rest.ensures.rest ∙ ap (λ all. items_after all entries) placed in
     c.in_ok-push_files.ensures (items_in c.args.declared.now) (data_in c.args.declared.now) c.requires.files
     ∙ ap (λ out. out ++ file_lines files c.in_ok-rest.rest.now c.args.declared.now.descriptions.now) lines
-    ∙ ap (λ left. heading ++ item_lines items entries ++ file_lines files left c.args.declared.now.descriptions.now) rest
+    ∙ ap (λ l. heading ++ item_lines items entries ++ file_lines files l c.args.declared.now.descriptions.now) rest
