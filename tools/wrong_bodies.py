@@ -9,7 +9,9 @@ TYPE = re.compile(r"^(?:pub(?:\(\w+\))? )?(?:struct|enum) (\w+)", re.M)
 CONSTANT = re.compile(r"\s*(?:pub(?:\(\w+\))? )?(?:const|static) (\w+):")
 CYCLE = re.compile(r"\s*#\[cycle\((\w+)\)\]")
 # What a proof says that names what the body lacks.
-LACKING = re.compile(r"has no field|is not in scope|has no `|was not admitted|is no name|no such|record `[^`]+` \(nearest: ")
+LACKING = re.compile(r"has no field|is not a field of|is not in scope|has no `|was not admitted|is no name|no such|record `[^`]+` \(nearest: ")
+# A message's further lines begin with a blank.
+FURTHER = re.compile(r"\n[ \t]+(?=\S)")
 LIMIT = re.compile(r"antt ran out of|outgrew the memory limit|stopped at the step limit")
 
 # A function: the file and lines that it takes, the type and trait of its impl if it is a method, and its text.
@@ -168,7 +170,7 @@ def judge(edit, text):
     if not has_verdict(text):
         limit = LIMIT.search(text)
         return f"NOT KNOWN: {limit[0]}" if limit else f"DOESN'T COMPILE: {first_error(text)}"
-    lines = text.split("\n")
+    lines = FURTHER.sub(" ", text).split("\n")
     goals = [goal for line in lines for goal in goals_in(edit, line)]
     if goals:
         return f"refused: {next((goal for goal in goals if goal.endswith('false')), goals[0])}"

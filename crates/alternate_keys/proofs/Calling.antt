@@ -1,13 +1,11 @@
 -- Calls on pages, one after the other.
 use Rattle.std.proofs.Common.{◌≤◌, ◌⊎◌, inr, ◌∙◌, [], ap, arith}
-use Rattle.station.specs.Calls.{OnlyReads}
 use Rattle.station.specs.declared.device.Device.{Ghosts as Devices}
-use Rattle.station.proofs.Calls.{reads_nothing, reads_then}
+use Rattle.station.proofs.Calls.{reads_then}
 use Rattle.pages.specs.Image.{Map, Volume}
 use Rattle.station.specs.Disk.{Disk}
 use Rattle.pages.specs.Pages.{sectors_of, Agrees, IsOpen, SameCommitted}
 use Rattle.pages.specs.declared.page_map.PageMap.{PageMap}
-use Rattle.btree.proofs.Frames.{unchanged_still, unchanged_on}
 use Rattle.volume_format.specs.Calls.{LooksAt}
 use Rattle.volume_format.proofs.Looks.{reads_blamed, looks_nowhere}
 use Rattle.alternate_keys.specs.Calls.{Edits}

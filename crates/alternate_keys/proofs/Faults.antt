@@ -1,12 +1,18 @@
 -- Which refusal of the pages was told.
-use Rattle.std.proofs.Common.{◌≡◌, ◌⊎◌, inl, inr, Result, Err, IfErr, refl, sym, ap, subst, ◌∙◌}
+use Rattle.std.proofs.Common.{◌≡◌, ◌⊎◌, inl, inr, Result, Err, IfErr, sym, ap, subst, ◌∙◌}
 use Rattle.std.specs.Prelude.{IsOkUnless}
+use Rattle.std.specs.Result.{IsErrAnd}
 use Rattle.records.specs.declared.fault.StoreFault.{StoreFault}
 use Rattle.pages.specs.declared.error.PagesError.{PagesError}
 use Rattle.pages.specs.declared.error.PagesError.TheVariants as pages
 use Rattle.records.specs.declared.fault.StoreFault.TheVariants.{Device, Full, Damaged, Memory, Spent}
 use Rattle.volume_format.specs.Faults.{fault_of}
 use Rattle.alternate_keys.specs.Faults.{IsReadFault}
+
+-- a refusal that is passed on is that of the call
+pub refused_by_call : {T U E : Type 0} {call : Result T E} {given : Result U E} {e fault : E} → call ≡ Err e
+    → IsErrAnd given (λ x. x ≡ e) → given ≡ Err fault → call ≡ Err fault
+refused_by_call was is refused = was ∙ ap Err (sym (rw refused at is))
 
 -- a commit never tells of damage
 pub commit_sound : (error : PagesError) → (error ≡ pages.Device) ⊎ (error ≡ pages.Full) ⊎ (error ≡ pages.Memory)

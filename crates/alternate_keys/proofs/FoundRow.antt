@@ -1,17 +1,18 @@
 -- The row that was found in the tree of rows.
-use Rattle.std.proofs.Common.{◌≡◌, ℕ, List, refl, sym, ap, subst, ◌∙◌}
-use Rattle.std.specs.Prelude.{map, Option, Some, None}
+use Rattle.std.proofs.Common.{◌≡◌, ◌+◌, ◌*◌, ℕ, List, length, refl, sym, ap, subst, ◌∙◌}
+use Rattle.std.specs.Prelude.{map, Option, Some, None, IfSome, IsSome, is_some}
 use Rattle.std.specs.Option.{option_map}
 use Rattle.std.proofs.lemmas.List.Elements.{All-contains}
 use Rattle.station.specs.Disk.{Sector}
-use Rattle.btree.specs.Entries.{Entry, entry_with}
+use Rattle.btree_pages.specs.declared.row_layout.RowLayout.{RowLayout}
+use Rattle.btree.specs.Entries.{Entry, HasLengths, entry_with}
 use Rattle.records.specs.declared.key.KeyOfReference.TheVariants.{Prime}
 use Rattle.records.specs.Spec.{Spec}
 use Rattle.records.specs.Rows.{Row, Pair, prime_pair}
 use Rattle.records.specs.Changes.{row_at}
 use Rattle.records.specs.Files.{NamedFile}
 use Rattle.records.proofs.Changed.{pair_same}
-use Rattle.volume_format.specs.Trees.{entry_under, key_under}
+use Rattle.volume_format.specs.Trees.{entry_under, key_under, layout_under}
 use Rattle.volume_format.specs.Pairs.{IsPair, IsUnder}
 use Rattle.volume_format.specs.Forest.{TreeLevels}
 use Rattle.alternate_keys.specs.Moved.{IsRowOf}
@@ -67,3 +68,18 @@ module _ (spec : Spec) (named : NamedFile) (generation : ℕ) (pages : List (Opt
             ∙ ap (λ (e : Entry). Some e) (sym of.2);
         row_is = is_row_of spec named generation pages left right listing has old there.0;
       }
+
+-- it is there
+pub entry_there : {spec : Spec} {named : NamedFile} {pair : Pair} {entry : Entry} → FoundRow spec named pair entry
+    → (key : List ℕ) → key ≡ entry.key → IsSome (entry_with (map (entry_under spec Prime) named.file.rows) key)
+entry_there {spec} {named} {entry} found key is =
+    ap (λ (o : Option Entry). is_some o)
+    (ap (entry_with (map (entry_under spec Prime) named.file.rows)) (is ∙ found.key) ∙ found.found)
+
+-- how long its value is
+pub value_long : (spec : Spec) (layout : RowLayout) (answer : Option Entry) (entry : Entry) (value : List ℕ)
+    → layout ≡ layout_under spec Prime → IfSome answer (HasLengths layout) → answer ≡ Some entry → value ≡ entry.value
+    → length value ≡ spec.record_length + 8 * length spec.alternates
+value_long spec layout answer entry value is lengths some value_is =
+    let own : HasLengths layout entry = subst (λ (o : Option Entry). IfSome o (HasLengths layout)) some lengths in
+    ap (λ (l : List ℕ). length l) value_is ∙ own.1 ∙ ap (λ (l : RowLayout). l.value_length) is

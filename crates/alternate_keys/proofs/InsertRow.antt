@@ -23,6 +23,7 @@ use Rattle.volume_format.specs.Forest.{TreeLevels}
 use Rattle.volume_format.specs.Grows.{IsTreeAmong}
 use Rattle.volume_format.specs.Volume.{tree_levels}
 use Rattle.volume_format.proofs.Comes.{row_comes, pair_comes}
+use Rattle.alternate_keys.specs.declared.row_verb.RowVerb.{RowVerb}
 use Rattle.alternate_keys.specs.declared.row_verb.RowVerb.TheVariants.{Insert}
 use Rattle.alternate_keys.specs.Moved.{HasChangedRows, PairsMove, PairsMayMove, pair_entry, is_new}
 use Rattle.alternate_keys.specs.NewRow.{row_with, file_with, named_with}
@@ -30,6 +31,14 @@ use Rattle.alternate_keys.specs.Placed.{HasTrees}
 use Rattle.alternate_keys.proofs.Arrivals.{arrival_at}
 use Rattle.alternate_keys.proofs.FileTrees.{kept_in, arrival_low, arrival_few, rows_under, indexes_then}
 use Rattle.alternate_keys.proofs.Fresh.{new_under, key_there, not_there, arrivals_before}
+
+abbrev pub change_to : Outcome → File → FileChange
+change_to outcome file = record { outcome = outcome; file = file }
+
+-- what `find_duplicate_key` answers
+abbrev pub told_of : RowVerb → Spec → List ℕ → List ℕ → List Row → Outcome
+told_of verb spec old bytes all = if is_taken (filter (is_new verb old bytes) spec.alternates) all bytes then Taken
+    else done_outcome (is_duplicate (filter (is_new verb old bytes) spec.alternates) all bytes)
 
 -- what is told of the values of a record, and whether it is a change
 pub told_by : (taken duplicate : Bool) (outcome : Outcome) (b : Bool)
@@ -166,8 +175,7 @@ module _ (spec : Spec) (named : NamedFile) (generation : ℕ) (pages : List (Opt
 
 -- what the values of a new row tell
 module _ (spec : Spec) (file : File) (spec_is : file.spec ≡ spec) (old bytes : List ℕ) (outcome : Outcome)
-    (told : outcome ≡ (if is_taken (filter (is_new Insert old bytes) spec.alternates) file.rows bytes then Taken
-    else done_outcome (is_duplicate (filter (is_new Insert old bytes) spec.alternates) file.rows bytes))) where
+    (told : outcome ≡ told_of Insert spec old bytes file.rows) where
   keys_are : filter (is_new Insert old bytes) spec.alternates ≡ file.spec.alternates
   keys_are = all_new old bytes spec.alternates ∙ ap (λ (s : Spec). s.alternates) (sym spec_is)
 
@@ -194,3 +202,53 @@ module _ (spec : Spec) (file : File) (spec_is : file.spec ≡ spec) (old bytes :
 
 pub no_change : (outcome : Outcome) → outcome ≡ Taken → is_change outcome ≡ false
 no_change outcome is = ap is_change is
+
+-- a row that a caller may add
+pub record IsNew (spec : Spec) (file : File) (number arrival : ℕ) (bytes : List ℕ) : Type 0 where
+  pub same : arrival ≡ file.next_arrival
+  pub good : is_spec spec ≡ true
+  pub long : length bytes ≡ spec.record_length
+  pub low : All IsByte bytes
+  pub numbered : IsNewNumber spec.organization number
+
+abbrev pub row_new : Spec → ℕ → ℕ → List ℕ → Row
+row_new spec number arrival bytes = row_with spec (new_number spec.organization number arrival) arrival bytes
+
+-- what the search for its prime key or number tells
+abbrev pub found_new : Spec → ℕ → ℕ → List ℕ → List Row → Option Entry
+found_new spec number arrival bytes rows =
+    entry_with (map (entry_under spec Prime) rows) (entry_under spec Prime (row_new spec number arrival bytes)).key
+
+-- the file after it came
+abbrev pub Inserts : Spec → ℕ → ℕ → List ℕ → File → Outcome → Type 0
+Inserts spec number arrival bytes file outcome =
+    insertion number bytes file ≡ change_to outcome (file_with (row_new spec number arrival bytes) file)
+
+module _ {spec : Spec} {named : NamedFile} {generation : ℕ} {pages : List (Option Sector)}
+    {left right : List TreeLevels} {listing : List ℕ} (has : HasTrees spec named generation pages left right listing)
+    {number arrival : ℕ} {bytes : List ℕ} (new : IsNew spec named.file number arrival bytes) where
+  there_is : is_some (found_new spec number arrival bytes named.file.rows)
+      ≡ has_prime named.file (new_row named.file number bytes)
+  there_is = prime_there spec named generation pages left right listing has number arrival bytes new.same new.good
+      new.long new.low new.numbered
+
+  pub taken_numbered : {own : ℕ} → own ≡ new_number spec.organization number arrival →
+      IsSome (entry_with (map (entry_under spec Prime) named.file.rows)
+      (entry_under spec Prime (row_with spec own arrival bytes)).key)
+      → insertion number bytes named.file ≡ without_change Taken named.file
+  taken_numbered own_is some =
+      inserted_there number bytes named.file (sym there_is ∙ subst (λ (n : ℕ).
+      IsSome (entry_with (map (entry_under spec Prime) named.file.rows)
+      (entry_under spec Prime (row_with spec n arrival bytes)).key)) own_is some)
+
+  pub inserts_new : (outcome : Outcome) → outcome ≡ told_of Insert spec [] bytes named.file.rows
+      → is_change outcome ≡ true → found_new spec number arrival bytes named.file.rows ≡ None →
+      Inserts spec number arrival bytes named.file outcome
+  inserts_new outcome told change none =
+      let free = look_free spec named.file has.spec_is [] bytes outcome told change in
+      let own = own_row spec named generation pages left right listing has number arrival bytes new.same new.good
+      new.long new.low new.numbered in
+      inserted_done number bytes named.file (sym there_is ∙ ap (λ (e : Option Entry). is_some e) none) free
+      ∙ ap (λ (o : Outcome). change_to o (file_with (new_row named.file number bytes) named.file))
+      (sym (look_done spec named.file has.spec_is [] bytes outcome told change))
+      ∙ ap (λ (r : Row). change_to outcome (file_with r named.file)) (sym own)

@@ -41,4 +41,8 @@ pub mod Empties
 pub mod Counted
 pub mod Added
 pub mod MadeFile
+pub mod HeldTrees
+pub mod Moving
+pub mod MovingRows
+pub mod ListedFile
 mod TakenRow

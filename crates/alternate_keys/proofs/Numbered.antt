@@ -5,6 +5,7 @@ use Rattle.std.specs.List.{All}
 use Rattle.std.proofs.lemmas.Bool.{leb-true, leb-false}
 use Rattle.std.proofs.lemmas.List.Elements.{All-head, All-tail}
 use Rattle.btree.proofs.Frames.{false_unless}
+use Rattle.records.specs.declared.file_spec.KeyPlace.{KeyPlace}
 use Rattle.records.specs.declared.file_spec.Organization.{Organization}
 use Rattle.records.specs.declared.file_spec.Organization.TheVariants.{Sequential, Relative, Indexed}
 use Rattle.records.specs.declared.key.KeyOfReference.TheVariants.{Prime}
@@ -57,3 +58,11 @@ pub named_here : (o : Organization) (number : ℕ) (bytes : List ℕ)
 named_here Sequential number bytes = refl
 named_here Relative number bytes = refl
 named_here (Indexed place) number bytes = refl
+
+-- and by its prime key in the record
+pub named_by : (spec : Spec) (place : KeyPlace) (number : ℕ) (bytes value : List ℕ)
+    → place ≡ prime_place spec.organization
+    → value ≡ part place bytes → pair_of spec.organization value number ≡ named_pair spec.organization number bytes
+named_by spec place number bytes value place_is is =
+    ap (λ (v : List ℕ). pair_of spec.organization v number) (is ∙ ap (λ (p : KeyPlace). part p bytes) place_is)
+    ∙ named_here spec.organization number bytes

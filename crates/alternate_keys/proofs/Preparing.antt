@@ -8,10 +8,11 @@ use Rattle.pages.specs.Image.{Map}
 use Rattle.pages.specs.Pages.{map_now, catalog_of, next_generation, SameCommitted}
 use Rattle.pages.specs.declared.page_map.PageMap.{PageMap}
 use Rattle.btree.specs.Entries.{Entry, entry_with, with_value}
+use Rattle.records.specs.declared.file_spec.FileSpec.{FileSpec}
 use Rattle.records.specs.Spec.{Spec, is_name}
 use Rattle.records.specs.Changes.{FileChange}
 use Rattle.records.specs.Files.{File, Files, NamedFile, AreFiles, IsByte, file_at, with_file}
-use Rattle.records.specs.Stores.{is_change, files_after, pair_of}
+use Rattle.records.specs.Stores.{Has, spec_of, is_change, files_after, pair_of}
 use Rattle.records.proofs.Changed.{inserted_are_files, replaced_are_files, removed_are_files}
 use Rattle.file_bytes.specs.Description.{padded_name}
 use Rattle.volume_format.specs.Forest.{TreeLevels}
@@ -27,7 +28,7 @@ use Rattle.alternate_keys.proofs.Placing.{holds_then}
 use Rattle.alternate_keys.proofs.Splits.{Found}
 
 -- the files after a change are files
-pub are_files : (verb : RowVerb) (name : List ℕ) (file : File) (files : Files) (number : ℕ) (bytes : List ℕ)
+are_files : (verb : RowVerb) (name : List ℕ) (file : File) (files : Files) (number : ℕ) (bytes : List ℕ)
     → AreFiles files → file_at name files ≡ Some file → IsAsked verb file.spec number bytes
     → AllByRecursion IsByte bytes →
     AreFiles (files_after name files (changed_by verb file.spec.organization number bytes file))
@@ -37,6 +38,17 @@ are_files Replace name file files number bytes are there asked low =
     replaced_are_files name file files number bytes are there asked low
 are_files Remove name file files number bytes are there asked low =
     removed_are_files name file files (pair_of file.spec.organization bytes number) are there
+
+-- of a file that a caller means
+pub are_then : (verb : RowVerb) (file : FileSpec) (files : Files) (held : File) → AreFiles files → Has files file held
+    → (number : ℕ) (bytes : List ℕ) → IsAsked verb (spec_of file) number bytes → AllByRecursion IsByte bytes
+    → AreFiles (files_after file.name.items files (changed_by verb file.organization number bytes held))
+are_then verb file files held are has number bytes asked low =
+    subst
+    (λ (s : Spec). AreFiles (files_after file.name.items files (changed_by verb s.organization number bytes held)))
+    has.spec
+    (are_files verb file.name.items held files number bytes are has.there
+    (subst (λ (s : Spec). IsAsked verb s number bytes) (sym has.spec) asked) low)
 
 some_clash : (x : Option Entry) (e : Entry) → x ≡ Some e → x ≡ None → ⊥
 some_clash x e some none = cc

@@ -18,7 +18,7 @@ use Rattle.records.specs.declared.key.KeyOfReference.TheVariants.{Alternate}
 use Rattle.records.specs.declared.key.Side.TheVariants as side
 use Rattle.records.specs.Spec.{Spec}
 use Rattle.records.specs.Rows.{Row, Pair, bytes_cmp, same_bytes, pair_cmp, pair_under}
-use Rattle.records.specs.Order.{RowBound, is_after, sought_row, least_row, has_value}
+use Rattle.records.specs.Order.{RowBound, is_after, sought_row, has_value}
 use Rattle.records.specs.Stores.{key_length}
 use Rattle.records.proofs.Maps.{bytes_same}
 use Rattle.volume_format.specs.Trees.{entry_under, AreOf}

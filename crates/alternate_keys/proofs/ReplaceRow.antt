@@ -33,14 +33,15 @@ use Rattle.volume_format.specs.Forest.{TreeLevels}
 use Rattle.volume_format.specs.Grows.{IsTreeAmong}
 use Rattle.volume_format.specs.Volume.{tree_levels}
 use Rattle.alternate_keys.specs.declared.row_verb.RowVerb.TheVariants.{Replace}
-use Rattle.alternate_keys.specs.Moved.{HasChangedRows, PairsMove, PairsMayMove, IsRowOf, old_key, pair_entry}
+use Rattle.alternate_keys.specs.Moved.{HasChangedRows, PairsMove, PairsMayMove, old_key, pair_entry}
 use Rattle.alternate_keys.specs.Moved.{changes_at, is_new}
 use Rattle.alternate_keys.specs.NewRow.{row_with}
 use Rattle.alternate_keys.specs.Placed.{HasTrees}
 use Rattle.alternate_keys.proofs.Arrivals.{arrival_at}
 use Rattle.alternate_keys.proofs.FileTrees.{kept_in, arrival_low, arrival_few, rows_under, rows_ascend, indexes_then}
+use Rattle.alternate_keys.proofs.FoundRow.{FoundRow}
 use Rattle.alternate_keys.proofs.Fresh.{not_there, arrivals_before}
-use Rattle.alternate_keys.proofs.InsertRow.{none_by, told_by, told_free, told_taken}
+use Rattle.alternate_keys.proofs.InsertRow.{change_to, told_of, none_by, told_by, told_free, told_taken}
 use Rattle.alternate_keys.proofs.PairEdits.{pair_there, pair_leaves, pair_comes_in_place, pair_stays}
 use Rattle.alternate_keys.proofs.RemoveRow.{Known, known, key_is, some_by}
 use Rattle.alternate_keys.proofs.RowEdits.{row_there, row_changes, left_of, one_at}
@@ -137,9 +138,16 @@ module _ (number : ℕ) (bytes : List ℕ) (file : File) where
   abbrev pair_here : Pair
   pair_here = named_pair file.spec.organization number bytes
 
-  pub replaced_missing : row_at file.spec.organization pair_here file.rows ≡ None
+  replaced_missing : row_at file.spec.organization pair_here file.rows ≡ None
       → replacement number bytes file ≡ without_change Missing file
   replaced_missing is = ap (replaced_row pair_here bytes file) is
+
+  pub named_missing : {spec : Spec} {pair : Pair} → file.spec ≡ spec → pair ≡ named_pair spec.organization number bytes
+      → row_at file.spec.organization pair file.rows ≡ None
+      → replacement number bytes file ≡ without_change Missing file
+  named_missing spec_is same none =
+      replaced_missing (ap (λ (p : Pair). row_at file.spec.organization p file.rows)
+      (ap (λ (s : Spec). named_pair s.organization number bytes) spec_is ∙ sym same) ∙ none)
 
   abbrev keys_of : Row → List AlternateKey
   keys_of old = filter (changes old.bytes bytes) file.spec.alternates
@@ -164,6 +172,11 @@ module _ (number : ℕ) (bytes : List ℕ) (file : File) where
         file = file_changed pair_here bytes old file;
       }
   replaced_done old is taken = ap (replaced_row pair_here bytes file) is ∙ ap (answer old) taken
+
+-- the file after the record replaced that of a row
+abbrev pub Replaces : ℕ → List ℕ → File → Row → Outcome → Type 0
+Replaces number bytes file old outcome = replacement number bytes file
+    ≡ change_to outcome (file_changed (named_pair file.spec.organization number bytes) bytes old file)
 
 abbrev pub entry_as : List ℕ → List ℕ → Entry
 entry_as key value = record { key = key; value = value }
@@ -331,91 +344,104 @@ module _ (spec : Spec) (named : NamedFile) (generation : ℕ) (pages : List (Opt
         generation (arrival_low spec named generation pages left right listing has) in omega (arith, below, next_same);
   }
 
--- what the values of the new record tell
+-- the row that was found, and the values of the record that replaces its own
 module _ (spec : Spec) (named : NamedFile) (generation : ℕ) (pages : List (Option Sector))
     (left right : List TreeLevels) (listing : List ℕ) (has : HasTrees spec named generation pages left right listing)
-    (number : ℕ) (bytes : List ℕ) (old : Row) (there : row_at named.file.spec.organization
-    (named_pair named.file.spec.organization number bytes) named.file.rows ≡ Some old)
-    (row_is : IsRowOf spec old) (value : List ℕ) (value_is : value ≡ row_value old) (outcome : Outcome)
-    (told : outcome ≡ (if is_taken (filter (is_new Replace (take spec.record_length value) bytes) spec.alternates)
-    named.file.rows bytes then Taken else
-    done_outcome (is_duplicate (filter (is_new Replace (take spec.record_length value) bytes) spec.alternates)
-    named.file.rows bytes))) where
+    (number : ℕ) (bytes : List ℕ) (entry : Entry)
+    (found : FoundRow spec named (named_pair spec.organization number bytes) entry) (value : List ℕ)
+    (value_is : value ≡ entry.value) where
   abbrev of_file : File
   of_file = named.file
 
   abbrev pair_of_file : Pair
   pair_of_file = named_pair of_file.spec.organization number bytes
 
-  abbrev keys_now : List AlternateKey
-  keys_now = filter (changes old.bytes bytes) of_file.spec.alternates
+  abbrev old : Row
+  old = found.old
 
-  abbrev rows_left : List Row
-  rows_left = rows.without_pair of_file.spec.organization pair_of_file of_file.rows
+  pub found_here : row_at of_file.spec.organization pair_of_file of_file.rows ≡ Some old
+  found_here = ap (λ (s : Spec). row_at of_file.spec.organization (named_pair s.organization number bytes) of_file.rows)
+      has.spec_is ∙ found.there
 
-  abbrev answer_by : Bool → Bool → Outcome
-  answer_by taken duplicate = if taken then Taken else done_outcome duplicate
+  pub value_here : value ≡ row_value old
+  value_here = value_is ∙ ap (λ (e : Entry). e.value) found.is
 
-  keys_are : filter (is_new Replace (take spec.record_length value) bytes) spec.alternates ≡ keys_now
-  keys_are =
-      ap (λ (l : List ℕ). filter (changes l bytes) spec.alternates)
-      (ap (take spec.record_length) value_is ∙ record_read spec.record_length old.bytes old.arrivals row_is.long)
-      ∙ ap (λ (s : Spec). filter (changes old.bytes bytes) s.alternates) (sym has.spec_is)
-
-  told_now : outcome ≡ answer_by (is_taken keys_now rows_left bytes) (is_duplicate keys_now rows_left bytes)
-  told_now =
-      told ∙ ap (λ (ks : List AlternateKey).
-      answer_by (is_taken ks of_file.rows bytes) (is_duplicate ks of_file.rows bytes)) keys_are
-      ∙ sym
-      (ap (λ (b : Bool). answer_by b (is_duplicate keys_now rows_left bytes)) (taken_same of_file.spec.organization
-      pair_of_file of_file.rows old has.is_named.file.ascend there bytes of_file.spec.alternates)
-      ∙ ap (answer_by (is_taken keys_now of_file.rows bytes)) (duplicate_same of_file.spec.organization pair_of_file
-      of_file.rows old has.is_named.file.ascend there bytes of_file.spec.alternates))
-
-  pub look_free : is_change outcome ≡ true → is_taken keys_now rows_left bytes ≡ false
-  look_free change =
-      told_by (is_taken keys_now rows_left bytes) (is_duplicate keys_now rows_left bytes) outcome true told_now change
-
-  pub look_done : is_change outcome ≡ true → outcome ≡ done_outcome (is_duplicate keys_now rows_left bytes)
-  look_done change = told_free (is_taken keys_now rows_left bytes) (is_duplicate keys_now rows_left bytes) outcome
-      told_now (look_free change)
-
-  pub look_full : is_change outcome ≡ false → is_taken keys_now rows_left bytes ≡ true
-  look_full change =
-      told_by (is_taken keys_now rows_left bytes) (is_duplicate keys_now rows_left bytes) outcome false told_now change
-
-  pub look_taken : is_change outcome ≡ false → outcome ≡ Taken
-  look_taken change = told_taken (is_taken keys_now rows_left bytes) (is_duplicate keys_now rows_left bytes) outcome
-      told_now (look_full change)
+  record_here : take spec.record_length value ≡ old.bytes
+  record_here = ap (take spec.record_length) value_here
+      ∙ record_read spec.record_length old.bytes old.arrivals found.row_is.long
 
   -- the next arrival, by the row's value in the tree of rows
   pub next_told : (arrival next : ℕ) → arrival ≡ of_file.next_arrival → next
       ≡ (if list_any (changes (take spec.record_length value) bytes) spec.alternates then arrival + 1 else arrival)
       → next ≡ next_of old.bytes bytes of_file
   next_told arrival next same is =
-      is ∙ ap (λ (l : List ℕ). if list_any (changes l bytes) spec.alternates then arrival + 1 else arrival)
-      (ap (take spec.record_length) value_is ∙ record_read spec.record_length old.bytes old.arrivals row_is.long)
+      is ∙ ap (λ (l : List ℕ). if list_any (changes l bytes) spec.alternates then arrival + 1 else arrival) record_here
       ∙ ap (λ (s : Spec). if list_any (changes old.bytes bytes) s.alternates then arrival + 1 else arrival)
       (sym has.spec_is)
       ∙ ap (λ (a : ℕ). if list_any (changes old.bytes bytes) of_file.spec.alternates then a + 1 else a) same
 
   -- its entry
-  pub entry_changed : (arrival : ℕ) → arrival ≡ of_file.next_arrival → (key changed : List ℕ)
-      → key ≡ key_under spec Prime (named_pair spec.organization number bytes) →
-      changed ≡ bytes ++ flat_map (big_bytes 8) (arrivals_after old.bytes bytes arrival spec.alternates old.arrivals)
+  pub entry_changed : (arrival : ℕ) → arrival ≡ of_file.next_arrival → (key changed : List ℕ) → key ≡ entry.key
+      → changed ≡ bytes ++ flat_map (big_bytes 8) (arrivals_after old.bytes bytes arrival spec.alternates old.arrivals)
       → entry_as key changed ≡ entry_under spec Prime (changed_row of_file bytes old)
-  entry_changed arrival same key changed key_is changed_is =
-      let found = row_there of_file.spec.organization pair_of_file old of_file.rows there in
+  entry_changed arrival same key changed key_same changed_is =
+      let there = row_there of_file.spec.organization pair_of_file old of_file.rows found_here in
       let pairs : prime_pair of_file.spec.organization (changed_row of_file bytes old) ≡ pair_of_file =
       renamed of_file.spec.organization number old.number bytes old.bytes
-      (pair_same (prime_pair of_file.spec.organization old) pair_of_file found.1) in
+      (pair_same (prime_pair of_file.spec.organization old) pair_of_file there.1) in
       let here : prime_pair spec.organization (changed_row of_file bytes old)
       ≡ named_pair spec.organization number bytes =
       subst (λ (s : Spec). prime_pair s.organization (changed_row of_file bytes old)
       ≡ named_pair s.organization number bytes) has.spec_is pairs in
-      ap (λ (k : List ℕ). entry_as k changed) (key_is ∙ ap (key_under spec Prime) (sym here))
+      ap (λ (k : List ℕ). entry_as k changed) (key_same ∙ found.key ∙ ap (key_under spec Prime) (sym here))
       ∙ ap (entry_as (key_under spec Prime (prime_pair spec.organization (changed_row of_file bytes old))))
       (changed_is ∙ ap (λ (s : Spec). bytes ++ flat_map (big_bytes 8)
       (arrivals_after old.bytes bytes arrival s.alternates old.arrivals)) (sym has.spec_is)
       ∙ ap (λ (a : ℕ).
       bytes ++ flat_map (big_bytes 8) (arrivals_after old.bytes bytes a of_file.spec.alternates old.arrivals)) same)
+
+  -- what the new values come to
+  module _ (outcome : Outcome)
+      (told : outcome ≡ told_of Replace spec (take spec.record_length value) bytes of_file.rows) where
+    abbrev keys_now : List AlternateKey
+    keys_now = filter (changes old.bytes bytes) of_file.spec.alternates
+
+    abbrev rows_left : List Row
+    rows_left = rows.without_pair of_file.spec.organization pair_of_file of_file.rows
+
+    abbrev taken_now : Bool
+    taken_now = is_taken keys_now rows_left bytes
+
+    abbrev duplicate_now : Bool
+    duplicate_now = is_duplicate keys_now rows_left bytes
+
+    abbrev answer_by : Bool → Bool → Outcome
+    answer_by taken duplicate = if taken then Taken else done_outcome duplicate
+
+    keys_are : filter (is_new Replace (take spec.record_length value) bytes) spec.alternates ≡ keys_now
+    keys_are =
+        ap (λ (l : List ℕ). filter (changes l bytes) spec.alternates) record_here
+        ∙ ap (λ (s : Spec). filter (changes old.bytes bytes) s.alternates) (sym has.spec_is)
+
+    told_now : outcome ≡ answer_by taken_now duplicate_now
+    told_now =
+        told ∙ ap (λ (ks : List AlternateKey).
+        answer_by (is_taken ks of_file.rows bytes) (is_duplicate ks of_file.rows bytes)) keys_are
+        ∙ sym (ap (λ (b : Bool). answer_by b duplicate_now) (taken_same of_file.spec.organization
+        pair_of_file of_file.rows old has.is_named.file.ascend found_here bytes of_file.spec.alternates)
+        ∙ ap (answer_by (is_taken keys_now of_file.rows bytes)) (duplicate_same of_file.spec.organization pair_of_file
+        of_file.rows old has.is_named.file.ascend found_here bytes of_file.spec.alternates))
+
+    -- the record is barred, or the file changes
+    pub look_bars : is_change outcome ≡ false → outcome ≡ (replacement number bytes of_file).outcome
+    look_bars none =
+        let taken = told_by taken_now duplicate_now outcome false told_now none in
+        told_taken taken_now duplicate_now outcome told_now taken
+        ∙ sym (ap (λ (ch : FileChange). ch.outcome) (replaced_taken number bytes of_file old found_here taken))
+
+    pub look_replaces : is_change outcome ≡ true → Replaces number bytes of_file old outcome
+    look_replaces change =
+        let free = told_by taken_now duplicate_now outcome true told_now change in
+        replaced_done number bytes of_file old found_here free
+        ∙ ap (λ (o : Outcome). change_to o (file_changed pair_of_file bytes old of_file))
+        (sym (told_free taken_now duplicate_now outcome told_now free))

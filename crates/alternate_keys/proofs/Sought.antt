@@ -12,7 +12,7 @@ use Rattle.btree.specs.Entries.{Entry}
 use Rattle.records.specs.declared.key.KeyOfReference.{KeyOfReference}
 use Rattle.records.specs.Spec.{Spec}
 use Rattle.records.specs.Rows.{Row, pair_under}
-use Rattle.records.specs.Order.{RowBound, is_after, sought_row, least_row}
+use Rattle.records.specs.Order.{RowBound, is_after, sought_row}
 use Rattle.alternate_keys.specs.declared.search_start.SearchStart.{SearchStart}
 use Rattle.alternate_keys.specs.declared.search_start.SearchStart.TheVariants as aim
 use Rattle.volume_format.specs.Trees.{entry_under, AreOf}

@@ -1,9 +1,10 @@
 -- What a call that only reads leaves.
-use Rattle.std.proofs.Common.{◌≡◌, Bool, ℕ, List, sym, ap, subst, ◌∙◌}
+use Rattle.std.proofs.Common.{◌≡◌, ◌<◌, ◌+◌, Bool, ℕ, List, length, sym, ap, subst, ◌∙◌, arith}
 use Rattle.station.specs.Disk.{Disk}
 use Rattle.pages.specs.Image.{Map, map_of}
 use Rattle.pages.specs.Volumes.{volume_of}
-use Rattle.pages.specs.Pages.{committed_of, Agrees, IsUnchanged, SameCommitted}
+use Rattle.pages.specs.Use.{free_count}
+use Rattle.pages.specs.Pages.{committed_of, changed_pages_of, Agrees, IsUnchanged, SameCommitted}
 use Rattle.pages.specs.declared.page_map.PageMap.{PageMap}
 use Rattle.records.specs.Files.{Files}
 use Rattle.volume_format.specs.Volume.{MapHolds}
@@ -11,6 +12,15 @@ use Rattle.alternate_keys.specs.Stands.{Represents, LacksSpace, LacksRoom}
 
 pub same_volume : (old new : PageMap) → SameCommitted old new → committed_of new ≡ committed_of old
 same_volume old new same = ap volume_of same.volume
+
+-- too little room was there before calls that only read
+pub room_before : (old new : PageMap) (more : ℕ) → IsUnchanged old new
+    → free_count (committed_of new) < length (changed_pages_of new) + more
+    → free_count (committed_of old) < length (changed_pages_of old) + more
+room_before old new more unchanged room =
+    let same = ap free_count (same_volume old new unchanged.committed) in
+    let changed = ap (λ (l : List ℕ). length l) unchanged.changed_pages in
+    omega (arith, room, same, changed)
 
 pub stands_still : (old new : PageMap) (disk : Disk) (files : Files) → IsUnchanged old new → Agrees new disk
     → Represents old disk files → Represents new disk files

@@ -1,19 +1,19 @@
-use Rattle.std.proofs.Common.{◌≡◌, ◌<◌, ◌+◌, inl, inr, true, false, Err, Ok, ℕ, List, [], length, sym, ap, subst, ◌∙◌}
+use Rattle.std.proofs.Common.{◌≡◌, inr, true, false, Err, ℕ, List, [], length, sym, ap, subst, ◌∙◌}
 use Rattle.std.proofs.Common.{arith}
 use Rattle.std.specs.Prelude.{map, Option, is_some}
 use Rattle.std.specs.List.{All}
 use Rattle.station.specs.Disk.{Sector}
 use Rattle.pages.specs.Use.{free_count}
-use Rattle.pages.specs.Pages.{map_now, committed_of, changed_pages_of, is_spent}
+use Rattle.pages.specs.Pages.{map_now}
 use Rattle.btree.proofs.Frames.{same_pages}
 use Rattle.btree.specs.Entries.{Entry, entry_with}
 use Rattle.records.specs.declared.fault.StoreFault.TheVariants.{Device, Damaged}
 use Rattle.records.specs.declared.key.KeyOfReference.TheVariants.{Prime}
 use Rattle.records.specs.Spec.{Spec}
 use Rattle.records.specs.Rows.{named_pair}
-use Rattle.records.specs.Changes.{FileChange, has_prime, new_row, new_number, is_taken}
+use Rattle.records.specs.Changes.{FileChange, has_prime, new_row, new_number}
 use Rattle.records.specs.Files.{IsByte}
-use Rattle.records.specs.Stores.{spec_of, is_change}
+use Rattle.records.specs.Stores.{spec_of}
 use Rattle.volume_format.specs.Trees.{entry_under}
 use Rattle.file_bytes.specs.Rows.{prime_key}
 use Rattle.alternate_keys.specs.Placed.{HasTrees}
