@@ -88,7 +88,10 @@ pub fn show_bytes<O: Write>(out: &mut O, text: &[u8]) -> Verdict {
 
 /// Writes the line of a verdict that has one. If that fails, only the exit status says how the command ended.
 pub fn explain<E: Write>(err: &mut E, verdict: Verdict) {
-    if !matches!(verdict, Verdict::Done | Verdict::Reported | Verdict::WrongCommand) {
+    if !matches!(
+        verdict,
+        Verdict::Done | Verdict::Reported | Verdict::WrongCommand
+    ) {
         let _ = err.writeln(verdict);
     }
     let _ = err.flush();

@@ -57,7 +57,8 @@ fn format_line<'a>(alloc: Global) -> Result<Command<'a>, AllocError> {
 
 fn copy_line<'a>(alloc: Global) -> Result<Command<'a>, AllocError> {
     Command::new(alloc, "copy")
-        .about("Makes a volume with the files of another one; NEW is whole or stays as it was")
+        .about("Makes a volume with the files of another; NEW is whole or as it was")
+        .after_help("Example:\n  cobol copy SHOP SHOP.larger 4096")
         .arg(required(alloc, "OLD", "The volume whose files are copied"))?
         .arg(required(alloc, "NEW", "The host file that is to be the new volume"))?
         .arg(required(
@@ -69,13 +70,15 @@ fn copy_line<'a>(alloc: Global) -> Result<Command<'a>, AllocError> {
 
 fn stat_line<'a>(alloc: Global) -> Result<Command<'a>, AllocError> {
     Command::new(alloc, "stat")
-        .about("Prints the layout, size and free sectors of a volume, and the rows of its files")
+        .about("Prints the size and free sectors of a volume, and its files' rows")
+        .after_help("Example:\n  cobol stat SHOP")
         .arg(required(alloc, "VOLUME", "A volume that `format` made"))
 }
 
 fn load_line<'a>(alloc: Global) -> Result<Command<'a>, AllocError> {
     Command::new(alloc, "load")
         .about("Makes each line of standard input a row of a file")
+        .after_help("Example:\n  cobol load SHOP STOCK < stock.rows")
         .arg(required(alloc, "VOLUME", "A volume that `format` made"))?
         .arg(required(alloc, "NAME", FILE_NAME))
 }
@@ -83,6 +86,7 @@ fn load_line<'a>(alloc: Global) -> Result<Command<'a>, AllocError> {
 fn unload_line<'a>(alloc: Global) -> Result<Command<'a>, AllocError> {
     Command::new(alloc, "unload")
         .about("Prints the rows of a file, a line each, in the form that `load` reads")
+        .after_help("Example:\n  cobol unload SHOP STOCK > stock.rows")
         .arg(required(alloc, "VOLUME", "A volume that `format` made"))?
         .arg(required(alloc, "NAME", FILE_NAME))
 }
@@ -131,11 +135,7 @@ fn dump_line<'a>(alloc: Global) -> Result<Command<'a>, AllocError> {
         .about("Prints the rows of a file, a line each, in the order of the prime key")
         .after_help("Example:\n  cobol dump SHOP STOCK")
         .arg(required(alloc, "VOLUME", "A volume that `format` made"))?
-        .arg(required(
-            alloc,
-            "NAME",
-            "The file's name; with `--` before VOLUME if it begins with a hyphen",
-        ))
+        .arg(required(alloc, "NAME", FILE_NAME))
 }
 
 fn check_line<'a>(alloc: Global) -> Result<Command<'a>, AllocError> {

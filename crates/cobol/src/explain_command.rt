@@ -16,7 +16,10 @@ pub fn explain_number<O: Write, E: Write>(
     match explanation(alloc, number) {
         Ok(Some(text)) => show_bytes(out, text),
         Ok(None) => {
-            let _ = writeln!(err, "error: no fault, refusal or FILE STATUS has the number {number}");
+            let _ = writeln!(
+                err,
+                "error: no fault, refusal or FILE STATUS has the number {number}"
+            );
             Verdict::WrongCommand
         }
         Err(_) => Verdict::memory(),

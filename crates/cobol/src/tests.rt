@@ -23,6 +23,12 @@ const DATES: &str = "error: a date has six digits\n";
 
 const BUDGETS: &str = "error: a budget has digits alone, and at most 18446744073709551615\n";
 
+const NUMBERS: &str = "error: a number has digits alone, and at most 18446744073709551615\n";
+
+/// What a number that nothing has is told.
+const UNKNOWN: &str =
+    "error: no fault, refusal or FILE STATUS has the number 18446744073709551615\n";
+
 /// Makes a folder with a source in it, and an image of that.
 fn prepare(rt: &HostRuntime, folder: &str, source: &str) -> Result<(), Fail> {
     fs::create_dir(rt, folder)?;
@@ -68,6 +74,13 @@ fn words(rt: HostRuntime) -> Result<(), Fail> {
             ("run words.image", 2, "", WORDS),
             ("dump words.volume", 2, "", WORDS),
             ("list words.volume NAME", 2, "", WORDS),
+            ("check", 2, "", WORDS),
+            ("layout words.cob words.text", 2, "", WORDS),
+            ("explain", 2, "", WORDS),
+            ("explain -1", 2, "", WORDS),
+            ("explain 4O", 2, "", NUMBERS),
+            ("explain 18446744073709551616", 2, "", NUMBERS),
+            ("explain 18446744073709551615", 2, "", UNKNOWN),
             ("--version", 0, "cobol 0.1.0\n", ""),
         ],
     )?;
@@ -490,6 +503,7 @@ fn is_refused<O: Write + Drop>(rt: &HostRuntime, line: &str, out: O) -> Result<b
 #[test]
 fn output_that_fails(rt: HostRuntime) -> Result<(), Fail> {
     prepare(&rt, "output", SALES)?;
+    fs::write(&rt, "output/F", FAULTY)?;
     expect(
         &rt,
         "0001",
@@ -502,6 +516,9 @@ fn output_that_fails(rt: HostRuntime) -> Result<(), Fail> {
         "run output/I output/V",
         "list output/V",
         "dump output/V SALES",
+        "check output/F",
+        "layout output/S",
+        "explain 40",
         "--help",
     ] {
         assert!(rt; is_refused(&rt, line, Full)?, "{line}");

@@ -13,27 +13,53 @@ use std::alloc::{AllocError, Global};
 #[derive(Drop)]
 pub enum Request<'a> {
     /// To make a volume of so many sectors.
-    Format { volume: &'a str, sectors: u32 },
+    Format {
+        volume: &'a str,
+        sectors: u32,
+    },
     /// To make a volume of so many sectors with the files of another one.
-    Copy { old: &'a str, new: &'a str, sectors: u32 },
+    Copy {
+        old: &'a str,
+        new: &'a str,
+        sectors: u32,
+    },
     /// To put lines into a file as rows.
-    Load { volume: &'a str, name: &'a str },
+    Load {
+        volume: &'a str,
+        name: &'a str,
+    },
     /// To print what a volume is.
-    Stat { volume: &'a str },
+    Stat {
+        volume: &'a str,
+    },
     /// To compile a source to an image.
-    Compile { source: &'a str, image: &'a str },
+    Compile {
+        source: &'a str,
+        image: &'a str,
+    },
     /// To run an image over a volume.
     Run(RunRequest<'a>),
     /// To list the files of a volume.
-    List { volume: &'a str },
+    List {
+        volume: &'a str,
+    },
     /// To dump the rows of a file.
-    Dump { volume: &'a str, name: &'a str },
+    Dump {
+        volume: &'a str,
+        name: &'a str,
+    },
     /// To explain a number.
-    Explain { number: u64 },
+    Explain {
+        number: u64,
+    },
     /// To check a source.
-    Check { source: &'a str },
+    Check {
+        source: &'a str,
+    },
     /// To show where the items of a source are.
-    Layout { source: &'a str },
+    Layout {
+        source: &'a str,
+    },
     /// To show this text: help, or the version.
     Show(String),
     /// Nothing: the words are no command, for this reason.
@@ -209,7 +235,7 @@ fn read_explain<'a>(matches: &ArgMatches<'a>) -> Result<Request<'a>, Fault>
 {
     match read_number(word(matches, "N")) {
         Some(number) => Ok(Request::Explain { number }),
-        None => Err(Fault::Value("a number has digits alone")),
+        None => Err(Fault::Value("a number has digits alone, and at most 18446744073709551615")),
     }
 }
 

@@ -5,7 +5,7 @@ use Rattle.explanations.specs.declared.book.Book.TheVariants.{Numbers, Verbs, Wo
 use Rattle.explanations.specs.declared.numbers.TheConstants.{NUMBERS}
 use Rattle.explanations.specs.declared.words.TheConstants.{VERBS, WORDS, SIGNS}
 use Rattle.explanations.specs.declared.causes.TheConstants.{CAUSES}
-use Rattle.explanations.specs.declared.forms.TheConstants.{FORMS}
+use Rattle.explanations.specs.declared.forms.TheConstants.{FORMS, RESERVED}
 use Rattle.explanations.specs.Parts.{IsBetween}
 
 -- the text of a book, as the program has it
@@ -16,6 +16,10 @@ text_of Words = WORDS.now
 text_of Signs = SIGNS.now
 text_of Causes = CAUSES.now
 text_of Forms = FORMS.now
+
+-- the reserved words, with a space or a line feed around each
+unfoldable pub word_list : List ℕ
+word_list = RESERVED.now
 
 -- what every head begins with
 abbrev pub mark : List ℕ

@@ -1,5 +1,5 @@
 -- Parts of a text, by the words and line feeds around them.
-use Rattle.std.specs.Prelude.{◌≡◌, ◌+◌, ℕ, List, [], Option, Some, None, MatchOption, length, take, drop}
+use Rattle.std.specs.Prelude.{◌≡◌, ◌+◌, ℕ, List, [], Option, Some, None, length, take, drop}
 use Rattle.memchr.specs.Find.{FindsNeedle, IsFirstByte, is_byte}
 
 -- up to before the first `end`, or all of it

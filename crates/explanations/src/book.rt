@@ -75,7 +75,10 @@ pub fn explanation(alloc: Global, number: u64) -> Result<Option<&'static [u8]>, 
     part_under(alloc, Book::Numbers, digits.format(number).as_bytes())
 }
 
-/// The reserved words, separated by spaces, with a space at both ends.
-pub fn reserved_words() -> &'static [u8] {
+/// The reserved words of the language in ascending order, with a space or a line feed around each.
+#[tactic(auto, unfolding(crate::specs::Books::word_list))]
+pub fn reserved_words() -> &'static [u8]
+    ensures { result.now ≡ spec.word_list }
+{
     RESERVED
 }

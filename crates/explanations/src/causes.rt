@@ -24,9 +24,15 @@ later.
 a comment has its asterisk in column 7
 The text of a program begins in column 8.
 
+@ condition needed
+an item alone is no condition
+Write the item and the relation again: `A = 1 OR A = 2`. A condition name has
+level 88, below the item that it tests.
+
 @ end of nothing
 no statement is open that this word could end
-Remove it, or look for a word END- that is too many before it.
+Remove it, or look for a word END- that is too many before it. A PERFORM of a
+paragraph has no END-PERFORM.
 
 @ expression
 expressions are allowed in COMPUTE and conditions only
@@ -99,6 +105,11 @@ Write a space after the sign too: `X (I - 1)`.
 @ typographic mark
 a quotation mark is written as " or '
 Replace the typographic mark.
+
+@ verb needed
+a statement begins with a verb
+Look for a misspelt verb, or for a period too many before this word. COMPUTE
+and MOVE store a value, and DISPLAY shows one.
 
 @ paragraph of nothing
 this is a paragraph without statements

@@ -59,6 +59,11 @@ INITIALIZE item ...
 
 @ INSPECT
 INSPECT item {tallying [replacing] | replacing}
+tallying: TALLYING {counter FOR {CHARACTERS limits | {ALL | LEADING} {text
+    limits} ...} ...} ...
+replacing: REPLACING {CHARACTERS BY text limits | {ALL | LEADING | FIRST} {text
+    BY text limits} ...} ...
+limits: [BEFORE [INITIAL] text] [AFTER [INITIAL] text], in either order
 
 @ MOVE
 MOVE {item | literal} TO item ...
@@ -73,6 +78,9 @@ OPEN {{INPUT | OUTPUT | I-O | EXTEND} file ...} ...
 @ PERFORM
 PERFORM [how often] statement ... END-PERFORM
 PERFORM procedure [{THRU | THROUGH} procedure] [how often]
+how often: {integer | item} TIMES
+how often: [[WITH] TEST {BEFORE | AFTER}] [VARYING item FROM number BY number]
+    UNTIL condition
 
 @ READ
 READ file [NEXT] [RECORD] [INTO item] [KEY [IS] key]

@@ -166,7 +166,7 @@ Uses REWRITE, or another key.
 @ 23
 FILE STATUS 23
 
-No row with that key or number.
+READ, REWRITE, DELETE, START: no row with that key or number.
 
 What a program does:
 Reports it to the user.
@@ -175,6 +175,9 @@ Reports it to the user.
 FILE STATUS 24
 
 A relative number below 1, above 999,999,999, or longer than RELATIVE KEY.
+
+What a program does:
+Tests the number before, or needs a larger item.
 
 @ 30
 Fault 30 (sources: trees): the text does not follow the grammar here
@@ -231,6 +234,9 @@ FILE STATUS 41
 
 OPEN of an open file, also by another SELECT of its name (own choice).
 
+What a program does:
+Opens each file once.
+
 @ 42
 Fault 42 (sources: files): this name is given twice
 
@@ -251,6 +257,9 @@ FILE STATUS 42
 
 CLOSE of a file that is not open.
 
+What a program does:
+Closes each open file once.
+
 @ 43
 Fault 43 (sources: entries): this level number does not fit
 
@@ -266,6 +275,9 @@ Give all items of a group one level from 02 to 49, and records of an FD level
 FILE STATUS 43
 
 REWRITE, DELETE in sequence without a successful READ just before.
+
+What a program does:
+READ the row first.
 
 @ 44
 Fault 44 (sources: entries): a clause does not fit this item
@@ -316,7 +328,10 @@ where VALUE is not allowed.
 
 FILE STATUS 47
 
-The file is not open for this statement.
+READ, START: the file is not open INPUT or I-O.
+
+What a program does:
+OPEN INPUT or OPEN I-O first.
 
 @ 48
 Fault 48 (sources: entries): this item is too large
@@ -329,7 +344,10 @@ Divide the data into several items of level 01, or keep them in a file.
 
 FILE STATUS 48
 
-The file is not open for this statement.
+WRITE: the file is not open in a mode that permits it.
+
+What a program does:
+OPEN OUTPUT first; EXTEND for a sequential file, I-O for access by key.
 
 @ 49
 Fault 49 (sources: statements): this MOVE is not permitted
@@ -344,7 +362,10 @@ alphanumeric, or as a number.
 
 FILE STATUS 49
 
-The file is not open for this statement.
+REWRITE, DELETE: the file is not open I-O.
+
+What a program does:
+OPEN I-O first.
 
 @ 50
 Fault 50 (sources: statements): the number of subscripts is wrong

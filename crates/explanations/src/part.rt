@@ -20,7 +20,7 @@ fn before<'a>(text: &'a [u8], end: &[u8]) -> &'a [u8]
     ensures { spec.IsBefore text.now end.now result.now }
 {
     match memmem::find(text, end) {
-        Some(size) => &text[..size],
+        Some(place) => &text[..place],
         None => text,
     }
 }

@@ -75,8 +75,8 @@ Repeat by PERFORM VARYING until the element is found.
 
 @ END-UNSTRING
 UNSTRING is not in this language
-REDEFINE the item by a group of fields, or go through its characters as a table
-of PIC X.
+Describe the item again by REDEFINES as a group of fields, or go through its
+characters as a table of PIC X.
 
 @ ENTER
 ENTER is not in this language
@@ -205,8 +205,8 @@ One run at a time uses a volume, so no row is ever locked.
 
 @ UNSTRING
 UNSTRING is not in this language
-REDEFINE the item by a group of fields, or go through its characters as a table
-of PIC X.
+Describe the item again by REDEFINES as a group of fields, or go through its
+characters as a table of PIC X.
 
 @ USE
 USE and DECLARATIVES are not in this language
@@ -321,14 +321,6 @@ the parts of the program are in the wrong order
 The divisions are IDENTIFICATION with PROGRAM-ID, ENVIRONMENT, DATA and
 PROCEDURE, in this order.
 
-@ DAY
-ACCEPT takes FROM DATE only
-Compute the day of the year from the date.
-
-@ DAY-OF-WEEK
-ACCEPT takes FROM DATE only
-Compute the day of the week from the date.
-
 @ DECIMAL-POINT
 DECIMAL-POINT IS COMMA is not in this language
 Write numbers and pictures with a point.
@@ -362,6 +354,14 @@ the parts of the program are in the wrong order
 The divisions are IDENTIFICATION with PROGRAM-ID, ENVIRONMENT, DATA and
 PROCEDURE, in this order.
 
+@ END DECLARATIVES
+DECLARATIVES is not in this language
+Write AT END or INVALID KEY, or test the FILE STATUS after each file statement.
+
+@ END PROGRAM
+END PROGRAM is after the last period
+Write a period before it, and no statement after it.
+
 @ EXIT PARAGRAPH
 EXIT PARAGRAPH is not in this language
 Put the statements that may be left out under an IF.
@@ -385,6 +385,14 @@ One source is one program. Keep data of several runs in a file.
 @ FILE SECTION
 FILE SECTION is before WORKING-STORAGE SECTION
 Move the FILE SECTION up, or look for a missing period before it.
+
+@ FROM DAY
+ACCEPT takes FROM DATE only
+Compute the day of the year from the date.
+
+@ FROM DAY-OF-WEEK
+ACCEPT takes FROM DATE only
+Compute the day of the week from the date.
 
 @ GLOBAL
 GLOBAL is not in this language
@@ -557,10 +565,6 @@ Write FILE STATUS.
 switches are not in this language
 ACCEPT a line of the console.
 
-@ TIME
-ACCEPT takes FROM DATE only
-The console has no time. ACCEPT a line of the console.
-
 @ UNIT
 reels and units are not in this language
 Remove the phrase.
@@ -576,6 +580,10 @@ Remove USING. ACCEPT takes a line of the console.
 @ VARYING AFTER
 PERFORM VARYING has no AFTER
 PERFORM a paragraph that has the inner PERFORM VARYING.
+
+@ WITH LOCK
+LOCK is not in this language
+Remove it. One run at a time uses a volume, so no row is ever locked.
 
 @ WORKING STORAGE
 the section is written WORKING-STORAGE SECTION
@@ -626,6 +634,10 @@ Put it into a literal.
 a period needs a space after it
 Write a space after the period that ends the sentence. A number does not end
 with its point: write 5 or 5.0.
+
+@ ^
+there is no exponentiation
+Multiply the number by itself.
 
 @ !
 an exclamation mark begins no word or literal

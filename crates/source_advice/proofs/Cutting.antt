@@ -1,5 +1,5 @@
 -- The first line of a text and what is after it.
-use Rattle.std.proofs.Common.{◌≡◌, ◌∙◌, ℕ, List, [], ◌∷◌, None, length, drop, get_or, ap, refl, sym, arith}
+use Rattle.std.proofs.Common.{◌≡◌, ℕ, List, [], ◌∷◌, None, drop, get_or, ap, refl, sym, arith}
 use Rattle.memchr.specs.Find.{IsFirstByte, is_byte}
 use Rattle.source_lines.specs.Cut.{lines}
 use Rattle.source_lines.proofs.Cutting.{line_left}

@@ -1,5 +1,5 @@
 -- Lines of a source text, and how they are shown.
-use Rattle.std.specs.Prelude.{ℕ, ◌-◌, ◌%◌, ◌==◌, ◌++◌, List, [], ◌∷◌, get_or, length, take, replicate, if◌then◌else◌}
+use Rattle.std.specs.Prelude.{ℕ, ◌-◌, ◌==◌, ◌++◌, List, [], ◌∷◌, get_or, length, take, replicate, if◌then◌else◌}
 use Rattle.std.specs.Str.Lines.{strip_carriage_return}
 use Rattle.source_lines.specs.Cut.{lines}
 use Rattle.source_lines.specs.Line.{is_in_character_set, tab_width}
@@ -29,9 +29,10 @@ abbrev pub columns_after : List ℕ → List ℕ → List ℕ
 columns_after columns [] = columns
 columns_after columns (byte ∷ more) = columns_after (with_columns columns byte) more
 
-abbrev pub beginning : List ℕ → List ℕ
-beginning line = take most_columns line
+-- the bytes of a line that can be in these columns
+abbrev pub first_bytes : List ℕ → List ℕ
+first_bytes line = take most_columns line
 
 -- The first 100 columns of a line.
 abbrev pub shown_line : List ℕ → ℕ → List ℕ
-shown_line source number = take most_columns (columns_after [] (beginning (line_of source number)))
+shown_line source number = take most_columns (columns_after [] (first_bytes (line_of source number)))

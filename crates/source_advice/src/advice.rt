@@ -1,5 +1,9 @@
 //! What is said of a fault.
 
+ghost use Rattle.std.specs.Prelude.{◌≡◌, true, OnOk};
+ghost use Rattle.source_advice.specs.Advice as spec;
+
+use crate::lines::first_bytes;
 use explanations::{Book, between, explanation, first_line, other_lines, part_under};
 use std::alloc::{AllocError, Global};
 
@@ -27,7 +31,7 @@ impl Advice {
         let mut text = Vec::new(alloc);
         if !word.is_empty() {
             text.push(b'`')?;
-            text.extend_from_slice(beginning(word))?;
+            text.extend_from_slice(first_bytes(word, MOST_SHOWN))?;
             text.extend_from_slice(b"`: ")?;
         }
         text.extend_from_slice(message)?;
@@ -38,25 +42,22 @@ impl Advice {
         })
     }
 
-    /// The advice of a part: its first line says what is wrong, the others what to do.
-    fn of_part(alloc: Global, word: &[u8], part: &[u8]) -> Result<Advice, AllocError> {
-        Advice::about(alloc, word, first_line(part), other_lines(part))
-    }
-
-    /// The advice that a book has under a head.
-    pub fn under(alloc: Global, book: Book, head: &[u8]) -> Found {
+    /// The advice that a book has under a head, about a word: the first line says what is wrong, the others what to do.
+    pub fn under(alloc: Global, book: Book, head: &[u8], word: &[u8]) -> Found {
         match part_under(alloc, book, head)? {
-            Some(part) => Ok(Some(Advice::of_part(alloc, b"", part)?)),
+            Some(part) => Ok(Some(Advice::about(
+                alloc,
+                word,
+                first_line(part),
+                other_lines(part),
+            )?)),
             None => Ok(None),
         }
     }
 
     /// The advice for a cause, about a word.
     pub fn for_cause(alloc: Global, head: &[u8], word: &[u8]) -> Found {
-        match part_under(alloc, Book::Causes, head)? {
-            Some(part) => Ok(Some(Advice::of_part(alloc, word, part)?)),
-            None => Ok(None),
-        }
+        Advice::under(alloc, Book::Causes, head, word)
     }
 
     /// What is said of each fault of a number.
@@ -86,19 +87,23 @@ impl Advice {
         self.add_line(&[b"Perhaps ", word, b" is meant."])
     }
 
-    /// Ends the last line if it isn't ended.
-    fn end_line(&mut self) -> Result<(), AllocError> {
-        match self.cure.as_slice() {
-            [] | [.., b'\n'] => Ok(()),
-            _ => Ok(self.cure.push(b'\n')?),
+    /// Ends the last line of what to do if it isn't ended.
+    pub(crate) fn end_line(&mut self) -> Result<(), AllocError>
+        ensures { OnOk result (spec.HasLines self.new) }
+    {
+        if are_lines(self.cure.as_slice()) {
+            return Ok(());
         }
+        Ok(self.cure.push(b'\n')?)
     }
 }
 
-/// The beginning of a word that may be long.
-fn beginning(word: &[u8]) -> &[u8] {
-    if word.len() > MOST_SHOWN {
-        return &word[..MOST_SHOWN];
+/// Whether a text is empty or ends with a line feed.
+fn are_lines(text: &[u8]) -> bool
+    ensures { result ≡ true → spec.AreLines text.now }
+{
+    match text {
+        [] | [.., b'\n'] => true,
+        _ => false,
     }
-    word
 }

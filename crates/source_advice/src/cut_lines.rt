@@ -23,17 +23,12 @@ pub fn cut_cause(alloc: Global, source: &[u8], line: u32, cause: &[u8]) -> Found
     Ok(Some(advice))
 }
 
-/// What is after column 72.
+/// What is after column 72, without spaces at its ends.
 fn after_columns(line: &[u8]) -> &[u8] {
     if line.len() > COLUMNS {
-        return trimmed(&line[COLUMNS..]);
+        return line[COLUMNS..].trim_ascii();
     }
     &[]
-}
-
-/// A text without spaces at its ends.
-fn trimmed(text: &[u8]) -> &[u8] {
-    text.trim_ascii()
 }
 
 /// Whether a line has text after column 72 that belongs to the program: it goes on through columns 72 and 73, or past the

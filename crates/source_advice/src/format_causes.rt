@@ -18,7 +18,12 @@ const UNCLOSED: u8 = 14;
 const STRAY: u8 = 15;
 
 /// The advice about a line or a character, before there are tokens.
-pub fn format_cause(alloc: Global, source: &[u8], number: u8, place: Place) -> Result<Advice, AllocError> {
+pub fn format_cause(
+    alloc: Global,
+    source: &[u8],
+    number: u8,
+    place: Place,
+) -> Result<Advice, AllocError> {
     if let Some(advice) = known_cause(alloc, source, number, place)? {
         return Ok(advice);
     }
@@ -38,7 +43,7 @@ fn known_cause(alloc: Global, source: &[u8], number: u8, place: Place) -> Found 
         CHARACTER => mark_cause(alloc, line_of(source, place.line)),
         INDICATOR => free_cause(alloc, line.as_slice()),
         UNCLOSED => literal_cause(alloc, source, line.as_slice(), place),
-        STRAY => Advice::under(alloc, Book::Signs, sign_at(line.as_slice(), place)),
+        STRAY => Advice::under(alloc, Book::Signs, sign_at(line.as_slice(), place), b""),
         _ if number > STRAY => cut_cause(alloc, source, place.line, b"column 72"),
         _ => Ok(None),
     }

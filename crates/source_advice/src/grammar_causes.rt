@@ -15,7 +15,12 @@ use tokens::{Kind, Sign, Token};
 const AFTER_IDENTIFICATION: usize = 3;
 
 /// Verbs whose operands are no expressions.
-const WITHOUT_EXPRESSIONS: &[u8] = b"ACCEPT ADD DISPLAY DIVIDE INITIALIZE MOVE MULTIPLY SET STRING SUBTRACT";
+const WITHOUT_EXPRESSIONS: &[u8] =
+    b"ACCEPT ADD DISPLAY DIVIDE INITIALIZE MOVE MULTIPLY SET STRING SUBTRACT";
+
+/// Figurative constants.
+const FIGURATIVE: &[u8] =
+    b"HIGH-VALUE HIGH-VALUES LOW-VALUE LOW-VALUES QUOTE QUOTES SPACE SPACES ZERO ZEROES ZEROS";
 
 /// The advice about the token at which reading stopped.
 pub fn grammar_cause(alloc: Global, view: View<'_>, number: u8) -> Found {
@@ -74,14 +79,17 @@ fn expression_cause(alloc: Global, view: View<'_>) -> Found {
     Ok(None)
 }
 
-/// Whether a literal, or a relation without its left side, follows AND or OR.
+/// Whether a literal or a figurative constant alone, or a relation without its left side, follows AND or OR.
 fn is_abbreviated(alloc: Global, view: View<'_>) -> Result<bool, AllocError> {
     let before = view.text(alloc, view.before(1))?;
     let second = view.text(alloc, view.before(2))?;
-    Ok(view.is_operator(Some(view.at)) && has_word(b"AND OR", before.as_slice())
-        || view.is_literal(view.before(1))
-            && has_word(b"AND OR", second.as_slice())
-            && !view.is_operator(Some(view.at)))
+    let is_constant = view.is_literal(view.before(1)) || has_word(FIGURATIVE, before.as_slice());
+    Ok(
+        view.is_operator(Some(view.at)) && has_word(b"AND OR", before.as_slice())
+            || is_constant
+                && has_word(b"AND OR", second.as_slice())
+                && !view.is_operator(Some(view.at)),
+    )
 }
 
 /// Whether a token is a number with a sign.

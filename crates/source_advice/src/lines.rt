@@ -1,6 +1,6 @@
 //! The lines of a source text as they are shown.
 
-ghost use Rattle.std.specs.Prelude.{◌≡◌, [], drop, get_or, IfOk, OnOk};
+ghost use Rattle.std.specs.Prelude.{◌≡◌, [], drop, get_or, take, IfOk, OnOk};
 ghost use Rattle.source_lines.specs.Cut.{lines};
 ghost use Rattle.source_advice.specs.Lines as spec;
 
@@ -59,21 +59,21 @@ pub fn shown_line(alloc: Global, source: &[u8], number: u32) -> Result<Vec<u8>, 
     ensures { IfOk result (λ text. text.items ≡ spec.shown_line source.now number) }
 {
     let mut text = Vec::new(alloc);
-    for byte in beginning(line_of(source, number)) {
+    for byte in first_bytes(line_of(source, number), MOST_COLUMNS) {
         push_columns(&mut text, *byte)?;
     }
     text.truncate(MOST_COLUMNS);
     Ok(text)
 }
 
-/// The bytes of a line that can be in the columns that are shown.
-fn beginning(line: &[u8]) -> &[u8]
-    ensures { result.now ≡ spec.beginning line.now }
+/// At most so many bytes of a text, from its beginning.
+pub(crate) fn first_bytes(text: &[u8], most: usize) -> &[u8]
+    ensures { result.now ≡ take most text.now }
 {
-    if line.len() > MOST_COLUMNS {
-        return &line[..MOST_COLUMNS];
+    if text.len() > most {
+        return &text[..most];
     }
-    line
+    text
 }
 
 /// Adds the columns of a byte.

@@ -6,11 +6,15 @@ use crate::view::View;
 use std::alloc::{AllocError, Global};
 
 /// Words after which a name follows.
-const BEFORE_NAMES: &[u8] = b"ACCEPT ADD BY CLOSE COMPUTE DELETE DISPLAY DIVIDE EXTEND FD FROM GIVING I-O IN INITIALIZE INPUT INSPECT INTO
+const BEFORE_NAMES: &[u8] =
+    b"ACCEPT ADD BY CLOSE COMPUTE DELETE DISPLAY DIVIDE EXTEND FD FROM GIVING I-O IN INITIALIZE INPUT INSPECT INTO
 MOVE MULTIPLY OF OUTPUT PERFORM READ REDEFINES REWRITE SELECT SET START SUBTRACT THROUGH THRU TO VARYING WRITE";
 
 /// Words that are no name by mistake, because they go on with a statement.
 const CONNECTIVES: &[u8] = b"BY ELSE FROM GIVING INTO IS NOT TO UNTIL WHEN";
+
+/// Words and signs after which a condition begins.
+const BEFORE_CONDITIONS: &[u8] = b"( AND IF NOT OR UNTIL WHEN";
 
 /// Words after which a file is named, and a record.
 const BEFORE_FILES: &[u8] = b"CLOSE DELETE EXTEND I-O INPUT OUTPUT READ START";
@@ -18,15 +22,6 @@ const BEFORE_FILES: &[u8] = b"CLOSE DELETE EXTEND I-O INPUT OUTPUT READ START";
 const BEFORE_RECORDS: &[u8] = b"REWRITE WRITE";
 
 const BEFORE_PROCEDURES: &[u8] = b"PERFORM THROUGH THRU";
-
-/// What a name is declared as.
-#[derive(Clone, Copy, PartialEq, Eq)]
-enum NameKind {
-    Item,
-    File,
-    /// A paragraph or a section.
-    Procedure,
-}
 
 /// The advice that a reserved word is in the place of a name.
 pub fn reserved_cause(alloc: Global, view: View<'_>) -> Found {
@@ -55,6 +50,27 @@ pub fn undeclared_cause(alloc: Global, view: View<'_>, number: u8) -> Found {
         advice.propose(word.as_slice())?;
     }
     Ok(Some(advice))
+}
+
+/// The advice that an item is in the place of a condition.
+pub fn condition_cause(alloc: Global, view: View<'_>) -> Found {
+    let here = view.text(alloc, Some(view.at))?;
+    let before = view.text(alloc, view.before(1))?;
+    let is_name = has_word(BEFORE_CONDITIONS, before.as_slice())
+        && is_declared(alloc, view, here.as_slice())?;
+    if !is_name {
+        return Ok(None);
+    }
+    Advice::for_cause(alloc, b"condition needed", here.as_slice())
+}
+
+/// What a name is declared as.
+#[derive(Clone, Copy, PartialEq, Eq)]
+enum NameKind {
+    Item,
+    File,
+    /// A paragraph or a section.
+    Procedure,
 }
 
 /// The kind of name that follows a word.

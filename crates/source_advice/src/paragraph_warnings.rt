@@ -1,5 +1,8 @@
 //! What may be a mistake in a text that is accepted.
 
+ghost use Rattle.std.specs.Prelude.{All, IfOk, IfSome};
+ghost use Rattle.source_advice.specs.Advice.{HasLines};
+
 use crate::advice::Advice;
 use crate::spelling::reserved_like;
 use crate::view::View;
@@ -16,7 +19,9 @@ pub struct Warning {
 }
 
 /// The warnings about a source text: words alone before a period that are paragraphs, and were perhaps meant as statements.
-pub fn warnings(alloc: Global, source: &[u8]) -> Result<Vec<Warning>, AllocError> {
+pub fn warnings(alloc: Global, source: &[u8]) -> Result<Vec<Warning>, AllocError>
+    ensures { IfOk result (λ found. All (λ one. HasLines one.advice) found.items) }
+{
     let mut found = Vec::new(alloc);
     let Ok(lines) = logical(alloc, source) else {
         return Ok(found);
@@ -34,7 +39,9 @@ pub fn warnings(alloc: Global, source: &[u8]) -> Result<Vec<Warning>, AllocError
 }
 
 /// The warning about a paragraph at the place, if its name is in area B or almost that of a verb, and a word follows in area B.
-fn paragraph_warning(alloc: Global, view: View<'_>) -> Result<Option<Warning>, AllocError> {
+fn paragraph_warning(alloc: Global, view: View<'_>) -> Result<Option<Warning>, AllocError>
+    ensures { IfOk result (λ found. IfSome found (λ one. HasLines one.advice)) }
+{
     let is_paragraph = view.is_in_procedures(view.at)
         && view.is_word(Some(view.at))
         && view.is_period(view.before(1))
@@ -46,12 +53,14 @@ fn paragraph_warning(alloc: Global, view: View<'_>) -> Result<Option<Warning>, A
         return Ok(None);
     }
     let name = view.text(alloc, Some(view.at))?;
-    let Some(mut advice) = Advice::for_cause(alloc, b"paragraph of nothing", name.as_slice())? else {
+    let Some(mut advice) = Advice::for_cause(alloc, b"paragraph of nothing", name.as_slice())?
+    else {
         return Ok(None);
     };
     if let Some(word) = reserved_like(alloc, name.as_slice())? {
         advice.propose(word)?;
     }
+    advice.end_line()?;
     Ok(Some(Warning {
         place: token.place,
         advice,

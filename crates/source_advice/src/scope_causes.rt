@@ -36,8 +36,11 @@ fn verb_of(word: &[u8]) -> Option<&[u8]> {
     word.strip_prefix(b"END-")
 }
 
-/// Whether a statement of this verb has no END word so far, in the sentence of the place.
+/// Whether a statement of this verb has no END word so far, in the sentence of the place. A PERFORM of a paragraph never has one.
 fn is_open(alloc: Global, view: View<'_>, verb: &[u8]) -> Result<bool, AllocError> {
+    if has_word(b"PERFORM", verb) {
+        return Ok(open_perform(alloc, view)?.is_some());
+    }
     let mut open: usize = 0;
     for number in view.sentence()..view.at {
         let word = view.text(alloc, Some(number))?;
@@ -85,7 +88,9 @@ fn open_perform(alloc: Global, view: View<'_>) -> Result<Option<usize>, AllocErr
 /// Whether a PERFORM has statements of its own, by the words after it.
 fn has_statements(alloc: Global, view: View<'_>, perform: usize) -> Result<bool, AllocError> {
     let next = view.text(alloc, perform.checked_add(1))?;
-    Ok(is_verb(next.as_slice())
-        || has_word(b"UNTIL VARYING WITH TEST", next.as_slice())
-        || view.reads(alloc, perform.checked_add(2), b"TIMES")?)
+    Ok(
+        is_verb(next.as_slice())
+            || has_word(b"UNTIL VARYING WITH TEST", next.as_slice())
+            || view.reads(alloc, perform.checked_add(2), b"TIMES")?,
+    )
 }

@@ -10,11 +10,6 @@ use strsim::osa_distance;
 /// The greatest length of a word in which one wrong letter is enough to call it another word.
 const SHORT: usize = 5;
 
-/// The words of a list.
-fn words_of(list: &[u8]) -> std::str::SplitAsciiWhitespace<'_> {
-    from_utf8(list).unwrap_or("").split_ascii_whitespace()
-}
-
 /// Whether a list of words, separated by spaces, has this word.
 pub fn has_word(list: &[u8], word: &[u8]) -> bool {
     for one in words_of(list) {
@@ -43,6 +38,11 @@ pub fn reserved_like(alloc: Global, word: &[u8]) -> Result<Option<&'static [u8]>
 pub fn is_alike(alloc: Global, one: &[u8], other: &[u8]) -> Result<bool, AllocError> {
     let edits = edits(alloc, one, other)?;
     Ok(edits > 0 && edits <= most_edits(other))
+}
+
+/// The words of a list.
+fn words_of(list: &[u8]) -> std::str::SplitAsciiWhitespace<'_> {
+    from_utf8(list).unwrap_or("").split_ascii_whitespace()
 }
 
 /// How many letters may be wrong in a word that is misspelt: one in five.

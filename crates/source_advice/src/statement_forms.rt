@@ -7,7 +7,8 @@ use explanations::{Book, part_under};
 use std::alloc::{AllocError, Global};
 
 /// The verbs.
-const VERBS: &[u8] = b"ACCEPT ADD CLOSE COMPUTE CONTINUE DELETE DISPLAY DIVIDE EVALUATE EXIT IF INITIALIZE INSPECT MOVE MULTIPLY OPEN
+const VERBS: &[u8] =
+    b"ACCEPT ADD CLOSE COMPUTE CONTINUE DELETE DISPLAY DIVIDE EVALUATE EXIT IF INITIALIZE INSPECT MOVE MULTIPLY OPEN
 PERFORM READ REWRITE SET START STOP STRING SUBTRACT WRITE";
 
 /// Whether a word is a verb.
@@ -26,9 +27,13 @@ pub fn verb_before(alloc: Global, view: View<'_>) -> Result<Option<usize>, Alloc
     Ok(found)
 }
 
-/// The advice to compare the statement or the entry with its form.
+/// The advice to compare the statement or the entry with its form, or to begin the statement with a verb.
 pub fn form_cause(alloc: Global, view: View<'_>, number: u8) -> Found {
     let Some(first) = beginning(alloc, view)? else {
+        if view.is_in_procedures(view.at) {
+            let here = view.written(alloc, Some(view.at))?;
+            return Advice::for_cause(alloc, b"verb needed", here.as_slice());
+        }
         return Ok(None);
     };
     let name = view.text(alloc, Some(first))?;
@@ -40,7 +45,11 @@ pub fn form_cause(alloc: Global, view: View<'_>, number: u8) -> Found {
     let Some(form) = part_under(alloc, Book::Forms, head)? else {
         return Ok(None);
     };
-    let mut advice = Advice::for_number(alloc, number, view.written(alloc, Some(view.at))?.as_slice())?;
+    let mut advice = Advice::for_number(
+        alloc,
+        number,
+        view.written(alloc, Some(view.at))?.as_slice(),
+    )?;
     advice.cure.clear();
     advice.add_line(&[head, b" is written:"])?;
     advice.cure.extend_from_slice(form)?;

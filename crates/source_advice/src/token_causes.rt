@@ -1,13 +1,16 @@
 //! What is said of any fault.
 
+ghost use Rattle.std.specs.Prelude.{IfOk};
+ghost use Rattle.source_advice.specs.Advice.{HasLines};
+
 use crate::advice::{Advice, Found};
 use crate::cut_lines::cut_cause;
 use crate::format_causes::format_cause;
 use crate::grammar_causes::grammar_cause;
-use crate::name_causes::undeclared_cause;
+use crate::name_causes::{condition_cause, undeclared_cause};
 use crate::period_causes::period_cause;
 use crate::view::View;
-use crate::word_causes::verb_cause;
+use crate::word_causes::{exit_cause, verb_cause, word_alone_cause};
 use lexical::Place;
 use source_lines::logical;
 use std::alloc::{AllocError, Global};
@@ -23,7 +26,15 @@ const UNDECLARED: u8 = 40;
 const ITEM_FAULTS: [u8; 3] = [44, 45, 48];
 
 /// What is said of the fault of this number at this place of a source text: what is wrong, and what to do.
-pub fn advise(
+pub fn advise(alloc: Global, source: &[u8], number: u8, place: Place) -> Result<Advice, AllocError>
+    ensures { IfOk result HasLines }
+{
+    let mut advice = advice_about(alloc, source, number, place)?;
+    advice.end_line()?;
+    Ok(advice)
+}
+
+fn advice_about(
     alloc: Global,
     source: &[u8],
     number: u8,
@@ -65,15 +76,23 @@ fn tree_cause(alloc: Global, source: &[u8], view: View<'_>, number: u8) -> Found
     undeclared_cause(alloc, view, number)
 }
 
-/// The advice about a name that is a verb of other COBOLs, or that follows a missing period.
+/// The advice about a name that is a word of other COBOLs, that follows a missing period, or that is an item and no condition.
 fn name_cause(alloc: Global, view: View<'_>) -> Found {
     if let Some(advice) = verb_cause(alloc, view)? {
         return Ok(Some(advice));
     }
-    if view.is_period(view.after(1)) {
-        return period_cause(alloc, view);
+    if let Some(advice) = exit_cause(alloc, view)? {
+        return Ok(Some(advice));
     }
-    Ok(None)
+    if let Some(advice) = word_alone_cause(alloc, view)? {
+        return Ok(Some(advice));
+    }
+    if view.is_period(view.after(1)) {
+        if let Some(advice) = period_cause(alloc, view)? {
+            return Ok(Some(advice));
+        }
+    }
+    condition_cause(alloc, view)
 }
 
 /// The token that a fault is about: the item's name after the level number where an entry is refused, and else the one at the place.

@@ -99,7 +99,10 @@ impl<'a> View<'a> {
     }
 
     pub fn is_literal(&self, number: Option<usize>) -> bool {
-        matches!(self.kind(number), Some(Kind::Numeric(_) | Kind::Nonnumeric(_)))
+        matches!(
+            self.kind(number),
+            Some(Kind::Numeric(_) | Kind::Nonnumeric(_))
+        )
     }
 
     pub fn is_operator(&self, number: Option<usize>) -> bool {
@@ -153,7 +156,12 @@ impl<'a> View<'a> {
     }
 
     /// Whether a token is this word, in upper case.
-    pub fn reads(&self, alloc: Global, number: Option<usize>, word: &[u8]) -> Result<bool, AllocError> {
+    pub fn reads(
+        &self,
+        alloc: Global,
+        number: Option<usize>,
+        word: &[u8],
+    ) -> Result<bool, AllocError> {
         Ok(self.text(alloc, number)?.as_slice() == word)
     }
 

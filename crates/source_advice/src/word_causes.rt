@@ -15,24 +15,29 @@ pub fn word_cause(alloc: Global, view: View<'_>) -> Found {
     if let Some(advice) = verb_cause(alloc, view)? {
         return Ok(Some(advice));
     }
+    word_alone_cause(alloc, view)
+}
+
+/// The advice about a word of other COBOLs at the place that nothing declares.
+pub fn word_alone_cause(alloc: Global, view: View<'_>) -> Found {
     let here = view.text(alloc, Some(view.at))?;
     if !view.is_word(Some(view.at)) || is_declared(alloc, view, here.as_slice())? {
         return Ok(None);
     }
-    Advice::under(alloc, Book::Words, here.as_slice())
+    Advice::under(alloc, Book::Words, here.as_slice(), b"")
 }
 
 /// The advice about a verb that isn't in this language, at the place or directly before it.
 pub fn verb_cause(alloc: Global, view: View<'_>) -> Found {
     let here = view.text(alloc, Some(view.at))?;
-    if let Some(advice) = Advice::under(alloc, Book::Verbs, here.as_slice())? {
+    if let Some(advice) = Advice::under(alloc, Book::Verbs, here.as_slice(), b"")? {
         return Ok(Some(advice));
     }
     if !view.is_word(view.before(1)) {
         return Ok(None);
     }
     let before = view.text(alloc, view.before(1))?;
-    Advice::under(alloc, Book::Verbs, before.as_slice())
+    Advice::under(alloc, Book::Verbs, before.as_slice(), b"")
 }
 
 /// The advice about two words, or two signs without a space between them.
@@ -45,7 +50,7 @@ fn pair_cause(alloc: Global, view: View<'_>) -> Found {
     ];
     for (first, second) in pairs {
         let head = pair(alloc, view, first, second)?;
-        if let Some(advice) = Advice::under(alloc, Book::Words, head.as_slice())? {
+        if let Some(advice) = Advice::under(alloc, Book::Words, head.as_slice(), b"")? {
             return Ok(Some(advice));
         }
     }
@@ -53,12 +58,12 @@ fn pair_cause(alloc: Global, view: View<'_>) -> Found {
 }
 
 /// The advice about a form of EXIT, of which reading stops after the second word.
-fn exit_cause(alloc: Global, view: View<'_>) -> Found {
+pub fn exit_cause(alloc: Global, view: View<'_>) -> Found {
     if !view.reads(alloc, view.before(2), b"EXIT")? {
         return Ok(None);
     }
     let head = pair(alloc, view, view.before(2), view.before(1))?;
-    Advice::under(alloc, Book::Words, head.as_slice())
+    Advice::under(alloc, Book::Words, head.as_slice(), b"")
 }
 
 /// Two words with a space between them, or two signs as they are written.

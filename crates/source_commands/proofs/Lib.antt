@@ -1,2 +1,3 @@
 mod Reports
 mod Lines
+mod Tables

@@ -1,6 +1,6 @@
 -- A report of which the fault is known.
-use Rattle.std.proofs.Common.{◌≡◌, List, Option, None, Some, Result, Ok, Err, subst, sym}
-use Rattle.std.specs.Prelude.{IfOk, IfSome}
+use Rattle.std.proofs.Common.{◌≡◌, Option, Result, Ok, Err, subst, sym}
+use Rattle.std.specs.Prelude.{IfOk}
 use Rattle.std.specs.declared.alloc.AllocError.{AllocError}
 use Rattle.run_unit.specs.declared.fault.CompileFault.{CompileFault}
 use Rattle.source_commands.specs.declared.check.CheckReport.{CheckReport}

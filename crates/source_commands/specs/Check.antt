@@ -1,8 +1,9 @@
 -- What `check` shows of a source text.
-use Rattle.std.specs.Prelude.{◌≡◌, ℕ, List, Option, None, Some}
+use Rattle.std.specs.Prelude.{◌≡◌, ℕ, List, All, Option, None, Some}
 use Rattle.std.specs.List.{flat_map}
 use Rattle.run_unit.specs.declared.fault.CompileFault.{CompileFault}
 use Rattle.run_unit.specs.Faults.{number_of, place_of}
+use Rattle.source_advice.specs.Advice.{AreLines, HasLines}
 use Rattle.source_advice.specs.declared.paragraph_warnings.Warning.{Warning}
 use Rattle.source_commands.specs.declared.check.CheckReport.{CheckReport}
 use Rattle.source_commands.specs.Report.{report}
@@ -13,11 +14,12 @@ warning_of name source one = report name source one.place None one.advice.messag
 abbrev pub warning_texts : List ℕ → List ℕ → List Warning → List ℕ
 warning_texts name source found = flat_map (warning_of name source) found
 
--- Of a fault its report, with some message and some cure; of a source text that is accepted some warnings, maybe none.
+-- Of a fault its report, with some message and some lines of what to do; of a source text that is accepted some warnings, maybe none.
 abbrev pub IsReportText : List ℕ → List ℕ → Option CompileFault → List ℕ → Type 0
-IsReportText name source None text = (found : List Warning) × (text ≡ warning_texts name source found)
+IsReportText name source None text =
+    (found : List Warning) × All (λ one. HasLines one.advice) found × (text ≡ warning_texts name source found)
 IsReportText name source (Some fault) text =
-    (message : List ℕ) × (cure : List ℕ)
+    (message : List ℕ) × (cure : List ℕ) × AreLines cure
     × (text ≡ report name source (place_of fault) (Some (number_of fault)) message cure)
 
 abbrev pub IsReportOf : List ℕ → List ℕ → CheckReport → Type 0

@@ -46,8 +46,8 @@ pub fn check_source(alloc: Global, name: &[u8], source: &[u8]) -> Result<CheckRe
 /// The report of a source text that is accepted.
 fn accepted(alloc: Global, source: Source<'_>) -> Result<CheckReport, AllocError>
     ensures fault { IfOk result (λ report. report.fault ≡ None) }
-    ensures text { IfOk result
-        (λ report. IsReportText source.entry.name.now source.entry.text.now None report.text.items) }
+    ensures text { IfOk result (λ report. IsReportText source.entry.name.now
+        source.entry.text.now None report.text.items) }
 {
     let found = warnings(alloc, source.text)?;
     Ok(CheckReport {
@@ -57,11 +57,7 @@ fn accepted(alloc: Global, source: Source<'_>) -> Result<CheckReport, AllocError
 }
 
 /// The reports of warnings, one after the other.
-fn warning_text(
-    alloc: Global,
-    source: Source<'_>,
-    found: &[Warning],
-) -> Result<Vec<u8>, AllocError>
+fn warning_text(alloc: Global, source: Source<'_>, found: &[Warning]) -> Result<Vec<u8>, AllocError>
     ensures { IfOk result (λ text. text.items
         ≡ spec.warning_texts source.entry.name.now source.entry.text.now found.now) }
 {

@@ -21,11 +21,7 @@ const NUMBER: usize = 8;
 const USAGE: usize = 9;
 
 /// Adds the line of an item, with its entry.
-pub fn push_item(
-    out: &mut Vec<u8>,
-    item: &PlacedItem,
-    entry: &ItemEntry,
-) -> Result<(), AllocError>
+pub fn push_item(out: &mut Vec<u8>, item: &PlacedItem, entry: &ItemEntry) -> Result<(), AllocError>
     ensures { OnOk result (out.new.items ≡ out.old.items ++ spec.item_line item.now entry.now) }
 {
     push_left(out, LEVEL, entry.level.digits.as_slice())?;

@@ -82,12 +82,7 @@ fn push_fault(out: &mut Vec<u8>, number: Option<u8>) -> Result<(), AllocError>
 }
 
 /// Adds the line of a place, and a caret below its column.
-fn push_line(
-    alloc: Global,
-    out: &mut Vec<u8>,
-    text: &[u8],
-    place: Place,
-) -> Result<(), AllocError>
+fn push_line(alloc: Global, out: &mut Vec<u8>, text: &[u8], place: Place) -> Result<(), AllocError>
     ensures { OnOk result (out.new.items ≡ out.old.items ++ spec.line_text text.now place) }
 {
     let line = shown_line(alloc, text, place.line)?;

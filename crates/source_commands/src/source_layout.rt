@@ -35,7 +35,8 @@ pub fn layout_of_source(alloc: Global, source: &[u8]) -> Result<Vec<u8>, Compile
 
 /// The table of a source text that is accepted.
 fn read_layout(alloc: Global, source: &[u8]) -> Result<Vec<u8>, CompileError>
-    ensures { IfOk result (λ text. (tree : Program) × IsTreeOf source.now tree × (text.items ≡ text_of tree)) }
+    ensures { IfOk result (λ text. (tree : Program) × IsTreeOf source.now tree
+        × (text.items ≡ text_of tree)) }
 {
     let tree = read_tree(alloc, source)?;
     let checked = check(alloc, &tree)?;

@@ -20,9 +20,10 @@ returns-clause-accepted c =
     λ fault report. fault ≡ None → (tree : Program) × IsTreeOf c.args.source.now tree in
     elim c.match-compile.branch [
       | in-Ok w ↦ rw w.result-is (of_fault None P w.accepted.result w.accepted.ensures.fault
-      (anyway (P None) w.accepted.result (λ report e. w.in-Ok.ensures.accepted)))
-      | in-Err-Refused w ↦ rw w.result-is (of_fault (Some w.in-Err-Refused.fault) P w.refused.result w.refused.ensures.fault
-      (anyway (P (Some w.in-Err-Refused.fault)) w.refused.result (λ report e. none_some w.in-Err-Refused.fault e)))
+          (anyway (P None) w.accepted.result (λ report e. w.in-Ok.ensures.accepted)))
+      | in-Err-Refused w ↦
+          rw w.result-is (of_fault (Some w.in-Err-Refused.fault) P w.refused.result w.refused.ensures.fault
+          (anyway (P (Some w.in-Err-Refused.fault)) w.refused.result (λ report e. none_some w.in-Err-Refused.fault e)))
       | in-Err-Memory w ↦ rw w.result-is tt
     ]
 
@@ -32,10 +33,11 @@ returns-clause-fault c =
     λ fault report. IfSome fault (λ f. IsFaultOf c.args.source.now (Some (stage_fault f))) in
     elim c.match-compile.branch [
       | in-Ok w ↦ rw w.result-is (of_fault None P w.accepted.result w.accepted.ensures.fault
-      (anyway (P None) w.accepted.result (λ report. tt)))
+          (anyway (P None) w.accepted.result (λ report. tt)))
       | in-Err-Refused w ↦
           let told : IsFaultOf c.args.source.now (Some (stage_fault w.in-Err-Refused.fault)) =
-          subst (λ e. IsFaultOf c.args.source.now (fault_of e)) w.in-Err-Refused.field-0-is w.in-Err-Refused.ensures.fault in
+          subst (λ e. IsFaultOf c.args.source.now (fault_of e)) w.in-Err-Refused.field-0-is
+          w.in-Err-Refused.ensures.fault in
           rw w.result-is (of_fault (Some w.in-Err-Refused.fault) P w.refused.result w.refused.ensures.fault
           (anyway (P (Some w.in-Err-Refused.fault)) w.refused.result (λ report. told)))
       | in-Err-Memory w ↦ rw w.result-is tt
@@ -48,6 +50,6 @@ returns-clause-text c =
     elim c.match-compile.branch [
       | in-Ok w ↦ rw w.result-is (of_fault None P w.accepted.result w.accepted.ensures.fault w.accepted.ensures.text)
       | in-Err-Refused w ↦ rw w.result-is
-      (of_fault (Some w.in-Err-Refused.fault) P w.refused.result w.refused.ensures.fault w.refused.ensures.text)
+          (of_fault (Some w.in-Err-Refused.fault) P w.refused.result w.refused.ensures.fault w.refused.ensures.text)
       | in-Err-Memory w ↦ rw w.result-is tt
     ]

@@ -1,7 +1,6 @@
-use Rattle.std.proofs.Common.{◌≡◌, ◌∙◌, List, [], ◌++◌, ap, drop, sym}
+use Rattle.std.proofs.Common.{◌≡◌, ◌∙◌, [], ◌++◌, ap, drop, sym}
 use Rattle.std.proofs.Math.ListN.{drop_of_length-le}
 use Rattle.std.proofs.lemmas.List.{append-nil}
-use Rattle.source_tree.specs.declared.entry.Entry.{Entry}
 use Rattle.declarations.specs.Entries.{items_among}
 use Rattle.source_commands.specs.Layout.{item_lines, items_after}
 use Rattle.source_commands.proofs.Lines.{no_entries, none_before}
