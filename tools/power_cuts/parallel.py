@@ -3,6 +3,7 @@
 `words` has the tool's options: `program`, `seed`, `jobs`, and `keep`, the folder for what fails."""
 import os
 import shutil
+import signal
 import tempfile
 import time
 from collections import Counter
@@ -38,13 +39,18 @@ class Cases:
         self.figures, self.failures, self.seed, self.began = Counter(), 0, words.seed, time.time()
 
     def run(self):
-        """Runs all cases, prints their figures, and returns how many failed."""
-        with ProcessPoolExecutor(self.words.jobs) as pool:
+        """Runs all cases, prints their figures, and returns how many failed. The signal TERM lets the cases end that run, and begins no
+        further one."""
+        signal.signal(signal.SIGTERM, self.stop)
+        with ProcessPoolExecutor(self.words.jobs, initializer=signal.signal, initargs=(signal.SIGTERM, signal.SIG_DFL)) as pool:
             running = self.begun(pool, set())
             while running:
                 running = self.begun(pool, self.take_ended(running))
         print(f"{self.summary()}; {self.failures} failed; {time.time() - self.began:.0f} seconds", flush=True)
         return self.failures
+
+    def stop(self, *_):
+        self.count = 0
 
     def take_ended(self, running):
         """Adds the figures of the cases that have ended, and returns those that still run."""

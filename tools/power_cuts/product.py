@@ -4,9 +4,10 @@ import signal
 import time
 from collections import namedtuple
 
-MOST_SECONDS = 10
-MOST_SECONDS_ON_THE_WALL = 300
+from power_cuts.server import MOST_SECONDS, MOST_SECONDS_ON_THE_WALL, Overdue, processor_seconds, server_of
+
 NOTHING = "/dev/null"
+MANY_BYTES = 1 << 20
 ENVIRONMENT = dict(os.environb)
 Ran = namedtuple("Ran", "status out err")
 
@@ -31,14 +32,30 @@ class Product:
 
     def run(self, words, given=NOTHING, environment=None):
         """Runs a command with the file `given` as standard input."""
+        self.calls += 1
+        server = server_of(self.program) if environment is None else None
+        status = self.run_served(server, words, given) if server else self.run_alone(words, given, environment)
+        return Ran(status, read(self.out), read(self.err))
+
+    def run_alone(self, words, given, environment):
+        """Runs a command in a process of its own."""
         flags = os.O_WRONLY | os.O_CREAT | os.O_TRUNC
         actions = [(os.POSIX_SPAWN_OPEN, 0, given, os.O_RDONLY, 0), (os.POSIX_SPAWN_OPEN, 1, self.out, flags, 0o600),
                    (os.POSIX_SPAWN_OPEN, 2, self.err, flags, 0o600)]
         words = [self.program, *words]
         child = os.posix_spawn(words[0], words, environment or ENVIRONMENT, file_actions=actions)
-        self.calls += 1
-        status = wait_for(child, words)
-        return Ran(status, read(self.out), read(self.err))
+        return wait_for(child, words)
+
+    def run_served(self, server, words, given):
+        """Runs a command in the server's process."""
+        try:
+            return server.run(words, given, self.out, self.err)
+        except Overdue as why:
+            raise Hangs(named(words)) from why
+
+
+def named(words):
+    return " ".join(os.fsdecode(word) for word in words)
 
 
 def wait_for(child, words):
@@ -54,7 +71,7 @@ def wait_for(child, words):
             return
         os.kill(child, signal.SIGKILL)
         os.waitpid(child, 0)
-        raise Hangs(" ".join(os.fsdecode(word) for word in words))
+        raise Hangs(named(words))
 
     signal.signal(signal.SIGALRM, look)
     signal.alarm(MOST_SECONDS)
@@ -63,15 +80,13 @@ def wait_for(child, words):
     return os.waitstatus_to_exitcode(status)
 
 
-def processor_seconds(child):
-    """How long a process has been running on a processor, or nothing if it is gone."""
-    try:
-        user, system = read(f"/proc/{child}/stat").rpartition(b")")[2].split()[11:13]
-    except (FileNotFoundError, ProcessLookupError):
-        return None
-    return (int(user) + int(system)) / os.sysconf("SC_CLK_TCK")
-
-
 def read(path):
-    with open(path, "rb") as file:
-        return file.read()
+    """The bytes of a file, mostly few."""
+    file = os.open(path, os.O_RDONLY)
+    try:
+        parts = [os.read(file, MANY_BYTES)]
+        while parts[-1]:
+            parts.append(os.read(file, MANY_BYTES))
+        return b"".join(parts)
+    finally:
+        os.close(file)
