@@ -8,6 +8,7 @@ import tempfile
 import time
 from collections import Counter
 from concurrent.futures import FIRST_COMPLETED, ProcessPoolExecutor, wait
+from concurrent.futures.process import BrokenProcessPool
 
 from power_cuts.cases import keep
 
@@ -42,12 +43,18 @@ class Cases:
         """Runs all cases, prints their figures, and returns how many failed. The signal TERM lets the cases end that run, and begins no
         further one."""
         signal.signal(signal.SIGTERM, self.stop)
+        try:
+            self.run_in_pool()
+        except BrokenProcessPool:
+            self.add(Counter(), f"a process of this tool ended in one of the {self.words.jobs} last seeds before {self.seed}")
+        print(f"{self.summary()}; {self.failures} failed; {time.time() - self.began:.0f} seconds", flush=True)
+        return self.failures
+
+    def run_in_pool(self):
         with ProcessPoolExecutor(self.words.jobs, initializer=signal.signal, initargs=(signal.SIGTERM, signal.SIG_DFL)) as pool:
             running = self.begun(pool, set())
             while running:
                 running = self.begun(pool, self.take_ended(running))
-        print(f"{self.summary()}; {self.failures} failed; {time.time() - self.began:.0f} seconds", flush=True)
-        return self.failures
 
     def stop(self, *_):
         self.count = 0

@@ -4,8 +4,9 @@ import signal
 import time
 from collections import namedtuple
 
-from power_cuts.server import MOST_SECONDS, MOST_SECONDS_ON_THE_WALL, Overdue, processor_seconds, server_of
+from power_cuts.loading import MOST_SECONDS, loaded, lowest_free
 
+MOST_SECONDS_ON_THE_WALL = 300
 NOTHING = "/dev/null"
 MANY_BYTES = 1 << 20
 ENVIRONMENT = dict(os.environb)
@@ -33,9 +34,16 @@ class Product:
     def run(self, words, given=NOTHING, environment=None):
         """Runs a command with the file `given` as standard input."""
         self.calls += 1
-        server = server_of(self.program) if environment is None else None
-        status = self.run_served(server, words, given) if server else self.run_alone(words, given, environment)
-        return Ran(status, read(self.out), read(self.err))
+        program = loaded(self.program) if environment is None else None
+        return self.run_loaded(program, words, given) if program else self.run_alone(words, given, environment)
+
+    def run_loaded(self, program, words, given):
+        """Runs a command in this process."""
+        before = lowest_free()
+        ran = Ran(*program.run(words, given))
+        if lowest_free() != before:
+            raise Failure(f"{words[0]} leaves a file open")
+        return ran
 
     def run_alone(self, words, given, environment):
         """Runs a command in a process of its own."""
@@ -44,18 +52,7 @@ class Product:
                    (os.POSIX_SPAWN_OPEN, 2, self.err, flags, 0o600)]
         words = [self.program, *words]
         child = os.posix_spawn(words[0], words, environment or ENVIRONMENT, file_actions=actions)
-        return wait_for(child, words)
-
-    def run_served(self, server, words, given):
-        """Runs a command in the server's process."""
-        try:
-            return server.run(words, given, self.out, self.err)
-        except Overdue as why:
-            raise Hangs(named(words)) from why
-
-
-def named(words):
-    return " ".join(os.fsdecode(word) for word in words)
+        return Ran(wait_for(child, words), read(self.out), read(self.err))
 
 
 def wait_for(child, words):
@@ -71,13 +68,22 @@ def wait_for(child, words):
             return
         os.kill(child, signal.SIGKILL)
         os.waitpid(child, 0)
-        raise Hangs(named(words))
+        raise Hangs(" ".join(os.fsdecode(word) for word in words))
 
     signal.signal(signal.SIGALRM, look)
     signal.alarm(MOST_SECONDS)
     _, status = os.waitpid(child, 0)
     signal.alarm(0)
     return os.waitstatus_to_exitcode(status)
+
+
+def processor_seconds(child):
+    """How long a process has been running on a processor, or nothing if it is gone."""
+    try:
+        user, system = read(f"/proc/{child}/stat").rpartition(b")")[2].split()[11:13]
+    except (FileNotFoundError, ProcessLookupError):
+        return None
+    return (int(user) + int(system)) / os.sysconf("SC_CLK_TCK")
 
 
 def read(path):
