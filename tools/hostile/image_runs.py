@@ -53,7 +53,7 @@ class ImageRuns:
     def try_image(self, note):
         self.note = note
         ran = self.product.do("run", self.image, self.scratch.path, "--budget", BUDGET)
-        check_answer("run", ran)
+        check_answer("run of a changed image", ran)
         self.figures["runs"] += 1
         self.figures[ran.err.decode().strip() if ran.status == 4 else f"exit status {ran.status}"] += 1
         if ran.err == b"refused 82\n":

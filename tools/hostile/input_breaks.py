@@ -2,7 +2,8 @@
 import os
 import shutil
 
-from hostile.inputs import try_case
+from hostile.inputs import KINDS, try_case
+from power_cuts.loading import loading
 from power_cuts.parallel import folder_in_memory
 
 SEEDS = 6
@@ -44,6 +45,18 @@ def attempt(program, kind, seed, wrong):
         shutil.rmtree(folder)
 
 
+def differs_loaded(program, kind, seed):
+    """How a case of the loaded program differs from the same case in which each command has a process of its own, or nothing."""
+    found = []
+    for is_loaded in (True, False):
+        folder = folder_in_memory()
+        with loading(is_loaded):
+            case, failure = try_case(kind, program, seed, folder)
+        found.append((case.figures, failure))
+        shutil.rmtree(folder)
+    return None if found[0] == found[1] else f"{found[0]} and {found[1]}"
+
+
 def self_test(program, seed):
     """Tries the program as it is with each kind of inputs, and each script. How many were judged rightly, and how many not."""
     cases = [(f"the program as it is, {kind}", kind, "", False) for kind in ("sources", "images", "volumes")]
@@ -54,4 +67,6 @@ def self_test(program, seed):
         is_right = (failure is not None) == must_fail
         failed += not is_right
         print(f"{'right' if is_right else 'WRONG'}: {name}: {failure or 'nothing is reported'}"[:220], flush=True)
-    return len(cases) - failed, failed
+    differing = [kind for kind in KINDS if differs_loaded(program, kind, seed)]
+    print(f"{'WRONG' if differing else 'right'}: loaded, and in processes of their own, commands answer the same {' '.join(differing)}", flush=True)
+    return len(cases) - failed + (not differing), failed + bool(differing)

@@ -33,6 +33,8 @@ SOURCES_OF_A_VOLUME = 3
 class Inputs:
     """What cases of sources and of images have in common: a volume with files, and runs over a copy of it."""
 
+    form_of_a_run = "run"
+
     def __init__(self, program, seed, folder):
         self.random, self.seed, self.folder = Random(seed), seed, folder
         self.product, self.figures, self.note = Product(program, folder), Counter(), "before the first input"
@@ -61,7 +63,7 @@ class Inputs:
     def run(self):
         """Runs the image over the copy. A run over a sound volume leaves one."""
         ran = self.product.run(("run", self.image, self.scratch.path, *OPTIONS), self.console)
-        check_answer("run", ran)
+        check_answer(self.form_of_a_run, ran)
         if ran.err == b"refused 82\n":
             raise Failure("a run over a sound volume reports damage")
         if not self.scratch.is_unchanged():
@@ -106,6 +108,8 @@ class Sources(Inputs):
 
 class Images(Inputs):
     """Edited images, run."""
+
+    form_of_a_run = "run of a changed image"
 
     def try_all(self):
         self.begin()

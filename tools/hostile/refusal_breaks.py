@@ -7,7 +7,7 @@ from hostile.refusing import WITHOUT_WORDS, Refusing, count_up
 from power_cuts.parallel import folder_in_memory
 from power_cuts.product import NOTHING, Failure, Ran
 
-COMPILE, RUN, LIST, DUMP = refusal_trials.FEW
+COMPILE, RUN, _, LIST, DUMP = refusal_trials.FEW
 REFUSED = Ran(4, b"", b"refused 83\n")
 
 

@@ -10,7 +10,7 @@ LAYOUTS = ("trees", "halves")
 SOURCES = ("size_errors", "perform_overlapping_ranges", "duplicates_in_order")
 CONSOLE = f"{DATA}/console_lines"
 ROWS = 100
-FEW = ["compile duplicates_in_order", "run over trees", "list of trees", "dump of trees"]
+FEW = ["compile duplicates_in_order", "run over trees", "run over halves", "list of trees", "dump of trees"]
 ALL = ["format", *(f"compile {source}" for source in SOURCES), "run with a console",
        *(f"{what} {layout}" for layout in LAYOUTS for what in ("run over", "second run over", "list of", "dump of"))]
 

@@ -3,17 +3,12 @@
 `Which` says which allocations are refused: the N-th one alone, or that one and all later ones. `Refusing.run` runs a command so and
 returns its answer, and what the library reports of it."""
 import os
-import shutil
-import subprocess
 from collections import namedtuple
 from itertools import count
 
 from power_cuts.product import ENVIRONMENT, NOTHING, Failure, Product, Ran, read
-from repository import find_on_path
 
 SOURCE = f"{os.path.dirname(os.path.abspath(__file__))}/refuse.c"
-FLAGS = ["-O1", "-fPIC", "-fno-builtin"]
-OF_THE_TOOLCHAIN = ["--target=x86_64-unknown-linux-gnu", "--no-default-config", "-no-canonical-prefixes"]
 WITHOUT_MEMORY = (4, b"refused 83\n")
 # Arguments that memory has no room for are no text that the program knows.
 WITHOUT_WORDS = Ran(2, b"", b"error: an argument isn't text\n")
@@ -21,32 +16,6 @@ WITHOUT_WORDS = Ran(2, b"", b"error: an argument isn't text\n")
 Which = namedtuple("Which", "number and_later")
 # Whether the library refused an allocation, whether that was before the program opened a file, and how many calls it counted.
 Report = namedtuple("Report", "is_refused is_early calls")
-
-
-class NoCompiler(Exception):
-    """There is nothing that compiles the library."""
-
-
-def build_library(folder):
-    """Compiles the library by the host's C compiler, or else by the toolchain's. Returns its path."""
-    library = f"{folder}/refuse.so"
-    if shutil.which("cc"):
-        compile_by([["cc", *FLAGS, "-shared", "-nostdlib", "-o", library, SOURCE]])
-        return library
-    command = find_on_path("rt")
-    clang = command and f"{os.path.dirname(os.path.dirname(command))}/toolchain/bin/clang"
-    if not (clang and os.access(clang, os.X_OK)):
-        raise NoCompiler("there is no C compiler: neither cc nor the toolchain's clang")
-    linker, module = f"{os.path.dirname(clang)}/ld.lld", f"{folder}/refuse.o"
-    compile_by([[clang, *OF_THE_TOOLCHAIN, *FLAGS, "-c", "-o", module, SOURCE], [linker, "-shared", "-o", library, module]])
-    return library
-
-
-def compile_by(commands):
-    for words in commands:
-        ran = subprocess.run(words, stdin=subprocess.DEVNULL, capture_output=True, text=True)
-        if ran.returncode:
-            raise NoCompiler(f"the C compiler can't make the library: {ran.stderr.strip()[:1000]}")
 
 
 class Refusing(Product):

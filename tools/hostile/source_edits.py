@@ -3,7 +3,7 @@ import glob
 import os
 import re
 from collections import Counter
-from functools import cache
+from functools import cache, lru_cache
 
 from power_cuts.product import read
 
@@ -28,6 +28,13 @@ def sources():
     return [(path, text) for path, text in zip(paths, texts) if len(text) <= MOST_BYTES]
 
 
+@lru_cache(maxsize=1)
+def pieces_of(text):
+    """The pieces of a source, and the places of those that aren't space. An empty source has an empty piece."""
+    pieces = PIECE.findall(text) or [b""]
+    return pieces, [i for i, piece in enumerate(pieces) if not piece.isspace()] or [0]
+
+
 @cache
 def words():
     """The different pieces of all sources."""
@@ -45,9 +52,9 @@ class SourceEdit:
     """One to four edits of a source."""
 
     def __init__(self, random, text):
-        self.random, self.text = random, text
-        self.pieces = PIECE.findall(text)
-        self.places = [i for i, piece in enumerate(self.pieces) if not piece.isspace()] or [0]
+        self.random = random
+        pieces, self.places = pieces_of(text)
+        self.pieces = list(pieces)
 
     def make(self):
         """The edited text."""

@@ -4,6 +4,8 @@ import os
 from power_cuts.volume import SECTOR
 
 ZEROS = bytes(SECTOR)
+# The time that a file has which nobody has written to since, in nanoseconds.
+MARK = 0
 
 
 def extents(file):
@@ -55,6 +57,11 @@ class Scratch:
         for sector, text in self.sectors.items():
             os.pwrite(self.file, text, SECTOR * sector)
         self.changed, self.present_length = {}, self.length
+        self.mark()
+
+    def mark(self):
+        """Gives the file a time that no later write leaves."""
+        os.utime(self.file, ns=(MARK, MARK))
 
     @property
     def count(self):
@@ -97,12 +104,19 @@ class Scratch:
         for sector, text in self.changed.items():
             os.pwrite(self.file, text, SECTOR * sector)
         os.ftruncate(self.file, self.present_length)
+        self.mark()
 
     # What others may have done with it
 
     def is_unchanged(self):
-        """Whether the file holds what was written here and nothing else."""
-        return os.fstat(self.file).st_size == self.present_length and sectors_of(self.file) == self.expected()
+        """Whether the file holds what was written here and nothing else. It does if it has its mark."""
+        found = os.fstat(self.file)
+        if found.st_size != self.present_length:
+            return False
+        if found.st_mtime_ns == MARK:
+            return True
+        self.mark()
+        return sectors_of(self.file) == self.expected()
 
     def expected(self):
         sectors = {sector: bytes(text) for sector, text in {**self.sectors, **self.changed}.items()}
@@ -116,3 +130,4 @@ class Scratch:
         for sector in self.changed:
             os.pwrite(self.file, self.sectors.get(sector, ZEROS), SECTOR * sector)
         self.changed = {}
+        self.mark()

@@ -1,0 +1,10 @@
+       IDENTIFICATION DIVISION.
+       PROGRAM-ID. FAULTS.
+       DATA DIVISION.
+       WORKING-STORAGE SECTION.
+       01  A PIC X(2) VALUE "xy".
+       01  N REDEFINES A PIC 9(2).
+       01  R PIC X(3).
+       PROCEDURE DIVISION.
+       MAIN.
+           MOVE N TO R.
