@@ -2,7 +2,6 @@ use Rattle.std.proofs.Common.{inr, refl, subst}
 use Rattle.records.specs.Files.{Files}
 use Rattle.half_store.specs.Half.{Holds as HoldsHalf}
 use Rattle.half_store.specs.Stands.{Represents as RepresentsHalf}
-use Rattle.file_bytes.specs.Stored.{files_of}
 use Rattle.volume_copies.proofs.LoadsOfVolumes.{opened_loads, unopened_loads}
 use Rattle.volume_copies.proofs.load_command.load_halves.Goals as goal
 
@@ -12,8 +11,7 @@ returns-in-Ok-clause-loads g c = λ honest files holds there next.
     let old = c.args.device.now in
     let mid = c.open.new.device in
     let new = c.load_lines.new.device in
-    let same = c.one_list_of_files.ensures (d.state old).disk.present (files_of c.in-Ok.store.files.items) files
-    (c.in-Ok.ensures.holds honest) holds in
+    let same = c.one_list_of_files.ensures (d.state old).disk.present _ files (c.in-Ok.ensures.holds honest) holds in
     let stands = subst (λ (l : Files). RepresentsHalf c.in-Ok.store (d.state mid).disk l) same
     (c.in-Ok.ensures.stands honest) in
     let loads = c.load_lines.ensures.loads files _
