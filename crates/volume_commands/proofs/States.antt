@@ -22,7 +22,7 @@ use Rattle.volume_commands.specs.declared.volume_state.VolumeState.{VolumeState}
 use Rattle.volume_commands.specs.State.{IsStateOf, IsStateAs, HasRoot}
 use Rattle.volume_commands.specs.declared.volume_error.VolumeError.{VolumeError}
 use Rattle.volume_commands.specs.declared.volume_error.VolumeError.TheVariants.{Device, Output, Damaged, Memory}
-use Rattle.volume_commands.specs.Faults.{error_of, IsReadCause, IsReadError}
+use Rattle.volume_commands.specs.Faults.{error_of, IsReadFailure, IsReadError}
 use Rattle.volume_commands.specs.Calls.{ReadsVolume, IsVolumeRefusal}
 use Rattle.volume_commands.proofs.Beginnings.{on_ok}
 use Rattle.volume_commands.proofs.Reading.{refused, failed_device}
@@ -66,15 +66,15 @@ read_error store.Spent = tt
 read_error store.Layout = tt
 
 -- a read that is refused for its cause
-pub read_cause : (fault : StoreFault) → (fault ≡ store.Device) ⊎ (fault ≡ store.Memory) → IsReadCause (error_of fault)
-read_cause fault (inl same) = subst (λ (f : StoreFault). IsReadCause (error_of f)) (sym same) tt
-read_cause fault (inr same) = subst (λ (f : StoreFault). IsReadCause (error_of f)) (sym same) tt
+pub read_cause : (fault : StoreFault) → (fault ≡ store.Device) ⊎ (fault ≡ store.Memory) → IsReadFailure (error_of fault)
+read_cause fault (inl same) = subst (λ (f : StoreFault). IsReadFailure (error_of f)) (sym same) tt
+read_cause fault (inr same) = subst (λ (f : StoreFault). IsReadFailure (error_of f)) (sym same) tt
 
 abbrev answered : (T : Type 0) → T → Result T VolumeError
 answered T x = Ok x
 
 -- the device and memory say nothing of an image
-says_nothing : {T : Type 0} (image : List Sector) (r : Result T VolumeError) → IfErr r IsReadCause
+says_nothing : {T : Type 0} (image : List Sector) (r : Result T VolumeError) → IfErr r IsReadFailure
     → IfErr r (IsVolumeRefusal image)
 says_nothing image (Ok x) cause = tt
 says_nothing image (Err Device) cause = tt
@@ -107,7 +107,7 @@ module _ {D : Type 0} (d : Devices D) where
       → OnlyWrites d (r' ≡ refused VolumeState VolumeError Device) mid new
       → (d.is_honest mid → Through (d.history mid) (d.history new) (d.state new) (IsOpening (d.state mid)))
       → (d.is_honest mid → (d.state new ≡ d.state mid) ⊎ (d.state new ≡ state_after_sync (d.state mid)))
-      → (d.is_honest old → IfErr r IsReadCause) → ReadsVolume d r old new
+      → (d.is_honest old → IfErr r IsReadFailure) → ReadsVolume d r old new
   state_reads A T x r r' old mid new reads which only moments unwritten cause =
       let synced : d.is_honest old → d.state new ≡ state_after_sync (d.state old) = λ h.
       ⊎_elim (λ e. e ∙ reads.state h) (λ e. e ∙ ap state_after_sync (reads.state h))
@@ -120,5 +120,5 @@ module _ {D : Type 0} (d : Devices D) where
         state = λ h. on_ok r _ (synced h);
         unwritten = λ h. inr (synced h);
         refused = λ h. says_nothing (d.state old).disk.present r (cause h);
-        opens = λ h files holds e. subst (λ (q : Result T VolumeError). IfErr q IsReadCause) e (cause h);
+        opens = λ h files holds e. subst (λ (q : Result T VolumeError). IfErr q IsReadFailure) e (cause h);
       }

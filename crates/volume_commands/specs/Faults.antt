@@ -28,11 +28,11 @@ IsWriteCause Damaged = ⊥
 IsWriteCause Memory = ⊤
 
 -- the device failed, or memory ran out
-abbrev pub IsReadCause : VolumeError → Type 0
-IsReadCause Device = ⊤
-IsReadCause Output = ⊥
-IsReadCause Damaged = ⊥
-IsReadCause Memory = ⊤
+abbrev pub IsReadFailure : VolumeError → Type 0
+IsReadFailure Device = ⊤
+IsReadFailure Output = ⊥
+IsReadFailure Damaged = ⊥
+IsReadFailure Memory = ⊤
 
 -- the device, the volume or memory
 abbrev pub IsReadError : VolumeError → Type 0

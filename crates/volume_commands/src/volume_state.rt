@@ -12,7 +12,7 @@ ghost use Rattle.pages.specs.Layout.{known_marks as page_marks};
 ghost use Rattle.half_store.specs.Half.{known_marks as half_marks, half, count, named_length};
 ghost use Rattle.records.specs.Files.{Files};
 ghost use Rattle.file_recovery.specs.Recovered.{HoldsFiles};
-ghost use Rattle.volume_commands.specs.Faults.{IsReadCause, IsReadError};
+ghost use Rattle.volume_commands.specs.Faults.{IsReadFailure, IsReadError};
 ghost use Rattle.volume_commands.specs.State.{IsStateOf, IsNewest, HasRoot, IsStateOfHalves};
 
 use crate::volume_error::VolumeError;
@@ -67,7 +67,7 @@ pub(crate) fn read_state<D: Device>(
 
     // Of a volume that holds files only the device and memory refuse.
     ensures opens { D.is_honest device.old → (files : Files) →
-        HoldsFiles (D.state device.old).disk.present files → IfErr result IsReadCause }
+        HoldsFiles (D.state device.old).disk.present files → IfErr result IsReadFailure }
     ensures cause { IfErr result IsReadError }
 {
     match PagedStore::open(alloc, device, 1) {
@@ -87,7 +87,7 @@ fn read_trees<D: Device>(device: &mut D, free: u32) -> Result<VolumeState, Volum
         × HasRoot page_marks (D.state device.old).disk.present state root)) }
     ensures opens { D.is_honest device.old → (roots : Roots) →
         roots_in page_marks 1 (D.state device.old).disk.present ≡ Ok roots
-        → IfErr result IsReadCause }
+        → IfErr result IsReadFailure }
     ensures cause { IfErr result IsReadError }
 {
     let root = read_root(device, &[TREES, HALVES])?;
@@ -107,7 +107,7 @@ fn read_halves<D: Device>(device: &mut D) -> Result<VolumeState, VolumeError>
         (D.state device.old).disk.present state) }
     ensures opens { D.is_honest device.old → (roots : Roots) →
         roots_in half_marks 1 (D.state device.old).disk.present ≡ Ok roots
-        → IfErr result IsReadCause }
+        → IfErr result IsReadFailure }
     ensures cause { IfErr result IsReadError }
 {
     let root = read_root(device, &[HALVES, TREES])?;
@@ -127,7 +127,7 @@ fn read_root<D: Device>(device: &mut D, marks: &[[u8; 8]]) -> Result<Root, Volum
     ensures within { IfOk result (IsWithinVolume (D.sectors device.old)) }
     ensures opens { D.is_honest device.old → (roots : Roots) →
         roots_in marks.now 1 (D.state device.old).disk.present ≡ Ok roots
-        → IfErr result IsReadCause }
+        → IfErr result IsReadFailure }
     ensures cause { IfErr result IsReadError }
 {
     match read_roots(device, marks, 1) {

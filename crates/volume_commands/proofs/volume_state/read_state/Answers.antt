@@ -5,7 +5,7 @@ use Rattle.pages.specs.Pages.{committed_of}
 use Rattle.pages.proofs.Roots.{behind}
 use Rattle.file_recovery.proofs.Foreign.{half_is_foreign}
 use Rattle.file_recovery.proofs.Reopened.{same_present}
-use Rattle.volume_commands.specs.Faults.{IsReadCause, IsReadError}
+use Rattle.volume_commands.specs.Faults.{IsReadFailure, IsReadError}
 use Rattle.volume_commands.proofs.States.{trees_states, only_refused, read_cause, read_error}
 use Rattle.volume_commands.proofs.volume_state.read_state.Goals as goal
 
@@ -42,12 +42,11 @@ returns-in_default g c =
     let of = c.in-Err.ensures in
     record {
       only = only_refused g.D.Device _ _ c.in-Err.fault c.of.result c.args.device.now c.open.new.device c.of.ensures
-          of.honest
-          of.sectors of.failures of.unwritten;
+          of.honest of.sectors of.failures of.unwritten;
       moments = of.moments;
       unwritten = of.unwritten;
       state = λ honest files holds. tt;
-      opens = λ honest files holds. subst IsReadCause (sym c.of.ensures) (read_cause c.in-Err.fault
+      opens = λ honest files holds. subst IsReadFailure (sym c.of.ensures) (read_cause c.in-Err.fault
           (⊎_elim (of.opens honest files)
           (λ half. ⊎_elim (λ layout. absurd (c.in_default.not-Layout layout)) (λ cause. cause)
           (of.foreign honest (half_is_foreign (g.D.Device.state c.args.device.now).disk.present files half))) holds));

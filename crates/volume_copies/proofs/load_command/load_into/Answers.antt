@@ -30,8 +30,7 @@ returns-in-Layout-clause-loads g c = λ honest files holds there.
     let new = c.load_halves.new.device in
     let same = same_present (d.state old) (d.state mid) (c.in-Err.ensures.unwritten honest) in
     opened_later c.args.file.now.spec.name.items c.args.text.now files c.load_halves.result.rows
-    c.load_halves.result.end
-    (d.history old) (d.history mid) (d.history new) (d.state old) (d.state mid) (d.state new)
+    c.load_halves.result.end (d.history old) (d.history mid) (d.history new) (d.state old) (d.state mid) (d.state new)
     (c.in-Err.ensures.moments honest) (c.in-Err.ensures.unwritten honest)
     (⊎_elim
     (λ trees. absurd (not_layout c.in-Layout.is (c.in-Err.ensures.opens honest files trees)))

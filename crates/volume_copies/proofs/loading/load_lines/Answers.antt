@@ -15,16 +15,15 @@ returns-in-Err-clause-loads g c = λ files file stands has next.
 
 pub loop-rest-preserved : goal.loop-rest-preserved
 loop-rest-preserved g c =
-    let d = g.D.Device in
     let l = c.loop-rest in (
       omega (arith, l.invariant.0, c.split_line.ensures.shorter),
       c.add_line.ensures.needs ∙ l.invariant.1,
-      writes_then d ⊥ _ ⊥ c.args.device.now l.device c.add_line.new.device (λ never. absurd never) l.invariant.2
-          c.in-Ok.ensures.only,
+      writes_then g.D.Device ⊥ _ ⊥ c.args.device.now l.device c.add_line.new.device (λ never. absurd never)
+          l.invariant.2 c.in-Ok.ensures.only,
       front_more c.args.text.now l.rest.now l.rows l.invariant.3 c.split_line.result.0.now c.split_line.result.1.now
           c.split_line.ensures.lines,
-      (λ files file stands has next. let so = l.invariant.4 files file stands has next in one_more_as g.S.Keeps d
-          g.met.S.Store.held c.args.file.now c.args.text.now l.rest.now c.split_line.result.0.now
+      (λ files file stands has next. let so = l.invariant.4 files file stands has next in one_more_as g.S.Keeps
+          g.D.Device g.met.S.Store.held c.args.file.now c.args.text.now l.rest.now c.split_line.result.0.now
           c.split_line.result.1.now files c.args.device.now l.rows l.number l.store l.device c.add_line.new.store
           c.add_line.new.device l.invariant.3 c.split_line.ensures.lines so c.next_number-number.result
           c.next_number-number.ensures (c.in-Ok.ensures.adds so.now so.file so.stands so.has so.next)),
