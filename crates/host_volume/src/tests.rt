@@ -1,6 +1,6 @@
 //! Openings, lengths and failures, on files of the folder that the tests run in.
 
-use crate::{Access, HostDevice, HostVolume, NewVolume, rewrite_roots};
+use crate::{Access, HostDevice, HostVolume, NewVolume, Replacement, rewrite_roots};
 use station::{Device, MemoryStation};
 use std::fs::{File, OpenOptions};
 use std::io::ErrorKind;
@@ -221,13 +221,13 @@ fn volume_that_replaces_a_file(rt: HostRuntime) -> Result<(), Fail> {
         let replacement = Replacement::open(&rt, "replaced")?;
         assert!(rt; HostVolume::open(&rt, "replaced", Access::Read).is_err());
         let volume = replacement.begin(&rt)?.fill(rt.alloc(), 3, |_| {})?;
-        assert_eq!(rt; fs::read(&rt, "replaced")?.as_slice(), b"OLD");
+        assert_eq!(rt; fs::read(&rt, "replaced")?.as_slice(), b"OLD".as_slice());
         if is_whole {
             replacement.end(&rt, volume)?;
             assert_eq!(rt; fs::read(&rt, "replaced")?.len(), 3 * 4096);
         } else {
             replacement.give_up(&rt);
-            assert_eq!(rt; fs::read(&rt, "replaced")?.as_slice(), b"OLD");
+            assert_eq!(rt; fs::read(&rt, "replaced")?.as_slice(), b"OLD".as_slice());
         }
         assert!(rt; !fs::exists(&rt, "replaced.cobol-copy")?);
     }
