@@ -79,7 +79,8 @@ fn verdict_after<E: Write>(load: Load, err: &mut E) -> Verdict {
 /// Why a line is no record.
 fn reason_of(fault: LineFault) -> &'static str {
     match fault {
-        LineFault::Escape => "a backslash is neither doubled nor followed by x and two hexadecimal digits",
+        LineFault::Escape =>
+            "a backslash is neither doubled nor followed by x and two hexadecimal digits",
         LineFault::Control => "a byte below hexadecimal 20, or 7f, is not written as an escape",
         LineFault::Long => "the line is longer than a record",
     }

@@ -95,6 +95,7 @@ impl<'a, R: Clock, E: Reasons> Watched<'a, R, E> {
 impl<'a, R: Clock, E: Reasons> volume_copies::Progress for Watched<'a, R, E> {
     fn report(&mut self, done: u64, all: u64) {
         let percent = u128::from(done) * 100 / u128::from(all.max(1));
-        self.progress.report(self.rt, self.err, percent.min(100) as u32);
+        self.progress
+            .report(self.rt, self.err, percent.min(100) as u32);
     }
 }
