@@ -9,13 +9,10 @@ STATEMENTS_OF_A_ROW = 5
 
 
 class ReadingProgram:
-    """`text` is the source. The files are those with these names and descriptions. `budget` is more than a run needs; in a damaged tree a
-    row may lead back to earlier ones, and then the budget ends the run."""
+    """`text` is the source. The files are those with these names and descriptions."""
 
     def __init__(self, content):
         self.files = [(file.name, file.description) for file in content]
-        orders = sum((len(file.rows) + 4) * (1 + len(file.description.alternates)) for file in content)
-        self.budget = str(2 * STATEMENTS_OF_A_ROW * orders)
         parts = [Part(i, name, description) for i, (name, description) in enumerate(self.files, 1)]
         self.text = "\n".join(
             ["       IDENTIFICATION DIVISION.", "       PROGRAM-ID. READS.", "       ENVIRONMENT DIVISION.", "       INPUT-OUTPUT SECTION.",
@@ -24,6 +21,12 @@ class ReadingProgram:
              "       WORKING-STORAGE SECTION.", *(f"       01  {part.s} PIC XX." for part in parts),
              "       PROCEDURE DIVISION.", "       MAIN-PARAGRAPH.", *(line for part in parts for line in part.statements()),
              "           STOP RUN.", ""]).encode()
+
+    def budget(self, content):
+        """More statements than a run over a volume with this content takes. In a damaged tree a row may lead back to earlier ones, and then
+        the budget ends the run."""
+        orders = sum((len(file.rows) + 4) * (1 + len(file.description.alternates)) for file in content)
+        return str(2 * STATEMENTS_OF_A_ROW * orders)
 
     def shown(self, content):
         """What a run shows over a volume with this content."""
@@ -85,8 +88,8 @@ def shown_in_order(rows):
     such rows."""
     if not rows:
         return b"23\n"
-    nexts = [value for (value, _), _ in rows[1:]] + [None]
     befores = [None] + [place for place, _ in rows]
-    shown = [b"%s%s\n" % (b"02" if place[0] == value else b"00", record)
-             for (place, record), value, before in zip(rows, nexts, befores) if place != before]
+    read = [row for row, before in zip(rows, befores) if row[0] != before]
+    nexts = [value for (value, _), _ in read[1:]] + [None]
+    shown = [b"%s%s\n" % (b"02" if place[0] == value else b"00", record) for (place, record), value in zip(read, nexts)]
     return b"00\n" + b"".join(shown) + b"10\n"

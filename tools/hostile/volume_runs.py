@@ -111,7 +111,7 @@ class ChangedVolumes:
 
     def read_by_a_run(self, found):
         """A run that reads all files shows those that the reader finds, and writes nothing."""
-        ran = self.run(self.case.image, "--budget", self.reading.budget)
+        ran = self.run(self.case.image, "--budget", self.reading.budget([*self.case.content, *(found.files or [])]))
         if not found.refused:
             self.must_be("run", Ran(0, self.reading.shown(found.files), b""), ran)
         elif self.is_openable:

@@ -14,6 +14,8 @@ import tempfile
 from collections import namedtuple
 from contextlib import contextmanager
 
+from repository import say
+
 # The name in the environment by which this process and its children know that programs are loaded.
 WANTED = "COBOL_LOADED"
 MOST_SECONDS = 10
@@ -55,7 +57,8 @@ def loaded(program):
 def in_process(program, _process):
     try:
         return Loaded(program)
-    except NotLoadable:
+    except NotLoadable as why:
+        say(f"{why}; each command has a process of its own")
         return None
 
 
