@@ -24,7 +24,8 @@ use Rattle.source_tree.specs.declared.inspect_statement.Replacing.TheVariants as
 use Rattle.source_tree.specs.declared.inspect_statement.InspectStatement.{InspectStatement}
 use Rattle.source_tree.specs.Display.{figurative_byte, shown_literal}
 use Rattle.source_tree.specs.Places.{LocatedItem}
-use Rattle.source_tree.specs.LookUp.{items_named, first}
+use Rattle.source_tree.specs.LookUp.{first}
+use Rattle.source_tree.specs.Parts.{items_referred}
 use Rattle.source_tree.specs.Storage.{Storage}
 use Rattle.source_tree.specs.Evaluated.{Evaluation, ◌>>=◌}
 use Rattle.source_tree.specs.References.{ItemPlace, part_of, storage_with, place_of}
@@ -53,7 +54,7 @@ found_size None = 0
 found_size (Some found) = found.item.length
 
 abbrev pub text_size : List LocatedItem → Source → ℕ
-text_size items (Bytes one) = found_size (first (items_named items one.item))
+text_size items (Bytes one) = found_size (first (items_referred items one))
 text_size items (Characters text) = length text
 
 -- the size of all joined

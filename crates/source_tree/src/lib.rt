@@ -51,7 +51,7 @@ pub use perform_statement::{PerformStatement, Performed, Repetition};
 pub use phrases::{FilePhrases, Phrases};
 pub use program::{Paragraph, Program, Section, Sentence};
 pub use records::{Access, OpenMode};
-pub use reference::{Adjustment, QualifiedName, Reference, Subscript};
+pub use reference::{Adjustment, Part, QualifiedName, Reference, Subscript};
 pub use select::{AlternateKeyClause, AssignedName, FileDescription, OrganizationClause, Select};
 pub use statement::{Statement, Verb};
 pub use string_statement::{Sending, StringStatement};

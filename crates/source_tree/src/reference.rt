@@ -29,9 +29,18 @@ pub enum Subscript {
     },
 }
 
-/// A reference. It stands where its name does.
+/// A part of an item: its first place, counted from 1, and its length, which without one goes to the item's end (ISO 1989:1985, Nucleus,
+/// "Reference modification").
+#[derive(Drop)]
+pub struct Part {
+    pub first: Subscript,
+    pub length: Option<Subscript>,
+}
+
+/// A reference. Its place is that of its name.
 #[derive(Drop)]
 pub struct Reference {
     pub item: QualifiedName,
     pub subscripts: Items<Subscript>,
+    pub part: Option<Part>,
 }
