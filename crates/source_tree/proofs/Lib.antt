@@ -18,6 +18,7 @@ pub mod Computing
 pub mod PlaceExamples
 pub mod EntryExamples
 pub mod MoveExamples
+pub mod PartExamples
 pub mod StringExamples
 pub mod InspectWalks
 pub mod InspectTaking

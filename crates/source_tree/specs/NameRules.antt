@@ -89,7 +89,7 @@ abbrev pub reference_rules : List LocatedItem → (Place → LocatedItem → Lis
 reference_rules items asked one =
     unique_name_rules one.item.name.place
     (λ found. where_so (not (length one.subscripts == length found.dimensions)) 50 one.item.name.place
-        ++ part_item_rules one found ++ asked one.item.name.place (seen one found))
+    ++ part_item_rules one found ++ asked one.item.name.place (seen one found))
     (items_named items one.item)
     ++ number_rules_of items one
 

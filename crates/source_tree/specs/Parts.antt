@@ -1,6 +1,5 @@
 -- Parts of items (ISO 1989:1985, Nucleus, "Reference modification").
 use Rattle.std.specs.Prelude.{ℕ, ◌+◌, ◌-◌, nat_le, Bool, true, false, ◌&&◌, if◌then◌else◌, List, map, Option, Some, None}
-use Rattle.picture.specs.declared.picture.Picture.{Picture}
 use Rattle.items.specs.declared.usage.Usage.{Usage}
 use Rattle.items.specs.declared.usage.Usage.TheVariants as usage
 use Rattle.items.specs.declared.item.Kind.{Kind}

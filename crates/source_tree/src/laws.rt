@@ -21,7 +21,7 @@ ghost use Rattle.source_tree.specs.Conditions.{without_value, alone_side, holds}
 ghost use Rattle.source_tree.specs.Evaluate.{Value, take_resolved};
 ghost use Rattle.source_tree.specs.Filing.{read_verb, start_verb};
 ghost use Rattle.source_tree.specs.Given.{RunInput, with_budget};
-ghost use Rattle.source_tree.specs.InspectLayout.{inspect_by_spans};
+ghost use Rattle.source_tree.specs.InspectLayout.{takings, HasKnownTexts, HasNoPart, inspect_by_spans};
 ghost use Rattle.source_tree.specs.InspectRules.{inspect_rules};
 ghost use Rattle.source_tree.specs.Inspecting.{inspect};
 ghost use Rattle.source_tree.specs.Integers.{number_of};
@@ -109,11 +109,13 @@ pub fn turns_law()
         ≡ turns line (number_of count) (in_turn (exec around depth) statements) s }
 {}
 
-/// Where INSPECT keeps its rules, and each item has a byte or more, it does what entries do that are spans of all its texts
-/// joined, whatever is in storage.
+/// Where INSPECT keeps its rules, each item has a byte or more, and the size of each text is known before a run, it does what
+/// entries do that are spans of all its texts joined, whatever is in storage. Texts without parts have known sizes.
 pub fn inspect_law()
     ensures spans { (items : List LocatedItem)
         → ((n : ℕ) (item : LocatedItem) → slice_get items n ≡ Some item → 1 ≤ item.item.length) →
         (one : InspectStatement) (storage : Storage) → inspect_rules items one ≡ []
-        → inspect items one storage ≡ inspect_by_spans items one storage }
+        → HasKnownTexts items one → inspect items one storage ≡ inspect_by_spans items one storage }
+    ensures known { (items : List LocatedItem) (one : InspectStatement)
+        → AllByRecursion HasNoPart (takings items one) → HasKnownTexts items one }
 {}
