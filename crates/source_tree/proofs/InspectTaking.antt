@@ -75,7 +75,7 @@ pub bind_ok : {A : Type 0} (r : Evaluation A) → r ≡ r >>= (λ x. okay x)
 bind_ok (Ok x) = refl
 bind_ok (Err fault) = refl
 
-bound : {A B : Type 0} (r : Evaluation A) (f : A → Evaluation B) (y : B) → r >>= f ≡ Ok y
+pub bound : {A B : Type 0} (r : Evaluation A) (f : A → Evaluation B) (y : B) → r >>= f ≡ Ok y
     → (x : A) × (r ≡ Ok x) × (f x ≡ Ok y)
 bound (Ok x) f y e = (x, refl, e)
 bound (Err fault) f y e = absurd cc
@@ -151,7 +151,7 @@ reads_then X Z n m a b find on x z h k = record {
 
 -- ---- parts of known length
 
-chosen : (test : Bool) (x y : ItemPlace) → cond test (okay x) (Err fault.Part) ≡ okay y → x ≡ y
+pub chosen : (test : Bool) (x y : ItemPlace) → cond test (okay x) (Err fault.Part) ≡ okay y → x ≡ y
 chosen true x y e = same_Ok x y e
 chosen false x y e = absurd cc
 

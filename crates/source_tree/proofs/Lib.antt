@@ -22,6 +22,7 @@ pub mod PartExamples
 pub mod StringExamples
 pub mod InspectWalks
 pub mod InspectTaking
+pub mod Parts
 pub mod InspectMeaning
 pub mod InspectKept
 pub mod InspectExamples

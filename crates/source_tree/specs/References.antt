@@ -1,6 +1,6 @@
 -- The place of a reference (ISO 1989:1985, Nucleus, "Subscripting", "Reference modification"). A subscript out of range is fault 91, and a
 -- part that its item lacks is fault 93 (own choice).
-use Rattle.std.specs.Prelude.{ℕ, zero, suc, ◌+◌, ◌-◌, ◌*◌, ℤ, pos, negsuc, ◌+ℤ◌, ◌-ℤ◌, nat_le, ◌&&◌, if◌then◌else◌, List, [], ◌∷◌, Option, Some, None, Ok, Err}
+use Rattle.std.specs.Prelude.{ℕ, zero, suc, ◌+◌, ◌-◌, ◌*◌, ℤ, pos, negsuc, ◌+ℤ◌, ◌-ℤ◌, nat_le, ◌≡◌, ◌≤◌, ◌&&◌, if◌then◌else◌, List, [], ◌∷◌, Option, Some, None, Ok, Err}
 use Rattle.decimal18.specs.Fraction.{Fraction}
 use Rattle.decimal18.specs.Digits.{integer_of}
 use Rattle.picture.specs.declared.picture.Picture.{Picture}
@@ -115,6 +115,18 @@ abbrev pub referred_place : List LocatedItem → Reference → LocatedItem → S
 referred_place items reference found storage =
     occurrence items reference.subscripts found storage >>= part_in items reference.part storage
 
+-- of the whole item
+abbrev pub whole_place_of : List LocatedItem → Reference → Storage → Evaluation ItemPlace
+whole_place_of items reference storage =
+    evaluation_of (first (items_named items reference.item)) >>= (λ found. occurrence items reference.subscripts found storage)
+
 abbrev pub place_of : List LocatedItem → Reference → Storage → Evaluation ItemPlace
 place_of items reference storage =
     evaluation_of (first (items_named items reference.item)) >>= (λ found. referred_place items reference found storage)
+
+-- ---- one place within another
+
+pub record IsWithin (place whole : ItemPlace) : Type 0 where
+  pub area : place.area ≡ whole.area
+  pub begin : whole.offset ≤ place.offset
+  pub end : place.offset + place.item.length ≤ whole.offset + whole.item.length

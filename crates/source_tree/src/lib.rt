@@ -41,7 +41,7 @@ pub use inspect_statement::{
     InspectStatement, Limits, Occurrences, ReplacedText, Replacing, Tallied, TalliedText, Tallying,
 };
 pub use laws::{
-    budget_law, depth_law, file_verb_law, output_law, record_areas_law, sound_files_law,
+    budget_law, depth_law, file_verb_law, output_law, part_law, record_areas_law, sound_files_law,
     subject_law, turns_law,
 };
 pub use lexical::{NumericLiteral, Place, Sign};
