@@ -43,5 +43,6 @@ code_again code fits =
     ∙ part_again start_table code.starts i (instructions_from v code.tables code.files) fits.starts
     ∙ ap (λ (bytes : List ℕ). table_at instruction_at bytes >>= end_from v code.tables code.files code.starts)
     (sym (append-nil i))
-    ∙ part_again instruction_table code.instructions [] (end_from v code.tables code.files code.starts) fits.instructions
+    ∙ part_again instruction_table code.instructions [] (end_from v code.tables code.files code.starts)
+    fits.instructions
     ∙ version_again code
