@@ -5,6 +5,7 @@ pub mod Calculations
 pub mod Safety
 pub mod TextSafety
 pub mod InspectSafety
+pub mod PartSafety
 pub mod EachSafety
 pub mod Entries
 pub mod Integers
@@ -22,3 +23,4 @@ pub mod InspectChains
 mod Examples
 mod ConditionExamples
 mod TextExamples
+mod PartExamples

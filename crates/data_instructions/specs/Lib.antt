@@ -1,6 +1,7 @@
 pub mod Faults
 pub mod Tables
 pub mod Scratch
+pub mod Parts
 pub mod Table
 pub mod Shapes
 pub mod Fits
