@@ -9,6 +9,9 @@ pub mod PartSafety
 pub mod EachSafety
 pub mod Entries
 pub mod Integers
+pub mod Subscripts
+pub mod PartForms
+pub mod PartCodes
 pub mod Codes
 pub mod Chains
 pub mod Expressions

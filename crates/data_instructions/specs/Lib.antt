@@ -7,6 +7,7 @@ pub mod Shapes
 pub mod Fits
 pub mod Naming
 pub mod Joining
+pub mod PartForms
 pub mod Codes
 pub mod Statements
 pub mod Chains
