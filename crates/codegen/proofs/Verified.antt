@@ -399,15 +399,15 @@ module _ (program : Program) (keep : program_rules program ≡ []) where
   is_flat = flat found program.sections storage
 
   met : (P : PerformedRange → Type 0) → AllByRecursion P (performed_by_program program)
-      → AreParagraphs files count P count storage body
+      → AreParagraphs items files count P count storage body
   met P q =
-      subst (AreParagraphs files count P count storage) (sym is_flat)
+      subst (AreParagraphs items files count P count storage) (sym is_flat)
       (paragraphs_lie found count P all_permitted formed_conditions items_sized within numbered (paragraphs program)
       storage
       (record { ends = refl; front = inl refl }) (omega arith) all_keep q)
 
   -- the names of its parts
-  names : Names storage body
+  names : Names items storage body
   names = (met (λ one. Unit {0}) (all_so (performed_by_program program))).names
 
   pub areas_are : code.tables.areas ≡ program_areas program
@@ -607,7 +607,7 @@ module _ (program : Program) (keep : program_rules program ≡ []) where
     abbrev all_heights : List ℕ
     all_heights = ordered.0
 
-    lying : AreParagraphs files count (Decreases (rank_in all_heights)) count storage body
+    lying : AreParagraphs items files count (Decreases (rank_in all_heights)) count storage body
     lying = met (Decreases (rank_in all_heights))
         (recursion_from_All (Decreases (rank_in all_heights)) (performed_by_program program) ordered.1.fall)
 

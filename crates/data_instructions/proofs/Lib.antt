@@ -14,6 +14,7 @@ pub mod PartForms
 pub mod PartCodes
 pub mod Codes
 pub mod Chains
+pub mod PartEntries
 pub mod Expressions
 pub mod ArithmeticCodes
 pub mod ArithmeticChains
