@@ -85,10 +85,10 @@ module _ (scope : Scope) (whole : Code) (has : HasFiles whole scope)
       ∙ ap (λ o. and_then o (effects tables others)) (
       taking_known scope.items tables i.Move one first is_first may.0.0 t
       ∙ ap (λ o. and_then (shape_with (Some s.stacks) (Some s.line) (and_then o (moving_to sent))) (effects tables []))
-      is_first.1.has.entry
+      is_first.1.entry
       ∙ ap (λ b.
       and_then (shape_with (Some s.stacks) (Some s.line) (if b then Some (Some sent) else None)) (effects tables []))
-      (may.0.1 is_first.1.found is_first.1.has.named))
+      (may.0.1 is_first.1.found is_first.1.named))
       ∙ receivers_known more others are_others sent may.1 s
 
   -- the record is taken, from rest

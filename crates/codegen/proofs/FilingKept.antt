@@ -15,7 +15,8 @@ use Rattle.source_tree.specs.FilingRules.{start_key_item, phrase_kind_rules, rea
 use Rattle.source_tree.specs.FilingRules.{into_rules, read_rules, record_item, from_rules, record_rules}
 use Rattle.source_tree.specs.FilingRules.{start_key_rules, start_rules}
 use Rattle.source_tree.specs.LookUp.{first, items_named}
-use Rattle.source_tree.specs.NameRules.{unique_name_rules, subscript_rules, reference_rules}
+use Rattle.source_tree.specs.NameRules.{unique_name_rules, part_item_rules, number_rules_of, reference_rules}
+use Rattle.source_tree.specs.Parts.{seen}
 use Rattle.source_tree.specs.Places.{LocatedItem}
 use Rattle.source_tree.specs.ProgramFiles.{ProgramFile}
 use Rattle.file_descriptions.specs.Clauses.{NamesOne}
@@ -45,10 +46,11 @@ module _ (items : List LocatedItem) where
   item_names_one asked one e =
       let place = one.item.name.place in
       let rules = λ (found : LocatedItem).
-      where_so (not (length one.subscripts == length found.dimensions)) 50 place ++ asked place found in
+      where_so (not (length one.subscripts == length found.dimensions)) 50 place ++ part_item_rules one found
+      ++ asked place (seen one found) in
       let found = items_named items one.item in
       let only = only_named place rules found
-      (left_none (unique_name_rules place rules found) (each (subscript_rules items) one.subscripts) e) in
+      (left_none (unique_name_rules place rules found) (number_rules_of items one) e) in
       record { one = only.0; named = only.1 }
 
   module _ (files : List ProgramFile) where

@@ -23,7 +23,9 @@ use Rattle.source_tree.specs.Broken.{RuleBreach, each}
 use Rattle.source_tree.specs.Display.{figurative_byte, shown_literal}
 use Rattle.source_tree.specs.LookUp.{items_named, first}
 use Rattle.source_tree.specs.NameRules.{reference_rules}
+use Rattle.source_tree.specs.Parts.{seen}
 use Rattle.source_tree.specs.Places.{LocatedItem}
+use Rattle.codegen.specs.ItemParts.{length_shown}
 use Rattle.source_tree.specs.InspectRules.{counter_item, inspected_item, inspected_literal, inspected_rules, size_of}
 use Rattle.source_tree.specs.InspectRules.{by_rules, limit_rules, ordered_limits, limits_rules, tallied_text_rules}
 use Rattle.source_tree.specs.InspectRules.{tallied_rules, tallying_rules, replaced_text_rules, replacing_rules}
@@ -55,12 +57,13 @@ keeps_inspect items one e =
     record { subject = left_none a b f; tallying = right_none a b f; replacing = right_none (a ++ b) c e }
 
 module _ (items : List LocatedItem) where
-  -- the length of the item that is found is the size of its text
+  -- the length of what a reference shows is the size of its text
   pub named_length : (one : Reference) → reference_rules items inspected_item one ≡ []
-      → found_size (slice_get items (item_number items one.item)) ≡ text_size items (Bytes one)
+      → length_shown one (slice_get items (item_number items one.item)) ≡ text_size items (Bytes one)
   named_length one e =
       let found = only_named one.item.name.place _ (items_named items one.item) (left_none _ _ e) in
-      ap found_size (item_there items one.item found.0 found.1) ∙ sym (ap (λ l. found_size (first l)) found.1)
+      ap (length_shown one) (item_there items one.item found.0 found.1)
+      ∙ sym (ap (λ l. found_size (first (map (seen one) l))) found.1)
 
 -- both limits keep their rules, in whatever order they stand
 ordered_rules : (items : List LocatedItem) (before after : Option Operand) (turned : Bool)

@@ -30,6 +30,7 @@ use Rattle.codegen.specs.DataCode.{item_number, text_fragment, reference_fragmen
 use Rattle.codegen.specs.InspectCode.{inspection_fragment, taken_fragment, takings_fragment, inspection_entry}
 use Rattle.codegen.specs.InspectCode.{inspect_fragment, Takes, TakesTexts, TextMade, LimitMade, LimitsMade, Puts}
 use Rattle.codegen.specs.InspectCode.{Counts}
+use Rattle.codegen.specs.ItemParts.{length_shown}
 use Rattle.codegen.proofs.Codes.{map_both}
 use Rattle.codegen.proofs.InspectKept.{named_length}
 use Rattle.codegen.proofs.Fragments.{joined_assoc, joined_nothing, in_order-append}
@@ -79,7 +80,7 @@ module _ (items : List LocatedItem) where
 
   pub bytes_made : (one : Reference) (old new : Code) (at size : ℕ) → reference_rules items inspected_item one ≡ []
       → new ≡ append old (taken_fragment items (Text (Bytes one)) old)
-      → size ≡ found_size (slice_get items (item_number items one.item))
+      → size ≡ length_shown one (slice_get items (item_number items one.item))
       → TextMade items (Bytes one) old new at (record { start = at; length = size })
   bytes_made one old new at size keep e is = record {
     code = takes_one (Text (Bytes one)) old new e;

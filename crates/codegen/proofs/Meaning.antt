@@ -39,6 +39,7 @@ use Rattle.codegen.proofs.CodeFiles.{kept_at}
 use Rattle.codegen.proofs.Demands.{all_front, all_back, paragraph_meets}
 use Rattle.codegen.proofs.Fragments.{joined_assoc, joined_nothing, flat}
 use Rattle.codegen.proofs.Procedures.{Laid, AreBare, laid_out, below, below_is}
+use Rattle.codegen.specs.InspectCode.{KnowsTexts}
 use Rattle.codegen.proofs.ProgramDoes.{range_ends}
 use Rattle.codegen.proofs.Ranges.{EndsWithin, FoundWithin, range_within, procedures_end}
 use Rattle.codegen.proofs.Running.{at}
@@ -206,10 +207,10 @@ module _ (program : Program) (keep : program_rules program ≡ []) (ordered : Ha
       ap (λ (storage : Storage). record (start_state code given) { storage = storage }) (areas_are program keep)
       ∙ ap (λ (connectors : List Connector). record (start program given) { connectors = connectors }) connectors_are
 
-  pub runs : (given : RunInput) → Runs code given (meaning program given)
-  runs given =
+  pub runs : KnowsTexts found.items → (given : RunInput) → Runs code given (meaning program given)
+  runs known given =
       let ended = range_ends code found (has_files program keep) (item_entries program keep) (order program keep)
-      (lies program keep) all laid height lower_keep there
+      (lies program keep) known all laid height lower_keep there
       (suc given.budget) 0 all (nothing_own code) (start program given)
       refl (omega arith) refl (omega arith)
       (record { counters = length-replicate (length code.instructions) 0; line = refl }) in

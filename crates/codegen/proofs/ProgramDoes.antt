@@ -35,6 +35,7 @@ use Rattle.codegen.proofs.Standing.{front, back, first_stands}
 use Rattle.codegen.proofs.Running.{at, one_step}
 use Rattle.codegen.proofs.Doing.{end_of, Keeps, keeps_all, Comes, Does, PartDoes, Sits, IsRoom, still_room, steps_to}
 use Rattle.codegen.proofs.Doing.{wider, moved_from, Follows, in_order_does}
+use Rattle.codegen.specs.InspectCode.{KnowsTexts}
 use Rattle.codegen.proofs.Simulation.{Performs, verb_does}
 use Rattle.codegen.proofs.HasFiles.{HasFiles}
 use Rattle.codegen.proofs.Procedures.{Laid, below, is_below}
@@ -91,7 +92,7 @@ module _ (whole : Code) (scope : Scope) (has : HasFiles whole scope)
     → slice_get whole.tables.items n ≡ Some (data_item one))
     (order : IsTables whole.tables)
     (lie : (n : ℕ) (one : LocatedItem) → slice_get scope.items n ≡ Some one → LiesWhole whole.tables one)
-    (all : List Paragraph)
+    (known : KnowsTexts scope.items) (all : List Paragraph)
     (laid : Laid whole scope all) (height : ℕ → ℕ)
     (keep : (n : ℕ) (one : Paragraph) → slice_get all n ≡ Some one
     → paragraph_rules scope (below height (height n)) one ≡ [])
@@ -399,7 +400,7 @@ module _ (whole : Code) (scope : Scope) (has : HasFiles whole scope)
         let is = statement_is scope one before in
         let now = out-Statement one in
         subst (λ (c : Code). PartDoes whole (Relies high) before c cs s (exec around (suc depth) one s)) (sym is)
-        (verb_does whole (Relies high) scope has entries order lie (λ (found : Range). found.last < length all) there
+        (verb_does whole (Relies high) scope has entries order lie known (λ (found : Range). found.last < length all) there
         depth (below height high)
         (statement_rules scope (below height high)) (exec around depth)
         (range_outcome (exec around depth) all) (statement_fragment scope) (statement_does depth high)

@@ -74,6 +74,7 @@ use Rattle.data_instructions.proofs.ArithmeticCodes.{arithmetic_works}
 use Rattle.data_instructions.proofs.TextCodes.{initialize_works, set_works, string_works}
 use Rattle.data_instructions.proofs.InspectCodes.{inspect_does}
 use Rattle.code_image.specs.declared.code.Code.{Code}
+use Rattle.codegen.specs.InspectCode.{KnowsTexts}
 use Rattle.code_image.specs.declared.instruction.Instruction.{Instruction}
 use Rattle.code_image.specs.declared.instruction.Instruction.TheVariants.{Show, Accept, Date}
 use Rattle.code_image.specs.Points.{Own, scratch_of, state_with, own_with}
@@ -146,6 +147,7 @@ module _ (whole : Code) (kept : ℕ → Type 0) (scope : Scope) (has : HasFiles 
     → slice_get whole.tables.items n ≡ Some (data_item one))
     (order : IsTables whole.tables)
     (lie : (n : ℕ) (one : LocatedItem) → slice_get scope.items n ≡ Some one → LiesWhole whole.tables one)
+    (known : KnowsTexts scope.items)
     (IsThere : Range → Type 0)
     (found_there : (permits : Range → Bool) (first : Name) (last : Option Name) (one : Range)
     → range_rules permits scope.procedures first last ≡ []
@@ -269,9 +271,9 @@ module _ (whole : Code) (kept : ℕ → Type 0) (scope : Scope) (has : HasFiles 
   texts_do (text.Inspect one) before cs s keep room st =
       let part = inspect_fragment scope.items one before in
       let coded = (inspect_codes scope.items whole entries one keep).by before st in
-      let means = inspected_alike scope.items items_sized one s.storage keep in
+      let means = inspected_alike scope.items items_sized one s.storage keep (known one keep) in
       let works_as =
-      inspect_does scope.items whole.tables order one coded.code coded.holds (scratch_of s cs) room.line
+      inspect_does scope.items whole.tables order one coded.code (known one keep) coded.holds (scratch_of s cs) room.line
       ∙ ap (λ (e : Evaluation Storage).
       scratch.step_with e (λ after. scratch.Continues (record (scratch_of s cs) { storage = after }))) (sym means) in
       let from = end_of before in

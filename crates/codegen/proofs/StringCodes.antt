@@ -33,7 +33,7 @@ use Rattle.codegen.specs.Fragments.{sequence, in_order}
 use Rattle.codegen.specs.DataCode.{work_fragment, text_fragment, reference_fragment}
 use Rattle.codegen.specs.StringCode.{up_to_text_fragment, text_up_to_place_fragment, sent_item_fragment, sent_fragment}
 use Rattle.codegen.specs.StringCode.{found_fragment, up_to_place_fragment, sender_by_fragment, sender_fragment}
-use Rattle.codegen.specs.StringCode.{sendings_fragment, pointer_subscripts, put_fragment, string_fragment}
+use Rattle.codegen.specs.StringCode.{sendings_fragment, pointer_numbers, put_fragment, string_fragment}
 use Rattle.codegen.proofs.Codes.{left_none, right_none, reference_coded, text_coded}
 use Rattle.codegen.proofs.CodedPieces.{CodedBy, both_by, behind_by}
 use Rattle.codegen.proofs.ExpressionCodes.{taking_codes}
@@ -57,7 +57,7 @@ keeps_string items one e =
     record { sendings = left_none a b f; receiver = right_none a b f; pointer = right_none (a ++ b) c e }
 
 pub pointer_kept : (items : List LocatedItem) (size : ℕ) (one : Option Reference) → pointer_rules items size one ≡ []
-    → pointer_subscripts items one ≡ []
+    → pointer_numbers items one ≡ []
 pointer_kept items size None e = refl
 pointer_kept items size (Some one) e = item_kept items (pointer_item size) one e
 

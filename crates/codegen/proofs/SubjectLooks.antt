@@ -34,6 +34,7 @@ use Rattle.source_tree.specs.EvaluateRules.{resolved_rules, object_rules, object
 use Rattle.source_tree.specs.Evaluated.{Fault, Evaluation, ◌>>=◌, evaluation_of}
 use Rattle.source_tree.specs.LookUp.{items_named, first}
 use Rattle.source_tree.specs.NameRules.{unique_name_rules, subscript_rules, reference_rules, any_item, operand_rules}
+use Rattle.source_tree.specs.Parts.{has_part}
 use Rattle.source_tree.specs.Places.{LocatedItem}
 use Rattle.source_tree.specs.References.{ItemPlace, part_of, place_after, bytes_before, occurrence, place_of}
 use Rattle.source_tree.specs.State.{State, Outcome, in_turn, with_value}
@@ -162,14 +163,18 @@ module _ (items : List LocatedItem) where
   -- ---- a look finds what the subject is taken with
 
   faultless_item : (one : Reference) (storage : Storage) → reference_rules items any_item one ≡ []
-      → (is_single (slice_get items (item_number items one.item))
-      && not (is_numeric_item (slice_get items (item_number items one.item)))) ≡ true
+      → ((not (has_part one) && is_single (slice_get items (item_number items one.item)))
+      && not (not (has_part one) && is_numeric_item (slice_get items (item_number items one.item)))) ≡ true
       → (place_of items one storage >>= take_item storage) ≡ Ok tt
   faultless_item one storage e is =
-      let single = is_single (slice_get items (item_number items one.item)) in
-      let numeric = is_numeric_item (slice_get items (item_number items one.item)) in
-      let place = single_place items one storage e (first_true single (not numeric) is) in
-      let text = sym (ap is_numeric_item place.1) ∙ not_so numeric (second_true single (not numeric) is) in
+      let single = not (has_part one) && is_single (slice_get items (item_number items one.item)) in
+      let item = is_numeric_item (slice_get items (item_number items one.item)) in
+      let numeric = not (has_part one) && item in
+      let hand = first_true single (not numeric) is in
+      let place = single_place items one storage e hand in
+      let whole = first_true (not (has_part one)) (is_single (slice_get items (item_number items one.item))) hand in
+      let text = sym (ap is_numeric_item place.1) ∙ sym (ap (λ b. b && item) whole)
+      ∙ not_so numeric (second_true single (not numeric) is) in
       ap (λ (found : Evaluation ItemPlace). found >>= take_item storage) place.2
       ∙ text_taken place.0.item.kind (part_of storage (place_after place.0 0)) text
 

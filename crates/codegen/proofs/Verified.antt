@@ -53,6 +53,7 @@ use Rattle.data_instructions.specs.Chains.{greatest, LiesWhole}
 use Rattle.data_instructions.specs.Naming.{NamesEntries}
 use Rattle.data_instructions.specs.Shapes.{empty, and_then, effect}
 use Rattle.data_instructions.proofs.Known.{and_then_some, parts}
+use Rattle.data_instructions.proofs.PartEntries.{part_in_order}
 use Rattle.file_image.specs.declared.file.CodeFile.{CodeFile}
 use Rattle.file_image.specs.Files as table
 use Rattle.file_image.specs.Files.{places_of, NamesPlaces, IsCodeFile}
@@ -81,7 +82,7 @@ use Rattle.codegen.proofs.Inspections.{AreSized}
 use Rattle.codegen.proofs.Codes.{left_none, right_none}
 use Rattle.codegen.proofs.NewBytes.{all_at}
 use Rattle.codegen.proofs.Fragments.{flat}
-use Rattle.codegen.proofs.Straight.{all_both, IsSent}
+use Rattle.codegen.proofs.Straight.{all_both, IsSent, IsPartOf}
 use Rattle.codegen.proofs.Leading.{all_weaker, more_counters, all_lead, both_lead, all_stay, Names}
 use Rattle.codegen.proofs.Ranges.{EndsWithin, procedures_end}
 use Rattle.codegen.proofs.Paragraphs.{IsSuitedAt, performed_append, starts_stay, start_at, starts_within, AreParagraphs}
@@ -415,10 +416,9 @@ module _ (program : Program) (keep : program_rules program ≡ []) where
       append-nil (program_areas program ++ body.tables.areas) ∙ ap (λ l. program_areas program ++ l) names.areas
       ∙ append-nil (program_areas program)
 
-  items_are : code.tables.items ≡ storage_items items files
-  items_are =
-      append-nil (storage_items items files ++ body.tables.items) ∙ ap (λ l. storage_items items files ++ l) names.items
-      ∙ append-nil (storage_items items files)
+  -- those of the storage, and parts of items
+  items_are : code.tables.items ≡ storage_items items files ++ body.tables.items
+  items_are = append-nil (storage_items items files ++ body.tables.items)
 
   pub files_are : code.files ≡ code_files items program.selects files
   files_are =
@@ -436,12 +436,17 @@ module _ (program : Program) (keep : program_rules program ≡ []) where
   pub files_counted : length code.files ≡ length program.selects
   files_counted = ap length files_are ∙ codes_count items areas program.files 0 program.selects
 
+  -- an item of the storage stays where it is
+  storage_entry : (n : ℕ) (one : DataItem) → slice_get (storage_items items files) n ≡ Some one
+      → slice_get code.tables.items n ≡ Some one
+  storage_entry n one here =
+      ap (λ l. slice_get l n) items_are ∙ stays_at (storage_items items files) body.tables.items n one here
+
   pub item_entries : (n : ℕ) (one : LocatedItem) → slice_get items n ≡ Some one
       → slice_get code.tables.items n ≡ Some (data_item one)
   item_entries n one here =
-      ap (λ l. slice_get l n) items_are
-      ∙ stays_at (map data_item items) (map (sent_entry items) files) n (data_item one)
-      (map_at data_item items n one here)
+      storage_entry n (data_item one) (stays_at (map data_item items) (map (sent_entry items) files) n (data_item one)
+      (map_at data_item items n one here))
 
   item_lies : (n : ℕ) (one : LocatedItem) → slice_get items n ≡ Some one → reach.Lies code.tables.areas one
   item_lies n one here =
@@ -493,10 +498,10 @@ module _ (program : Program) (keep : program_rules program ≡ []) where
             ∙ places_are items areas program.files code.tables item_entries (0 + k) at.select named
             ∙ sym (ap (λ (f : ProgramFile). f.places) at.is);
         sent = ap (λ (n : ℕ). slice_get code.tables.items (length items + n)) (sym same)
-            ∙ ap (λ l. slice_get l (length items + k)) items_are
-            ∙ ap (λ (n : ℕ). slice_get (storage_items items files) (n + k)) (sym (length-map items data_item))
+            ∙ storage_entry (length items + k) (sent_entry items file)
+            (ap (λ (n : ℕ). slice_get (storage_items items files) (n + k)) (sym (length-map items data_item))
             ∙ behind_at (map data_item items) (map (sent_entry items) files) k (sent_entry items file)
-            (map_at (sent_entry items) files k file here);
+            (map_at (sent_entry items) files k file here));
       }
 
   -- The table of files has the entries of the program's files.
@@ -565,14 +570,29 @@ module _ (program : Program) (keep : program_rules program ≡ []) where
 
   -- ---- the tables
 
-  item_so : (k : ℕ) (one : DataItem) → slice_get code.tables.items k ≡ Some one → IsDataItem code.tables.areas one
-  item_so k one here =
+  storage_so : (k : ℕ) (one : DataItem) → slice_get (storage_items items files) k ≡ Some one
+      → IsDataItem code.tables.areas one
+  storage_so k one here =
       ⊎_elim (λ first. let from = mapped_from data_item items k one first in
       subst (IsDataItem code.tables.areas) from.2 (item_in_order k from.0 from.1))
       (λ last. let from = mapped_from (sent_entry items) files last.0 one last.1 in
       subst (IsDataItem code.tables.areas) from.2 (sent_in_order last.0 from.0 from.1))
-      (split_at (map data_item items) (map (sent_entry items) files) k one (sym (ap (λ l. slice_get l k) items_are)
-      ∙ here))
+      (split_at (map data_item items) (map (sent_entry items) files) k one here)
+
+  pub lies : (n : ℕ) (one : LocatedItem) → slice_get items n ≡ Some one → LiesWhole code.tables one
+  lies n one here = lies_whole code.tables one (item_lies n one here)
+
+  part_so : (one : DataItem) → IsPartOf items one → IsDataItem code.tables.areas one
+  part_so one of =
+      subst (IsDataItem code.tables.areas) (sym of.is)
+      (part_in_order code.tables of.found (Some of.part) (item_in_order of.number of.found of.here)
+      (lies of.number of.found of.here))
+
+  item_so : (k : ℕ) (one : DataItem) → slice_get code.tables.items k ≡ Some one → IsDataItem code.tables.areas one
+  item_so k one here =
+      ⊎_elim (λ first. storage_so k one first)
+      (λ last. part_so one (each_at (IsPartOf items) body.tables.items names.entries last.0 one last.1))
+      (split_at (storage_items items files) body.tables.items k one (sym (ap (λ l. slice_get l k) items_are) ∙ here))
 
   pub order : IsTables code.tables
   order = record {
@@ -585,9 +605,6 @@ module _ (program : Program) (keep : program_rules program ≡ []) where
         each_at IsInspection body.tables.inspections names.inspections k one
         (sym (ap (λ l. slice_get l k) inspections_are) ∙ here);
   }
-
-  pub lies : (n : ℕ) (one : LocatedItem) → slice_get items n ≡ Some one → LiesWhole code.tables one
-  lies n one here = lies_whole code.tables one (item_lies n one here)
 
   stands : Stands code storage paragraphs_code
   stands = subst (Stands code storage) is_flat (record { rest = end_fragment; is = refl })

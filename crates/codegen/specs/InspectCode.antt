@@ -7,7 +7,8 @@ use Rattle.source_tree.specs.declared.inspect_statement.Limits.{Limits}
 use Rattle.source_tree.specs.declared.inspect_statement.Tallying.{Tallying}
 use Rattle.source_tree.specs.declared.inspect_statement.InspectStatement.{InspectStatement}
 use Rattle.source_tree.specs.Places.{LocatedItem}
-use Rattle.source_tree.specs.InspectLayout.{Source, Bytes, Characters, InspectArgument, Counter, Text, InspectEntry, text_sizes, limit_text, limit_texts, entries_texts, span_at, limit_span, before_at, after_at, entries_at, counter_entries, tallying_takings, all_inspected, entry_counts, takings, inspection, inspected_size}
+use Rattle.source_tree.specs.InspectLayout.{Source, Bytes, Characters, InspectArgument, Counter, Text, InspectEntry, text_sizes, limit_text, limit_texts, entries_texts, span_at, limit_span, before_at, after_at, entries_at, counter_entries, tallying_takings, all_inspected, entry_counts, takings, inspection, inspected_size, HasKnownTexts}
+use Rattle.source_tree.specs.InspectRules.{inspect_rules}
 use Rattle.data_instructions.specs.declared.gather.Gather.TheVariants as g
 use Rattle.data_instructions.specs.declared.tables.Inspection.{Inspection}
 use Rattle.data_instructions.specs.declared.instruction.DataInstruction.TheVariants as i
@@ -35,6 +36,11 @@ module _ (items : List LocatedItem) where
 
   abbrev pub takings_fragment : List InspectArgument → Fragment
   takings_fragment = in_order taken_fragment
+
+  -- The size of each text of an INSPECT that keeps its rules is known before a run. The code of INSPECT says where each text is by its
+  -- size, so code is right where this holds.
+  abbrev pub KnowsTexts : Type 0
+  KnowsTexts = (one : InspectStatement) → inspect_rules items one ≡ [] → HasKnownTexts items one
 
   -- what the table has of an INSPECT
   abbrev pub inspection_entry : InspectStatement → Inspection

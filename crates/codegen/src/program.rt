@@ -8,6 +8,7 @@ ghost use Rattle.source_tree.specs.Meaning.{Run, meaning};
 ghost use Rattle.file_image.specs.Files.{entries_of};
 ghost use Rattle.code_image.specs.Demands.{IsVerified};
 ghost use Rattle.code_image.specs.Table.{Runs};
+ghost use Rattle.codegen.specs.InspectCode.{KnowsTexts};
 ghost use Rattle.codegen.specs.Layout.{code_of};
 
 use crate::emit::emit_end;
@@ -20,12 +21,12 @@ use std::alloc::{AllocError, Global};
 /// The code of a program that keeps the rules. It is refused for want of memory alone.
 pub fn generate(alloc: Global, checked: &Checked<'_>) -> Result<Code, AllocError>
     ensures layout { IfOk result (λ code. code ≡ code_of checked.now) }
-    // Whatever it is given, the code's run is what the tree means,
-    ensures ends { IfOk result
-        (λ code. (given : RunInput) → Runs code given (meaning checked.now given)) }
+    // Whatever it is given, the code's run is what the tree means, if the sizes of texts of INSPECT are known before a run,
+    ensures ends { IfOk result (λ code. KnowsTexts (scope checked.now).items
+        → (given : RunInput) → Runs code given (meaning checked.now given)) }
     // and nothing else is.
-    ensures ends_only { IfOk result (λ code. (given : RunInput) (run : Run) → Runs code given run
-        → run ≡ meaning checked.now given) }
+    ensures ends_only { IfOk result (λ code. KnowsTexts (scope checked.now).items
+        → (given : RunInput) (run : Run) → Runs code given run → run ≡ meaning checked.now given) }
     // There is one file for each SELECT.
     ensures files { IfOk result (λ code. length code.files ≡ length checked.now.selects) }
     // Each file is what its SELECT and FD say.

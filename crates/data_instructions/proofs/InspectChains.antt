@@ -100,7 +100,7 @@ module _ (items : List LocatedItem) (tables : DataTables) where
 
   pub inspect_leaves : (one : InspectStatement) (code : List DataInstruction) → IsInspectCode items tables one code
       → LiesInspect items tables one → KnowsInspect items tables code
-  inspect_leaves one code (sized, subject, r, parts, are, index, has, is) lies s none =
+  inspect_leaves one code (subject, r, parts, are, index, has, is) lies s none =
       let later : List DataInstruction = parts ++ (i.Inspect index ∷ []) in
       ap (λ c. effects tables c s) is
       ∙ effects_append tables subject later s

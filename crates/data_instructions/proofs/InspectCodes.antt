@@ -18,7 +18,7 @@ use Rattle.source_tree.specs.References as tree
 use Rattle.source_tree.specs.InspectLayout as layout
 use Rattle.source_tree.specs.Inspecting.{text_at}
 use Rattle.source_tree.specs.InspectLayout.{Source, Bytes, Characters, InspectArgument, Counter, Text, InspectTaken}
-use Rattle.source_tree.specs.InspectLayout.{HasKnownLength, HasKnownSize, IsOfKnownSize}
+use Rattle.source_tree.specs.InspectLayout.{HasKnownLength, HasKnownSize, IsOfKnownSize, HasKnownTexts}
 use Rattle.source_tree.specs.InspectLayout.{found_size, text_size, taken_size, tallying_takings, entries_texts, counter_entries}
 use Rattle.source_tree.specs.InspectLayout.{entry_counts, takings, inspection, inspected_size, with_counter, with_text}
 use Rattle.source_tree.specs.InspectLayout.{take_each, inspect_at, inspect_by_spans}
@@ -277,11 +277,11 @@ module _ (items : List LocatedItem) (tables : DataTables) (order : IsTables tabl
       (takings_work index how size has p subject at more back are_back ps rs are many (line ++ text) s)
 
   -- with nothing in the line
-  inspect_from_nothing : (one : InspectStatement) (code : List DataInstruction) → IsInspectCode items tables one code
-      → (s : Scratch)
+  inspect_from_nothing : (one : InspectStatement) (code : List DataInstruction) → HasKnownTexts items one
+      → IsInspectCode items tables one code → (s : Scratch)
       → works tables code (record s { line = [] })
       ≡ step_with (inspect_by_spans items one s.storage) (λ after. Continues (record s { storage = after; line = [] }))
-  inspect_from_nothing one code (sized, subject, r, parts, are, index, has, is) s =
+  inspect_from_nothing one code sized (subject, r, parts, are, index, has, is) s =
       let u : Scratch = record s { line = [] } in
       let how : layout.Inspection = inspection items one in
       let size : ℕ = inspected_size items one in
@@ -313,11 +313,11 @@ module _ (items : List LocatedItem) (tables : DataTables) (order : IsTables tabl
       items (takings items one) s.storage >>= (λ taken. inspect_at how taken.texts taken.counters place s.storage))
       (λ after. Continues (record s { storage = after; line = [] })))
 
-  pub inspect_does : (one : InspectStatement) (code : List DataInstruction) → IsInspectCode items tables one code
-      → (s : Scratch) → s.line ≡ []
+  pub inspect_does : (one : InspectStatement) (code : List DataInstruction) → HasKnownTexts items one
+      → IsInspectCode items tables one code → (s : Scratch) → s.line ≡ []
       → works tables code s
       ≡ step_with (inspect_by_spans items one s.storage) (λ after. Continues (record s { storage = after }))
-  inspect_does one code is s empty =
+  inspect_does one code sized is s empty =
       subst (λ (l : List ℕ). works tables code (record s { line = l })
       ≡ step_with (inspect_by_spans items one s.storage) (λ after. Continues (record s { storage = after; line = l })))
-      (sym empty) (inspect_from_nothing one code is s)
+      (sym empty) (inspect_from_nothing one code sized is s)

@@ -3,7 +3,7 @@ use Rattle.std.specs.Prelude.{◌≡◌, ℕ, List, [], ◌∷◌, ◌++◌, Som
 use Rattle.source_tree.specs.declared.inspect_statement.InspectStatement.{InspectStatement}
 use Rattle.source_tree.specs.Places.{LocatedItem}
 use Rattle.source_tree.specs.InspectLayout as layout
-use Rattle.source_tree.specs.InspectLayout.{Bytes, Characters, InspectArgument, Counter, Text, takings, inspection, inspected_size, HasKnownTexts, inspect_by_spans}
+use Rattle.source_tree.specs.InspectLayout.{Bytes, Characters, InspectArgument, Counter, Text, takings, inspection, inspected_size, inspect_by_spans}
 use Rattle.data_instructions.specs.declared.index.InspectionIndex.{InspectionIndex}
 use Rattle.data_instructions.specs.declared.tables.Inspection.{Inspection}
 use Rattle.data_instructions.specs.declared.tables.DataTables.{DataTables}
@@ -36,11 +36,10 @@ module _ (items : List LocatedItem) (tables : DataTables) where
     pub is : inspection_of one ≡ how
     pub size_is : one.size ≡ size
 
-  -- The subject's place lies below those of the counters. The size of each text is known before a run.
+  -- The subject's place lies below those of the counters.
   abbrev pub IsInspectCode : InspectStatement → List DataInstruction → Type 0
   IsInspectCode one code =
-      HasKnownTexts items one
-      × (subject : List DataInstruction) × IsReferenceCode items tables one.subject subject
+      (subject : List DataInstruction) × IsReferenceCode items tables one.subject subject
       × (parts : List DataInstruction) × AreTakenCode (takings items one) parts
       × (index : InspectionIndex) × HasInspection (inspection items one) (inspected_size items one) index
       × (code ≡ subject ++ (parts ++ (i.Inspect index ∷ [])))

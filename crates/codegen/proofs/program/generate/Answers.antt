@@ -55,8 +55,8 @@ returns-clause-ends c =
     c.program-program.result.now c.as_slice.result.now
     c.in_ok-code.code c.emit_sections.new.code c.emit_end.new.code c.program-program.ensures.same c.as_slice.ensures
     c.in_ok-code.ensures c.in_ok-emit_sections.ensures c.in_ok-emit_end.ensures in
-    λ given. subst (λ (code : Code). Runs code given (meaning program given)) (sym e)
-    (runs program c.program-program.ensures.kept c.program-program.ensures.order given)
+    λ known given. subst (λ (code : Code). Runs code given (meaning program given)) (sym e)
+    (runs program c.program-program.ensures.kept c.program-program.ensures.order known given)
 
 pub returns-clause-ends_only : goal.returns-clause-ends_only
 returns-clause-ends_only c =
@@ -66,9 +66,9 @@ returns-clause-ends_only c =
     c.program-program.result.now c.as_slice.result.now
     c.in_ok-code.code c.emit_sections.new.code c.emit_end.new.code c.program-program.ensures.same c.as_slice.ensures
     c.in_ok-code.ensures c.in_ok-emit_sections.ensures c.in_ok-emit_end.ensures in
-    λ given run r. one_run c.emit_end.new.code given run (meaning program given) r
+    λ known given run r. one_run c.emit_end.new.code given run (meaning program given) r
     (subst (λ (code : Code). Runs code given (meaning program given)) (sym e)
-    (runs program c.program-program.ensures.kept c.program-program.ensures.order given))
+    (runs program c.program-program.ensures.kept c.program-program.ensures.order known given))
 
 pub returns-clause-files : goal.returns-clause-files
 returns-clause-files c =
