@@ -23,6 +23,7 @@ use Rattle.source_tree.specs.FileRules.{most_alternate_keys, select_rules}
 use Rattle.source_tree.specs.LookUp.{items_named, first}
 use Rattle.source_tree.specs.Meaning.{closed_connectors}
 use Rattle.source_tree.specs.NameRules.{unique_name_rules}
+use Rattle.source_tree.specs.NameRules.{no_part_rules}
 use Rattle.source_tree.specs.Places.{LocatedItem}
 use Rattle.source_tree.specs.ProgramFiles.{DescribedFile, described_file, ProgramFile, plain_place, item_place, file_by}
 use Rattle.source_tree.specs.ProgramFiles.{files_from}
@@ -93,7 +94,10 @@ module _ (items : List LocatedItem) where
   item_asked : (asked : Reference → LocatedItem → List RuleBreach) (one : Reference) → clause_item items asked one ≡ []
       → NamesOne (Some one)
   item_asked asked one e = let only =
-      only_named one.item.name.place (asked one) (items_named items one.item) e in (only.0, only.1)
+      only_named one.item.name.place (λ found. no_part_rules one ++ asked one found) (items_named items one.item) e in (
+        only.0,
+        only.1,
+      )
 
   none_written : (one : Option Reference) → in_clause another_clause one ≡ [] → NamesOne one
   none_written None e = tt

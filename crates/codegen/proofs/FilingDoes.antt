@@ -22,7 +22,8 @@ use Rattle.source_tree.specs.Filing.{Class, class_of, unheard_outcome, taken_phr
 use Rattle.source_tree.specs.Filing.{from_item, on_file, file_with_record, is_in_sequence, read_verb, start_verb}
 use Rattle.source_tree.specs.Filing.{statement_on, on_name, open_one, close_one, phrases_of, file_outcome}
 use Rattle.source_tree.specs.FilingRules.{any_file, file_named_rules, open_rules, close_rules, read_rules}
-use Rattle.source_tree.specs.FilingRules.{read_phrase_rules, read_key_rules, into_rules, record_item, from_rules}
+use Rattle.source_tree.specs.FilingRules.{read_phrase_rules, read_key_rules, into_rules, from_rules}
+use Rattle.codegen.proofs.FilingKept.{whole_record}
 use Rattle.source_tree.specs.FilingRules.{record_rules, delete_rules, start_rules, filing_rules, is_random}
 use Rattle.source_tree.specs.LookUp.{items_named, first}
 use Rattle.source_tree.specs.NameRules.{unique_name_rules, reference_rules}
@@ -347,7 +348,7 @@ module _ (whole : Code) (kept : ℕ → Type 0) (scope : Scope)
         let go = statement_on scope.items scope.files run all Done verb in
         let rest = found_does found go statement (λ file is.
         alone_does all inner (λ file. verb) file (with_record (first (items_named scope.items one.item)) file is)) in
-        let asked = reference_rules scope.items (record_item scope.items scope.files all) one in
+        let asked = reference_rules scope.items (whole_record scope.items scope.files one all) one in
         record {
           by = λ before cs s below room sits.
               let a = from_fragment scope.items one from before in

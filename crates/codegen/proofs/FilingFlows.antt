@@ -18,7 +18,7 @@ use Rattle.source_tree.specs.declared.file_statement.FileStatement.TheVariants.{
 use Rattle.source_tree.specs.Broken.{RuleBreach, each}
 use Rattle.source_tree.specs.Filing.{file_with_record, read_verb, start_verb, phrases_of}
 use Rattle.source_tree.specs.FilingRules.{file_named_rules, open_rules, close_rules, read_rules, into_rules}
-use Rattle.source_tree.specs.FilingRules.{record_item, from_rules, record_rules, delete_rules, start_rules}
+use Rattle.source_tree.specs.FilingRules.{from_rules, record_rules, delete_rules, start_rules}
 use Rattle.source_tree.specs.FilingRules.{filing_rules}
 use Rattle.source_tree.specs.LookUp.{items_named, first}
 use Rattle.source_tree.specs.MoveRules.{receives, move_rules}
@@ -59,6 +59,7 @@ use Rattle.codegen.proofs.FilingDoes.{first_asked, into_kept}
 use Rattle.codegen.proofs.Flowing.{rest, along_data, Flows, both_flow, nothing_flows, in_order_flows, BodyFlows}
 use Rattle.codegen.proofs.Flowing.{either_flows}
 use Rattle.codegen.proofs.HasFiles.{IsFiled, HasFiles, first_so}
+use Rattle.codegen.proofs.FilingKept.{whole_record}
 use Rattle.codegen.proofs.Lying.{receive_each}
 use Rattle.codegen.proofs.MoveDoing.{into_coded}
 use Rattle.codegen.proofs.Standing.{Stands, front, back}
@@ -249,7 +250,7 @@ module _ (scope : Scope) (whole : Code) (has : HasFiles whole scope)
         → BodyFlows whole (record_fragment scope inside one to from phrases)
     record_flows one to from phrases e inner =
         let statement = alone_fragment scope inside phrases (λ file. one) in
-        let asked = reference_rules scope.items (record_item scope.items scope.files phrases) to in
+        let asked = reference_rules scope.items (whole_record scope.items scope.files to phrases) to in
         pair_flows (from_fragment scope.items to from) (on_record_fragment scope.items scope.files to statement)
         (from_flows to from (right_none asked (from_rules scope.items scope.files to from) e))
         (found_flows (file_with_record scope.files (first (items_named scope.items to.item))) statement

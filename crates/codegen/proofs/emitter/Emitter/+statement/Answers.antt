@@ -28,6 +28,7 @@ use Rattle.source_tree.specs.Rules.{branching_rules, performing_rules, phrases_r
 use Rattle.source_tree.specs.Rules.{performed_rules, turns_rules, evaluate_rules, statement_rules}
 use Rattle.source_tree.specs.ArithmeticRules.{operation_rules}
 use Rattle.source_tree.specs.LookUp.{first, items_named}
+use Rattle.source_tree.specs.Parts.{items_referred}
 use Rattle.source_tree.specs.ProgramFiles.{ProgramFile, files_named}
 use Rattle.source_tree.specs.StringRules.{sending_rules, receiver_item, only_length, string_rules}
 use Rattle.file_descriptions.specs.Files.{file_in}
@@ -629,7 +630,7 @@ emit_stringing-emit_string-requires-clause-receiver t c =
 pub emit_stringing-emit_string-requires-clause-pointer : goal.emit_stringing-emit_string-requires-clause-pointer
 emit_stringing-emit_string-requires-clause-pointer t c =
     let items = (scope_in c.args.self.now.declarations.now).items in
-    pointer_kept items (only_length (items_named items c.args.one.now.receiver.item)) c.args.one.now.pointer
+    pointer_kept items (only_length (items_referred items c.args.one.now.receiver)) c.args.one.now.pointer
     (keeps_string items c.args.one.now c.requires.string).pointer
 
 pub emit_filing-emit_read-requires : goal.emit_filing-emit_read-requires
