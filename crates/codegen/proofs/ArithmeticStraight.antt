@@ -60,7 +60,8 @@ module _ (items : List LocatedItem) where
   abbrev pair_of : Operator × Known → Operator × Fragment
   pair_of one = (one.0, piece_of one.1)
 
-  more_straight : (more : List (Operator × Known)) → AlwaysStraight items (in_order (chain_fragment items) (map pair_of more))
+  more_straight : (more : List (Operator × Known))
+      → AlwaysStraight items (in_order (chain_fragment items) (map pair_of more))
   more_straight [] before = nothing_straight
   more_straight (one ∷ more) before =
       both_straight (chain_fragment items (pair_of one)) (in_order (chain_fragment items) (map pair_of more))
@@ -110,7 +111,8 @@ module _ (items : List LocatedItem) where
 
     -- a piece between instructions
     between_straight : (all : List DataInstruction) (piece : Fragment) (last : List DataInstruction)
-        → AlwaysStraight items piece → AlwaysStraight items (sequence (works_fragment all) (sequence piece (works_fragment last)))
+        → AlwaysStraight items piece
+        → AlwaysStraight items (sequence (works_fragment all) (sequence piece (works_fragment last)))
     between_straight all piece last straight = both_straight (works_fragment all) (sequence piece (works_fragment last))
         (works_straight all) (both_straight piece (works_fragment last) straight (works_straight last))
 
@@ -136,12 +138,14 @@ module _ (items : List LocatedItem) where
     -- ---- operations
 
     -- a value, what is done with it, and instructions
-    done_straight : (value piece : Fragment) (last : List DataInstruction) → AlwaysStraight items value → AlwaysStraight items piece
+    done_straight : (value piece : Fragment) (last : List DataInstruction) → AlwaysStraight items value
+        → AlwaysStraight items piece
         → AlwaysStraight items (sequence value (sequence piece (works_fragment last)))
     done_straight value piece last first straight = both_straight value (sequence piece (works_fragment last)) first
         (both_straight piece (works_fragment last) straight (works_straight last))
 
-    two_straight : (value other piece : Fragment) → AlwaysStraight items value → AlwaysStraight items other → AlwaysStraight items piece
+    two_straight : (value other piece : Fragment) → AlwaysStraight items value → AlwaysStraight items other
+        → AlwaysStraight items piece
         → AlwaysStraight items (sequence value (sequence other piece))
     two_straight value other piece first second straight =
         both_straight value (sequence other piece) first (both_straight other piece second straight)

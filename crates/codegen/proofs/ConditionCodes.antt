@@ -1,6 +1,7 @@
 -- The code of conditions without AND and OR is what the laws of instructions on data speak of, where the rules are
 -- kept: it decides their truth, and finds what it needs.
-use Rattle.std.proofs.Common.{◌≡◌, ℕ, ◌+◌, Bool, true, false, List, [], ◌∷◌, ◌++◌, length, map, Option, Some, None, refl}
+use Rattle.std.proofs.Common.{◌≡◌, ℕ, ◌+◌, Bool, true, false, List, [], ◌∷◌, ◌++◌, length, map, Option, Some, None}
+use Rattle.std.proofs.Common.{refl}
 use Rattle.std.proofs.Common.{sym, ap, subst, ◌∙◌, arith, append_assoc, length-append}
 use Rattle.std.specs.Prelude.{slice_get, not, ◌&&◌, ◌||◌, ◌==◌}
 use Rattle.std.proofs.lemmas.Bool.Decides.{nat_tests}
@@ -110,7 +111,8 @@ number_kind (kind.NumericEdited blank) h = absurd (h refl)
 -- the only item that is named
 number_only : (place : Place) (rules : LocatedItem → List RuleBreach) (shown : LocatedItem → LocatedItem)
     (found : List LocatedItem)
-    (rest : List RuleBreach) → unique_name_rules place (λ one. rules one ++ any_item place (shown one)) found ++ rest ≡ []
+    (rest : List RuleBreach)
+    → unique_name_rules place (λ one. rules one ++ any_item place (shown one)) found ++ rest ≡ []
     → (compared_only (map shown found) ≡ Characters → ⊥)
     → unique_name_rules place (λ one. rules one ++ numeric_item place (shown one)) found ++ rest ≡ []
 number_only place rules shown [] rest e h = absurd cc

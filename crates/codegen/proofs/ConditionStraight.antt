@@ -61,7 +61,8 @@ range_straight from (Some last) h before = record {
   inspections = tt;
 }
 
-values_straight : {items : List LocatedItem} (all : List ValueRange) → AreFormedValues all → AlwaysStraight items (values_fragment all)
+values_straight : {items : List LocatedItem} (all : List ValueRange) → AreFormedValues all
+    → AlwaysStraight items (values_fragment all)
 values_straight [] h before = nothing_straight
 values_straight (one ∷ more) h before = both_straight (value_range_fragment one) (values_fragment more)
     (range_straight one.first one.last h.0) (values_straight more h.1) before
@@ -97,7 +98,8 @@ module _ (items : List LocatedItem) where
   side_straight (side.Expression one) = expression_straight items one
   side_straight (side.Literal one) = value_straight items (operand.Literal one)
 
-  sides_straight : (left : Side) (one : Relation) (right : Side) → AlwaysStraight items (sequence (side_fragment items left)
+  sides_straight : (left : Side) (one : Relation) (right : Side)
+      → AlwaysStraight items (sequence (side_fragment items left)
       (sequence (side_fragment items right) (work_fragment (i.Test (t.CompareNumbers one)))))
   sides_straight left one right =
       both_straight (side_fragment items left)
@@ -135,7 +137,8 @@ module _ (items : List LocatedItem) where
   relation_straight left one right e = relation_from_straight (alone_side left) (alone_side right) left one right refl
       refl (keeps_relation items left right e)
 
-  pub sign_straight : (value : Expression) (one : Relation) → AlwaysStraight items (sequence (expression_fragment items value)
+  pub sign_straight : (value : Expression) (one : Relation)
+      → AlwaysStraight items (sequence (expression_fragment items value)
       (sequence (number_fragment zero_number) (work_fragment (i.Test (t.CompareNumbers one)))))
   sign_straight value one =
       both_straight (expression_fragment items value) (sequence (number_fragment zero_number)

@@ -561,7 +561,8 @@ module _ (scope : Scope) (permits : Range → Bool) (formed : AreFormed scope.it
         (all_front P groups others q) (all_back P groups others q)))
 
     -- straight code behind what uses one of the budget
-    ticked : (line : ℕ) (piece : Fragment) → AlwaysStraight items piece → AlwaysMeets Q (sequence (tick_fragment line) piece)
+    ticked : (line : ℕ) (piece : Fragment) → AlwaysStraight items piece
+        → AlwaysMeets Q (sequence (tick_fragment line) piece)
     ticked line piece straight =
         pieces_meet Q (tick_fragment line) piece (tick_meets Q line)
         (λ before. straight_meets Q before (piece before) (straight before))

@@ -15,7 +15,8 @@ use Rattle.source_tree.specs.FilingRules.{start_key_item, phrase_kind_rules, rea
 use Rattle.source_tree.specs.FilingRules.{into_rules, read_rules, record_item, from_rules, record_rules}
 use Rattle.source_tree.specs.FilingRules.{start_key_rules, start_rules}
 use Rattle.source_tree.specs.LookUp.{first, items_named}
-use Rattle.source_tree.specs.NameRules.{unique_name_rules, no_part_rules, part_item_rules, number_rules_of, reference_rules}
+use Rattle.source_tree.specs.NameRules.{unique_name_rules, no_part_rules, part_item_rules, number_rules_of}
+use Rattle.source_tree.specs.NameRules.{reference_rules}
 use Rattle.source_tree.specs.Parts.{seen}
 use Rattle.source_tree.specs.Places.{LocatedItem}
 use Rattle.source_tree.specs.ProgramFiles.{ProgramFile}

@@ -203,8 +203,8 @@ all_lead whole h =
 
 -- ---- parts
 
--- A part names counters that stand before it or in it. It adds no area and no file, parts of these items, senders that have
--- their bytes, and inspections that have their texts.
+-- A part names counters that stand before it or in it. It adds no area and no file, parts of these items, senders that
+-- have their bytes, and inspections that have their texts.
 pub record Names (items : List LocatedItem) (before part : Code) : Type 0 where
   pub counters : AllByRecursion (NamesCounter (length before.instructions + length part.instructions)) part.instructions
   pub areas : part.tables.areas ≡ []
@@ -241,8 +241,8 @@ pub plain_names : {items : List LocatedItem} (before : Code) (all : List Instruc
 plain_names before all counters =
     record { counters = counters; areas = refl; entries = tt; files = refl; senders = tt; inspections = tt }
 
--- What is asked of ranges that are performed, and of the verbs of file statements, by the numbers of their files; and the items
--- that code names.
+-- What is asked of ranges that are performed, and of the verbs of file statements, by the numbers of their files; and
+-- the items that code names.
 pub record Asks : Type 1 where
   pub items : List LocatedItem
   pub ranges : Range → Type 0

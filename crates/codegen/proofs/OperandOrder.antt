@@ -247,7 +247,8 @@ module _ (items : List LocatedItem) where
 
   -- A part is characters, and so is an item that is no number.
   text_found : (one : Reference) (found : LocatedItem) (storage : Storage)
-      → (not (has_part one) && is_numeric_kind found.item.kind) ≡ false → IsText (referred_place items one found storage)
+      → (not (has_part one) && is_numeric_kind found.item.kind) ≡ false
+      → IsText (referred_place items one found storage)
   text_found one found storage e =
       by_part one.part (bytes_before items found.dimensions one.subscripts storage) e
     where

@@ -188,7 +188,8 @@ pub record IsReady (before : Code) : Type 0 where
   pub front : IsFront before.instructions (length before.instructions)
 
 -- So many code paragraphs of `count` in all; what they perform is `P`, and what they do to files suits these.
-pub record AreParagraphs (items : List LocatedItem) (files : List ProgramFile) (count : ℕ) (P : PerformedRange → Type 0) (many : ℕ)
+pub record AreParagraphs (items : List LocatedItem) (files : List ProgramFile) (count : ℕ) (P : PerformedRange → Type 0)
+    (many : ℕ)
     (before part : Code) : Type 0 where
   pub names : Names items before part
   pub leads : LeadsFrom (before.instructions ++ part.instructions) (length before.instructions) part.instructions
@@ -345,7 +346,8 @@ module _ (items : List LocatedItem) (files : List ProgramFile) (count : ℕ) (P 
         paragraphs = all_both (NamesParagraph count) body.instructions last.instructions
             (name_paragraphs items files count (asked_of number) body.instructions none given) (lt, tt);
         suited = all_both (IsSuitedAt files) body.instructions last.instructions
-            (all_weaker (PerformsOnly Q) (IsSuitedAt files) (suited_at items files count (asked_of number)) body.instructions
+            (all_weaker (PerformsOnly Q) (IsSuitedAt files) (suited_at items files count (asked_of number))
+            body.instructions
             given) (tt, tt);
         ranges = subst (AllByRecursion (IsRange count)) (sym performs_is)
             (all_both (IsRange count) (performed_from number body.instructions)
@@ -372,7 +374,8 @@ module _ (scope : Scope) (count : ℕ) (P : PerformedRange → Type 0) where
         → length before.starts + length all ≤ count
         → each (paragraph_rules scope permits) all ≡ []
         → AllByRecursion P (map (λ one. one.1) (performs_from scope.procedures (length before.starts) all))
-        → AreParagraphs scope.items scope.files count P (length all) before (in_order (paragraph_fragment scope) all before)
+        → AreParagraphs scope.items scope.files count P (length all) before
+        (in_order (paragraph_fragment scope) all before)
     paragraphs_lie [] before is le e q = no_paragraphs scope.items scope.files count P before is
     paragraphs_lie (one ∷ more) before is le e q =
         let number : ℕ = length before.starts in
@@ -382,7 +385,8 @@ module _ (scope : Scope) (count : ℕ) (P : PerformedRange → Type 0) where
         let next = append before part in
         let split = first_asked scope.items scope.files count P number (paragraph_performs scope.procedures one)
         (performs_from scope.procedures (number + 1) more) q in
-        let met = paragraph_meets scope permits formed sized count within numbered (asked_of scope.items scope.files count P number)
+        let met = paragraph_meets scope permits formed sized count within numbered
+        (asked_of scope.items scope.files count P number)
         one.sentences
         (left_none (paragraph_rules scope permits one) (each (paragraph_rules scope permits) more) e) split.0
         (append before start) in
@@ -391,11 +395,14 @@ module _ (scope : Scope) (count : ℕ) (P : PerformedRange → Type 0) where
         let many = first.many_are in
         let so_far : number + 1 ≡ length next.starts = omega (arith, in_all, many) in
         let rest =
-        paragraphs_lie more next (ready_behind scope.items scope.files count P 1 before part is first) (omega (arith, le, so_far))
+        paragraphs_lie more next (ready_behind scope.items scope.files count P 1 before part is first)
+        (omega (arith, le, so_far))
         (right_none (paragraph_rules scope permits one) (each (paragraph_rules scope permits) more) e)
         (subst (λ n. AllByRecursion P (map (λ one. one.1) (performs_from scope.procedures n more))) so_far split.1) in
         let sum : 1 + length more ≡ length (one ∷ more) = omega arith in
         subst (λ n.
-        AreParagraphs scope.items scope.files count P n before (append part (in_order (paragraph_fragment scope) more next))) sum
-        (both_paragraphs scope.items scope.files count P 1 (length more) before part (in_order (paragraph_fragment scope) more next)
+        AreParagraphs scope.items scope.files count P n before
+        (append part (in_order (paragraph_fragment scope) more next))) sum
+        (both_paragraphs scope.items scope.files count P 1 (length more) before part
+        (in_order (paragraph_fragment scope) more next)
         first rest)

@@ -400,7 +400,8 @@ module _ (whole : Code) (scope : Scope) (has : HasFiles whole scope)
         let is = statement_is scope one before in
         let now = out-Statement one in
         subst (λ (c : Code). PartDoes whole (Relies high) before c cs s (exec around (suc depth) one s)) (sym is)
-        (verb_does whole (Relies high) scope has entries order lie known (λ (found : Range). found.last < length all) there
+        (verb_does whole (Relies high) scope has entries order lie known (λ (found : Range). found.last < length all)
+        there
         depth (below height high)
         (statement_rules scope (below height high)) (exec around depth)
         (range_outcome (exec around depth) all) (statement_fragment scope) (statement_does depth high)

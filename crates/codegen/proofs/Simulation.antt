@@ -273,7 +273,8 @@ module _ (whole : Code) (kept : ℕ → Type 0) (scope : Scope) (has : HasFiles 
       let coded = (inspect_codes scope.items whole entries one keep).by before st in
       let means = inspected_alike scope.items items_sized one s.storage keep (known one keep) in
       let works_as =
-      inspect_does scope.items whole.tables order one coded.code (known one keep) coded.holds (scratch_of s cs) room.line
+      inspect_does scope.items whole.tables order one coded.code (known one keep) coded.holds (scratch_of s cs)
+      room.line
       ∙ ap (λ (e : Evaluation Storage).
       scratch.step_with e (λ after. scratch.Continues (record (scratch_of s cs) { storage = after }))) (sym means) in
       let from = end_of before in

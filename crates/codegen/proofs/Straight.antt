@@ -48,7 +48,8 @@ use Rattle.codegen.specs.DataCode.{item_index, item_number, dimensions_of, work_
 use Rattle.codegen.specs.DataCode.{number_fragment, integer_fragment, adjustment_fragment, text_fragment}
 use Rattle.codegen.specs.DataCode.{line_end_fragment, show_fragment, subscript_fragment, subscripts_fragment}
 use Rattle.codegen.specs.DataCode.{reference_fragment, take_fragment, sender_fragment, receivers_fragment}
-use Rattle.codegen.specs.DataCode.{operand_fragment, operands_fragment, place_fragment, unknown_fragment, making_fragment}
+use Rattle.codegen.specs.DataCode.{operand_fragment, operands_fragment, place_fragment, unknown_fragment}
+use Rattle.codegen.specs.DataCode.{making_fragment}
 use Rattle.codegen.specs.ConditionCode.{condition_number, condition_item}
 use Rattle.codegen.specs.PatternCode.{pattern_fragment, pattern_of, set_of, initialize_fragment, set_fragment}
 use Rattle.codegen.specs.Layout.{data_fragment, texts_fragment}
@@ -91,8 +92,8 @@ pub record IsPartOf (items : List LocatedItem) (one : DataItem) : Type 0 where
   pub part : Part
   pub is : one ≡ part_entry found (Some part)
 
--- A part of such instructions, without areas, files and starts of its own. Its items are parts of these. Its senders have their
--- bytes, and its inspections their texts.
+-- A part of such instructions, without areas, files and starts of its own. Its items are parts of these. Its senders
+-- have their bytes, and its inspections their texts.
 pub record Straight (items : List LocatedItem) (part : Code) : Type 0 where
   pub instructions : AllByRecursion IsStraight part.instructions
   pub starts : part.starts ≡ []
@@ -118,7 +119,8 @@ joined_straight {items} a b f s = record {
   inspections = all_both IsInspection a.tables.inspections b.tables.inspections f.inspections s.inspections;
 }
 
-pub both_straight : {items : List LocatedItem} (first second : Fragment) → AlwaysStraight items first → AlwaysStraight items second
+pub both_straight : {items : List LocatedItem} (first second : Fragment) → AlwaysStraight items first
+    → AlwaysStraight items second
     → AlwaysStraight items (sequence first second)
 both_straight first second f s before =
     joined_straight (first before) (second (append before (first before))) (f before) (s (append before (first before)))
@@ -134,7 +136,8 @@ nothing_straight = record {
   inspections = tt;
 }
 
-pub in_order_straight : {items : List LocatedItem} {A : Type 0} (piece : A → Fragment) → ((one : A) → AlwaysStraight items (piece one)) → (all : List A)
+pub in_order_straight : {items : List LocatedItem} {A : Type 0} (piece : A → Fragment)
+    → ((one : A) → AlwaysStraight items (piece one)) → (all : List A)
     → AlwaysStraight items (in_order piece all)
 in_order_straight piece straight [] before = nothing_straight
 in_order_straight piece straight (one ∷ more) before =
@@ -201,12 +204,14 @@ pattern_straight pattern before = record {
   inspections = tt;
 }
 
-pub line_end_straight : {items : List LocatedItem} (advancing : Bool) → AlwaysStraight items (line_end_fragment advancing)
+pub line_end_straight : {items : List LocatedItem} (advancing : Bool)
+    → AlwaysStraight items (line_end_fragment advancing)
 line_end_straight true before = text_straight (line_end true) before
 line_end_straight false before = nothing_straight
 
 -- one instruction
-pub one_straight : {items : List LocatedItem} (one : Instruction) → IsStraight one → AlwaysStraight items (λ before. plain_code (one ∷ []))
+pub one_straight : {items : List LocatedItem} (one : Instruction) → IsStraight one
+    → AlwaysStraight items (λ before. plain_code (one ∷ []))
 one_straight one h before = record {
   instructions = (h, tt);
   starts = refl;
@@ -264,7 +269,8 @@ module _ (items : List LocatedItem) where
   making_straight size Whole before = nothing_straight
   making_straight size (Settled bytes) before = nothing_straight
   making_straight size (OfLength first) before =
-      both_straight (subscript_fragment items first) (work_fragment (i.Part (made.Fixed size))) (subscript_straight first)
+      both_straight (subscript_fragment items first) (work_fragment (i.Part (made.Fixed size)))
+      (subscript_straight first)
       (work_straight (i.Part (made.Fixed size))) before
   making_straight size (Counted first length) before =
       both_straight (subscript_fragment items first) (unknown_fragment items (Some length)) (subscript_straight first)
@@ -284,13 +290,15 @@ module _ (items : List LocatedItem) where
       (both_straight subscripts making (subscripts_straight (dimensions_of found) one.subscripts)
       (making_straight (found_size found) form))
 
-  pub taking_straight : (taking : DataInstruction) (one : Reference) → AlwaysStraight items (take_fragment items taking one)
+  pub taking_straight : (taking : DataInstruction) (one : Reference)
+      → AlwaysStraight items (take_fragment items taking one)
   taking_straight taking one = both_straight (reference_fragment items one) (work_fragment taking)
       (reference_straight one) (work_straight taking)
 
   -- ---- MOVE, DISPLAY and ACCEPT
 
-  pub sender_straight : (one : Operand) → operand_rules items one ≡ [] → AlwaysStraight items (sender_fragment items one)
+  pub sender_straight : (one : Operand) → operand_rules items one ≡ []
+      → AlwaysStraight items (sender_fragment items one)
   sender_straight (operand.Item one) e before = taking_straight i.Take one before
   sender_straight (operand.Literal one) e before = record {
     instructions = (tt, tt);
@@ -326,7 +334,8 @@ module _ (items : List LocatedItem) where
       (both_straight subscripts (pattern_fragment pattern) (subscripts_straight dimensions one.subscripts)
       (pattern_straight pattern))
 
-  pub moving_straight : (one : DataStatement) → moving_rules items one ≡ [] → AlwaysStraight items (data_fragment items one)
+  pub moving_straight : (one : DataStatement) → moving_rules items one ≡ []
+      → AlwaysStraight items (data_fragment items one)
   moving_straight (Move sender receivers) e =
       both_straight (sender_fragment items sender) (receivers_fragment items receivers)
       (sender_straight sender (left_none

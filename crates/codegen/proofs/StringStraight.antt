@@ -17,7 +17,8 @@ use Rattle.codegen.specs.StringCode.{sendings_fragment, put_fragment, string_fra
 use Rattle.codegen.proofs.Straight.{AlwaysStraight, both_straight, nothing_straight, in_order_straight, work_straight}
 use Rattle.codegen.proofs.Straight.{text_straight, reference_straight, taking_straight}
 
-up_to_text_straight : {items : List LocatedItem} (delimiter : List ℕ) → AlwaysStraight items (up_to_text_fragment delimiter)
+up_to_text_straight : {items : List LocatedItem} (delimiter : List ℕ)
+    → AlwaysStraight items (up_to_text_fragment delimiter)
 up_to_text_straight delimiter before = record {
   instructions = (tt, tt);
   starts = refl;
@@ -28,7 +29,8 @@ up_to_text_straight delimiter before = record {
   inspections = tt;
 }
 
-text_up_to_place_straight : {items : List LocatedItem} (bytes : List ℕ) → AlwaysStraight items (text_up_to_place_fragment bytes)
+text_up_to_place_straight : {items : List LocatedItem} (bytes : List ℕ)
+    → AlwaysStraight items (text_up_to_place_fragment bytes)
 text_up_to_place_straight bytes before = record {
   instructions = (tt, tt);
   starts = refl;
@@ -46,7 +48,8 @@ module _ (items : List LocatedItem) where
   sent_item_straight (Some delimiter) one = both_straight (reference_fragment items one) (up_to_text_fragment delimiter)
       (reference_straight items one) (up_to_text_straight delimiter)
 
-  sent_straight : (delimiter : Option (List ℕ)) (one : Operand) → AlwaysStraight items (sent_fragment items delimiter one)
+  sent_straight : (delimiter : Option (List ℕ)) (one : Operand)
+      → AlwaysStraight items (sent_fragment items delimiter one)
   sent_straight delimiter (operand.Item one) = sent_item_straight delimiter one
   sent_straight delimiter (operand.Literal one) = text_straight (sent_of delimiter (shown_literal one.value))
 

@@ -50,7 +50,8 @@ module _ (items : List LocatedItem) (sized : AreSized items) where
       (both_straight parts last (in_order_straight (taken_fragment items) taken_straight (takings items one))
       (inspection_straight one e))
 
-  pub texts_straight : (one : TextStatement) → text_rules items one ≡ [] → AlwaysStraight items (texts_fragment items one)
+  pub texts_straight : (one : TextStatement) → text_rules items one ≡ []
+      → AlwaysStraight items (texts_fragment items one)
   texts_straight (Display operands advancing) e =
       both_straight (sequence (operands_fragment items operands) (line_end_fragment advancing)) show_fragment
       (both_straight (operands_fragment items operands) (line_end_fragment advancing)

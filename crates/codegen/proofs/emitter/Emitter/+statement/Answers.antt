@@ -169,7 +169,8 @@ emit_phrase-emit_statements-requires t c =
 pub emit_statement-emit_performing-requires : goal.emit_statement-emit_performing-requires
 emit_statement-emit_performing-requires t c =
     let scope = scope_in c.args.self.now.declarations.now in
-    let r : performing_rules scope all_permitted (statement_rules scope all_permitted) c.in-PerformStatement.performing ≡ [] =
+    let r : performing_rules scope all_permitted (statement_rules scope all_permitted) c.in-PerformStatement.performing
+    ≡ [] =
     sym (ap (verb_rules scope all_permitted (statement_rules scope all_permitted)) c.in-PerformStatement.is)
     ∙ sym (layers.statement_is scope all_permitted c.args.one.now) ∙ c.requires.rules in
     (search (rules, the_lemmas), (c.requires.declared, (c.requires.entries, r)))
