@@ -160,7 +160,8 @@ impl<'a> Emitter<'a> {
     ) -> Result<(), AllocError>
         requires declared { IsDeclared self.now.declarations.now }
         requires senders { each (sent_rules (items_in self.now.declarations.now)) all.now ≡ [] }
-        requires delimiter { number_rules_of (items_in self.now.declarations.now) delimiter.now ≡ [] }
+        requires delimiter { number_rules_of (items_in self.now.declarations.now) delimiter.now
+            ≡ [] }
         ensures { OnOk result (code.new ≡ append code.old (spec.delimited_fragment
             (items_in self.now.declarations.now) all.now delimiter.now code.old)) }
     {
