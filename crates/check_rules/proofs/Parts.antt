@@ -1,5 +1,5 @@
 -- What a sender asks of receivers, and what a name breaks that names no one thing.
-use Rattle.std.proofs.Common.{◌≡◌, List, [], ◌∷◌, ◌++◌, None, Some, length, refl, sym, ap, ◌∙◌, subst, append_assoc}
+use Rattle.std.proofs.Common.{◌≡◌, List, [], ◌∷◌, ◌++◌, None, Some, length, refl, sym, ap, ◌∙◌, subst}
 use Rattle.std.specs.Prelude.{◌==◌, not, Option, Result}
 use Rattle.items.specs.declared.item.Kind.{Kind}
 use Rattle.items.specs.declared.taken.Taken.{Taken}
@@ -58,26 +58,21 @@ no_size place [] broken h part = refl
 no_size place (one ∷ []) broken h part = let no : ◌≡◌ {A = Option RuleBreach} None (Some broken) = h (λ found. []) in cc
 no_size place (one ∷ other ∷ more) broken h part = refl
 
--- ---- behind rules that are kept, and in front of others
+-- ---- behind rules that are kept
 
-pub refused_before : (xs ys zs : List RuleBreach) (broken : RuleBreach) → first (xs ++ ys) ≡ Some broken
-    → first (xs ++ ys ++ zs) ≡ Some broken
-refused_before xs ys zs broken h = ap first (sym (append_assoc xs ys zs)) ∙ first_front (xs ++ ys) zs broken h
-
-pub kept_before : {A : Type 0} (result : Result A BrokenRule) (xs ys zs : List RuleBreach) → xs ++ ys ≡ []
-    → IsFirstBreach result zs → IsFirstBreach result (xs ++ ys ++ zs)
-kept_before result xs ys zs none h =
-    subst (IsFirstBreach result) (append_assoc xs ys zs) (subst (λ (l : List RuleBreach). IsFirstBreach result (l ++ zs)) (sym none) h)
+pub kept_before : {A : Type 0} (result : Result A BrokenRule) (xs ys : List RuleBreach) → xs ≡ []
+    → IsFirstBreach result ys → IsFirstBreach result (xs ++ ys)
+kept_before result xs ys none h = subst (λ (l : List RuleBreach). IsFirstBreach result (l ++ ys)) (sym none) h
 
 -- ---- the item that a reference names alone, and what is asked of what the reference shows of it
 
 module _ (items : List LocatedItem) (one : Reference) (item : LocatedItem) (placed : PlacedItem)
     (only : items_named items one.item ≡ item ∷ []) (stands : placed ≡ placed_item item) where
   module _ (asked : Place → LocatedItem → List RuleBreach) where
-    fifty : List RuleBreach
+    abbrev fifty : List RuleBreach
     fifty = where_so (not (length one.subscripts == length item.dimensions)) 50 one.item.name.place
 
-    behind : List RuleBreach
+    abbrev behind : List RuleBreach
     behind = asked one.item.name.place (seen one item)
 
     only_rules : named_rules items asked one ≡ fifty ++ part_item_rules one item ++ behind
@@ -92,14 +87,14 @@ module _ (items : List LocatedItem) (one : Reference) (item : LocatedItem) (plac
         → first (named_rules items asked one) ≡ Some broken
     shape_refused broken h =
         ap first only_rules
-        ∙ refused_before fifty (part_item_rules one item) behind broken (ap first (sym shape_is) ∙ h)
+        ∙ first_front (fifty ++ part_item_rules one item) behind broken (ap first (sym shape_is) ∙ h)
 
     pub shape_kept : {A : Type 0} (result : Result A BrokenRule) → shape_rules one placed ≡ []
         → IsFirstBreach result (asked one.item.name.place (seen one item))
         → IsFirstBreach result (named_rules items asked one)
     shape_kept result none h =
         subst (IsFirstBreach result) (sym only_rules)
-        (kept_before result fifty (part_item_rules one item) behind (sym shape_is ∙ none) h)
+        (kept_before result (fifty ++ part_item_rules one item) behind (sym shape_is ∙ none) h)
 
   -- the kind that a reference shows
   pub kind_asked : {A : Type 0} (asked : Asked) (result : Result A BrokenRule) → shape_rules one placed ≡ []
@@ -122,7 +117,7 @@ record_seen items files phrases place (Some part) found = refl
 
 module _ (place : Place) (asked : LocatedItem → List RuleBreach) (key : Reference) (found : List LocatedItem)
     (one : LocatedItem) (only : found ≡ one ∷ []) where
-  whole_key : LocatedItem → List RuleBreach
+  abbrev whole_key : LocatedItem → List RuleBreach
   whole_key item = no_part_rules key ++ asked item
 
   pub part_first : (broken : RuleBreach) → first (no_part_rules key) ≡ Some broken
@@ -136,4 +131,4 @@ module _ (place : Place) (asked : LocatedItem → List RuleBreach) (key : Refere
       → IsFirstBreach result (unique_name_rules place (λ (item : LocatedItem). no_part_rules key ++ asked item) found)
   asked_behind result none h =
       subst (λ (l : List LocatedItem). IsFirstBreach result (unique_name_rules place whole_key l)) (sym only)
-      (subst (λ (l : List RuleBreach). IsFirstBreach result (l ++ asked one)) (sym none) h)
+      (kept_before result (no_part_rules key) (asked one) none h)
