@@ -8,7 +8,7 @@ mod levels;
 mod pictures;
 
 pub use clauses::{inside, kind, usage};
-pub use integers::{MOST, number, occurrences};
+pub use integers::{MOST, number, number_within, occurrences};
 pub use laws::{levels_are_told, record_levels_are_told};
 pub use levels::{Sibling, level, next_item, split_group};
 pub use pictures::{editing, elementary, elementary_length, picture_of};
