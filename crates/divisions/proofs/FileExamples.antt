@@ -142,7 +142,7 @@ add = statement 13 16 (verb.Arithmetic (record {
     place = place 13 20;
   }) ∷ [])
       (record {
-        item = record { item = record { name = named 13 25 78; qualifiers = [] }; subscripts = [] };
+        item = record { item = record { name = named 13 25 78; qualifiers = [] }; subscripts = []; part = None };
         rounded = false;
       } ∷ []);
   phrases = neither;

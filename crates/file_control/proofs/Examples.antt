@@ -42,7 +42,7 @@ abbrev name_at : ℕ → ℕ → Name
 name_at column one = record { characters = one ∷ []; place = in_column column }
 
 abbrev item_at : ℕ → ℕ → Reference
-item_at column one = record { item = record { name = name_at column one; qualifiers = [] }; subscripts = [] }
+item_at column one = record { item = record { name = name_at column one; qualifiers = [] }; subscripts = []; part = None }
 
 -- SELECT F ASSIGN TO X
 abbrev head : List Token → List Token

@@ -1,4 +1,4 @@
-      * Reference modification.
+      * An expression in reference modification.
        IDENTIFICATION DIVISION.
        PROGRAM-ID. LEFT-OUT.
        DATA DIVISION.
@@ -8,7 +8,7 @@
        01  X PIC X(8) VALUE "ABCDEFGH".
        PROCEDURE DIVISION.
        MAIN-PARAGRAPH.
-           DISPLAY X (2:3).
+           DISPLAY X (N * 2:3).
            STOP RUN.
        OTHER-PARAGRAPH.
            DISPLAY N.
