@@ -17,6 +17,7 @@ mod numbers;
 mod occurrence;
 mod occurring;
 mod overlaying;
+mod parts;
 mod place_instructions;
 mod receiving;
 mod relative_keys;
