@@ -185,6 +185,7 @@ named_by tables (i.Gather (g.TextUpToPlace text)) s after e =
     (parts tables (i.Gather (g.TextUpToPlace text)) s after e).0 in
     slice_get_within tables.texts text.number found.0 found.1
 named_by tables (i.Gather g.Sized) s after e = tt
+named_by tables (i.Part one) s after e = tt
 named_by tables (i.String pointer) s after e = tt
 named_by tables (i.Inspect inspection) s after e =
     let found = and_then_some (slice_get tables.inspections inspection.number) _ after.stacks
