@@ -1,5 +1,6 @@
 -- What is known after a refusal that is passed on, and after two calls.
-use Rattle.std.proofs.Common.{◌≡◌, ◌↔◌, ◌*◌, Bool, true, ◌⊎◌, ⊎_elim, ◌<◌, ◌≤◌, ◌+◌, ℕ, List, length, sym, ap, subst, ◌∙◌, arith}
+use Rattle.std.proofs.Common.{◌≡◌, ◌↔◌, ◌*◌, Bool, true, false, ◌⊎◌, ⊎_elim, ◌<◌, ◌≤◌, ◌+◌, ℕ, List, length, sym, ap}
+use Rattle.std.proofs.Common.{subst, ◌∙◌, arith}
 use Rattle.std.specs.Prelude.{Result, Option, Some, None, Ok, Err, OnErr, IfErr}
 use Rattle.std.specs.Result.{IsErrAnd}
 use Rattle.station.specs.Calls.{OnlyReads}
@@ -13,6 +14,7 @@ use Rattle.pages.specs.declared.error.PagesError.TheVariants.{Device, Full, Dama
 use Rattle.btree_pages.specs.declared.row_layout.RowLayout.{RowLayout}
 use Rattle.btree.specs.Reading.{IsReadRefusal, IsSearchRefusal}
 use Rattle.btree.specs.Refusals.{IsPutRefusal, IsRestRefusal, IsChangeRefusal, IsWriteRefusal, IsInsertRefusal}
+use Rattle.btree.specs.Refusals.{IsParentRefusal}
 use Rattle.btree.proofs.ChangedPages.{changes_count}
 
 -- what holds of an error holds of the result with which `?` passes it on
@@ -31,11 +33,15 @@ never_err is = cc
 pub some_not_none : {T E A : Type 0} {x : T} → (◌≡◌ {A = Result (Option T) E} (Ok (Some x)) (Ok None)) → A
 some_not_none is = cc
 
+pub false_not_true : {E A : Type 0} → (◌≡◌ {A = Result Bool E} (Ok false) (Ok true)) → A
+false_not_true is = cc
+
 pub same_error : {T E : Type 0} {x y : E} → (◌≡◌ {A = Result T E} (Err x) (Err y)) → x ≡ y
 same_error is = cc
 
 -- so is it of a call with another answer
-pub still_error : {T U E : Type 0} {x y : E} → (◌≡◌ {A = Result T E} (Err x) (Err y)) → (◌≡◌ {A = Result U E} (Err x) (Err y))
+pub still_error : {T U E : Type 0} {x y : E} → (◌≡◌ {A = Result T E} (Err x) (Err y))
+    → (◌≡◌ {A = Result U E} (Err x) (Err y))
 still_error is = ap Err (same_error is)
 
 damaged_or_device : Damaged ≡ Device → ⊥
@@ -110,6 +116,22 @@ put_is_insert Memory why = tt
 put_is_insert Spent why = tt
 put_is_insert ForeignMark why = why
 
+pub read_is_insert : (e : PagesError) → IsReadRefusal e → IsInsertRefusal e
+read_is_insert Device why = tt
+read_is_insert Full why = tt
+read_is_insert Damaged why = tt
+read_is_insert Memory why = tt
+read_is_insert Spent why = tt
+read_is_insert ForeignMark why = why
+
+pub parent_is_insert : (e : PagesError) → IsParentRefusal e → IsInsertRefusal e
+parent_is_insert Device why = tt
+parent_is_insert Full why = tt
+parent_is_insert Damaged why = tt
+parent_is_insert Memory why = tt
+parent_is_insert Spent why = tt
+parent_is_insert ForeignMark why = why
+
 pub edit_is_write : (e : PagesError) → (e ≡ Memory) ⊎ (e ≡ Spent) → IsWriteRefusal e
 edit_is_write e why = ⊎_elim (λ is. subst IsWriteRefusal (sym is) tt) (λ is. subst IsWriteRefusal (sym is) tt) why
 
@@ -142,7 +164,8 @@ damaged_unspent (Ok x) why is = never_ok is
 damaged_unspent (Err y) why is = damaged_not_spent (sym why ∙ is)
 
 -- pages that were read were not spent, and what is made of them tells no more
-pub spent_exactly : {T : Type 0} (r : Result T PagesError) (spent : Bool) → OnErr r (r ≡ Err Damaged) → (spent ≡ true → ⊥)
+pub spent_exactly : {T : Type 0} (r : Result T PagesError) (spent : Bool) → OnErr r (r ≡ Err Damaged)
+    → (spent ≡ true → ⊥)
     → (r ≡ Err Spent) ↔ (spent ≡ true)
 spent_exactly r spent why never = (λ is. damaged_unspent r why is, λ was. absurd (never was))
 
@@ -213,3 +236,31 @@ few_two old one two n steps first second same = omega arith
 pub few_three : (old one two three n steps : ℕ) → one ≤ old + 2 → two ≤ one + 2 * n → n ≡ steps → three ≤ two + 1
     → three ≤ old + 2 * steps + 3
 few_three old one two three n steps first second same third = omega arith
+
+-- a list of changed pages that stays, or stays after it grew
+pub few_equal : (old new : List ℕ) (m : ℕ) → new ≡ old → length new ≤ length old + m
+few_equal old new m same = subst (λ (l : List ℕ). length l ≤ length old + m) (sym same) (omega arith)
+
+pub same_after : (old mid new : List ℕ) (m : ℕ) → length mid ≤ length old + m → new ≡ mid
+    → length new ≤ length old + m
+same_after old mid new m few same = subst (λ (l : List ℕ). length l ≤ length old + m) (sym same) few
+
+pub few_weaker : (old new m n : ℕ) → new ≤ old + m → new ≤ old + (m + n)
+few_weaker old new m n few = omega arith
+
+pub few_after : (old mid new : List ℕ) (m n : ℕ) → length mid ≤ length old + m → new ≡ mid
+    → length new ≤ length old + (m + n)
+few_after old mid new m n few same =
+    few_weaker (length old) (length new) m n (same_after old mid new m few same)
+
+-- an edit is never refused because no page number is left
+full_or_memory : Memory ≡ Full → ⊥
+full_or_memory is = cc
+
+full_or_spent : Spent ≡ Full → ⊥
+full_or_spent is = cc
+
+pub edit_not_full : {T A : Type 0} (x : PagesError) → (x ≡ Memory) ⊎ (x ≡ Spent)
+    → (◌≡◌ {A = Result T PagesError} (Err x) (Err Full)) → A
+edit_not_full x why is = absurd (⊎_elim (λ a. full_or_memory (sym a ∙ same_error is))
+    (λ a. full_or_spent (sym a ∙ same_error is)) why)

@@ -21,7 +21,8 @@ use Rattle.pages.specs.Pages.{is_spent}
 use Rattle.std.proofs.Common.{true}
 use Rattle.btree.specs.Tree.{rows_of}
 use Rattle.btree.specs.Refusals.{IsChangeRefusal}
-use Rattle.btree.proofs.Passing.{passed, never_ok, still_error, damaged_not_device, damaged_not_spent, memory_is_put, put_not_device, put_not_damaged, memory_not_spent}
+use Rattle.btree.proofs.Passing.{passed, never_ok, still_error, damaged_not_device, damaged_not_spent, memory_is_put}
+use Rattle.btree.proofs.Passing.{put_not_device, put_not_damaged, memory_not_spent}
 use Rattle.btree.proofs.Passing.{put_is_rest, rest_is_change, read_is_change, reads_where, sectors_on}
 use Rattle.btree.proofs.clear.children_of.Goals as goal
 
@@ -159,7 +160,8 @@ read_node-requires-clause-sectors g c = sectors_on c.args.pages.now c.loop-place
 pub returns-in_err-node-clause-only : goal.returns-in_err-node-clause-only
 returns-in_err-node-clause-only g c = passed c.from_residual.result c.in_err-node.field-0.0 c.from_residual.ensures.1
     (λ r. OnlyReads g.D.Device (r ≡ Err Device) c.args.device.now c.read_node.new.device)
-    (reads_then g.D.Device _ _ _ _ _ _ (λ is. inr (still_error is)) c.loop-place.invariant.only c.in_err-node.ensures.only)
+    (reads_then g.D.Device _ _ _ _ _ _ (λ is. inr (still_error is)) c.loop-place.invariant.only
+    c.in_err-node.ensures.only)
 
 pub returns-then-ne-clause-only : goal.returns-then-ne-clause-only
 returns-then-ne-clause-only g c = reads_then g.D.Device _ _ _ _ _ _ (λ is. damaged_not_device is)
@@ -170,7 +172,8 @@ returns-in_err-push_children-clause-only g c =
     let x = c.in_err-push_children.field-0.0 in
     passed c.from_residual-in_err-push_children.result x c.from_residual-in_err-push_children.ensures.1
     (λ r. OnlyReads g.D.Device (r ≡ Err Device) c.args.device.now c.read_node.new.device)
-    (reads_then g.D.Device _ _ _ _ _ _ (λ is. put_not_device x (memory_is_put x c.in_err-push_children.ensures.cause) is)
+    (reads_then g.D.Device _ _ _ _ _ _
+    (λ is. put_not_device x (memory_is_put x c.in_err-push_children.ensures.cause) is)
     c.loop-place.invariant.only c.read_node.ensures.only)
 
 pub returns-then-room-len-clause-only : goal.returns-then-room-len-clause-only

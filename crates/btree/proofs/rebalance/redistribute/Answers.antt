@@ -53,29 +53,35 @@ returns-clause-even c =
     (omega (arith, count, c.requires.full, c.share_rows.ensures.left_even, c.share_rows.ensures.right_even))
     (omega (arith, count, c.requires.full, c.share_rows.ensures.left_even, c.share_rows.ensures.right_even))
 
-pub edit-2-requires-clause-open : goal.edit-2-requires-clause-open
-edit-2-requires-clause-open c = c.edit.ensures.keeps.is_open c.requires.open
+pub edit-requires-2-clause-open : goal.edit-requires-2-clause-open
+edit-requires-2-clause-open c = c.edit.ensures.keeps.is_open c.requires.open
 
-pub edit-2-requires-clause-page : goal.edit-2-requires-clause-page
-edit-2-requires-clause-page c = page_stays c.args.pages.now c.edit.new.self c.args.right.page c.edit.ensures.keeps.committed c.requires.right_page
+pub edit-requires-2-clause-page : goal.edit-requires-2-clause-page
+edit-requires-2-clause-page c =
+    page_stays c.args.pages.now c.edit.new.self c.args.right.page c.edit.ensures.keeps.committed c.requires.right_page
 
 pub returns-clause-rows : goal.returns-clause-rows
-returns-clause-rows c = ap (λ (l : List (List ℕ)). c.share_rows.new.left.rows ++ l) (append-nil c.share_rows.new.right.rows)
+returns-clause-rows c =
+    ap (λ (l : List (List ℕ)). c.share_rows.new.left.rows ++ l) (append-nil c.share_rows.new.right.rows)
     ∙ c.share_rows.ensures.rows
 
 pub returns-in_err-edit-2-clause-keeps : goal.returns-in_err-edit-2-clause-keeps
-returns-in_err-edit-2-clause-keeps c = keeps_on c.args.pages.now c.edit.new.self c.edit-2.new.self c.edit.ensures.keeps c.edit-2.ensures.keeps
+returns-in_err-edit-2-clause-keeps c =
+    keeps_on c.args.pages.now c.edit.new.self c.edit-2.new.self c.edit.ensures.keeps c.edit-2.ensures.keeps
 
 pub returns-clause-keeps : goal.returns-clause-keeps
-returns-clause-keeps c = keeps_on c.args.pages.now c.edit.new.self c.edit-2.new.self c.edit.ensures.keeps c.edit-2.ensures.keeps
+returns-clause-keeps c =
+    keeps_on c.args.pages.now c.edit.new.self c.edit-2.new.self c.edit.ensures.keeps c.edit-2.ensures.keeps
 
 pub returns-clause-changed_pages : goal.returns-clause-changed_pages
-returns-clause-changed_pages c = changes_two (changed_pages_of c.args.pages.now) c.args.left.page (changed_pages_of c.edit.new.self)
+returns-clause-changed_pages c =
+    changes_two (changed_pages_of c.args.pages.now) c.args.left.page (changed_pages_of c.edit.new.self)
     c.args.right.page (changed_pages_of c.edit-2.new.self) c.in_ok-edit.ensures.changes_page
     c.in_ok-edit-2.ensures.changes_page
 
 pub returns-clause-filled : goal.returns-clause-filled
-returns-clause-filled c = few_then (filled_of c.args.pages.now) (filled_of c.edit.new.self) (filled_of c.edit-2.new.self) 1 1 c.edit.ensures.filled
+returns-clause-filled c = few_then (filled_of c.args.pages.now) (filled_of c.edit.new.self)
+    (filled_of c.edit-2.new.self) 1 1 c.edit.ensures.filled
     c.edit-2.ensures.filled
 
 pub returns-in_err-edit-clause-spent : goal.returns-in_err-edit-clause-spent
@@ -84,7 +90,8 @@ returns-in_err-edit-clause-spent c = passed c.from_residual.result c.in_err-edit
     (λ is. c.in_err-edit.ensures.spent.0 (still_error is))
 
 pub returns-in_err-edit-2-clause-spent : goal.returns-in_err-edit-2-clause-spent
-returns-in_err-edit-2-clause-spent c = passed c.from_residual-in_err-edit-2.result c.in_err-edit-2.field-0.0 c.from_residual-in_err-edit-2.ensures.1
+returns-in_err-edit-2-clause-spent c =
+    passed c.from_residual-in_err-edit-2.result c.in_err-edit-2.field-0.0 c.from_residual-in_err-edit-2.ensures.1
     (λ r. r ≡ Err Spent → is_spent c.args.pages.now ≡ true)
     (λ is. sym c.edit.ensures.keeps.committed.spent ∙ c.in_err-edit-2.ensures.spent.0 (still_error is))
 
@@ -97,6 +104,7 @@ returns-in_err-edit-clause-cause c = passed c.from_residual.result c.in_err-edit
     (edit_is_put c.in_err-edit.field-0.0 c.in_err-edit.ensures.cause)
 
 pub returns-in_err-edit-2-clause-cause : goal.returns-in_err-edit-2-clause-cause
-returns-in_err-edit-2-clause-cause c = passed c.from_residual-in_err-edit-2.result c.in_err-edit-2.field-0.0 c.from_residual-in_err-edit-2.ensures.1
+returns-in_err-edit-2-clause-cause c =
+    passed c.from_residual-in_err-edit-2.result c.in_err-edit-2.field-0.0 c.from_residual-in_err-edit-2.ensures.1
     (λ r. IfErr r IsPutRefusal)
     (edit_is_put c.in_err-edit-2.field-0.0 c.in_err-edit-2.ensures.cause)
