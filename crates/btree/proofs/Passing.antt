@@ -116,6 +116,14 @@ put_is_insert Memory why = tt
 put_is_insert Spent why = tt
 put_is_insert ForeignMark why = why
 
+pub read_is_search : (layout : RowLayout) (e : PagesError) → IsReadRefusal e → IsSearchRefusal layout e
+read_is_search layout Device why = tt
+read_is_search layout Full why = why
+read_is_search layout Damaged why = tt
+read_is_search layout Memory why = absurd why
+read_is_search layout Spent why = tt
+read_is_search layout ForeignMark why = why
+
 pub read_is_insert : (e : PagesError) → IsReadRefusal e → IsInsertRefusal e
 read_is_insert Device why = tt
 read_is_insert Full why = tt
@@ -264,3 +272,6 @@ pub edit_not_full : {T A : Type 0} (x : PagesError) → (x ≡ Memory) ⊎ (x �
     → (◌≡◌ {A = Result T PagesError} (Err x) (Err Full)) → A
 edit_not_full x why is = absurd (⊎_elim (λ a. full_or_memory (sym a ∙ same_error is))
     (λ a. full_or_spent (sym a ∙ same_error is)) why)
+
+pub few_same : (old new m : ℕ) → new ≡ old → new ≤ old + m
+few_same old new m same = omega arith
