@@ -173,8 +173,7 @@ damaged_unspent (Err y) why is = damaged_not_spent (sym why ∙ is)
 
 -- pages that were read were not spent, and what is made of them tells no more
 pub spent_exactly : {T : Type 0} (r : Result T PagesError) (spent : Bool) → OnErr r (r ≡ Err Damaged)
-    → (spent ≡ true → ⊥)
-    → (r ≡ Err Spent) ↔ (spent ≡ true)
+    → (spent ≡ true → ⊥) → (r ≡ Err Spent) ↔ (spent ≡ true)
 spent_exactly r spent why never = (λ is. damaged_unspent r why is, λ was. absurd (never was))
 
 pub put_not_damaged : {T A : Type 0} (x : PagesError) → IsPutRefusal x
@@ -228,9 +227,6 @@ changes_two old one mid two new first second =
 pub few_then : (old mid new m n : ℕ) → mid ≤ old + m → new ≤ mid + n → new ≤ old + (m + n)
 few_then old mid new m n first second = omega arith
 
-pub few_still : (old mid new m : ℕ) → mid ≤ old + m → new ≤ mid → new ≤ old + m
-few_still old mid new m first second = omega arith
-
 pub few_none : (old new m : ℕ) → new ≤ old + m → new + 0 ≤ old + m
 few_none old new m few = omega arith
 
@@ -253,6 +249,9 @@ pub same_after : (old mid new : List ℕ) (m : ℕ) → length mid ≤ length ol
     → length new ≤ length old + m
 same_after old mid new m few same = subst (λ (l : List ℕ). length l ≤ length old + m) (sym same) few
 
+pub few_same : (old new m : ℕ) → new ≡ old → new ≤ old + m
+few_same old new m same = omega arith
+
 pub few_weaker : (old new m n : ℕ) → new ≤ old + m → new ≤ old + (m + n)
 few_weaker old new m n few = omega arith
 
@@ -272,6 +271,3 @@ pub edit_not_full : {T A : Type 0} (x : PagesError) → (x ≡ Memory) ⊎ (x �
     → (◌≡◌ {A = Result T PagesError} (Err x) (Err Full)) → A
 edit_not_full x why is = absurd (⊎_elim (λ a. full_or_memory (sym a ∙ same_error is))
     (λ a. full_or_spent (sym a ∙ same_error is)) why)
-
-pub few_same : (old new m : ℕ) → new ≡ old → new ≤ old + m
-few_same old new m same = omega arith
