@@ -213,25 +213,25 @@ fn roots_that_wait(rt: HostRuntime) -> Result<(), Fail> {
     Ok(())
 }
 
-/// What is at a path while a volume is made that replaces it, and after that.
+/// What is at a path while a volume is made that replaces it, and after that; also if it is given up.
 #[test]
 fn volume_that_replaces_a_file(rt: HostRuntime) -> Result<(), Fail> {
-    fs::write(&rt, "replaced", "OLD")?;
-    assert!(rt; is_old_while_replaced(&rt, "replaced")?);
-    assert_eq!(rt; fs::read(&rt, "replaced")?.len(), 3 * 4096);
-    assert!(rt; !fs::exists(&rt, "replaced.cobol-copy")?);
+    for is_whole in [false, true] {
+        fs::write(&rt, "replaced", "OLD")?;
+        let replacement = Replacement::open(&rt, "replaced")?;
+        assert!(rt; HostVolume::open(&rt, "replaced", Access::Read).is_err());
+        let volume = replacement.begin(&rt)?.fill(rt.alloc(), 3, |_| {})?;
+        assert_eq!(rt; fs::read(&rt, "replaced")?.as_slice(), b"OLD".as_slice());
+        if is_whole {
+            replacement.end(&rt, volume)?;
+            assert_eq!(rt; fs::read(&rt, "replaced")?.len(), 3 * 4096);
+        } else {
+            replacement.give_up(&rt);
+            assert_eq!(rt; fs::read(&rt, "replaced")?.as_slice(), b"OLD".as_slice());
+        }
+        assert!(rt; !fs::exists(&rt, "replaced.cobol-copy")?);
+    }
     fs::remove_file(&rt, "replaced")?;
-    Ok(())
-}
-
-/// A file that was to be replaced is locked until then, and stays if that is given up.
-#[test]
-fn volume_that_is_given_up(rt: HostRuntime) -> Result<(), Fail> {
-    fs::write(&rt, "given", "OLD")?;
-    assert!(rt; is_locked_until_given_up(&rt, "given")?);
-    assert!(rt; is_old(&rt, "given")?);
-    assert!(rt; !fs::exists(&rt, "given.cobol-copy")?);
-    fs::remove_file(&rt, "given")?;
     Ok(())
 }
 
@@ -268,29 +268,6 @@ fn first_bytes(rt: &HostRuntime, path: &str) -> io::Result<Vec<u8>> {
         firsts.push(bytes[place])?;
     }
     Ok(firsts)
-}
-
-/// Replaces a file by a volume of three sectors. Whether the file had its old bytes until then.
-fn is_old_while_replaced(rt: &HostRuntime, path: &str) -> io::Result<bool> {
-    let replacement = Replacement::open(rt, path)?;
-    let volume = replacement.begin(rt)?.fill(rt.alloc(), 3, |_| {})?;
-    let old = is_old(rt, path);
-    replacement.end(rt, volume)?;
-    old
-}
-
-/// Begins to replace a file, and gives that up. Whether the file was locked meanwhile.
-fn is_locked_until_given_up(rt: &HostRuntime, path: &str) -> io::Result<bool> {
-    let replacement = Replacement::open(rt, path)?;
-    let locked = kind_of(HostVolume::open(rt, path, Access::Read)).is_some();
-    drop(replacement.begin(rt));
-    replacement.give_up(rt);
-    Ok(locked)
-}
-
-/// Whether a file has its old bytes.
-fn is_old(rt: &HostRuntime, path: &str) -> io::Result<bool> {
-    Ok(fs::read(rt, path)?.as_slice() == b"OLD".as_slice())
 }
 
 /// A device over a new volume of so many sectors.
