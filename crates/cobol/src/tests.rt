@@ -16,7 +16,7 @@ use std::os::unix::fs::{FileExt, PermissionsExt};
 use std::test::Fail;
 use std::{fs, io};
 
-/// What a word that is no size of a volume is told.
+/// The message for a word that is no size of a volume.
 const SIZES: &str = "error: a volume has 1024 to 921600 sectors\n";
 
 const DATES: &str = "error: a date has six digits\n";
@@ -25,7 +25,7 @@ const BUDGETS: &str = "error: a budget has digits alone, and at most 18446744073
 
 const NUMBERS: &str = "error: a number has digits alone, and at most 18446744073709551615\n";
 
-/// What a number that nothing has is told.
+/// The message for a number that nothing has.
 const UNKNOWN: &str =
     "error: no fault, refusal or FILE STATUS has the number 18446744073709551615\n";
 

@@ -15,7 +15,7 @@ use std::time::Clock;
 const FORMAT: &str = "%y%m%d";
 
 /// The host's day, YYMMDD, in the time zone that the variable TZ names, or else `/etc/localtime`. Where neither can be read, the
-/// day is that of UTC. It fails if the clock does, or for want of memory.
+/// day is that of UTC. It fails if the clock does, or if memory runs out.
 pub fn today<R>(rt: &R) -> Result<[u8; 6], Error>
 where
     R: Files<File = File> + AllocGlobal + Clock + Env + Clone + Drop,

@@ -79,7 +79,7 @@ pub struct RunRequest<'a> {
     pub is_today: bool,
 }
 
-/// What a word that is no size of a volume is told.
+/// The message for a word that is no size of a volume.
 const SIZES: &str = "a volume has 1024 to 921600 sectors";
 
 /// Why words are no request.

@@ -8,7 +8,7 @@ use std::io;
 use std::io::ErrorKind;
 use std::rt::Files;
 
-/// What is behind the path of a volume that is being made.
+/// What the path of a volume that is being made ends with.
 const SUFFIX: &str = ".cobol-copy";
 
 /// The path of a volume that is to be made, and the file that it has until then.

@@ -1,4 +1,4 @@
-//! What a reader of a refused source text wants to know: what is wrong in words, and what to do.
+//! What helps the reader of a refused source text: what is wrong in words, and what to do.
 //!
 //! Promise: any source text, number and place is answered.
 #![tactic(auto)]

@@ -67,7 +67,7 @@ fn organization_text(organization: Organization) -> &'static [u8]
     }
 }
 
-/// Adds the key that tells rows apart, if the file is indexed.
+/// Adds the prime key, if the file is indexed.
 fn push_prime_key(out: &mut Vec<u8>, organization: Organization) -> Result<(), AllocError>
     ensures { OnOk result (out.new.items ≡ out.old.items ++ spec.prime_key_text organization) }
 {

@@ -1,4 +1,4 @@
-//! The state of a volume that holds files, but for these.
+//! The state of a volume that holds files, without the files.
 ghost use Rattle.std.specs.Prelude.{◌≡◌, ◌⊎◌, ◌≤◌, ◌-◌, ◌↔◌, Ok, Err, IfOk, IfErr};
 ghost use Rattle.station.specs.Calls.{OnlyReads, OnlyWrites};
 ghost use Rattle.station.specs.History.{Through};
@@ -32,7 +32,7 @@ pub enum Layout {
     Halves,
 }
 
-/// What a volume is, but for its files.
+/// What a volume is, except for its files.
 #[derive(Clone, Copy, PartialEq, Eq)]
 pub struct VolumeState {
     pub layout: Layout,

@@ -1,4 +1,4 @@
-//! Whether two volumes hold the same files, as far as a program can tell.
+//! Whether two volumes hold the same files, so that no program can distinguish them.
 ghost use Rattle.std.specs.Prelude.{◌≡◌, ◌<◌, true, length, IfOk};
 ghost use Rattle.std.specs.List.{AllZip};
 ghost use Rattle.records.specs.Stores.{spec_of};
