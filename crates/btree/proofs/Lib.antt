@@ -47,4 +47,5 @@ pub mod Clearing
 pub mod Stays
 pub mod There
 pub mod Stepping
+pub mod Passing
 mod Examples

@@ -10,6 +10,16 @@ use Rattle.btree.specs.Clears.{HasPages, levels_below}
 use Rattle.btree.specs.Changes.{pages_of_map}
 use Rattle.btree.proofs.Frames.{unchanged_on, same_pages, ok_or_err}
 use Rattle.btree.proofs.Clearing.{first_node, below_leaves, below_inner}
+use Rattle.std.specs.Prelude.{IfErr}
+use Rattle.std.proofs.Common.{◌↔◌, inr, true}
+use Rattle.station.specs.Calls.{OnlyReads}
+use Rattle.station.proofs.Calls.{reads_then}
+use Rattle.pages.specs.Pages.{is_spent}
+use Rattle.pages.specs.declared.error.PagesError.TheVariants.{Device}
+use Rattle.btree.specs.Refusals.{IsChangeRefusal}
+use Rattle.btree.proofs.Passing.{passed, never_ok, still_error}
+use Rattle.btree.proofs.Passing.{read_is_change}
+use Rattle.btree.proofs.Passing.{reads_where, sectors_on}
 use Rattle.btree.proofs.clear.below.Goals as goal
 
 pub returns-in_err-first-clause-damaged : goal.returns-in_err-first-clause-damaged
@@ -64,3 +74,42 @@ returns-in-Inner-clause-spent g c = (
   λ is. sym c.read_node.ensures.unchanged.committed.spent ∙ c.children_of.ensures.spent is,
   λ spent. absurd (ok_or_err c.in_ok-first.first Spent (sym c.in_ok-first.was ∙ c.read_node.ensures.spent.1 spent)),
 )
+
+pub returns-in_err-first-clause-only : goal.returns-in_err-first-clause-only
+returns-in_err-first-clause-only g c = passed c.from_residual.result c.in_err-first.field-0.0 c.from_residual.ensures.1
+    (λ r. OnlyReads g.D.Device (r ≡ Err Device) c.args.device.now c.read_node.new.device)
+    (reads_where g.D.Device _ _ _ _ (λ is. still_error is) c.in_err-first.ensures.only)
+
+pub returns-in-Leaf-clause-only : goal.returns-in-Leaf-clause-only
+returns-in-Leaf-clause-only g c = reads_where g.D.Device _ _ _ _ (λ is. never_ok is) c.read_node.ensures.only
+
+pub returns-in-Inner-clause-only : goal.returns-in-Inner-clause-only
+returns-in-Inner-clause-only g c = reads_then g.D.Device _ _ _ _ _ _ (λ is. inr is) c.read_node.ensures.only
+    c.children_of.ensures.only
+
+pub returns-in-Inner-clause-agrees : goal.returns-in-Inner-clause-agrees
+returns-in-Inner-clause-agrees g c =
+    λ honest agrees. c.children_of.ensures.agrees (c.read_node.ensures.only.honest.0 honest)
+    (c.read_node.ensures.agrees honest agrees)
+
+pub children_of-requires-clause-sectors : goal.children_of-requires-clause-sectors
+children_of-requires-clause-sectors g c =
+    sectors_on c.args.pages.now c.read_node.new.pages _ _ c.read_node.ensures.unchanged.committed.volume
+    c.read_node.ensures.only.sectors c.requires.sectors
+
+pub returns-in_err-first-clause-spent : goal.returns-in_err-first-clause-spent
+returns-in_err-first-clause-spent g c = passed c.from_residual.result c.in_err-first.field-0.0 c.from_residual.ensures.1
+    (λ r. (r ≡ Err Spent) ↔ (is_spent c.args.pages.now ≡ true))
+    (λ is. c.in_err-first.ensures.spent.0 (still_error is), λ was. still_error (c.in_err-first.ensures.spent.1 was))
+
+pub returns-in-Leaf-clause-spent : goal.returns-in-Leaf-clause-spent
+returns-in-Leaf-clause-spent g c =
+    (λ is. never_ok is, λ was. never_ok (sym c.in_ok-first.was ∙ c.read_node.ensures.spent.1 was))
+
+pub returns-in-Leaf-clause-damaged : goal.returns-in-Leaf-clause-damaged
+returns-in-Leaf-clause-damaged g c = λ honest agrees is. never_ok is
+
+pub returns-in_err-first-clause-cause : goal.returns-in_err-first-clause-cause
+returns-in_err-first-clause-cause g c = passed c.from_residual.result c.in_err-first.field-0.0 c.from_residual.ensures.1
+    (λ r. IfErr r IsChangeRefusal)
+    (read_is_change c.in_err-first.field-0.0 c.in_err-first.ensures.cause)

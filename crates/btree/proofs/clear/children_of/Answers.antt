@@ -13,6 +13,17 @@ use Rattle.btree.specs.Changes.{pages_of_map}
 use Rattle.btree.proofs.Frames.{unchanged_on, same_pages}
 use Rattle.btree.proofs.Descents.{rows_read, kind_read}
 use Rattle.btree.proofs.Clearing.{page_at, as_many, children_more, few_children}
+use Rattle.std.specs.Prelude.{IfErr, IfOk}
+use Rattle.std.proofs.Common.{inr}
+use Rattle.station.specs.Calls.{OnlyReads}
+use Rattle.pages.specs.declared.error.PagesError.TheVariants.{Device, Spent}
+use Rattle.pages.specs.Pages.{is_spent}
+use Rattle.std.proofs.Common.{true}
+use Rattle.btree.specs.Tree.{rows_of}
+use Rattle.btree.specs.Refusals.{IsChangeRefusal}
+use Rattle.btree.proofs.Passing.{passed, never_ok, still_error, damaged_not_device, damaged_not_spent, memory_is_put}
+use Rattle.btree.proofs.Passing.{put_not_device, put_not_damaged, memory_not_spent}
+use Rattle.btree.proofs.Passing.{put_is_rest, rest_is_change, read_is_change, reads_where, sectors_on}
 use Rattle.btree.proofs.clear.children_of.Goals as goal
 
 pub returns-in_err-node-clause-unchanged : goal.returns-in_err-node-clause-unchanged
@@ -140,3 +151,104 @@ returns-clause-few g c =
     let few = c.loop-place.invariant.few in
     let room = c.page_count-room.ensures.count in
     omega arith
+
+-- The device is only read.
+pub read_node-requires-clause-sectors : goal.read_node-requires-clause-sectors
+read_node-requires-clause-sectors g c = sectors_on c.args.pages.now c.loop-place.pages _ _
+    c.loop-place.invariant.unchanged.committed.volume c.loop-place.invariant.only.sectors c.requires.sectors
+
+pub returns-in_err-node-clause-only : goal.returns-in_err-node-clause-only
+returns-in_err-node-clause-only g c = passed c.from_residual.result c.in_err-node.field-0.0 c.from_residual.ensures.1
+    (λ r. OnlyReads g.D.Device (r ≡ Err Device) c.args.device.now c.read_node.new.device)
+    (reads_then g.D.Device _ _ _ _ _ _ (λ is. inr (still_error is)) c.loop-place.invariant.only
+    c.in_err-node.ensures.only)
+
+pub returns-then-ne-clause-only : goal.returns-then-ne-clause-only
+returns-then-ne-clause-only g c = reads_then g.D.Device _ _ _ _ _ _ (λ is. damaged_not_device is)
+    c.loop-place.invariant.only c.read_node.ensures.only
+
+pub returns-in_err-push_children-clause-only : goal.returns-in_err-push_children-clause-only
+returns-in_err-push_children-clause-only g c =
+    let x = c.in_err-push_children.field-0.0 in
+    passed c.from_residual-in_err-push_children.result x c.from_residual-in_err-push_children.ensures.1
+    (λ r. OnlyReads g.D.Device (r ≡ Err Device) c.args.device.now c.read_node.new.device)
+    (reads_then g.D.Device _ _ _ _ _ _
+    (λ is. put_not_device x (memory_is_put x c.in_err-push_children.ensures.cause) is)
+    c.loop-place.invariant.only c.read_node.ensures.only)
+
+pub returns-then-room-len-clause-only : goal.returns-then-room-len-clause-only
+returns-then-room-len-clause-only g c = reads_then g.D.Device _ _ _ _ _ _ (λ is. damaged_not_device is)
+    c.loop-place.invariant.only c.read_node.ensures.only
+
+pub returns-clause-only : goal.returns-clause-only
+returns-clause-only g c = reads_where g.D.Device _ _ _ _ (λ is. never_ok is) c.loop-place.invariant.only
+
+pub returns-in_err-node-clause-agrees : goal.returns-in_err-node-clause-agrees
+returns-in_err-node-clause-agrees g c = λ honest agrees. c.read_node.ensures.agrees
+    (c.loop-place.invariant.only.honest.0 honest) (c.loop-place.invariant.agrees honest agrees)
+
+pub returns-then-ne-clause-agrees : goal.returns-then-ne-clause-agrees
+returns-then-ne-clause-agrees g c = λ honest agrees. c.read_node.ensures.agrees
+    (c.loop-place.invariant.only.honest.0 honest) (c.loop-place.invariant.agrees honest agrees)
+
+pub returns-in_err-push_children-clause-agrees : goal.returns-in_err-push_children-clause-agrees
+returns-in_err-push_children-clause-agrees g c = λ honest agrees. c.read_node.ensures.agrees
+    (c.loop-place.invariant.only.honest.0 honest) (c.loop-place.invariant.agrees honest agrees)
+
+pub returns-then-room-len-clause-agrees : goal.returns-then-room-len-clause-agrees
+returns-then-room-len-clause-agrees g c = λ honest agrees. c.read_node.ensures.agrees
+    (c.loop-place.invariant.only.honest.0 honest) (c.loop-place.invariant.agrees honest agrees)
+
+-- Why it is refused.
+pub returns-in_err-node-clause-spent : goal.returns-in_err-node-clause-spent
+returns-in_err-node-clause-spent g c = passed c.from_residual.result c.in_err-node.field-0.0 c.from_residual.ensures.1
+    (λ r. r ≡ Err Spent → is_spent c.args.pages.now ≡ true)
+    (λ is. sym c.loop-place.invariant.unchanged.committed.spent ∙ c.in_err-node.ensures.spent.0 (still_error is))
+
+pub returns-then-ne-clause-spent : goal.returns-then-ne-clause-spent
+returns-then-ne-clause-spent g c = λ is. damaged_not_spent is
+
+pub returns-in_err-push_children-clause-spent : goal.returns-in_err-push_children-clause-spent
+returns-in_err-push_children-clause-spent g c =
+    let x = c.in_err-push_children.field-0.0 in
+    passed c.from_residual-in_err-push_children.result x c.from_residual-in_err-push_children.ensures.1
+    (λ r. r ≡ Err Spent → is_spent c.args.pages.now ≡ true)
+    (λ is. memory_not_spent x c.in_err-push_children.ensures.cause is)
+
+pub returns-then-room-len-clause-spent : goal.returns-then-room-len-clause-spent
+returns-then-room-len-clause-spent g c = λ is. damaged_not_spent is
+
+pub returns-clause-spent : goal.returns-clause-spent
+returns-clause-spent g c = λ is. never_ok is
+
+pub returns-in_err-push_children-clause-damaged : goal.returns-in_err-push_children-clause-damaged
+returns-in_err-push_children-clause-damaged g c = λ honest agrees is level stand numbers below.
+    let x = c.in_err-push_children.field-0.0 in
+    passed c.from_residual-in_err-push_children.result x c.from_residual-in_err-push_children.ensures.1
+    (λ r. r ≡ Err Damaged → ⊥) (λ e. put_not_damaged x (memory_is_put x c.in_err-push_children.ensures.cause) e) is
+
+pub returns-clause-damaged : goal.returns-clause-damaged
+returns-clause-damaged g c = λ honest agrees is level stand numbers below. never_ok is
+
+pub returns-in_err-node-clause-cause : goal.returns-in_err-node-clause-cause
+returns-in_err-node-clause-cause g c = passed c.from_residual.result c.in_err-node.field-0.0 c.from_residual.ensures.1
+    (λ r. IfErr r IsChangeRefusal) (read_is_change c.in_err-node.field-0.0 c.in_err-node.ensures.cause)
+
+pub returns-in_err-push_children-clause-cause : goal.returns-in_err-push_children-clause-cause
+returns-in_err-push_children-clause-cause g c =
+    let x = c.in_err-push_children.field-0.0 in
+    passed c.from_residual-in_err-push_children.result x c.from_residual-in_err-push_children.ensures.1
+    (λ r. IfErr r IsChangeRefusal)
+    (rest_is_change x (put_is_rest x (memory_is_put x c.in_err-push_children.ensures.cause)))
+
+-- A refusal has no children.
+pub returns-in_err-node-clause-children : goal.returns-in_err-node-clause-children
+returns-in_err-node-clause-children g c = λ honest agrees level stand numbers.
+    passed c.from_residual.result c.in_err-node.field-0.0 c.from_residual.ensures.1
+    (λ r. IfOk r (λ children. children.items ≡ map (child_of c.args.layout) (rows_of level))) tt
+
+pub returns-in_err-push_children-clause-children : goal.returns-in_err-push_children-clause-children
+returns-in_err-push_children-clause-children g c = λ honest agrees level stand numbers.
+    passed c.from_residual-in_err-push_children.result c.in_err-push_children.field-0.0
+    c.from_residual-in_err-push_children.ensures.1
+    (λ r. IfOk r (λ children. children.items ≡ map (child_of c.args.layout) (rows_of level))) tt

@@ -11,6 +11,12 @@ use Rattle.btree.specs.Steps.{LeadsTo}
 use Rattle.btree.specs.Propagates.{node_with}
 use Rattle.btree.proofs.Descents.{rows_read, kind_read}
 use Rattle.btree.proofs.Frames.{unchanged_on, same_pages}
+use Rattle.std.proofs.Common.{inr}
+use Rattle.station.specs.Calls.{OnlyReads}
+use Rattle.station.proofs.Calls.{reads_then}
+use Rattle.pages.specs.declared.error.PagesError.TheVariants.{Device}
+use Rattle.btree.proofs.Passing.{passed, never_ok, still_error, damaged_not_device}
+use Rattle.btree.proofs.Passing.{sectors_on}
 use Rattle.btree.proofs.descend.descend.Goals as goal
 
 pub returns-in_err-leaf-clause-unchanged : goal.returns-in_err-leaf-clause-unchanged
@@ -78,3 +84,36 @@ pub returns-clause-unchanged : goal.returns-clause-unchanged
 returns-clause-unchanged g c =
     unchanged_on c.args.pages.now c.follow.new.pages c.read_node.new.pages c.follow.ensures.unchanged
     c.read_node.ensures.unchanged
+
+pub read_node-requires-clause-sectors : goal.read_node-requires-clause-sectors
+read_node-requires-clause-sectors g c =
+    sectors_on c.args.pages.now c.follow.new.pages _ _ c.follow.ensures.unchanged.committed.volume
+    c.follow.ensures.only.sectors c.requires.sectors
+
+pub returns-in_err-leaf-clause-only : goal.returns-in_err-leaf-clause-only
+returns-in_err-leaf-clause-only g c =
+    passed c.from_residual-in_err-leaf.result c.in_err-leaf.field-0.0 c.from_residual-in_err-leaf.ensures.1
+    (λ r. OnlyReads g.D.Device (r ≡ Err Device) c.args.device.now c.read_node.new.device)
+    (reads_then g.D.Device _ _ _ _ _ _ (λ is. inr (still_error is)) c.follow.ensures.only
+    c.in_err-leaf.ensures.only)
+
+pub returns-then-ne-clause-only : goal.returns-then-ne-clause-only
+returns-then-ne-clause-only g c = reads_then g.D.Device _ _ _ _ _ _ (λ is. damaged_not_device is) c.follow.ensures.only
+    c.read_node.ensures.only
+
+pub returns-clause-only : goal.returns-clause-only
+returns-clause-only g c = reads_then g.D.Device _ _ _ _ _ _ (λ is. never_ok is) c.follow.ensures.only
+    c.read_node.ensures.only
+
+pub returns-in_err-leaf-clause-agrees : goal.returns-in_err-leaf-clause-agrees
+returns-in_err-leaf-clause-agrees g c =
+    λ honest agrees. c.read_node.ensures.agrees (c.follow.ensures.only.honest.0 honest)
+    (c.follow.ensures.agrees honest agrees)
+
+pub returns-then-ne-clause-agrees : goal.returns-then-ne-clause-agrees
+returns-then-ne-clause-agrees g c = λ honest agrees. c.read_node.ensures.agrees (c.follow.ensures.only.honest.0 honest)
+    (c.follow.ensures.agrees honest agrees)
+
+pub returns-clause-agrees : goal.returns-clause-agrees
+returns-clause-agrees g c = λ honest agrees. c.read_node.ensures.agrees (c.follow.ensures.only.honest.0 honest)
+    (c.follow.ensures.agrees honest agrees)

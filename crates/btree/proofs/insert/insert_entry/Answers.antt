@@ -10,6 +10,20 @@ use Rattle.btree.specs.Changes.{pages_of_map, Inserts}
 use Rattle.btree.specs.Entering.{EntersOn}
 use Rattle.btree.proofs.Frames.{holds_tree, pages_yet, unchanged_on}
 use Rattle.btree.proofs.InPlace.{came_in_place}
+use Rattle.std.specs.Prelude.{IfErr, Err}
+use Rattle.std.proofs.Common.{◌↔◌, inr}
+use Rattle.station.specs.Calls.{OnlyReads}
+use Rattle.station.proofs.Calls.{reads_then}
+use Rattle.pages.specs.Pages.{is_spent}
+use Rattle.pages.specs.declared.error.PagesError.TheVariants.{Device, Spent, Full}
+use Rattle.btree.specs.Refusals.{IsPutRefusal, IsInsertRefusal}
+use Rattle.btree.specs.Reading.{IsSearchRefusal}
+use Rattle.btree.proofs.Passing.{passed, never_ok, never_err, some_not_none, same_error, still_error}
+use Rattle.btree.proofs.Passing.{put_not_device}
+use Rattle.btree.proofs.Passing.{search_is_insert, put_is_insert}
+use Rattle.btree.proofs.Passing.{reads_where, committed_on, sectors_on}
+use Rattle.pages.specs.Pages.{HasEachPage}
+use Rattle.std.specs.Prelude.{None}
 use Rattle.btree.proofs.insert.insert_entry.Goals as goal
 
 pub returns-in_err-way-clause-catalog : goal.returns-in_err-way-clause-catalog
@@ -118,3 +132,128 @@ returns-clause-filled g c = λ honest agrees levels holds.
     let count = ap (λ (p : PageMap). filled_of p) same in
     let still = c.follow.ensures.unchanged.filled in
     omega (arith, few, count, still)
+
+pub returns-in_err-way-clause-only : goal.returns-in_err-way-clause-only
+returns-in_err-way-clause-only g c = passed c.from_residual.result c.in_err-way.field-0.0 c.from_residual.ensures.1
+    (λ r. OnlyReads g.D.Device (r ≡ Err Device) c.args.device.now c.follow.new.device)
+    (reads_where g.D.Device _ _ _ _ (λ is. still_error is) c.in_err-way.ensures.only)
+
+pub returns-in_err-enter_leaf-clause-only : goal.returns-in_err-enter_leaf-clause-only
+returns-in_err-enter_leaf-clause-only g c = passed c.from_residual-in_err-enter_leaf.result
+    c.in_err-enter_leaf.field-0.0 c.from_residual-in_err-enter_leaf.ensures.1
+    (λ r. OnlyReads g.D.Device (r ≡ Err Device) c.args.device.now c.follow.new.device)
+    (reads_where g.D.Device _ _ _ _
+    (λ is. put_not_device c.in_err-enter_leaf.field-0.0 c.in_err-enter_leaf.ensures.cause is) c.follow.ensures.only)
+
+pub returns-then-branch-clause-only : goal.returns-then-branch-clause-only
+returns-then-branch-clause-only g c = reads_where g.D.Device _ _ _ _ (λ is. never_ok is) c.follow.ensures.only
+
+pub returns-clause-only : goal.returns-clause-only
+returns-clause-only g c = reads_then g.D.Device _ _ _ _ _ _ (λ is. inr is) c.follow.ensures.only
+    c.insert_slowly-2.ensures.only
+
+pub returns-in_err-enter_leaf-clause-committed : goal.returns-in_err-enter_leaf-clause-committed
+returns-in_err-enter_leaf-clause-committed g c = committed_on c.args.pages.now c.follow.new.pages c.enter_leaf.new.pages
+    c.follow.ensures.unchanged.committed c.enter_leaf.ensures.keeps.committed
+
+pub returns-then-branch-clause-committed : goal.returns-then-branch-clause-committed
+returns-then-branch-clause-committed g c = committed_on c.args.pages.now c.follow.new.pages c.enter_leaf.new.pages
+    c.follow.ensures.unchanged.committed c.enter_leaf.ensures.keeps.committed
+
+pub returns-clause-committed : goal.returns-clause-committed
+returns-clause-committed g c = committed_on c.args.pages.now c.enter_leaf.new.pages c.insert_slowly-2.new.pages
+    (committed_on c.args.pages.now c.follow.new.pages c.enter_leaf.new.pages c.follow.ensures.unchanged.committed
+    c.enter_leaf.ensures.keeps.committed)
+    c.insert_slowly-2.ensures.committed
+
+pub returns-in_err-enter_leaf-clause-agrees : goal.returns-in_err-enter_leaf-clause-agrees
+returns-in_err-enter_leaf-clause-agrees g c =
+    λ honest agrees. c.enter_leaf.ensures.keeps.agrees (g.D.Device.state c.follow.new.device).disk
+    (c.follow.ensures.agrees honest agrees)
+
+pub returns-then-branch-clause-agrees : goal.returns-then-branch-clause-agrees
+returns-then-branch-clause-agrees g c =
+    λ honest agrees. c.enter_leaf.ensures.keeps.agrees (g.D.Device.state c.follow.new.device).disk
+    (c.follow.ensures.agrees honest agrees)
+
+pub returns-clause-agrees : goal.returns-clause-agrees
+returns-clause-agrees g c = λ honest agrees. c.insert_slowly-2.ensures.agrees (c.follow.ensures.only.honest.0 honest)
+    (c.enter_leaf.ensures.keeps.agrees (g.D.Device.state c.follow.new.device).disk
+    (c.follow.ensures.agrees honest agrees))
+
+pub returns-in_err-enter_leaf-clause-open : goal.returns-in_err-enter_leaf-clause-open
+returns-in_err-enter_leaf-clause-open g c = c.enter_leaf.ensures.keeps.is_open c.follow.ensures.open
+
+pub returns-then-branch-clause-open : goal.returns-then-branch-clause-open
+returns-then-branch-clause-open g c = c.enter_leaf.ensures.keeps.is_open c.follow.ensures.open
+
+pub insert_slowly-requires-2-clause-open : goal.insert_slowly-requires-2-clause-open
+insert_slowly-requires-2-clause-open g c = c.enter_leaf.ensures.keeps.is_open c.follow.ensures.open
+
+pub insert_slowly-requires-2-clause-sectors : goal.insert_slowly-requires-2-clause-sectors
+insert_slowly-requires-2-clause-sectors g c = sectors_on c.args.pages.now c.enter_leaf.new.pages _ _
+    (c.enter_leaf.ensures.keeps.committed.volume ∙ c.follow.ensures.unchanged.committed.volume)
+    c.follow.ensures.only.sectors c.requires.sectors
+
+pub returns-in_err-way-clause-spent : goal.returns-in_err-way-clause-spent
+returns-in_err-way-clause-spent g c = passed c.from_residual.result c.in_err-way.field-0.0 c.from_residual.ensures.1
+    (λ r. (r ≡ Err Spent) ↔ (is_spent c.args.pages.now ≡ true))
+    (λ is. c.in_err-way.ensures.spent.0 (still_error is), λ was. still_error (c.in_err-way.ensures.spent.1 was))
+
+pub returns-in_err-enter_leaf-clause-spent : goal.returns-in_err-enter_leaf-clause-spent
+returns-in_err-enter_leaf-clause-spent g c = passed c.from_residual-in_err-enter_leaf.result
+    c.in_err-enter_leaf.field-0.0 c.from_residual-in_err-enter_leaf.ensures.1
+    (λ r. (r ≡ Err Spent) ↔ (is_spent c.args.pages.now ≡ true)) (
+      λ is. sym c.follow.ensures.unchanged.committed.spent ∙ c.in_err-enter_leaf.ensures.spent (still_error is),
+      λ was. never_ok (sym c.in_ok-way.was ∙ c.follow.ensures.spent.1 was),
+    )
+
+pub returns-then-branch-clause-spent : goal.returns-then-branch-clause-spent
+returns-then-branch-clause-spent g c =
+    (λ is. never_ok is, λ was. never_ok (sym c.in_ok-way.was ∙ c.follow.ensures.spent.1 was))
+
+pub returns-clause-spent : goal.returns-clause-spent
+returns-clause-spent g c = (
+  λ is. sym (c.enter_leaf.ensures.keeps.committed.spent ∙ c.follow.ensures.unchanged.committed.spent)
+      ∙ c.insert_slowly-2.ensures.spent.0 is,
+  λ was. never_ok (sym c.in_ok-way.was ∙ c.follow.ensures.spent.1 was),
+)
+
+pub returns-in_err-way-clause-cause : goal.returns-in_err-way-clause-cause
+returns-in_err-way-clause-cause g c = passed c.from_residual.result c.in_err-way.field-0.0 c.from_residual.ensures.1
+    (λ r. IfErr r IsInsertRefusal)
+    (search_is_insert c.args.layout c.in_err-way.field-0.0 c.in_err-way.ensures.cause)
+
+pub returns-in_err-enter_leaf-clause-cause : goal.returns-in_err-enter_leaf-clause-cause
+returns-in_err-enter_leaf-clause-cause g c = passed c.from_residual-in_err-enter_leaf.result
+    c.in_err-enter_leaf.field-0.0 c.from_residual-in_err-enter_leaf.ensures.1
+    (λ r. IfErr r IsInsertRefusal)
+    (put_is_insert c.in_err-enter_leaf.field-0.0 c.in_err-enter_leaf.ensures.cause)
+
+pub returns-in_err-way-clause-full : goal.returns-in_err-way-clause-full
+returns-in_err-way-clause-full g c = passed c.from_residual.result c.in_err-way.field-0.0 c.from_residual.ensures.1
+    (λ r. r ≡ Err Full → HasEachPage c.follow.new.pages)
+    (λ is. absurd (subst (IsSearchRefusal c.args.layout) (same_error is) c.in_err-way.ensures.cause))
+
+pub returns-in_err-enter_leaf-clause-full : goal.returns-in_err-enter_leaf-clause-full
+returns-in_err-enter_leaf-clause-full g c = passed c.from_residual-in_err-enter_leaf.result
+    c.in_err-enter_leaf.field-0.0 c.from_residual-in_err-enter_leaf.ensures.1
+    (λ r. r ≡ Err Full → HasEachPage c.enter_leaf.new.pages)
+    (λ is. absurd (subst IsPutRefusal (same_error is) c.in_err-enter_leaf.ensures.cause))
+
+pub returns-then-branch-clause-full : goal.returns-then-branch-clause-full
+returns-then-branch-clause-full g c = λ is. never_ok is
+
+pub returns-then-branch-clause-there : goal.returns-then-branch-clause-there
+returns-then-branch-clause-there g c = λ is. some_not_none is
+
+pub returns-in_err-way-clause-there : goal.returns-in_err-way-clause-there
+returns-in_err-way-clause-there g c = passed c.from_residual.result c.in_err-way.field-0.0 c.from_residual.ensures.1
+    (λ r. r ≡ Ok None → IsUnchanged c.args.pages.now c.follow.new.pages)
+    (λ is. never_err is)
+
+pub returns-in_err-enter_leaf-clause-there : goal.returns-in_err-enter_leaf-clause-there
+returns-in_err-enter_leaf-clause-there g c = passed c.from_residual-in_err-enter_leaf.result
+    c.in_err-enter_leaf.field-0.0 c.from_residual-in_err-enter_leaf.ensures.1
+    (λ r. r ≡ Ok None → IsUnchanged c.args.pages.now c.enter_leaf.new.pages)
+    (λ is. never_err is)

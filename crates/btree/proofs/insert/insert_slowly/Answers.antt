@@ -16,6 +16,20 @@ use Rattle.btree.proofs.Depth.{few_levels}
 use Rattle.btree.proofs.Entering.{turns_count}
 use Rattle.btree.proofs.Searches.{FindsAt, FindsGap}
 use Rattle.btree.proofs.Inserting.{planted, came, was_there}
+use Rattle.std.specs.Prelude.{IfErr, Err, Ok}
+use Rattle.std.proofs.Common.{◌↔◌, inr, true}
+use Rattle.station.specs.Calls.{OnlyReads}
+use Rattle.station.proofs.Calls.{reads_then, reads_nothing}
+use Rattle.pages.specs.Pages.{changed_pages_of, filled_of}
+use Rattle.pages.specs.declared.error.PagesError.TheVariants.{Device, Full}
+use Rattle.btree.specs.Refusals.{IsInsertRefusal}
+use Rattle.btree.specs.Reading.{IsSearchRefusal}
+use Rattle.btree.proofs.Passing.{passed, never_ok, never_err, some_not_none, same_error, still_error}
+use Rattle.btree.proofs.Passing.{write_not_device, write_is_insert, search_is_insert}
+use Rattle.btree.proofs.Passing.{reads_where, committed_on, sectors_on}
+use Rattle.btree.proofs.Passing.{few_weaker}
+use Rattle.pages.specs.Pages.{HasEachPage, IsUnchanged}
+use Rattle.std.specs.Prelude.{None}
 use Rattle.btree.proofs.insert.insert_slowly.Goals as goal
 
 pub returns-then-root-eq0-clause-inserted : goal.returns-then-root-eq0-clause-inserted
@@ -174,3 +188,175 @@ returns-clause-filled g c = λ honest agrees levels holds.
     small tree (c.in_ok-descent.ensures.way honest agrees levels tree) in
     let same = c.descend.ensures.unchanged.filled in
     omega (arith, steps, c.insert_into_leaf.ensures.filled, same)
+
+pub returns-in_err-new-clause-only : goal.returns-in_err-new-clause-only
+returns-in_err-new-clause-only g c = passed c.from_residual.result c.in_err-new.field-0.0 c.from_residual.ensures.1
+    (λ r. OnlyReads g.D.Device (r ≡ Err Device) c.args.device.now c.args.device.now)
+    (reads_where g.D.Device _ _ _ _ (λ is. write_not_device c.in_err-new.field-0.0 c.in_err-new.ensures.cause is)
+    (reads_nothing g.D.Device c.args.device.now))
+
+pub returns-then-root-eq0-clause-only : goal.returns-then-root-eq0-clause-only
+returns-then-root-eq0-clause-only g c =
+    reads_where g.D.Device _ _ _ _ (λ is. never_ok is) (reads_nothing g.D.Device c.args.device.now)
+
+pub returns-in_err-descent-clause-only : goal.returns-in_err-descent-clause-only
+returns-in_err-descent-clause-only g c =
+    passed c.from_residual-in_err-descent.result c.in_err-descent.field-0.0 c.from_residual-in_err-descent.ensures.1
+    (λ r. OnlyReads g.D.Device (r ≡ Err Device) c.args.device.now c.descend.new.device)
+    (reads_where g.D.Device _ _ _ _ (λ is. still_error is) c.in_err-descent.ensures.only)
+
+pub returns-in-Ok-clause-only : goal.returns-in-Ok-clause-only
+returns-in-Ok-clause-only g c = reads_where g.D.Device _ _ _ _ (λ is. never_ok is) c.descend.ensures.only
+
+pub returns-in_err-entered-clause-only : goal.returns-in_err-entered-clause-only
+returns-in_err-entered-clause-only g c =
+    passed c.from_residual-in_err-entered.result c.in_err-entered.field-0.0 c.from_residual-in_err-entered.ensures.1
+    (λ r. OnlyReads g.D.Device (r ≡ Err Device) c.args.device.now c.insert_into_leaf.new.device)
+    (reads_then g.D.Device _ _ _ _ _ _ (λ is. inr (still_error is)) c.descend.ensures.only
+    c.in_err-entered.ensures.only)
+
+pub returns-clause-only : goal.returns-clause-only
+returns-clause-only g c = reads_then g.D.Device _ _ _ _ _ _ (λ is. never_ok is) c.descend.ensures.only
+    c.insert_into_leaf.ensures.only
+
+pub returns-in_err-entered-clause-committed : goal.returns-in_err-entered-clause-committed
+returns-in_err-entered-clause-committed g c = committed_on c.args.pages.now c.descend.new.pages
+    c.insert_into_leaf.new.pages c.descend.ensures.unchanged.committed c.insert_into_leaf.ensures.committed
+
+pub returns-clause-committed : goal.returns-clause-committed
+returns-clause-committed g c = committed_on c.args.pages.now c.descend.new.pages c.insert_into_leaf.new.pages
+    c.descend.ensures.unchanged.committed c.insert_into_leaf.ensures.committed
+
+pub returns-in_err-new-clause-agrees : goal.returns-in_err-new-clause-agrees
+returns-in_err-new-clause-agrees g c =
+    λ honest agrees. c.first_leaf.ensures.keeps.agrees (g.D.Device.state c.args.device.now).disk agrees
+
+pub returns-then-root-eq0-clause-agrees : goal.returns-then-root-eq0-clause-agrees
+returns-then-root-eq0-clause-agrees g c =
+    λ honest agrees. c.first_leaf.ensures.keeps.agrees (g.D.Device.state c.args.device.now).disk agrees
+
+pub returns-in_err-entered-clause-agrees : goal.returns-in_err-entered-clause-agrees
+returns-in_err-entered-clause-agrees g c =
+    λ honest agrees. c.insert_into_leaf.ensures.agrees (c.descend.ensures.only.honest.0 honest)
+    (c.descend.ensures.agrees honest agrees)
+
+pub returns-clause-agrees : goal.returns-clause-agrees
+returns-clause-agrees g c = λ honest agrees. c.insert_into_leaf.ensures.agrees (c.descend.ensures.only.honest.0 honest)
+    (c.descend.ensures.agrees honest agrees)
+
+pub returns-in_err-new-clause-open : goal.returns-in_err-new-clause-open
+returns-in_err-new-clause-open g c = c.first_leaf.ensures.keeps.is_open c.requires.open
+
+pub returns-then-root-eq0-clause-open : goal.returns-then-root-eq0-clause-open
+returns-then-root-eq0-clause-open g c = c.first_leaf.ensures.keeps.is_open c.requires.open
+
+pub insert_into_leaf-requires-clause-sectors : goal.insert_into_leaf-requires-clause-sectors
+insert_into_leaf-requires-clause-sectors g c =
+    sectors_on c.args.pages.now c.descend.new.pages _ _ c.descend.ensures.unchanged.committed.volume
+    c.descend.ensures.only.sectors c.requires.sectors
+
+pub returns-in_err-new-clause-spent : goal.returns-in_err-new-clause-spent
+returns-in_err-new-clause-spent g c = passed c.from_residual.result c.in_err-new.field-0.0 c.from_residual.ensures.1
+    (λ r. (r ≡ Err Spent) ↔ (is_spent c.args.pages.now ≡ true))
+    (λ is. c.in_err-new.ensures.spent.0 (still_error is), λ was. still_error (c.in_err-new.ensures.spent.1 was))
+
+pub returns-then-root-eq0-clause-spent : goal.returns-then-root-eq0-clause-spent
+returns-then-root-eq0-clause-spent g c =
+    (λ is. never_ok is, λ was. never_ok (sym c.in_ok-new.was ∙ c.first_leaf.ensures.spent.1 was))
+
+pub returns-in_err-descent-clause-spent : goal.returns-in_err-descent-clause-spent
+returns-in_err-descent-clause-spent g c =
+    passed c.from_residual-in_err-descent.result c.in_err-descent.field-0.0 c.from_residual-in_err-descent.ensures.1
+    (λ r. (r ≡ Err Spent) ↔ (is_spent c.args.pages.now ≡ true))
+    (λ is. c.in_err-descent.ensures.spent.0 (still_error is), λ was. still_error (c.in_err-descent.ensures.spent.1 was))
+
+pub returns-in-Ok-clause-spent : goal.returns-in-Ok-clause-spent
+returns-in-Ok-clause-spent g c =
+    (λ is. never_ok is, λ was. never_ok (sym c.in_ok-descent.was ∙ c.descend.ensures.spent.1 was))
+
+pub returns-clause-spent : goal.returns-clause-spent
+returns-clause-spent g c =
+    (λ is. never_ok is, λ was. never_ok (sym c.in_ok-descent.was ∙ c.descend.ensures.spent.1 was))
+
+pub returns-in_err-entered-clause-spent : goal.returns-in_err-entered-clause-spent
+returns-in_err-entered-clause-spent g c =
+    passed c.from_residual-in_err-entered.result c.in_err-entered.field-0.0 c.from_residual-in_err-entered.ensures.1
+    (λ r. (r ≡ Err Spent) ↔ (is_spent c.args.pages.now ≡ true)) (
+      λ is. sym c.descend.ensures.unchanged.committed.spent ∙ c.in_err-entered.ensures.spent (still_error is),
+      λ was. never_ok (sym c.in_ok-descent.was ∙ c.descend.ensures.spent.1 was),
+    )
+
+pub returns-in_err-new-clause-cause : goal.returns-in_err-new-clause-cause
+returns-in_err-new-clause-cause g c = passed c.from_residual.result c.in_err-new.field-0.0 c.from_residual.ensures.1
+    (λ r. IfErr r IsInsertRefusal)
+    (write_is_insert c.in_err-new.field-0.0 c.in_err-new.ensures.cause)
+
+pub returns-in_err-descent-clause-cause : goal.returns-in_err-descent-clause-cause
+returns-in_err-descent-clause-cause g c =
+    passed c.from_residual-in_err-descent.result c.in_err-descent.field-0.0 c.from_residual-in_err-descent.ensures.1
+    (λ r. IfErr r IsInsertRefusal)
+    (search_is_insert c.args.layout c.in_err-descent.field-0.0 c.in_err-descent.ensures.cause)
+
+pub returns-in_err-entered-clause-cause : goal.returns-in_err-entered-clause-cause
+returns-in_err-entered-clause-cause g c =
+    passed c.from_residual-in_err-entered.result c.in_err-entered.field-0.0 c.from_residual-in_err-entered.ensures.1
+    (λ r. IfErr r IsInsertRefusal)
+    (c.in_err-entered.ensures.cause)
+
+pub returns-in_err-descent-clause-full : goal.returns-in_err-descent-clause-full
+returns-in_err-descent-clause-full g c =
+    passed c.from_residual-in_err-descent.result c.in_err-descent.field-0.0 c.from_residual-in_err-descent.ensures.1
+    (λ r. r ≡ Err Full → HasEachPage c.descend.new.pages)
+    (λ is. absurd (subst (IsSearchRefusal c.args.layout) (same_error is) c.in_err-descent.ensures.cause))
+
+pub returns-then-root-eq0-clause-full : goal.returns-then-root-eq0-clause-full
+returns-then-root-eq0-clause-full g c = λ is. never_ok is
+
+pub returns-in-Ok-clause-full : goal.returns-in-Ok-clause-full
+returns-in-Ok-clause-full g c = λ is. never_ok is
+
+pub returns-clause-full : goal.returns-clause-full
+returns-clause-full g c = λ is. never_ok is
+
+pub returns-then-root-eq0-clause-there : goal.returns-then-root-eq0-clause-there
+returns-then-root-eq0-clause-there g c = λ is. some_not_none is
+
+pub returns-clause-there : goal.returns-clause-there
+returns-clause-there g c = λ is. some_not_none is
+
+pub returns-in_err-new-clause-there : goal.returns-in_err-new-clause-there
+returns-in_err-new-clause-there g c = passed c.from_residual.result c.in_err-new.field-0.0 c.from_residual.ensures.1
+    (λ r. r ≡ Ok None → IsUnchanged c.args.pages.now c.first_leaf.new.pages)
+    (λ is. never_err is)
+
+pub returns-in_err-descent-clause-there : goal.returns-in_err-descent-clause-there
+returns-in_err-descent-clause-there g c =
+    passed c.from_residual-in_err-descent.result c.in_err-descent.field-0.0 c.from_residual-in_err-descent.ensures.1
+    (λ r. r ≡ Ok None → IsUnchanged c.args.pages.now c.descend.new.pages)
+    (λ is. never_err is)
+
+pub returns-in_err-entered-clause-there : goal.returns-in_err-entered-clause-there
+returns-in_err-entered-clause-there g c =
+    passed c.from_residual-in_err-entered.result c.in_err-entered.field-0.0 c.from_residual-in_err-entered.ensures.1
+    (λ r. r ≡ Ok None → IsUnchanged c.args.pages.now c.insert_into_leaf.new.pages)
+    (λ is. never_err is)
+
+pub returns-in_err-new-clause-changed_pages : goal.returns-in_err-new-clause-changed_pages
+returns-in_err-new-clause-changed_pages g c =
+    λ honest agrees levels holds. few_weaker (length (changed_pages_of c.args.pages.now))
+    (length (changed_pages_of c.first_leaf.new.pages)) 1 41 c.first_leaf.ensures.changed_pages
+
+pub returns-in_err-new-clause-filled : goal.returns-in_err-new-clause-filled
+returns-in_err-new-clause-filled g c =
+    λ honest agrees levels holds. few_weaker (filled_of c.args.pages.now) (filled_of c.first_leaf.new.pages) 1 41
+    c.first_leaf.ensures.filled
+
+pub returns-then-root-eq0-clause-changed_pages : goal.returns-then-root-eq0-clause-changed_pages
+returns-then-root-eq0-clause-changed_pages g c =
+    λ honest agrees levels holds. few_weaker (length (changed_pages_of c.args.pages.now))
+    (length (changed_pages_of c.first_leaf.new.pages)) 1 41 c.first_leaf.ensures.changed_pages
+
+pub returns-then-root-eq0-clause-filled : goal.returns-then-root-eq0-clause-filled
+returns-then-root-eq0-clause-filled g c =
+    λ honest agrees levels holds. few_weaker (filled_of c.args.pages.now) (filled_of c.first_leaf.new.pages) 1 41
+    c.first_leaf.ensures.filled

@@ -6,6 +6,14 @@ use Rattle.pages.specs.declared.error.PagesError.{PagesError}
 use Rattle.btree_pages.specs.Node.{Node}
 use Rattle.btree.specs.Reading.{SpellsNoNode}
 use Rattle.btree.proofs.TreeNodes.{node_seen, spells_none, read_none}
+use Rattle.std.specs.Prelude.{Err}
+use Rattle.std.proofs.Common.{◌↔◌, true}
+use Rattle.station.specs.Calls.{OnlyReads}
+use Rattle.pages.specs.Pages.{is_spent}
+use Rattle.pages.specs.declared.error.PagesError.TheVariants.{Device, Spent}
+use Rattle.btree.proofs.Passing.{passed, never_ok, still_error, damaged_not_device, damaged_not_spent}
+use Rattle.btree.proofs.Passing.{reads_where}
+use Rattle.btree.proofs.Passing.{damaged_alone, damaged_is_read, spent_exactly}
 use Rattle.btree.proofs.node.node_read.Goals as goal
 
 pub returns-in-Some-clause-node : goal.returns-in-Some-clause-node
@@ -34,3 +42,32 @@ returns-in-None-clause-damaged g c = λ honest agrees is kind node same stands.
     (map_now c.args.pages.now (g.D.Device.state c.args.device.now).disk.present).pages in
     read_none c.args.layout pages c.args.page None kind node
     (sym c.in-None.is ∙ c.in_ok-bytes.ensures.page honest agrees) refl same stands
+
+pub returns-in_err-bytes-clause-only : goal.returns-in_err-bytes-clause-only
+returns-in_err-bytes-clause-only g c = passed c.from_residual.result c.in_err-bytes.field-0.0 c.from_residual.ensures.1
+    (λ r. OnlyReads g.D.Device (r ≡ Err Device) c.args.device.now c.read.new.device)
+    (reads_where g.D.Device _ _ _ _ (λ is. still_error is) c.in_err-bytes.ensures.only)
+
+pub returns-in-Some-clause-only : goal.returns-in-Some-clause-only
+returns-in-Some-clause-only g c = reads_where g.D.Device _ _ _ _
+    (λ is. damaged_alone c.copy_node.result c.copy_node.ensures.cause is) c.read.ensures.only
+
+pub returns-in-None-clause-only : goal.returns-in-None-clause-only
+returns-in-None-clause-only g c = reads_where g.D.Device _ _ _ _ (λ is. damaged_not_device is) c.read.ensures.only
+
+pub returns-in_err-bytes-clause-spent : goal.returns-in_err-bytes-clause-spent
+returns-in_err-bytes-clause-spent g c = passed c.from_residual.result c.in_err-bytes.field-0.0 c.from_residual.ensures.1
+    (λ r. (r ≡ Err Spent) ↔ (is_spent c.args.pages.now ≡ true))
+    (λ is. c.in_err-bytes.ensures.spent.0 (still_error is), λ was. still_error (c.in_err-bytes.ensures.spent.1 was))
+
+pub returns-in-Some-clause-spent : goal.returns-in-Some-clause-spent
+returns-in-Some-clause-spent g c =
+    spent_exactly c.copy_node.result (is_spent c.args.pages.now) c.copy_node.ensures.cause
+    (λ was. never_ok (sym c.in_ok-bytes.was ∙ c.read.ensures.spent.1 was))
+
+pub returns-in-None-clause-spent : goal.returns-in-None-clause-spent
+returns-in-None-clause-spent g c =
+    (λ is. damaged_not_spent is, λ was. never_ok (sym c.in_ok-bytes.was ∙ c.read.ensures.spent.1 was))
+
+pub returns-in-Some-clause-cause : goal.returns-in-Some-clause-cause
+returns-in-Some-clause-cause g c = damaged_is_read c.copy_node.result c.copy_node.ensures.cause

@@ -12,6 +12,19 @@ use Rattle.btree.specs.Path.{PathStep}
 use Rattle.btree.specs.Propagates.{run_of}
 use Rattle.btree.specs.Changes.{pages_of_map, IsIn, CanStand, UpdatesParent, PropagatesBy, NeverPropagates}
 use Rattle.btree.proofs.Upward.{propagates_none, propagates_on, propagates_more, never_read, never_updated, never_below}
+use Rattle.std.specs.Prelude.{IfErr, Err}
+use Rattle.std.proofs.Common.{inr, true}
+use Rattle.station.specs.Calls.{OnlyReads}
+use Rattle.station.proofs.Calls.{reads_then, reads_nothing}
+use Rattle.pages.specs.Pages.{is_spent}
+use Rattle.pages.specs.declared.error.PagesError.TheVariants.{Device, Spent, Full}
+use Rattle.btree.specs.Refusals.{IsInsertRefusal}
+use Rattle.btree.specs.Reading.{IsReadRefusal}
+use Rattle.btree.proofs.Passing.{passed, never_ok, same_error, still_error}
+use Rattle.btree.proofs.Passing.{reads_where, committed_on, sectors_on}
+use Rattle.btree.proofs.Passing.{read_is_insert, parent_is_insert}
+use Rattle.pages.specs.Pages.{HasEachPage}
+use Rattle.btree.specs.Refusals.{IsParentRefusal}
 use Rattle.btree.proofs.propagate_split.+propagate_split.Goals as goal
 
 pub returns-in-None-clause-propagates : goal.returns-in-None-clause-propagates
@@ -143,3 +156,137 @@ pub returns-in_err-up-clause-full : goal.returns-in_err-up-clause-full
 returns-in_err-up-clause-full g t c = λ is.
     let told = rw is at c.from_residual-in_err-up.ensures.1 in
     c.in_err-up.ensures.full (cc told)
+
+pub returns-in-None-clause-only : goal.returns-in-None-clause-only
+returns-in-None-clause-only g t c =
+    reads_where g.D.Device _ _ _ _ (λ is. never_ok is) (reads_nothing g.D.Device c.args.device.now)
+
+pub returns-in_err-told-clause-only : goal.returns-in_err-told-clause-only
+returns-in_err-told-clause-only g t c = passed c.from_residual.result c.in_err-told.field-0.0 c.from_residual.ensures.1
+    (λ r. OnlyReads g.D.Device (r ≡ Err Device) c.args.device.now c.propagate_split.new.device)
+    (reads_where g.D.Device _ _ _ _ (λ is. still_error is) c.in_err-told.ensures.only)
+
+pub returns-in-None-2-clause-only : goal.returns-in-None-2-clause-only
+returns-in-None-2-clause-only g t c = reads_where g.D.Device _ _ _ _ (λ is. never_ok is) c.propagate_split.ensures.only
+
+pub returns-in_err-node-clause-only : goal.returns-in_err-node-clause-only
+returns-in_err-node-clause-only g t c =
+    passed c.from_residual-in_err-node.result c.in_err-node.field-0.0 c.from_residual-in_err-node.ensures.1
+    (λ r. OnlyReads g.D.Device (r ≡ Err Device) c.args.device.now c.read_node.new.device)
+    (reads_then g.D.Device _ _ _ _ _ _ (λ is. inr (still_error is)) c.propagate_split.ensures.only
+    c.in_err-node.ensures.only)
+
+pub returns-in_err-up-clause-only : goal.returns-in_err-up-clause-only
+returns-in_err-up-clause-only g t c =
+    passed c.from_residual-in_err-up.result c.in_err-up.field-0.0 c.from_residual-in_err-up.ensures.1
+    (λ r. OnlyReads g.D.Device (r ≡ Err Device) c.args.device.now c.read_node.new.device)
+    (reads_then g.D.Device _ _ _ _ _ _ (λ is. absurd (subst IsParentRefusal (same_error is) c.in_err-up.ensures.cause))
+    c.propagate_split.ensures.only
+    c.read_node.ensures.only)
+
+pub returns-clause-only : goal.returns-clause-only
+returns-clause-only g t c = reads_then g.D.Device _ _ _ _ _ _ (λ is. never_ok is) c.propagate_split.ensures.only
+    c.read_node.ensures.only
+
+pub returns-in_err-node-clause-committed : goal.returns-in_err-node-clause-committed
+returns-in_err-node-clause-committed g t c = committed_on c.args.pages.now c.propagate_split.new.pages
+    c.read_node.new.pages c.propagate_split.ensures.committed c.read_node.ensures.unchanged.committed
+
+pub returns-in_err-up-clause-committed : goal.returns-in_err-up-clause-committed
+returns-in_err-up-clause-committed g t c =
+    committed_on c.args.pages.now c.read_node.new.pages c.update_parent_at.new.pages
+    (committed_on c.args.pages.now c.propagate_split.new.pages c.read_node.new.pages c.propagate_split.ensures.committed
+    c.read_node.ensures.unchanged.committed)
+    c.update_parent_at.ensures.keeps.committed
+
+pub returns-clause-committed : goal.returns-clause-committed
+returns-clause-committed g t c = committed_on c.args.pages.now c.read_node.new.pages c.update_parent_at.new.pages
+    (committed_on c.args.pages.now c.propagate_split.new.pages c.read_node.new.pages c.propagate_split.ensures.committed
+    c.read_node.ensures.unchanged.committed)
+    c.update_parent_at.ensures.keeps.committed
+
+pub returns-in_err-node-clause-agrees : goal.returns-in_err-node-clause-agrees
+returns-in_err-node-clause-agrees g t c = λ honest agrees. c.read_node.ensures.agrees
+    (c.propagate_split.ensures.only.honest.0 honest) (c.propagate_split.ensures.agrees honest agrees)
+
+pub returns-in_err-up-clause-agrees : goal.returns-in_err-up-clause-agrees
+returns-in_err-up-clause-agrees g t c =
+    λ honest agrees. c.update_parent_at.ensures.keeps.agrees (g.D.Device.state c.read_node.new.device).disk
+    (c.read_node.ensures.agrees (c.propagate_split.ensures.only.honest.0 honest)
+    (c.propagate_split.ensures.agrees honest agrees))
+
+pub returns-clause-agrees : goal.returns-clause-agrees
+returns-clause-agrees g t c =
+    λ honest agrees. c.update_parent_at.ensures.keeps.agrees (g.D.Device.state c.read_node.new.device).disk
+    (c.read_node.ensures.agrees (c.propagate_split.ensures.only.honest.0 honest)
+    (c.propagate_split.ensures.agrees honest agrees))
+
+pub returns-in_err-up-clause-open : goal.returns-in_err-up-clause-open
+returns-in_err-up-clause-open g t c = c.update_parent_at.ensures.keeps.is_open c.read_node.ensures.open
+
+pub returns-clause-open : goal.returns-clause-open
+returns-clause-open g t c = c.update_parent_at.ensures.keeps.is_open c.read_node.ensures.open
+
+pub read_node-requires-clause-sectors : goal.read_node-requires-clause-sectors
+read_node-requires-clause-sectors g t c =
+    sectors_on c.args.pages.now c.propagate_split.new.pages _ _ c.propagate_split.ensures.committed.volume
+    c.propagate_split.ensures.only.sectors c.requires.sectors
+
+pub returns-in_err-told-clause-spent : goal.returns-in_err-told-clause-spent
+returns-in_err-told-clause-spent g t c = passed c.from_residual.result c.in_err-told.field-0.0 c.from_residual.ensures.1
+    (λ r. r ≡ Err Spent → is_spent c.args.pages.now ≡ true)
+    (λ is. c.in_err-told.ensures.spent (still_error is))
+
+pub returns-in_err-node-clause-spent : goal.returns-in_err-node-clause-spent
+returns-in_err-node-clause-spent g t c =
+    passed c.from_residual-in_err-node.result c.in_err-node.field-0.0 c.from_residual-in_err-node.ensures.1
+    (λ r. r ≡ Err Spent → is_spent c.args.pages.now ≡ true)
+    (λ is. sym c.propagate_split.ensures.committed.spent ∙ c.in_err-node.ensures.spent.0 (still_error is))
+
+pub returns-in_err-up-clause-spent : goal.returns-in_err-up-clause-spent
+returns-in_err-up-clause-spent g t c =
+    passed c.from_residual-in_err-up.result c.in_err-up.field-0.0 c.from_residual-in_err-up.ensures.1
+    (λ r. r ≡ Err Spent → is_spent c.args.pages.now ≡ true)
+    (λ is. sym (c.read_node.ensures.unchanged.committed.spent ∙ c.propagate_split.ensures.committed.spent)
+    ∙ c.in_err-up.ensures.spent (still_error is))
+
+pub returns-in-None-clause-spent : goal.returns-in-None-clause-spent
+returns-in-None-clause-spent g t c = λ is. never_ok is
+
+pub returns-in-None-2-clause-spent : goal.returns-in-None-2-clause-spent
+returns-in-None-2-clause-spent g t c = λ is. never_ok is
+
+pub returns-clause-spent : goal.returns-clause-spent
+returns-clause-spent g t c = λ is. never_ok is
+
+pub returns-in_err-told-clause-cause : goal.returns-in_err-told-clause-cause
+returns-in_err-told-clause-cause g t c = passed c.from_residual.result c.in_err-told.field-0.0 c.from_residual.ensures.1
+    (λ r. IfErr r IsInsertRefusal)
+    (c.in_err-told.ensures.cause)
+
+pub returns-in_err-node-clause-cause : goal.returns-in_err-node-clause-cause
+returns-in_err-node-clause-cause g t c =
+    passed c.from_residual-in_err-node.result c.in_err-node.field-0.0 c.from_residual-in_err-node.ensures.1
+    (λ r. IfErr r IsInsertRefusal)
+    (read_is_insert c.in_err-node.field-0.0 c.in_err-node.ensures.cause)
+
+pub returns-in_err-up-clause-cause : goal.returns-in_err-up-clause-cause
+returns-in_err-up-clause-cause g t c =
+    passed c.from_residual-in_err-up.result c.in_err-up.field-0.0 c.from_residual-in_err-up.ensures.1
+    (λ r. IfErr r IsInsertRefusal)
+    (parent_is_insert c.in_err-up.field-0.0 c.in_err-up.ensures.cause)
+
+pub returns-in_err-node-clause-full : goal.returns-in_err-node-clause-full
+returns-in_err-node-clause-full g t c =
+    passed c.from_residual-in_err-node.result c.in_err-node.field-0.0 c.from_residual-in_err-node.ensures.1
+    (λ r. r ≡ Err Full → HasEachPage c.read_node.new.pages)
+    (λ is. absurd (subst IsReadRefusal (same_error is) c.in_err-node.ensures.cause))
+
+pub returns-in-None-clause-full : goal.returns-in-None-clause-full
+returns-in-None-clause-full g t c = λ is. never_ok is
+
+pub returns-in-None-2-clause-full : goal.returns-in-None-2-clause-full
+returns-in-None-2-clause-full g t c = λ is. never_ok is
+
+pub returns-clause-full : goal.returns-clause-full
+returns-clause-full g t c = λ is. never_ok is

@@ -1,5 +1,14 @@
 use Rattle.btree.specs.Changes.{pages_of_map}
 use Rattle.btree.proofs.Writes.{write_one, is_low, spells_inserted}
+use Rattle.std.specs.Prelude.{IfErr, Err}
+use Rattle.std.proofs.Common.{◌≡◌, ◌↔◌, true, sym, ◌∙◌}
+use Rattle.pages.specs.Pages.{is_spent, changed_pages_of}
+use Rattle.pages.specs.declared.error.PagesError.TheVariants.{Spent}
+use Rattle.btree.specs.Refusals.{IsPutRefusal}
+use Rattle.btree.proofs.Passing.{passed, never_ok, still_error}
+use Rattle.btree.proofs.Passing.{edit_is_put}
+use Rattle.btree.proofs.Passing.{few_equal}
+use Rattle.btree.proofs.ChangedPages.{changes_count}
 use Rattle.btree.proofs.put_row.put_in_one.Goals as goal
 
 pub returns-clause-pages : goal.returns-clause-pages
@@ -11,3 +20,24 @@ returns-clause-pages c = λ image can.
     (spells_inserted (pages_of_map c.args.pages.now image) c.args.page node c.insert.new.self c.args.place
     c.args.key.now c.args.rest.now c.bytes-spelled.result can c.insert.ensures c.requires.place c.requires.key
     c.requires.rest c.bytes-spelled.ensures.reads)
+
+pub returns-in_err-edit-clause-changed_pages : goal.returns-in_err-edit-clause-changed_pages
+returns-in_err-edit-clause-changed_pages c =
+    few_equal (changed_pages_of c.args.pages.now) (changed_pages_of c.edit.new.self) 1 c.in_err-edit.ensures.unchanged
+
+pub returns-clause-changed_pages : goal.returns-clause-changed_pages
+returns-clause-changed_pages c = changes_count (changed_pages_of c.args.pages.now) c.args.page
+    (changed_pages_of c.edit.new.self) c.in_ok-edit.ensures.changes_page
+
+pub returns-in_err-edit-clause-spent : goal.returns-in_err-edit-clause-spent
+returns-in_err-edit-clause-spent c = passed c.from_residual.result c.in_err-edit.field-0.0 c.from_residual.ensures.1
+    (λ r. (r ≡ Err Spent) ↔ (is_spent c.args.pages.now ≡ true))
+    (λ is. c.in_err-edit.ensures.spent.0 (still_error is), λ was. still_error (c.in_err-edit.ensures.spent.1 was))
+
+pub returns-clause-spent : goal.returns-clause-spent
+returns-clause-spent c = (λ is. never_ok is, λ was. never_ok (sym c.in_ok-edit.was ∙ c.edit.ensures.spent.1 was))
+
+pub returns-in_err-edit-clause-cause : goal.returns-in_err-edit-clause-cause
+returns-in_err-edit-clause-cause c = passed c.from_residual.result c.in_err-edit.field-0.0 c.from_residual.ensures.1
+    (λ r. IfErr r IsPutRefusal)
+    (edit_is_put c.in_err-edit.field-0.0 c.in_err-edit.ensures.cause)

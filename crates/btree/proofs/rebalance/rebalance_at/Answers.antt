@@ -11,6 +11,19 @@ use Rattle.btree.proofs.TreeNodes.{few_pages}
 use Rattle.btree.proofs.Lessening.{has_room, true_or_false}
 use Rattle.btree.proofs.Pairing.{first_near, other_near, rows_read, rebalanced_so, never_joined, together_first}
 use Rattle.btree.proofs.Pairing.{together_other}
+use Rattle.std.specs.Prelude.{Err}
+use Rattle.std.proofs.Common.{◌≢◌, ◌≤◌, ◌+◌, true, List, ℕ, length}
+use Rattle.station.specs.Calls.{OnlyReads}
+use Rattle.station.proofs.Calls.{reads_nothing}
+use Rattle.pages.specs.Pages.{changed_pages_of, filled_of}
+use Rattle.pages.specs.declared.error.PagesError.TheVariants.{Device, Full, ForeignMark}
+use Rattle.btree_pages.specs.declared.row_layout.RowLayout.{RowLayout}
+use Rattle.btree.specs.Refusals.{IsRestRefusal}
+use Rattle.btree.specs.Reading.{IsReadRefusal}
+use Rattle.btree.specs.Outcomes.{FitsAbove, spare}
+use Rattle.btree.proofs.Passing.{passed, never_ok, same_error, still_error, damaged_not_device}
+use Rattle.btree.proofs.Passing.{rest_not_device}
+use Rattle.btree.proofs.Passing.{reads_where, committed_on}
 use Rattle.btree.proofs.rebalance.rebalance_at.Goals as goal
 
 pub returns-then-not-leads-clause-damaged : goal.returns-then-not-leads-clause-damaged
@@ -173,3 +186,182 @@ returns-then-step-eq0-clause-agrees g c = λ honest agrees. c.rebalance_pair.ens
 pub returns-clause-agrees : goal.returns-clause-agrees
 returns-clause-agrees g c = λ honest agrees. c.rebalance_pair-2.ensures.keeps.agrees
     (g.D.Device.state c.neighbour-2.new.device).disk (c.neighbour-2.ensures.agrees honest agrees)
+
+pub returns-in_err-right-clause-only : goal.returns-in_err-right-clause-only
+returns-in_err-right-clause-only g c = passed c.from_residual.result c.in_err-right.field-0.0 c.from_residual.ensures.1
+    (λ r. OnlyReads g.D.Device (r ≡ Err Device) c.args.device.now c.neighbour.new.device)
+    (reads_where g.D.Device _ _ _ _ (λ is. still_error is) c.in_err-right.ensures.only)
+
+pub returns-in_err-first-clause-only : goal.returns-in_err-first-clause-only
+returns-in_err-first-clause-only g c =
+    passed c.from_residual-in_err-first.result c.in_err-first.field-0.0 c.from_residual-in_err-first.ensures.1
+    (λ r. OnlyReads g.D.Device (r ≡ Err Device) c.args.device.now c.neighbour.new.device)
+    (reads_where g.D.Device _ _ _ _ (λ is. rest_not_device c.in_err-first.field-0.0 c.in_err-first.ensures.cause is)
+    c.neighbour.ensures.only)
+
+pub returns-then-step-eq0-clause-only : goal.returns-then-step-eq0-clause-only
+returns-then-step-eq0-clause-only g c = reads_where g.D.Device _ _ _ _ (λ is. never_ok is) c.neighbour.ensures.only
+
+pub returns-in_err-first-clause-committed : goal.returns-in_err-first-clause-committed
+returns-in_err-first-clause-committed g c = committed_on c.args.pages.now c.neighbour.new.pages
+    c.rebalance_pair.new.pages c.neighbour.ensures.unchanged.committed c.rebalance_pair.ensures.keeps.committed
+
+pub returns-then-step-eq0-clause-committed : goal.returns-then-step-eq0-clause-committed
+returns-then-step-eq0-clause-committed g c = committed_on c.args.pages.now c.neighbour.new.pages
+    c.rebalance_pair.new.pages c.neighbour.ensures.unchanged.committed c.rebalance_pair.ensures.keeps.committed
+
+pub returns-in_err-first-clause-catalog : goal.returns-in_err-first-clause-catalog
+returns-in_err-first-clause-catalog g c = c.rebalance_pair.ensures.keeps.catalog ∙ c.neighbour.ensures.catalog
+
+pub returns-then-step-eq0-clause-catalog : goal.returns-then-step-eq0-clause-catalog
+returns-then-step-eq0-clause-catalog g c = c.rebalance_pair.ensures.keeps.catalog ∙ c.neighbour.ensures.catalog
+
+pub returns-in_err-first-clause-agrees : goal.returns-in_err-first-clause-agrees
+returns-in_err-first-clause-agrees g c =
+    λ honest agrees. c.rebalance_pair.ensures.keeps.agrees (g.D.Device.state c.neighbour.new.device).disk
+    (c.neighbour.ensures.agrees honest agrees)
+
+pub returns-in_err-first-clause-open : goal.returns-in_err-first-clause-open
+returns-in_err-first-clause-open g c = c.rebalance_pair.ensures.keeps.is_open c.neighbour.ensures.open
+
+pub returns-then-step-eq0-clause-open : goal.returns-then-step-eq0-clause-open
+returns-then-step-eq0-clause-open g c = c.rebalance_pair.ensures.keeps.is_open c.neighbour.ensures.open
+
+pub returns-in_err-right-clause-spent : goal.returns-in_err-right-clause-spent
+returns-in_err-right-clause-spent g c = passed c.from_residual.result c.in_err-right.field-0.0 c.from_residual.ensures.1
+    (λ r. r ≡ Err Spent → is_spent c.args.pages.now ≡ true)
+    (λ is. c.in_err-right.ensures.spent.0 (still_error is))
+
+pub returns-in_err-first-clause-spent : goal.returns-in_err-first-clause-spent
+returns-in_err-first-clause-spent g c =
+    passed c.from_residual-in_err-first.result c.in_err-first.field-0.0 c.from_residual-in_err-first.ensures.1
+    (λ r. r ≡ Err Spent → is_spent c.args.pages.now ≡ true)
+    (λ is. sym c.neighbour.ensures.unchanged.committed.spent ∙ c.in_err-first.ensures.spent (still_error is))
+
+pub returns-then-step-eq0-clause-spent : goal.returns-then-step-eq0-clause-spent
+returns-then-step-eq0-clause-spent g c = λ is. never_ok is
+
+pub returns-in_err-right-clause-cause : goal.returns-in_err-right-clause-cause
+returns-in_err-right-clause-cause g c = passed c.from_residual.result c.in_err-right.field-0.0 c.from_residual.ensures.1
+    (λ r. (r ≢ Err Full) × (r ≢ Err ForeignMark)) (
+      λ is. subst IsReadRefusal (same_error is) c.in_err-right.ensures.cause,
+      λ is. subst IsReadRefusal (same_error is) c.in_err-right.ensures.cause,
+    )
+
+pub returns-in_err-first-clause-cause : goal.returns-in_err-first-clause-cause
+returns-in_err-first-clause-cause g c =
+    passed c.from_residual-in_err-first.result c.in_err-first.field-0.0 c.from_residual-in_err-first.ensures.1
+    (λ r. (r ≢ Err Full) × (r ≢ Err ForeignMark)) (
+      λ is. subst IsRestRefusal (same_error is) c.in_err-first.ensures.cause,
+      λ is. subst IsRestRefusal (same_error is) c.in_err-first.ensures.cause,
+    )
+
+pub returns-then-step-eq0-clause-cause : goal.returns-then-step-eq0-clause-cause
+returns-then-step-eq0-clause-cause g c = (λ is. never_ok is, λ is. never_ok is)
+
+pub returns-then-step-eq0-clause-changed_pages : goal.returns-then-step-eq0-clause-changed_pages
+returns-then-step-eq0-clause-changed_pages g c = subst (λ (l : List ℕ).
+    length (changed_pages_of c.rebalance_pair.new.pages) + spare c.in_ok-first.first ≤ length l + 3)
+    c.neighbour.ensures.unchanged.changed_pages c.in_ok-first.ensures.changed_pages
+
+pub returns-then-step-eq0-clause-filled : goal.returns-then-step-eq0-clause-filled
+returns-then-step-eq0-clause-filled g c =
+    subst (λ (n : ℕ). filled_of c.rebalance_pair.new.pages + spare c.in_ok-first.first ≤ n + 3)
+    c.neighbour.ensures.unchanged.filled c.in_ok-first.ensures.filled
+
+pub returns-then-step-eq0-clause-fits : goal.returns-then-step-eq0-clause-fits
+returns-then-step-eq0-clause-fits g c =
+    subst (λ (f : RowLayout). FitsAbove f c.in_ok-first.first) c.requires.node c.in_ok-first.ensures.fits
+
+pub returns-in_err-left-clause-only : goal.returns-in_err-left-clause-only
+returns-in_err-left-clause-only g c =
+    passed c.from_residual-in_err-left.result c.in_err-left.field-0.0 c.from_residual-in_err-left.ensures.1
+    (λ r. OnlyReads g.D.Device (r ≡ Err Device) c.args.device.now c.neighbour-2.new.device)
+    (reads_where g.D.Device _ _ _ _ (λ is. still_error is) c.in_err-left.ensures.only)
+
+pub returns-in_err-outcome-clause-only : goal.returns-in_err-outcome-clause-only
+returns-in_err-outcome-clause-only g c =
+    passed c.from_residual-in_err-outcome.result c.in_err-outcome.field-0.0 c.from_residual-in_err-outcome.ensures.1
+    (λ r. OnlyReads g.D.Device (r ≡ Err Device) c.args.device.now c.neighbour-2.new.device)
+    (reads_where g.D.Device _ _ _ _ (λ is. rest_not_device c.in_err-outcome.field-0.0 c.in_err-outcome.ensures.cause is)
+    c.neighbour-2.ensures.only)
+
+pub returns-clause-only : goal.returns-clause-only
+returns-clause-only g c = reads_where g.D.Device _ _ _ _ (λ is. never_ok is) c.neighbour-2.ensures.only
+
+pub returns-in_err-outcome-clause-committed : goal.returns-in_err-outcome-clause-committed
+returns-in_err-outcome-clause-committed g c = committed_on c.args.pages.now c.neighbour-2.new.pages
+    c.rebalance_pair-2.new.pages c.neighbour-2.ensures.unchanged.committed c.rebalance_pair-2.ensures.keeps.committed
+
+pub returns-clause-committed : goal.returns-clause-committed
+returns-clause-committed g c = committed_on c.args.pages.now c.neighbour-2.new.pages c.rebalance_pair-2.new.pages
+    c.neighbour-2.ensures.unchanged.committed c.rebalance_pair-2.ensures.keeps.committed
+
+pub returns-in_err-outcome-clause-catalog : goal.returns-in_err-outcome-clause-catalog
+returns-in_err-outcome-clause-catalog g c = c.rebalance_pair-2.ensures.keeps.catalog ∙ c.neighbour-2.ensures.catalog
+
+pub returns-clause-catalog : goal.returns-clause-catalog
+returns-clause-catalog g c = c.rebalance_pair-2.ensures.keeps.catalog ∙ c.neighbour-2.ensures.catalog
+
+pub returns-in_err-outcome-clause-agrees : goal.returns-in_err-outcome-clause-agrees
+returns-in_err-outcome-clause-agrees g c =
+    λ honest agrees. c.rebalance_pair-2.ensures.keeps.agrees (g.D.Device.state c.neighbour-2.new.device).disk
+    (c.neighbour-2.ensures.agrees honest agrees)
+
+pub returns-in_err-outcome-clause-open : goal.returns-in_err-outcome-clause-open
+returns-in_err-outcome-clause-open g c = c.rebalance_pair-2.ensures.keeps.is_open c.neighbour-2.ensures.open
+
+pub returns-clause-open : goal.returns-clause-open
+returns-clause-open g c = c.rebalance_pair-2.ensures.keeps.is_open c.neighbour-2.ensures.open
+
+pub returns-in_err-left-clause-spent : goal.returns-in_err-left-clause-spent
+returns-in_err-left-clause-spent g c =
+    passed c.from_residual-in_err-left.result c.in_err-left.field-0.0 c.from_residual-in_err-left.ensures.1
+    (λ r. r ≡ Err Spent → is_spent c.args.pages.now ≡ true)
+    (λ is. c.in_err-left.ensures.spent.0 (still_error is))
+
+pub returns-in_err-outcome-clause-spent : goal.returns-in_err-outcome-clause-spent
+returns-in_err-outcome-clause-spent g c =
+    passed c.from_residual-in_err-outcome.result c.in_err-outcome.field-0.0 c.from_residual-in_err-outcome.ensures.1
+    (λ r. r ≡ Err Spent → is_spent c.args.pages.now ≡ true)
+    (λ is. sym c.neighbour-2.ensures.unchanged.committed.spent ∙ c.in_err-outcome.ensures.spent (still_error is))
+
+pub returns-clause-spent : goal.returns-clause-spent
+returns-clause-spent g c = λ is. never_ok is
+
+pub returns-in_err-left-clause-cause : goal.returns-in_err-left-clause-cause
+returns-in_err-left-clause-cause g c =
+    passed c.from_residual-in_err-left.result c.in_err-left.field-0.0 c.from_residual-in_err-left.ensures.1
+    (λ r. (r ≢ Err Full) × (r ≢ Err ForeignMark)) (
+      λ is. subst IsReadRefusal (same_error is) c.in_err-left.ensures.cause,
+      λ is. subst IsReadRefusal (same_error is) c.in_err-left.ensures.cause,
+    )
+
+pub returns-in_err-outcome-clause-cause : goal.returns-in_err-outcome-clause-cause
+returns-in_err-outcome-clause-cause g c =
+    passed c.from_residual-in_err-outcome.result c.in_err-outcome.field-0.0 c.from_residual-in_err-outcome.ensures.1
+    (λ r. (r ≢ Err Full) × (r ≢ Err ForeignMark)) (
+      λ is. subst IsRestRefusal (same_error is) c.in_err-outcome.ensures.cause,
+      λ is. subst IsRestRefusal (same_error is) c.in_err-outcome.ensures.cause,
+    )
+
+pub returns-clause-cause : goal.returns-clause-cause
+returns-clause-cause g c = (λ is. never_ok is, λ is. never_ok is)
+
+pub returns-clause-changed_pages : goal.returns-clause-changed_pages
+returns-clause-changed_pages g c = subst (λ (l : List ℕ).
+    length (changed_pages_of c.rebalance_pair-2.new.pages) + spare c.in_ok-outcome.outcome ≤ length l + 3)
+    c.neighbour-2.ensures.unchanged.changed_pages c.in_ok-outcome.ensures.changed_pages
+
+pub returns-clause-filled : goal.returns-clause-filled
+returns-clause-filled g c =
+    subst (λ (n : ℕ). filled_of c.rebalance_pair-2.new.pages + spare c.in_ok-outcome.outcome ≤ n + 3)
+    c.neighbour-2.ensures.unchanged.filled c.in_ok-outcome.ensures.filled
+
+pub returns-clause-fits : goal.returns-clause-fits
+returns-clause-fits g c =
+    subst (λ (f : RowLayout). FitsAbove f c.in_ok-outcome.outcome) c.requires.node c.in_ok-outcome.ensures.fits
+
+pub returns-then-not-leads-clause-only : goal.returns-then-not-leads-clause-only
+returns-then-not-leads-clause-only g c =
+    reads_where g.D.Device _ _ _ _ (λ is. damaged_not_device is) (reads_nothing g.D.Device c.args.device.now)

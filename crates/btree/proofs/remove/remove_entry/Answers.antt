@@ -18,6 +18,16 @@ use Rattle.btree.proofs.Searches.{FindsGap}
 use Rattle.btree.proofs.Entering.{end_stands, end_in, turns_count}
 use Rattle.btree.proofs.Lessening.{has_room, true_or_false}
 use Rattle.btree.proofs.Removing.{TakenOut, went, never_went, never_left, not_there, few_changed}
+use Rattle.std.specs.Prelude.{IfErr, Err}
+use Rattle.std.proofs.Common.{◌≢◌, ◌↔◌, inr, true}
+use Rattle.station.specs.Calls.{OnlyReads}
+use Rattle.station.proofs.Calls.{reads_then, reads_nothing}
+use Rattle.pages.specs.declared.error.PagesError.TheVariants.{Device}
+use Rattle.btree.specs.Refusals.{IsChangeRefusal}
+use Rattle.btree.specs.Outcomes.{FitsAbove}
+use Rattle.btree.proofs.Passing.{passed, never_ok, still_error, damaged_not_device, damaged_not_spent}
+use Rattle.btree.proofs.Passing.{put_is_rest, rest_is_change, search_is_change, put_not_device, rest_not_device}
+use Rattle.btree.proofs.Passing.{reads_where, committed_on, sectors_on}
 use Rattle.btree.proofs.remove.remove_entry.Goals as goal
 
 pub returns-in_err-descent-clause-catalog : goal.returns-in_err-descent-clause-catalog
@@ -211,3 +221,202 @@ returns-clause-filled g c = λ honest agrees levels holds.
     c.in_ok-new.ensures.filled
     (ap length c.as_slice.ensures) (turns_count c.args.layout c.args.key.now levels d.path.items ends.reaches.top
     ends.reaches.below ends.reaches.leads) few
+
+pub returns-then-root-eq0-clause-only : goal.returns-then-root-eq0-clause-only
+returns-then-root-eq0-clause-only g c =
+    reads_where g.D.Device _ _ _ _ (λ is. never_ok is) (reads_nothing g.D.Device c.args.device.now)
+
+pub returns-in_err-descent-clause-only : goal.returns-in_err-descent-clause-only
+returns-in_err-descent-clause-only g c =
+    passed c.from_residual.result c.in_err-descent.field-0.0 c.from_residual.ensures.1
+    (λ r. OnlyReads g.D.Device (r ≡ Err Device) c.args.device.now c.descend.new.device)
+    (reads_where g.D.Device _ _ _ _ (λ is. still_error is) c.in_err-descent.ensures.only)
+
+pub returns-in-Err-clause-only : goal.returns-in-Err-clause-only
+returns-in-Err-clause-only g c = reads_where g.D.Device _ _ _ _ (λ is. never_ok is) c.descend.ensures.only
+
+pub returns-then-not-is_page-clause-only : goal.returns-then-not-is_page-clause-only
+returns-then-not-is_page-clause-only g c =
+    reads_where g.D.Device _ _ _ _ (λ is. damaged_not_device is) c.descend.ensures.only
+
+pub returns-in_err-out-clause-only : goal.returns-in_err-out-clause-only
+returns-in_err-out-clause-only g c =
+    passed c.from_residual-in_err-out.result c.in_err-out.field-0.0 c.from_residual-in_err-out.ensures.1
+    (λ r. OnlyReads g.D.Device (r ≡ Err Device) c.args.device.now c.descend.new.device)
+    (reads_where g.D.Device _ _ _ _ (λ is. put_not_device c.in_err-out.field-0.0 c.in_err-out.ensures.cause is)
+    c.descend.ensures.only)
+
+pub returns-in_err-outcome-clause-only : goal.returns-in_err-outcome-clause-only
+returns-in_err-outcome-clause-only g c =
+    passed c.from_residual-in_err-outcome.result c.in_err-outcome.field-0.0 c.from_residual-in_err-outcome.ensures.1
+    (λ r. OnlyReads g.D.Device (r ≡ Err Device) c.args.device.now c.shrink.new.device)
+    (reads_then g.D.Device _ _ _ _ _ _ (λ is. inr (still_error is)) c.descend.ensures.only
+    c.in_err-outcome.ensures.only)
+
+pub returns-in_err-new-clause-only : goal.returns-in_err-new-clause-only
+returns-in_err-new-clause-only g c =
+    passed c.from_residual-in_err-new.result c.in_err-new.field-0.0 c.from_residual-in_err-new.ensures.1
+    (λ r. OnlyReads g.D.Device (r ≡ Err Device) c.args.device.now c.shrink.new.device)
+    (reads_then g.D.Device _ _ _ _ _ _ (λ is. rest_not_device c.in_err-new.field-0.0 c.in_err-new.ensures.cause is)
+    c.descend.ensures.only
+    c.shrink.ensures.only)
+
+pub returns-clause-only : goal.returns-clause-only
+returns-clause-only g c = reads_then g.D.Device _ _ _ _ _ _ (λ is. never_ok is) c.descend.ensures.only
+    c.shrink.ensures.only
+
+pub returns-in_err-out-clause-committed : goal.returns-in_err-out-clause-committed
+returns-in_err-out-clause-committed g c = committed_on c.args.pages.now c.descend.new.pages c.take_out.new.pages
+    c.descend.ensures.unchanged.committed c.take_out.ensures.keeps.committed
+
+pub returns-in_err-outcome-clause-committed : goal.returns-in_err-outcome-clause-committed
+returns-in_err-outcome-clause-committed g c = committed_on c.args.pages.now c.take_out.new.pages c.shrink.new.pages
+    (committed_on c.args.pages.now c.descend.new.pages c.take_out.new.pages c.descend.ensures.unchanged.committed
+    c.take_out.ensures.keeps.committed)
+    c.shrink.ensures.committed
+
+pub returns-in_err-new-clause-committed : goal.returns-in_err-new-clause-committed
+returns-in_err-new-clause-committed g c =
+    committed_on c.args.pages.now c.shrink.new.pages c.root_after_removal.new.pages
+    (committed_on c.args.pages.now c.take_out.new.pages c.shrink.new.pages
+    (committed_on c.args.pages.now c.descend.new.pages c.take_out.new.pages c.descend.ensures.unchanged.committed
+    c.take_out.ensures.keeps.committed)
+    c.shrink.ensures.committed)
+    c.root_after_removal.ensures.keeps.committed
+
+pub returns-clause-committed : goal.returns-clause-committed
+returns-clause-committed g c = committed_on c.args.pages.now c.shrink.new.pages c.root_after_removal.new.pages
+    (committed_on c.args.pages.now c.take_out.new.pages c.shrink.new.pages
+    (committed_on c.args.pages.now c.descend.new.pages c.take_out.new.pages c.descend.ensures.unchanged.committed
+    c.take_out.ensures.keeps.committed)
+    c.shrink.ensures.committed)
+    c.root_after_removal.ensures.keeps.committed
+
+pub returns-in_err-out-clause-agrees : goal.returns-in_err-out-clause-agrees
+returns-in_err-out-clause-agrees g c =
+    λ honest agrees. c.take_out.ensures.keeps.agrees (g.D.Device.state c.descend.new.device).disk
+    (c.descend.ensures.agrees honest agrees)
+
+pub returns-in_err-outcome-clause-agrees : goal.returns-in_err-outcome-clause-agrees
+returns-in_err-outcome-clause-agrees g c =
+    λ honest agrees. c.shrink.ensures.agrees (c.descend.ensures.only.honest.0 honest)
+    (c.take_out.ensures.keeps.agrees (g.D.Device.state c.descend.new.device).disk
+    (c.descend.ensures.agrees honest agrees))
+
+pub returns-in_err-new-clause-agrees : goal.returns-in_err-new-clause-agrees
+returns-in_err-new-clause-agrees g c =
+    λ honest agrees. c.root_after_removal.ensures.keeps.agrees (g.D.Device.state c.shrink.new.device).disk
+    (c.shrink.ensures.agrees (c.descend.ensures.only.honest.0 honest)
+    (c.take_out.ensures.keeps.agrees (g.D.Device.state c.descend.new.device).disk
+    (c.descend.ensures.agrees honest agrees)))
+
+pub returns-clause-agrees : goal.returns-clause-agrees
+returns-clause-agrees g c =
+    λ honest agrees. c.root_after_removal.ensures.keeps.agrees (g.D.Device.state c.shrink.new.device).disk
+    (c.shrink.ensures.agrees (c.descend.ensures.only.honest.0 honest)
+    (c.take_out.ensures.keeps.agrees (g.D.Device.state c.descend.new.device).disk
+    (c.descend.ensures.agrees honest agrees)))
+
+pub returns-in_err-out-clause-open : goal.returns-in_err-out-clause-open
+returns-in_err-out-clause-open g c = c.take_out.ensures.keeps.is_open c.descend.ensures.open
+
+pub shrink-requires-clause-open : goal.shrink-requires-clause-open
+shrink-requires-clause-open g c = c.take_out.ensures.keeps.is_open c.descend.ensures.open
+
+pub returns-in_err-new-clause-open : goal.returns-in_err-new-clause-open
+returns-in_err-new-clause-open g c = c.root_after_removal.ensures.keeps.is_open c.shrink.ensures.open
+
+pub returns-clause-open : goal.returns-clause-open
+returns-clause-open g c = c.root_after_removal.ensures.keeps.is_open c.shrink.ensures.open
+
+pub shrink-requires-clause-sectors : goal.shrink-requires-clause-sectors
+shrink-requires-clause-sectors g c = sectors_on c.args.pages.now c.take_out.new.pages _ _
+    (c.take_out.ensures.keeps.committed.volume ∙ c.descend.ensures.unchanged.committed.volume)
+    c.descend.ensures.only.sectors c.requires.sectors
+
+pub shrink-requires-clause-fits : goal.shrink-requires-clause-fits
+shrink-requires-clause-fits g c =
+    subst (λ (f : RowLayout). FitsAbove f c.in_ok-out.out) c.in_ok-descent.ensures.leaf.0 c.in_ok-out.ensures.fits
+
+pub returns-then-root-eq0-clause-spent : goal.returns-then-root-eq0-clause-spent
+returns-then-root-eq0-clause-spent g c = (λ is. never_ok is, λ both. absurd (both.1 c.if-root-eq0.true))
+
+pub returns-in_err-descent-clause-spent : goal.returns-in_err-descent-clause-spent
+returns-in_err-descent-clause-spent g c =
+    passed c.from_residual.result c.in_err-descent.field-0.0 c.from_residual.ensures.1
+    (λ r. (r ≡ Err Spent) ↔ ((is_spent c.args.pages.now ≡ true) × (c.args.root ≢ 0))) (
+      λ is. (c.in_err-descent.ensures.spent.0 (still_error is), c.if-root-eq0.false),
+      λ both. still_error (c.in_err-descent.ensures.spent.1 both.0),
+    )
+
+pub returns-in-Err-clause-spent : goal.returns-in-Err-clause-spent
+returns-in-Err-clause-spent g c =
+    (λ is. never_ok is, λ both. never_ok (sym c.in_ok-descent.was ∙ c.descend.ensures.spent.1 both.0))
+
+pub returns-then-not-is_page-clause-spent : goal.returns-then-not-is_page-clause-spent
+returns-then-not-is_page-clause-spent g c =
+    (λ is. damaged_not_spent is, λ both. never_ok (sym c.in_ok-descent.was ∙ c.descend.ensures.spent.1 both.0))
+
+pub returns-in_err-out-clause-spent : goal.returns-in_err-out-clause-spent
+returns-in_err-out-clause-spent g c =
+    passed c.from_residual-in_err-out.result c.in_err-out.field-0.0 c.from_residual-in_err-out.ensures.1
+    (λ r. (r ≡ Err Spent) ↔ ((is_spent c.args.pages.now ≡ true) × (c.args.root ≢ 0))) (
+      λ is. (
+        sym c.descend.ensures.unchanged.committed.spent ∙ c.in_err-out.ensures.spent (still_error is),
+        c.if-root-eq0.false,
+      ),
+      λ both. never_ok (sym c.in_ok-descent.was ∙ c.descend.ensures.spent.1 both.0),
+    )
+
+pub returns-in_err-outcome-clause-spent : goal.returns-in_err-outcome-clause-spent
+returns-in_err-outcome-clause-spent g c =
+    passed c.from_residual-in_err-outcome.result c.in_err-outcome.field-0.0 c.from_residual-in_err-outcome.ensures.1
+    (λ r. (r ≡ Err Spent) ↔ ((is_spent c.args.pages.now ≡ true) × (c.args.root ≢ 0))) (
+      λ is. (
+        sym (c.take_out.ensures.keeps.committed.spent ∙ c.descend.ensures.unchanged.committed.spent)
+            ∙ c.in_err-outcome.ensures.spent (still_error is),
+        c.if-root-eq0.false,
+      ),
+      λ both. never_ok (sym c.in_ok-descent.was ∙ c.descend.ensures.spent.1 both.0),
+    )
+
+pub returns-in_err-new-clause-spent : goal.returns-in_err-new-clause-spent
+returns-in_err-new-clause-spent g c =
+    passed c.from_residual-in_err-new.result c.in_err-new.field-0.0 c.from_residual-in_err-new.ensures.1
+    (λ r. (r ≡ Err Spent) ↔ ((is_spent c.args.pages.now ≡ true) × (c.args.root ≢ 0))) (
+      λ is. (
+        sym (c.shrink.ensures.committed.spent ∙ c.take_out.ensures.keeps.committed.spent
+            ∙ c.descend.ensures.unchanged.committed.spent)
+            ∙ c.in_err-new.ensures.spent (still_error is),
+        c.if-root-eq0.false,
+      ),
+      λ both. never_ok (sym c.in_ok-descent.was ∙ c.descend.ensures.spent.1 both.0),
+    )
+
+pub returns-clause-spent : goal.returns-clause-spent
+returns-clause-spent g c =
+    (λ is. never_ok is, λ both. never_ok (sym c.in_ok-descent.was ∙ c.descend.ensures.spent.1 both.0))
+
+pub returns-in_err-descent-clause-cause : goal.returns-in_err-descent-clause-cause
+returns-in_err-descent-clause-cause g c =
+    passed c.from_residual.result c.in_err-descent.field-0.0 c.from_residual.ensures.1
+    (λ r. IfErr r IsChangeRefusal)
+    (search_is_change c.args.layout c.in_err-descent.field-0.0 c.in_err-descent.ensures.cause)
+
+pub returns-in_err-out-clause-cause : goal.returns-in_err-out-clause-cause
+returns-in_err-out-clause-cause g c =
+    passed c.from_residual-in_err-out.result c.in_err-out.field-0.0 c.from_residual-in_err-out.ensures.1
+    (λ r. IfErr r IsChangeRefusal)
+    (rest_is_change c.in_err-out.field-0.0 (put_is_rest c.in_err-out.field-0.0 c.in_err-out.ensures.cause))
+
+pub returns-in_err-outcome-clause-cause : goal.returns-in_err-outcome-clause-cause
+returns-in_err-outcome-clause-cause g c =
+    passed c.from_residual-in_err-outcome.result c.in_err-outcome.field-0.0 c.from_residual-in_err-outcome.ensures.1
+    (λ r. IfErr r IsChangeRefusal)
+    (c.in_err-outcome.ensures.cause)
+
+pub returns-in_err-new-clause-cause : goal.returns-in_err-new-clause-cause
+returns-in_err-new-clause-cause g c =
+    passed c.from_residual-in_err-new.result c.in_err-new.field-0.0 c.from_residual-in_err-new.ensures.1
+    (λ r. IfErr r IsChangeRefusal)
+    (rest_is_change c.in_err-new.field-0.0 c.in_err-new.ensures.cause)

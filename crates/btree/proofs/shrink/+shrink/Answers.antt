@@ -10,6 +10,15 @@ use Rattle.btree.specs.Changes.{pages_of_map}
 use Rattle.btree.specs.Outcomes.{spare}
 use Rattle.btree.specs.Shrinks.{ShrinksBy, NeverShrinks, ShrinksOn, NeverShrinksOn}
 use Rattle.btree.proofs.Downward.{shrinks_none, kept_on, never_below, changed_on}
+use Rattle.std.specs.Prelude.{IfErr, Err}
+use Rattle.std.proofs.Common.{◌≡◌, inr, true, ◌∙◌}
+use Rattle.station.specs.Calls.{OnlyReads}
+use Rattle.station.proofs.Calls.{reads_then, reads_nothing}
+use Rattle.pages.specs.Pages.{is_spent}
+use Rattle.pages.specs.declared.error.PagesError.TheVariants.{Device, Spent}
+use Rattle.btree.specs.Refusals.{IsChangeRefusal}
+use Rattle.btree.proofs.Passing.{passed, never_ok, still_error}
+use Rattle.btree.proofs.Passing.{reads_where, committed_on}
 use Rattle.btree.proofs.shrink.+shrink.Goals as goal
 
 pub returns-in-None-clause-shrinks : goal.returns-in-None-clause-shrinks
@@ -92,3 +101,53 @@ returns-in_default-clause-filled g t c =
     (spare c.args.outcome) (spare told) (spare up)
     c.in-Some.pair.0.now c.args.path.now c.in-Some.pair.1.now c.in-Some.ensures.cases.0 one more)
     c.shrink_at.ensures.filled
+
+pub returns-in-None-clause-only : goal.returns-in-None-clause-only
+returns-in-None-clause-only g t c =
+    reads_where g.D.Device _ _ _ _ (λ is. never_ok is) (reads_nothing g.D.Device c.args.device.now)
+
+pub returns-in_err-below-clause-only : goal.returns-in_err-below-clause-only
+returns-in_err-below-clause-only g t c =
+    passed c.from_residual.result c.in_err-below.field-0.0 c.from_residual.ensures.1
+    (λ r. OnlyReads g.D.Device (r ≡ Err Device) c.args.device.now c.shrink.new.device)
+    (reads_where g.D.Device _ _ _ _ (λ is. still_error is) c.in_err-below.ensures.only)
+
+pub returns-in-Kept-clause-only : goal.returns-in-Kept-clause-only
+returns-in-Kept-clause-only g t c = reads_where g.D.Device _ _ _ _ (λ is. never_ok is) c.shrink.ensures.only
+
+pub returns-in_default-clause-only : goal.returns-in_default-clause-only
+returns-in_default-clause-only g t c = reads_then g.D.Device _ _ _ _ _ _ (λ is. inr is) c.shrink.ensures.only
+    c.shrink_at.ensures.only
+
+pub returns-in_default-clause-committed : goal.returns-in_default-clause-committed
+returns-in_default-clause-committed g t c = committed_on c.args.pages.now c.shrink.new.pages c.shrink_at.new.pages
+    c.shrink.ensures.committed c.shrink_at.ensures.committed
+
+pub returns-in_default-clause-catalog : goal.returns-in_default-clause-catalog
+returns-in_default-clause-catalog g t c = c.shrink_at.ensures.catalog ∙ c.shrink.ensures.catalog
+
+pub returns-in_default-clause-agrees : goal.returns-in_default-clause-agrees
+returns-in_default-clause-agrees g t c =
+    λ honest agrees. c.shrink_at.ensures.agrees (c.shrink.ensures.only.honest.0 honest)
+    (c.shrink.ensures.agrees honest agrees)
+
+pub returns-in_err-below-clause-spent : goal.returns-in_err-below-clause-spent
+returns-in_err-below-clause-spent g t c =
+    passed c.from_residual.result c.in_err-below.field-0.0 c.from_residual.ensures.1
+    (λ r. r ≡ Err Spent → is_spent c.args.pages.now ≡ true)
+    (λ is. c.in_err-below.ensures.spent (still_error is))
+
+pub returns-in-None-clause-spent : goal.returns-in-None-clause-spent
+returns-in-None-clause-spent g t c = λ is. never_ok is
+
+pub returns-in-Kept-clause-spent : goal.returns-in-Kept-clause-spent
+returns-in-Kept-clause-spent g t c = λ is. never_ok is
+
+pub returns-in_default-clause-spent : goal.returns-in_default-clause-spent
+returns-in_default-clause-spent g t c = λ is. sym c.shrink.ensures.committed.spent ∙ c.shrink_at.ensures.spent is
+
+pub returns-in_err-below-clause-cause : goal.returns-in_err-below-clause-cause
+returns-in_err-below-clause-cause g t c =
+    passed c.from_residual.result c.in_err-below.field-0.0 c.from_residual.ensures.1
+    (λ r. IfErr r IsChangeRefusal)
+    (c.in_err-below.ensures.cause)

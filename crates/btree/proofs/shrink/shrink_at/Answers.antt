@@ -17,6 +17,16 @@ use Rattle.btree.specs.Shrinks.{ShrinksOn, NeverShrinksOn}
 use Rattle.btree.proofs.Upward.{ReadNode}
 use Rattle.btree.proofs.Downward.{Rebalances, kept_on, renamed_on, gone_on, lone_on, never_read, never_led}
 use Rattle.btree.proofs.Downward.{never_rebalanced}
+use Rattle.std.specs.Prelude.{IfErr, Err}
+use Rattle.std.proofs.Common.{inr, true}
+use Rattle.station.specs.Calls.{OnlyReads}
+use Rattle.station.proofs.Calls.{reads_then}
+use Rattle.pages.specs.Pages.{is_spent}
+use Rattle.pages.specs.declared.error.PagesError.TheVariants.{Device, Spent}
+use Rattle.btree.specs.Refusals.{IsChangeRefusal}
+use Rattle.btree.proofs.Passing.{passed, never_ok, still_error}
+use Rattle.btree.proofs.Passing.{read_is_change}
+use Rattle.btree.proofs.Passing.{reads_where, committed_on, sectors_on}
 use Rattle.btree.proofs.shrink.shrink_at.Goals as goal
 
 pub returns-in_err-node-clause-damaged : goal.returns-in_err-node-clause-damaged
@@ -155,3 +165,79 @@ returns-in-Underfull-clause-damaged g c = λ honest agrees is.
 pub returns-in-Underfull-clause-catalog : goal.returns-in-Underfull-clause-catalog
 returns-in-Underfull-clause-catalog g c =
     c.rebalance_at.ensures.catalog ∙ ap (λ (m : Map). m.catalog) (c.read_node.ensures.unchanged.map [])
+
+pub returns-in_err-node-clause-only : goal.returns-in_err-node-clause-only
+returns-in_err-node-clause-only g c = passed c.from_residual.result c.in_err-node.field-0.0 c.from_residual.ensures.1
+    (λ r. OnlyReads g.D.Device (r ≡ Err Device) c.args.device.now c.read_node.new.device)
+    (reads_where g.D.Device _ _ _ _ (λ is. still_error is) c.in_err-node.ensures.only)
+
+pub returns-in-Kept-clause-only : goal.returns-in-Kept-clause-only
+returns-in-Kept-clause-only g c = reads_where g.D.Device _ _ _ _ (λ is. never_ok is) c.read_node.ensures.only
+
+pub returns-in-Underfull-clause-only : goal.returns-in-Underfull-clause-only
+returns-in-Underfull-clause-only g c = reads_then g.D.Device _ _ _ _ _ _ (λ is. inr is) c.read_node.ensures.only
+    c.rebalance_at.ensures.only
+
+pub returns-in-Renamed-clause-committed : goal.returns-in-Renamed-clause-committed
+returns-in-Renamed-clause-committed g c =
+    committed_on c.args.pages.now c.read_node.new.pages c.rename_at.new.pages c.read_node.ensures.unchanged.committed
+    c.rename_at.ensures.keeps.committed
+
+pub returns-in-Renamed-clause-agrees : goal.returns-in-Renamed-clause-agrees
+returns-in-Renamed-clause-agrees g c =
+    λ honest agrees. c.rename_at.ensures.keeps.agrees (g.D.Device.state c.read_node.new.device).disk
+    (c.read_node.ensures.agrees honest agrees)
+
+pub returns-in-Renamed-clause-open : goal.returns-in-Renamed-clause-open
+returns-in-Renamed-clause-open g c = c.rename_at.ensures.keeps.is_open c.read_node.ensures.open
+
+pub returns-in-Renamed-clause-spent : goal.returns-in-Renamed-clause-spent
+returns-in-Renamed-clause-spent g c =
+    λ is. sym c.read_node.ensures.unchanged.committed.spent ∙ c.rename_at.ensures.spent is
+
+pub returns-in-Gone-clause-committed : goal.returns-in-Gone-clause-committed
+returns-in-Gone-clause-committed g c =
+    committed_on c.args.pages.now c.read_node.new.pages c.lose_at.new.pages c.read_node.ensures.unchanged.committed
+    c.lose_at.ensures.keeps.committed
+
+pub returns-in-Gone-clause-agrees : goal.returns-in-Gone-clause-agrees
+returns-in-Gone-clause-agrees g c =
+    λ honest agrees. c.lose_at.ensures.keeps.agrees (g.D.Device.state c.read_node.new.device).disk
+    (c.read_node.ensures.agrees honest agrees)
+
+pub returns-in-Gone-clause-open : goal.returns-in-Gone-clause-open
+returns-in-Gone-clause-open g c = c.lose_at.ensures.keeps.is_open c.read_node.ensures.open
+
+pub returns-in-Gone-clause-spent : goal.returns-in-Gone-clause-spent
+returns-in-Gone-clause-spent g c = λ is. sym c.read_node.ensures.unchanged.committed.spent ∙ c.lose_at.ensures.spent is
+
+pub returns-in-Underfull-clause-committed : goal.returns-in-Underfull-clause-committed
+returns-in-Underfull-clause-committed g c =
+    committed_on c.args.pages.now c.read_node.new.pages c.rebalance_at.new.pages c.read_node.ensures.unchanged.committed
+    c.rebalance_at.ensures.committed
+
+pub returns-in-Underfull-clause-agrees : goal.returns-in-Underfull-clause-agrees
+returns-in-Underfull-clause-agrees g c =
+    λ honest agrees. c.rebalance_at.ensures.agrees (c.read_node.ensures.only.honest.0 honest)
+    (c.read_node.ensures.agrees honest agrees)
+
+pub returns-in-Underfull-clause-spent : goal.returns-in-Underfull-clause-spent
+returns-in-Underfull-clause-spent g c =
+    λ is. sym c.read_node.ensures.unchanged.committed.spent ∙ c.rebalance_at.ensures.spent is
+
+pub rebalance_at-requires-clause-sectors : goal.rebalance_at-requires-clause-sectors
+rebalance_at-requires-clause-sectors g c = sectors_on c.args.pages.now c.read_node.new.pages _ _
+    c.read_node.ensures.unchanged.committed.volume c.read_node.ensures.only.sectors c.requires.sectors
+
+pub returns-in_err-node-clause-spent : goal.returns-in_err-node-clause-spent
+returns-in_err-node-clause-spent g c = passed c.from_residual.result c.in_err-node.field-0.0 c.from_residual.ensures.1
+    (λ r. r ≡ Err Spent → is_spent c.args.pages.now ≡ true)
+    (λ is. c.in_err-node.ensures.spent.0 (still_error is))
+
+pub returns-in-Kept-clause-spent : goal.returns-in-Kept-clause-spent
+returns-in-Kept-clause-spent g c = λ is. never_ok is
+
+pub returns-in_err-node-clause-cause : goal.returns-in_err-node-clause-cause
+returns-in_err-node-clause-cause g c = passed c.from_residual.result c.in_err-node.field-0.0 c.from_residual.ensures.1
+    (λ r. IfErr r IsChangeRefusal)
+    (read_is_change c.in_err-node.field-0.0 c.in_err-node.ensures.cause)

@@ -7,6 +7,15 @@ use Rattle.btree.specs.Propagates.{node_with}
 use Rattle.btree.specs.Changes.{pages_of_map, IsIn}
 use Rattle.btree.proofs.Writes.{write_one, is_low, spells_node}
 use Rattle.btree.proofs.Lessening.{write_none, enough_left, true_or_false}
+use Rattle.std.specs.Prelude.{IfErr, Err}
+use Rattle.std.proofs.Common.{◌≡◌, true}
+use Rattle.pages.specs.Pages.{is_spent, changed_pages_of, filled_of}
+use Rattle.pages.specs.declared.error.PagesError.TheVariants.{Spent}
+use Rattle.btree.specs.Refusals.{IsPutRefusal}
+use Rattle.btree.proofs.Passing.{passed, never_ok, still_error}
+use Rattle.btree.proofs.Passing.{edit_is_put}
+use Rattle.btree.proofs.Passing.{few_none}
+use Rattle.btree.proofs.ChangedPages.{changes_count}
 use Rattle.btree.proofs.shrink_page.write_back.Goals as goal
 use Rattle.btree.proofs.shrink_page.write_back.Goals.{In_ok-edit}
 
@@ -46,3 +55,64 @@ returns-clause-pages c = λ image old is_in keeps. (
   refl,
   λ short. true_or_false (c.is_short.ensures.1 short) c.if-is_short.false,
 )
+
+pub returns-in_err-release-clause-spent : goal.returns-in_err-release-clause-spent
+returns-in_err-release-clause-spent c =
+    passed c.from_residual.result c.in_err-release.field-0.0 c.from_residual.ensures.1
+    (λ r. r ≡ Err Spent → is_spent c.args.pages.now ≡ true)
+    (λ is. c.in_err-release.ensures.spent.0 (still_error is))
+
+pub returns-in_err-edit-clause-spent : goal.returns-in_err-edit-clause-spent
+returns-in_err-edit-clause-spent c =
+    passed c.from_residual-in_err-edit.result c.in_err-edit.field-0.0 c.from_residual-in_err-edit.ensures.1
+    (λ r. r ≡ Err Spent → is_spent c.args.pages.now ≡ true)
+    (λ is. c.in_err-edit.ensures.spent.0 (still_error is))
+
+pub returns-then-count-eq0-clause-spent : goal.returns-then-count-eq0-clause-spent
+returns-then-count-eq0-clause-spent c = λ is. never_ok is
+
+pub returns-then-is_short-clause-spent : goal.returns-then-is_short-clause-spent
+returns-then-is_short-clause-spent c = λ is. never_ok is
+
+pub returns-then-keeps_least-clause-spent : goal.returns-then-keeps_least-clause-spent
+returns-then-keeps_least-clause-spent c = λ is. never_ok is
+
+pub returns-clause-spent : goal.returns-clause-spent
+returns-clause-spent c = λ is. never_ok is
+
+pub returns-in_err-release-clause-cause : goal.returns-in_err-release-clause-cause
+returns-in_err-release-clause-cause c =
+    passed c.from_residual.result c.in_err-release.field-0.0 c.from_residual.ensures.1
+    (λ r. IfErr r IsPutRefusal)
+    (edit_is_put c.in_err-release.field-0.0 c.in_err-release.ensures.cause)
+
+pub returns-in_err-edit-clause-cause : goal.returns-in_err-edit-clause-cause
+returns-in_err-edit-clause-cause c =
+    passed c.from_residual-in_err-edit.result c.in_err-edit.field-0.0 c.from_residual-in_err-edit.ensures.1
+    (λ r. IfErr r IsPutRefusal)
+    (edit_is_put c.in_err-edit.field-0.0 c.in_err-edit.ensures.cause)
+
+pub returns-then-count-eq0-clause-changed_pages : goal.returns-then-count-eq0-clause-changed_pages
+returns-then-count-eq0-clause-changed_pages c =
+    few_none (length (changed_pages_of c.args.pages.now)) (length (changed_pages_of c.release.new.self)) 1
+    (changes_count (changed_pages_of c.args.pages.now) c.args.page (changed_pages_of c.release.new.self)
+    c.in_ok-release.ensures.changes_page)
+
+pub returns-then-keeps_least-clause-changed_pages : goal.returns-then-keeps_least-clause-changed_pages
+returns-then-keeps_least-clause-changed_pages c =
+    few_none (length (changed_pages_of c.args.pages.now)) (length (changed_pages_of c.edit.new.self)) 1
+    (changes_count (changed_pages_of c.args.pages.now) c.args.page (changed_pages_of c.edit.new.self)
+    c.in_ok-edit.ensures.changes_page)
+
+pub returns-clause-changed_pages : goal.returns-clause-changed_pages
+returns-clause-changed_pages c =
+    few_none (length (changed_pages_of c.args.pages.now)) (length (changed_pages_of c.edit.new.self)) 1
+    (changes_count (changed_pages_of c.args.pages.now) c.args.page (changed_pages_of c.edit.new.self)
+    c.in_ok-edit.ensures.changes_page)
+
+pub returns-then-keeps_least-clause-filled : goal.returns-then-keeps_least-clause-filled
+returns-then-keeps_least-clause-filled c =
+    few_none (filled_of c.args.pages.now) (filled_of c.edit.new.self) 1 c.edit.ensures.filled
+
+pub returns-clause-filled : goal.returns-clause-filled
+returns-clause-filled c = few_none (filled_of c.args.pages.now) (filled_of c.edit.new.self) 1 c.edit.ensures.filled

@@ -7,6 +7,14 @@ use Rattle.pages.specs.declared.error.PagesError.TheVariants.{Damaged}
 use Rattle.btree_pages.specs.declared.row_layout.Kind.TheVariants.{Leaf, Inner}
 use Rattle.btree.specs.Sought.{DescendsAt, LooksAt}
 use Rattle.btree.proofs.Descents.{kind_read}
+use Rattle.std.specs.Prelude.{IfErr}
+use Rattle.std.proofs.Common.{◌↔◌, true, sym}
+use Rattle.station.specs.Calls.{OnlyReads}
+use Rattle.pages.specs.Pages.{is_spent}
+use Rattle.pages.specs.declared.error.PagesError.TheVariants.{Device, Spent}
+use Rattle.btree.specs.Reading.{IsReadRefusal}
+use Rattle.btree.proofs.Passing.{passed, never_ok, still_error, damaged_not_device, damaged_not_spent}
+use Rattle.btree.proofs.Passing.{reads_where}
 use Rattle.btree.proofs.sought.entry_at.Goals as goal
 
 pub returns-in_err-look_at-clause-damaged : goal.returns-in_err-look_at-clause-damaged
@@ -26,3 +34,48 @@ returns-in-Below-clause-damaged g c = λ honest agrees told node same stands.
     let clash : Leaf ≡ Inner =
     kind_read c.args.layout pages Leaf node c.args.page down.node same stands down.read ∙ down.inner in
     cc
+
+pub returns-in_err-look_at-clause-only : goal.returns-in_err-look_at-clause-only
+returns-in_err-look_at-clause-only g c =
+    passed c.from_residual.result c.in_err-look_at.field-0.0 c.from_residual.ensures.1
+    (λ r. OnlyReads g.D.Device (r ≡ Err Device) c.args.device.now c.look_at.new.device)
+    (reads_where g.D.Device _ _ _ _ (λ is. still_error is) c.in_err-look_at.ensures.only)
+
+pub returns-in-Here-clause-only : goal.returns-in-Here-clause-only
+returns-in-Here-clause-only g c = reads_where g.D.Device _ _ _ _ (λ is. never_ok is) c.look_at.ensures.only
+
+pub returns-in-Here-clause-spent : goal.returns-in-Here-clause-spent
+returns-in-Here-clause-spent g c =
+    (λ is. never_ok is, λ was. never_ok (sym c.in_ok-look_at.was ∙ c.look_at.ensures.spent.1 was))
+
+pub returns-in-Here-clause-damaged : goal.returns-in-Here-clause-damaged
+returns-in-Here-clause-damaged g c = λ honest agrees is. never_ok is
+
+pub returns-in-Missing-clause-only : goal.returns-in-Missing-clause-only
+returns-in-Missing-clause-only g c = reads_where g.D.Device _ _ _ _ (λ is. never_ok is) c.look_at.ensures.only
+
+pub returns-in-Missing-clause-spent : goal.returns-in-Missing-clause-spent
+returns-in-Missing-clause-spent g c =
+    (λ is. never_ok is, λ was. never_ok (sym c.in_ok-look_at.was ∙ c.look_at.ensures.spent.1 was))
+
+pub returns-in-Missing-clause-damaged : goal.returns-in-Missing-clause-damaged
+returns-in-Missing-clause-damaged g c = λ honest agrees is. never_ok is
+
+pub returns-in-Below-clause-only : goal.returns-in-Below-clause-only
+returns-in-Below-clause-only g c = reads_where g.D.Device _ _ _ _ (λ is. damaged_not_device is) c.look_at.ensures.only
+
+pub returns-in-Below-clause-spent : goal.returns-in-Below-clause-spent
+returns-in-Below-clause-spent g c =
+    (λ is. damaged_not_spent is, λ was. never_ok (sym c.in_ok-look_at.was ∙ c.look_at.ensures.spent.1 was))
+
+pub returns-in_err-look_at-clause-spent : goal.returns-in_err-look_at-clause-spent
+returns-in_err-look_at-clause-spent g c =
+    passed c.from_residual.result c.in_err-look_at.field-0.0 c.from_residual.ensures.1
+    (λ r. (r ≡ Err Spent) ↔ (is_spent c.args.pages.now ≡ true))
+    (λ is. c.in_err-look_at.ensures.spent.0 (still_error is), λ was. still_error (c.in_err-look_at.ensures.spent.1 was))
+
+pub returns-in_err-look_at-clause-cause : goal.returns-in_err-look_at-clause-cause
+returns-in_err-look_at-clause-cause g c =
+    passed c.from_residual.result c.in_err-look_at.field-0.0 c.from_residual.ensures.1
+    (λ r. IfErr r IsReadRefusal)
+    (c.in_err-look_at.ensures.cause)

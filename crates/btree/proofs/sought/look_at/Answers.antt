@@ -9,6 +9,10 @@ use Rattle.btree.proofs.Frames.{unchanged_on}
 use Rattle.btree.proofs.TreeNodes.{spells_none}
 use Rattle.btree.proofs.Stepping.{if_ok}
 use Rattle.btree.proofs.Answering.{looks_there}
+use Rattle.std.proofs.Common.{refl}
+use Rattle.station.proofs.Calls.{reads_nothing}
+use Rattle.btree.proofs.Passing.{reads_where, sectors_on}
+use Rattle.btree.proofs.Passing.{damaged_alone, damaged_is_read}
 use Rattle.btree.proofs.sought.look_at.Goals as goal
 
 pub returns-in-Some-clause-look : goal.returns-in-Some-clause-look
@@ -60,3 +64,37 @@ returns-clause-damaged g c = λ honest agrees is kind node same stands.
     let kept = c.note_use.ensures.keeps.agrees (g.D.Device.state c.args.device.now).disk agrees in
     c.look_loaded.ensures.damaged honest kept is kind node same
     (subst (λ (p : List (Option Sector)). IsOnPage c.args.layout p kind node) (sym noted) stands)
+
+pub returns-in-Some-clause-only : goal.returns-in-Some-clause-only
+returns-in-Some-clause-only g c = reads_where g.D.Device _ _ _ _
+    (λ is. damaged_alone c.look_in.result c.look_in.ensures.cause is) (reads_nothing g.D.Device c.args.device.now)
+
+pub returns-in-Some-clause-cause : goal.returns-in-Some-clause-cause
+returns-in-Some-clause-cause g c = damaged_is_read c.look_in.result c.look_in.ensures.cause
+
+pub look_loaded-requires-clause-sectors : goal.look_loaded-requires-clause-sectors
+look_loaded-requires-clause-sectors g c = sectors_on c.args.pages.now c.note_use.new.self _ _
+    c.note_use.ensures.keeps.committed.volume refl c.requires.sectors
+
+pub look_loaded-requires-clause-open : goal.look_loaded-requires-clause-open
+look_loaded-requires-clause-open g c = c.note_use.ensures.keeps.is_open c.requires.open
+
+pub view-requires : goal.view-requires
+view-requires g c = c.note_use.ensures.keeps.is_open c.requires.open
+
+pub returns-in-Some-clause-open : goal.returns-in-Some-clause-open
+returns-in-Some-clause-open g c = c.note_use.ensures.keeps.is_open c.requires.open
+
+pub returns-in-Some-clause-agrees : goal.returns-in-Some-clause-agrees
+returns-in-Some-clause-agrees g c =
+    λ honest agrees. c.note_use.ensures.keeps.agrees (g.D.Device.state c.args.device.now).disk agrees
+
+pub returns-clause-agrees : goal.returns-clause-agrees
+returns-clause-agrees g c = λ honest agrees. c.look_loaded.ensures.agrees honest
+    (c.note_use.ensures.keeps.agrees (g.D.Device.state c.args.device.now).disk agrees)
+
+pub returns-clause-spent : goal.returns-clause-spent
+returns-clause-spent g c = (
+  λ is. sym c.note_use.ensures.unchanged.committed.spent ∙ c.look_loaded.ensures.spent.0 is,
+  λ was. c.look_loaded.ensures.spent.1 (c.note_use.ensures.unchanged.committed.spent ∙ was),
+)

@@ -12,6 +12,13 @@ use Rattle.btree.proofs.Descents.{along_stands}
 use Rattle.btree.proofs.Descending.{down_start, down_on, down_deep, finds_entry, finds_none}
 use Rattle.btree.proofs.Frames.{unchanged_still, unchanged_on, same_pages, false_unless, ok_or_err}
 use Rattle.btree.proofs.TreeNodes.{few_pages}
+use Rattle.std.specs.Prelude.{IfErr}
+use Rattle.std.proofs.Common.{◌↔◌, inr, true}
+use Rattle.station.specs.Calls.{OnlyReads}
+use Rattle.pages.specs.declared.error.PagesError.TheVariants.{Device}
+use Rattle.btree.specs.Reading.{IsReadRefusal}
+use Rattle.btree.proofs.Passing.{passed, never_ok, still_error, damaged_not_device}
+use Rattle.btree.proofs.Passing.{reads_where, sectors_on}
 use Rattle.btree.proofs.sought.search.Goals as goal
 
 pub loop-depth-init : goal.loop-depth-init
@@ -134,3 +141,72 @@ returns-clause-damaged g c = λ h a is levels tree.
     (c.page_count-page_count.ensures.pages (g.D.Device.state c.args.device.now).disk.present)
     c.page_count-page_count.ensures.count (c.page_count-page_count.ensures.few c.requires.open unspent)) tree
     (c.loop-depth.invariant.way unspent h a levels tree) deep
+
+pub look_at-requires-clause-sectors : goal.look_at-requires-clause-sectors
+look_at-requires-clause-sectors g c = sectors_on c.args.pages.now c.loop-depth.pages _ _
+    c.loop-depth.invariant.unchanged.committed.volume c.loop-depth.invariant.only.sectors
+    c.requires.sectors
+
+pub returns-in_err-child-clause-only : goal.returns-in_err-child-clause-only
+returns-in_err-child-clause-only g c = passed c.from_residual.result c.in_err-child.field-0.0 c.from_residual.ensures.1
+    (λ r. OnlyReads g.D.Device (r ≡ Err Device) c.args.device.now c.look_at.new.device)
+    (reads_then g.D.Device _ _ _ _ _ _ (λ is. inr (still_error is)) c.loop-depth.invariant.only
+    c.in_err-child.ensures.only)
+
+pub returns-in-Here-clause-only : goal.returns-in-Here-clause-only
+returns-in-Here-clause-only g c = reads_then g.D.Device _ _ _ _ _ _ (λ is. never_ok is) c.loop-depth.invariant.only
+    c.look_at.ensures.only
+
+pub returns-in-Here-clause-damaged : goal.returns-in-Here-clause-damaged
+returns-in-Here-clause-damaged g c = λ honest agrees is. never_ok is
+
+pub returns-in-Here-clause-spent : goal.returns-in-Here-clause-spent
+returns-in-Here-clause-spent g c = (
+  λ is. never_ok is,
+  λ was. never_ok
+      (sym c.in_ok-child.was ∙ c.look_at.ensures.spent.1 (c.loop-depth.invariant.unchanged.committed.spent ∙ was)),
+)
+
+pub returns-in-Missing-clause-only : goal.returns-in-Missing-clause-only
+returns-in-Missing-clause-only g c = reads_then g.D.Device _ _ _ _ _ _ (λ is. never_ok is) c.loop-depth.invariant.only
+    c.look_at.ensures.only
+
+pub returns-in-Missing-clause-damaged : goal.returns-in-Missing-clause-damaged
+returns-in-Missing-clause-damaged g c = λ honest agrees is. never_ok is
+
+pub returns-in-Missing-clause-spent : goal.returns-in-Missing-clause-spent
+returns-in-Missing-clause-spent g c = (
+  λ is. never_ok is,
+  λ was. never_ok
+      (sym c.in_ok-child.was ∙ c.look_at.ensures.spent.1 (c.loop-depth.invariant.unchanged.committed.spent ∙ was)),
+)
+
+pub returns-in_err-child-clause-agrees : goal.returns-in_err-child-clause-agrees
+returns-in_err-child-clause-agrees g c =
+    λ honest agrees. c.look_at.ensures.agrees (c.loop-depth.invariant.only.honest.0 honest)
+    (c.loop-depth.invariant.agrees honest agrees)
+
+pub returns-in-Here-clause-agrees : goal.returns-in-Here-clause-agrees
+returns-in-Here-clause-agrees g c =
+    λ honest agrees. c.look_at.ensures.agrees (c.loop-depth.invariant.only.honest.0 honest)
+    (c.loop-depth.invariant.agrees honest agrees)
+
+pub returns-in-Missing-clause-agrees : goal.returns-in-Missing-clause-agrees
+returns-in-Missing-clause-agrees g c =
+    λ honest agrees. c.look_at.ensures.agrees (c.loop-depth.invariant.only.honest.0 honest)
+    (c.loop-depth.invariant.agrees honest agrees)
+
+pub returns-clause-only : goal.returns-clause-only
+returns-clause-only g c = reads_where g.D.Device _ _ _ _ (λ is. damaged_not_device is) c.loop-depth.invariant.only
+
+pub returns-in_err-child-clause-spent : goal.returns-in_err-child-clause-spent
+returns-in_err-child-clause-spent g c = passed c.from_residual.result c.in_err-child.field-0.0 c.from_residual.ensures.1
+    (λ r. (r ≡ Err Spent) ↔ (is_spent c.args.pages.now ≡ true)) (
+      λ is. sym c.loop-depth.invariant.unchanged.committed.spent ∙ c.in_err-child.ensures.spent.0 (still_error is),
+      λ was. still_error (c.in_err-child.ensures.spent.1 (c.loop-depth.invariant.unchanged.committed.spent ∙ was)),
+    )
+
+pub returns-in_err-child-clause-cause : goal.returns-in_err-child-clause-cause
+returns-in_err-child-clause-cause g c = passed c.from_residual.result c.in_err-child.field-0.0 c.from_residual.ensures.1
+    (λ r. IfErr r IsReadRefusal)
+    (c.in_err-child.ensures.cause)

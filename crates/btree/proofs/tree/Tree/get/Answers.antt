@@ -10,6 +10,17 @@ use Rattle.btree.specs.Rooted.{RootedTree}
 use Rattle.btree.specs.Entries.{entries_of}
 use Rattle.btree.specs.Sought.{FindsEntry}
 use Rattle.btree.proofs.Frames.{holds_tree}
+use Rattle.std.specs.Prelude.{IfErr}
+use Rattle.std.proofs.Common.{◌≢◌, ◌↔◌}
+use Rattle.station.specs.Calls.{OnlyReads}
+use Rattle.station.proofs.Calls.{reads_nothing}
+use Rattle.pages.specs.Pages.{is_spent}
+use Rattle.pages.specs.declared.error.PagesError.TheVariants.{Device, Spent}
+use Rattle.btree.specs.Reading.{IsSearchRefusal}
+use Rattle.btree.proofs.Passing.{passed, never_ok, still_error}
+use Rattle.btree.proofs.Passing.{reads_where}
+use Rattle.btree.proofs.Passing.{read_is_search}
+use Rattle.btree.specs.Entries.{HasLengths}
 use Rattle.btree.proofs.tree.Tree.get.Goals as goal
 
 pub returns-in_err-found-clause-damaged : goal.returns-in_err-found-clause-damaged
@@ -54,3 +65,61 @@ returns-clause-entry g c = λ honest agrees levels holds.
     subst (F c.in_ok-found.found) c.self.view_is (c.in_ok-found.ensures.finds honest agrees levels) in
     let here : F false view = subst (λ (b : Bool). F b view) c.if-found.false finds in
     here tree refl
+
+pub returns-then-self-eq0-clause-only : goal.returns-then-self-eq0-clause-only
+returns-then-self-eq0-clause-only g c =
+    reads_where g.D.Device _ _ _ _ (λ is. never_ok is) (reads_nothing g.D.Device c.args.device.now)
+
+pub returns-in_err-found-clause-only : goal.returns-in_err-found-clause-only
+returns-in_err-found-clause-only g c = passed c.from_residual.result c.in_err-found.field-0.0 c.from_residual.ensures.1
+    (λ r. OnlyReads g.D.Device (r ≡ Err Device) c.args.device.now c.search.new.device)
+    (reads_where g.D.Device _ _ _ _ (λ is. still_error is) c.in_err-found.ensures.only)
+
+pub returns-then-found-clause-only : goal.returns-then-found-clause-only
+returns-then-found-clause-only g c = reads_where g.D.Device _ _ _ _ (λ is. never_ok is) c.search.ensures.only
+
+pub returns-then-self-eq0-clause-spent : goal.returns-then-self-eq0-clause-spent
+returns-then-self-eq0-clause-spent g c = (
+  λ is. never_ok is,
+  λ both. absurd (both.1 (sym (ap (λ (t : RootedTree). t.root) c.self.view_is) ∙ c.if-self-eq0.true)),
+)
+
+pub returns-in_err-found-clause-spent : goal.returns-in_err-found-clause-spent
+returns-in_err-found-clause-spent g c = passed c.from_residual.result c.in_err-found.field-0.0 c.from_residual.ensures.1
+    (λ r. (r ≡ Err Spent) ↔ ((is_spent c.args.pages.now ≡ true) × (c.args.self.now.root ≢ 0))) (
+      λ is. (
+        c.in_err-found.ensures.spent.0 (still_error is),
+        λ none. c.if-self-eq0.false (ap (λ (t : RootedTree). t.root) c.self.view_is ∙ none),
+      ),
+      λ both. still_error (c.in_err-found.ensures.spent.1 both.0),
+    )
+
+pub returns-then-found-clause-spent : goal.returns-then-found-clause-spent
+returns-then-found-clause-spent g c =
+    (λ is. never_ok is, λ both. never_ok (sym c.in_ok-found.was ∙ c.search.ensures.spent.1 both.0))
+
+pub returns-in_err-found-clause-cause : goal.returns-in_err-found-clause-cause
+returns-in_err-found-clause-cause g c = passed c.from_residual.result c.in_err-found.field-0.0 c.from_residual.ensures.1
+    (λ r. IfErr r (IsSearchRefusal c.args.self.now.layout))
+    (read_is_search c.args.self.now.layout c.in_err-found.field-0.0 c.in_err-found.ensures.cause)
+
+pub returns-then-self-eq0-clause-damaged : goal.returns-then-self-eq0-clause-damaged
+returns-then-self-eq0-clause-damaged g c = λ honest agrees is. never_ok is
+
+pub returns-then-found-clause-damaged : goal.returns-then-found-clause-damaged
+returns-then-found-clause-damaged g c = λ honest agrees is. never_ok is
+
+pub returns-then-found-clause-lengths : goal.returns-then-found-clause-lengths
+returns-then-found-clause-lengths g c =
+    subst (λ (t : RootedTree). HasLengths t.layout c.search.new.entry) c.self.view_is
+    (c.in_ok-found.ensures.lengths c.if-found.true)
+
+pub returns-clause-only : goal.returns-clause-only
+returns-clause-only g c = reads_where g.D.Device _ _ _ _ (λ is. never_ok is) c.search.ensures.only
+
+pub returns-clause-spent : goal.returns-clause-spent
+returns-clause-spent g c =
+    (λ is. never_ok is, λ both. never_ok (sym c.in_ok-found.was ∙ c.search.ensures.spent.1 both.0))
+
+pub returns-clause-damaged : goal.returns-clause-damaged
+returns-clause-damaged g c = λ honest agrees is. never_ok is

@@ -7,6 +7,14 @@ use Rattle.btree.specs.Tree.{IsTreeOrEmpty}
 use Rattle.btree.specs.Changes.{pages_of_map, Inserts}
 use Rattle.btree.proofs.Frames.{false_unless}
 use Rattle.btree.proofs.Refused.{few_left}
+use Rattle.std.specs.Prelude.{IfErr, Ok}
+use Rattle.std.proofs.Common.{◌↔◌, true, ◌∙◌}
+use Rattle.station.specs.Calls.{OnlyReads}
+use Rattle.pages.specs.declared.error.PagesError.TheVariants.{Device}
+use Rattle.btree.specs.Refusals.{IsInsertRefusal}
+use Rattle.btree.proofs.Passing.{passed, never_ok, never_err, still_error}
+use Rattle.btree.proofs.Passing.{reads_where}
+use Rattle.btree.proofs.Passing.{false_not_true}
 use Rattle.btree.proofs.tree.Tree.insert.Goals as goal
 
 pub returns-in_err-added-clause-damaged : goal.returns-in_err-added-clause-damaged
@@ -80,3 +88,77 @@ returns-in_err-added-clause-filled g c = λ honest agrees levels holds.
     c.in_err-added.ensures.filled honest agrees levels
     (subst (λ (f : RowLayout). IsTreeOrEmpty f before c.root-top.result levels) (sym c.layout-layout.ensures.is)
     (subst (λ (r : ℕ). IsTreeOrEmpty c.args.self.now.layout before r levels) (sym c.root-top.ensures) holds))
+
+pub returns-in_err-added-clause-only : goal.returns-in_err-added-clause-only
+returns-in_err-added-clause-only g c = passed c.from_residual.result c.in_err-added.field-0.0 c.from_residual.ensures.1
+    (λ r. OnlyReads g.D.Device (r ≡ Err Device) c.args.device.now c.insert_entry.new.device)
+    (reads_where g.D.Device _ _ _ _ (λ is. still_error is) c.in_err-added.ensures.only)
+
+pub returns-in-Some-clause-only : goal.returns-in-Some-clause-only
+returns-in-Some-clause-only g c = reads_where g.D.Device _ _ _ _ (λ is. never_ok is) c.insert_entry.ensures.only
+
+pub returns-in-Some-clause-spent : goal.returns-in-Some-clause-spent
+returns-in-Some-clause-spent g c =
+    (λ is. never_ok is, λ was. never_ok (sym c.in_ok-added.was ∙ c.insert_entry.ensures.spent.1 was))
+
+pub returns-in-Some-clause-damaged : goal.returns-in-Some-clause-damaged
+returns-in-Some-clause-damaged g c = λ honest agrees is. never_ok is
+
+pub returns-in-Some-clause-full : goal.returns-in-Some-clause-full
+returns-in-Some-clause-full g c = λ is. never_ok is
+
+pub returns-in-Some-clause-room : goal.returns-in-Some-clause-room
+returns-in-Some-clause-room g c = λ honest agrees levels holds is. never_ok is
+
+pub returns-in-None-clause-only : goal.returns-in-None-clause-only
+returns-in-None-clause-only g c = reads_where g.D.Device _ _ _ _ (λ is. never_ok is) c.insert_entry.ensures.only
+
+pub returns-in-None-clause-spent : goal.returns-in-None-clause-spent
+returns-in-None-clause-spent g c =
+    (λ is. never_ok is, λ was. never_ok (sym c.in_ok-added.was ∙ c.insert_entry.ensures.spent.1 was))
+
+pub returns-in-None-clause-damaged : goal.returns-in-None-clause-damaged
+returns-in-None-clause-damaged g c = λ honest agrees is. never_ok is
+
+pub returns-in-None-clause-full : goal.returns-in-None-clause-full
+returns-in-None-clause-full g c = λ is. never_ok is
+
+pub returns-in-None-clause-room : goal.returns-in-None-clause-room
+returns-in-None-clause-room g c = λ honest agrees levels holds is. never_ok is
+
+pub returns-in_err-added-clause-spent : goal.returns-in_err-added-clause-spent
+returns-in_err-added-clause-spent g c = passed c.from_residual.result c.in_err-added.field-0.0 c.from_residual.ensures.1
+    (λ r. (r ≡ Err Spent) ↔ (is_spent c.args.pages.now ≡ true))
+    (λ is. c.in_err-added.ensures.spent.0 (still_error is), λ was. still_error (c.in_err-added.ensures.spent.1 was))
+
+pub returns-in_err-added-clause-cause : goal.returns-in_err-added-clause-cause
+returns-in_err-added-clause-cause g c = passed c.from_residual.result c.in_err-added.field-0.0 c.from_residual.ensures.1
+    (λ r. IfErr r IsInsertRefusal)
+    (c.in_err-added.ensures.cause)
+
+pub returns-in_err-added-clause-inserted : goal.returns-in_err-added-clause-inserted
+returns-in_err-added-clause-inserted g c = λ honest agrees levels holds is.
+    absurd (passed c.from_residual.result c.in_err-added.field-0.0 c.from_residual.ensures.1
+    (λ r. r ≡ Ok true → ⊥)
+    (λ e. never_err e) is)
+
+pub returns-in_err-added-clause-there : goal.returns-in_err-added-clause-there
+returns-in_err-added-clause-there g c = λ honest agrees levels holds is.
+    absurd (passed c.from_residual.result c.in_err-added.field-0.0 c.from_residual.ensures.1
+    (λ r. r ≡ Ok false → ⊥)
+    (λ e. never_err e) is)
+
+pub returns-in_err-added-clause-same : goal.returns-in_err-added-clause-same
+returns-in_err-added-clause-same g c =
+    λ is. absurd (passed c.from_residual.result c.in_err-added.field-0.0 c.from_residual.ensures.1
+    (λ r. r ≡ Ok false → ⊥)
+    (λ e. never_err e) is)
+
+pub returns-in-None-clause-inserted : goal.returns-in-None-clause-inserted
+returns-in-None-clause-inserted g c = λ honest agrees levels holds is. false_not_true is
+
+pub returns-in-Some-clause-there : goal.returns-in-Some-clause-there
+returns-in-Some-clause-there g c = λ honest agrees levels holds is. false_not_true (sym is)
+
+pub returns-in-Some-clause-same : goal.returns-in-Some-clause-same
+returns-in-Some-clause-same g c = λ is. false_not_true (sym is)

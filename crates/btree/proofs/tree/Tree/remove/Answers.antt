@@ -1,9 +1,20 @@
-use Rattle.std.proofs.Common.{ℕ, sym, subst}
+use Rattle.std.proofs.Common.{false, ℕ, sym, subst}
 use Rattle.std.specs.Prelude.{Option, Some}
 use Rattle.btree_pages.specs.declared.row_layout.RowLayout.{RowLayout}
 use Rattle.btree.specs.Tree.{IsTreeOrEmpty}
 use Rattle.btree.specs.Changes.{pages_of_map}
 use Rattle.btree.specs.Removals.{Removes}
+use Rattle.std.specs.Prelude.{IfErr, OnOk, Err, Ok}
+use Rattle.std.proofs.Common.{◌≡◌, ◌≢◌, ◌↔◌, true, ◌∙◌}
+use Rattle.station.specs.Calls.{OnlyReads}
+use Rattle.pages.specs.Pages.{is_spent}
+use Rattle.pages.specs.declared.error.PagesError.TheVariants.{Device, Spent}
+use Rattle.btree.specs.Refusals.{IsChangeRefusal}
+use Rattle.btree.proofs.Passing.{passed, never_ok, never_err, still_error}
+use Rattle.btree.proofs.Passing.{reads_where}
+use Rattle.btree.proofs.Passing.{false_not_true}
+use Rattle.std.specs.Prelude.{OnOk}
+use Rattle.btree.specs.Results.{FewChanged, FewFilled}
 use Rattle.btree.proofs.tree.Tree.remove.Goals as goal
 
 pub returns-in_err-removed-clause-damaged : goal.returns-in_err-removed-clause-damaged
@@ -42,3 +53,91 @@ returns-in-Some-clause-filled g c = λ honest agrees levels holds.
     c.in_ok-removed.ensures.filled honest agrees levels
     (subst (λ (f : RowLayout). IsTreeOrEmpty f before c.root-top.result levels) (sym c.layout-layout.ensures.is)
     (subst (λ (r : ℕ). IsTreeOrEmpty c.args.self.now.layout before r levels) (sym c.root-top.ensures) holds))
+
+pub returns-in_err-removed-clause-only : goal.returns-in_err-removed-clause-only
+returns-in_err-removed-clause-only g c =
+    passed c.from_residual.result c.in_err-removed.field-0.0 c.from_residual.ensures.1
+    (λ r. OnlyReads g.D.Device (r ≡ Err Device) c.args.device.now c.remove_entry.new.device)
+    (reads_where g.D.Device _ _ _ _ (λ is. still_error is) c.in_err-removed.ensures.only)
+
+pub returns-in-Some-clause-only : goal.returns-in-Some-clause-only
+returns-in-Some-clause-only g c = reads_where g.D.Device _ _ _ _ (λ is. never_ok is) c.remove_entry.ensures.only
+
+pub returns-in-Some-clause-spent : goal.returns-in-Some-clause-spent
+returns-in-Some-clause-spent g c = (
+  λ is. never_ok is,
+  λ both. never_ok (sym c.in_ok-removed.was
+      ∙ c.remove_entry.ensures.spent.1 (both.0, λ none. both.1 (sym c.root-top.ensures ∙ none))),
+)
+
+pub returns-in-Some-clause-damaged : goal.returns-in-Some-clause-damaged
+returns-in-Some-clause-damaged g c = λ honest agrees is. never_ok is
+
+pub returns-in-None-clause-only : goal.returns-in-None-clause-only
+returns-in-None-clause-only g c = reads_where g.D.Device _ _ _ _ (λ is. never_ok is) c.remove_entry.ensures.only
+
+pub returns-in-None-clause-spent : goal.returns-in-None-clause-spent
+returns-in-None-clause-spent g c = (
+  λ is. never_ok is,
+  λ both. never_ok (sym c.in_ok-removed.was
+      ∙ c.remove_entry.ensures.spent.1 (both.0, λ none. both.1 (sym c.root-top.ensures ∙ none))),
+)
+
+pub returns-in-None-clause-damaged : goal.returns-in-None-clause-damaged
+returns-in-None-clause-damaged g c = λ honest agrees is. never_ok is
+
+pub returns-in_err-removed-clause-spent : goal.returns-in_err-removed-clause-spent
+returns-in_err-removed-clause-spent g c =
+    passed c.from_residual.result c.in_err-removed.field-0.0 c.from_residual.ensures.1
+    (λ r. (r ≡ Err Spent) ↔ ((is_spent c.args.pages.now ≡ true) × (c.args.self.now.root ≢ 0))) (
+      λ is. (
+        (c.in_err-removed.ensures.spent.0 (still_error is)).0,
+        λ none. (c.in_err-removed.ensures.spent.0 (still_error is)).1 (c.root-top.ensures ∙ none),
+      ),
+      λ both. still_error (c.in_err-removed.ensures.spent.1 (both.0, λ none. both.1 (sym c.root-top.ensures ∙ none))),
+    )
+
+pub returns-in_err-removed-clause-cause : goal.returns-in_err-removed-clause-cause
+returns-in_err-removed-clause-cause g c =
+    passed c.from_residual.result c.in_err-removed.field-0.0 c.from_residual.ensures.1
+    (λ r. IfErr r IsChangeRefusal)
+    (c.in_err-removed.ensures.cause)
+
+pub returns-in_err-removed-clause-removed : goal.returns-in_err-removed-clause-removed
+returns-in_err-removed-clause-removed g c = λ honest agrees levels holds is.
+    absurd (passed c.from_residual.result c.in_err-removed.field-0.0 c.from_residual.ensures.1
+    (λ r. r ≡ Ok true → ⊥)
+    (λ e. never_err e) is)
+
+pub returns-in_err-removed-clause-missing : goal.returns-in_err-removed-clause-missing
+returns-in_err-removed-clause-missing g c = λ honest agrees levels holds is.
+    absurd (passed c.from_residual.result c.in_err-removed.field-0.0 c.from_residual.ensures.1
+    (λ r. r ≡ Ok false → ⊥)
+    (λ e. never_err e) is)
+
+pub returns-in_err-removed-clause-same : goal.returns-in_err-removed-clause-same
+returns-in_err-removed-clause-same g c =
+    λ is. absurd (passed c.from_residual.result c.in_err-removed.field-0.0 c.from_residual.ensures.1
+    (λ r. r ≡ Ok false → ⊥)
+    (λ e. never_err e) is)
+
+pub returns-in-None-clause-removed : goal.returns-in-None-clause-removed
+returns-in-None-clause-removed g c = λ honest agrees levels holds is. false_not_true is
+
+pub returns-in-Some-clause-missing : goal.returns-in-Some-clause-missing
+returns-in-Some-clause-missing g c = λ honest agrees levels holds is. false_not_true (sym is)
+
+pub returns-in-Some-clause-same : goal.returns-in-Some-clause-same
+returns-in-Some-clause-same g c = λ is. false_not_true (sym is)
+
+pub returns-in_err-removed-clause-changed_pages : goal.returns-in_err-removed-clause-changed_pages
+returns-in_err-removed-clause-changed_pages g c =
+    λ honest agrees levels holds. passed c.from_residual.result c.in_err-removed.field-0.0 c.from_residual.ensures.1
+    (λ r. OnOk r (FewChanged 42 c.args.pages.now c.remove_entry.new.pages))
+    (tt)
+
+pub returns-in_err-removed-clause-filled : goal.returns-in_err-removed-clause-filled
+returns-in_err-removed-clause-filled g c =
+    λ honest agrees levels holds. passed c.from_residual.result c.in_err-removed.field-0.0 c.from_residual.ensures.1
+    (λ r. OnOk r (FewFilled 42 c.args.pages.now c.remove_entry.new.pages))
+    (tt)

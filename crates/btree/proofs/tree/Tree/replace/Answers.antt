@@ -1,4 +1,4 @@
-use Rattle.std.proofs.Common.{◌≡◌, ℕ, List, [], length, sym, ap, subst, ◌∙◌, arith, true}
+use Rattle.std.proofs.Common.{false, ◌≡◌, ℕ, List, [], length, sym, ap, subst, ◌∙◌, arith, true}
 use Rattle.std.specs.Prelude.{Option, Ok, IsSome}
 use Rattle.station.specs.Disk.{Sector}
 use Rattle.station.specs.State.{State}
@@ -12,6 +12,19 @@ use Rattle.btree.specs.Changes.{pages_of_map, Becomes}
 use Rattle.btree.specs.Entering.{SetsOn}
 use Rattle.btree.proofs.Frames.{holds_tree, pages_yet, unchanged_on}
 use Rattle.btree.proofs.ValuedInPlace.{valued_in_place}
+use Rattle.std.specs.Prelude.{IfErr, Err}
+use Rattle.std.proofs.Common.{◌≢◌, ◌↔◌, ◌≤◌, ◌+◌, inr}
+use Rattle.station.specs.Calls.{OnlyReads}
+use Rattle.station.proofs.Calls.{reads_then, reads_nothing}
+use Rattle.pages.specs.Pages.{is_spent}
+use Rattle.pages.specs.declared.error.PagesError.TheVariants.{Damaged, Device, Spent}
+use Rattle.btree.specs.Refusals.{IsChangeRefusal}
+use Rattle.btree.proofs.Passing.{passed, never_ok, never_err, still_error}
+use Rattle.btree.proofs.Passing.{put_is_rest, rest_is_change, search_is_change, put_not_device}
+use Rattle.btree.proofs.Passing.{put_not_damaged}
+use Rattle.btree.proofs.Passing.{reads_where, committed_on, sectors_on}
+use Rattle.btree.proofs.Passing.{few_equal, few_same, false_not_true, search_is_change}
+use Rattle.btree.proofs.Frames.{unchanged_still}
 use Rattle.btree.proofs.tree.Tree.replace.Goals as goal
 
 pub returns-in_err-way-clause-catalog : goal.returns-in_err-way-clause-catalog
@@ -134,3 +147,208 @@ returns-clause-filled g c =
     let count = ap (λ (p : PageMap). filled_of p) same in
     let still = c.follow.ensures.unchanged.filled in
     omega (arith, few, count, still)
+
+pub returns-then-top-eq0-clause-only : goal.returns-then-top-eq0-clause-only
+returns-then-top-eq0-clause-only g c =
+    reads_where g.D.Device _ _ _ _ (λ is. never_ok is) (reads_nothing g.D.Device c.args.device.now)
+
+pub returns-in_err-way-clause-only : goal.returns-in_err-way-clause-only
+returns-in_err-way-clause-only g c = passed c.from_residual.result c.in_err-way.field-0.0 c.from_residual.ensures.1
+    (λ r. OnlyReads g.D.Device (r ≡ Err Device) c.args.device.now c.follow.new.device)
+    (reads_where g.D.Device _ _ _ _ (λ is. still_error is) c.in_err-way.ensures.only)
+
+pub returns-in_err-set_value_in-clause-only : goal.returns-in_err-set_value_in-clause-only
+returns-in_err-set_value_in-clause-only g c = passed c.from_residual-in_err-set_value_in.result
+    c.in_err-set_value_in.field-0.0 c.from_residual-in_err-set_value_in.ensures.1
+    (λ r. OnlyReads g.D.Device (r ≡ Err Device) c.args.device.now c.follow.new.device)
+    (reads_where g.D.Device _ _ _ _ (λ is.
+    put_not_device c.in_err-set_value_in.field-0.0 c.in_err-set_value_in.ensures.cause is) c.follow.ensures.only)
+
+pub returns-then-branch-clause-only : goal.returns-then-branch-clause-only
+returns-then-branch-clause-only g c = reads_where g.D.Device _ _ _ _ (λ is. never_ok is) c.follow.ensures.only
+
+pub returns-clause-only : goal.returns-clause-only
+returns-clause-only g c = reads_then g.D.Device _ _ _ _ _ _ (λ is. inr is) c.follow.ensures.only
+    c.replace_slowly.ensures.only
+
+pub returns-in_err-set_value_in-clause-committed : goal.returns-in_err-set_value_in-clause-committed
+returns-in_err-set_value_in-clause-committed g c = committed_on c.args.pages.now c.follow.new.pages
+    c.set_value_in.new.pages c.follow.ensures.unchanged.committed c.set_value_in.ensures.keeps.committed
+
+pub returns-then-branch-clause-committed : goal.returns-then-branch-clause-committed
+returns-then-branch-clause-committed g c = committed_on c.args.pages.now c.follow.new.pages c.set_value_in.new.pages
+    c.follow.ensures.unchanged.committed c.set_value_in.ensures.keeps.committed
+
+pub returns-clause-committed : goal.returns-clause-committed
+returns-clause-committed g c = committed_on c.args.pages.now c.set_value_in.new.pages c.replace_slowly.new.pages
+    (committed_on c.args.pages.now c.follow.new.pages c.set_value_in.new.pages c.follow.ensures.unchanged.committed
+    c.set_value_in.ensures.keeps.committed)
+    c.replace_slowly.ensures.committed
+
+pub returns-in_err-set_value_in-clause-agrees : goal.returns-in_err-set_value_in-clause-agrees
+returns-in_err-set_value_in-clause-agrees g c =
+    λ honest agrees. c.set_value_in.ensures.keeps.agrees (g.D.Device.state c.follow.new.device).disk
+    (c.follow.ensures.agrees honest agrees)
+
+pub returns-then-branch-clause-agrees : goal.returns-then-branch-clause-agrees
+returns-then-branch-clause-agrees g c =
+    λ honest agrees. c.set_value_in.ensures.keeps.agrees (g.D.Device.state c.follow.new.device).disk
+    (c.follow.ensures.agrees honest agrees)
+
+pub returns-clause-agrees : goal.returns-clause-agrees
+returns-clause-agrees g c = λ honest agrees. c.replace_slowly.ensures.agrees (c.follow.ensures.only.honest.0 honest)
+    (c.set_value_in.ensures.keeps.agrees (g.D.Device.state c.follow.new.device).disk
+    (c.follow.ensures.agrees honest agrees))
+
+pub returns-in_err-set_value_in-clause-open : goal.returns-in_err-set_value_in-clause-open
+returns-in_err-set_value_in-clause-open g c = c.set_value_in.ensures.keeps.is_open c.follow.ensures.open
+
+pub returns-then-branch-clause-open : goal.returns-then-branch-clause-open
+returns-then-branch-clause-open g c = c.set_value_in.ensures.keeps.is_open c.follow.ensures.open
+
+pub replace_slowly-requires-clause-open : goal.replace_slowly-requires-clause-open
+replace_slowly-requires-clause-open g c = c.set_value_in.ensures.keeps.is_open c.follow.ensures.open
+
+pub replace_slowly-requires-clause-sectors : goal.replace_slowly-requires-clause-sectors
+replace_slowly-requires-clause-sectors g c = sectors_on c.args.pages.now c.set_value_in.new.pages _ _
+    (c.set_value_in.ensures.keeps.committed.volume ∙ c.follow.ensures.unchanged.committed.volume)
+    c.follow.ensures.only.sectors c.requires.sectors
+
+pub returns-then-top-eq0-clause-spent : goal.returns-then-top-eq0-clause-spent
+returns-then-top-eq0-clause-spent g c =
+    (λ is. never_ok is, λ both. absurd (both.1 (sym c.root-top.ensures ∙ c.if-top-eq0.true)))
+
+pub returns-in_err-way-clause-spent : goal.returns-in_err-way-clause-spent
+returns-in_err-way-clause-spent g c = passed c.from_residual.result c.in_err-way.field-0.0 c.from_residual.ensures.1
+    (λ r. (r ≡ Err Spent) ↔ ((is_spent c.args.pages.now ≡ true) × (c.args.self.now.root ≢ 0))) (
+      λ is. (c.in_err-way.ensures.spent.0 (still_error is), λ none. c.if-top-eq0.false (c.root-top.ensures ∙ none)),
+      λ both. still_error (c.in_err-way.ensures.spent.1 both.0),
+    )
+
+pub returns-in_err-set_value_in-clause-spent : goal.returns-in_err-set_value_in-clause-spent
+returns-in_err-set_value_in-clause-spent g c = passed c.from_residual-in_err-set_value_in.result
+    c.in_err-set_value_in.field-0.0 c.from_residual-in_err-set_value_in.ensures.1
+    (λ r. (r ≡ Err Spent) ↔ ((is_spent c.args.pages.now ≡ true) × (c.args.self.now.root ≢ 0))) (
+      λ is. (
+        sym c.follow.ensures.unchanged.committed.spent ∙ c.in_err-set_value_in.ensures.spent (still_error is),
+        λ none. c.if-top-eq0.false (c.root-top.ensures ∙ none),
+      ),
+      λ both. never_ok (sym c.in_ok-way.was ∙ c.follow.ensures.spent.1 both.0),
+    )
+
+pub returns-then-branch-clause-spent : goal.returns-then-branch-clause-spent
+returns-then-branch-clause-spent g c =
+    (λ is. never_ok is, λ both. never_ok (sym c.in_ok-way.was ∙ c.follow.ensures.spent.1 both.0))
+
+pub returns-clause-spent : goal.returns-clause-spent
+returns-clause-spent g c = (
+  λ is. (
+    sym (c.set_value_in.ensures.keeps.committed.spent ∙ c.follow.ensures.unchanged.committed.spent)
+        ∙ (c.replace_slowly.ensures.spent.0 is).0,
+    (c.replace_slowly.ensures.spent.0 is).1,
+  ),
+  λ both. never_ok (sym c.in_ok-way.was ∙ c.follow.ensures.spent.1 both.0),
+)
+
+pub returns-in_err-way-clause-cause : goal.returns-in_err-way-clause-cause
+returns-in_err-way-clause-cause g c = passed c.from_residual.result c.in_err-way.field-0.0 c.from_residual.ensures.1
+    (λ r. IfErr r IsChangeRefusal)
+    (search_is_change c.layout-layout.result c.in_err-way.field-0.0 c.in_err-way.ensures.cause)
+
+pub returns-in_err-set_value_in-clause-cause : goal.returns-in_err-set_value_in-clause-cause
+returns-in_err-set_value_in-clause-cause g c = passed c.from_residual-in_err-set_value_in.result
+    c.in_err-set_value_in.field-0.0 c.from_residual-in_err-set_value_in.ensures.1
+    (λ r. IfErr r IsChangeRefusal)
+    (rest_is_change c.in_err-set_value_in.field-0.0
+    (put_is_rest c.in_err-set_value_in.field-0.0 c.in_err-set_value_in.ensures.cause))
+
+pub returns-then-top-eq0-clause-damaged : goal.returns-then-top-eq0-clause-damaged
+returns-then-top-eq0-clause-damaged g c = λ honest agrees is. never_ok is
+
+pub returns-then-branch-clause-damaged : goal.returns-then-branch-clause-damaged
+returns-then-branch-clause-damaged g c = λ honest agrees is. never_ok is
+
+pub returns-in_err-set_value_in-clause-damaged : goal.returns-in_err-set_value_in-clause-damaged
+returns-in_err-set_value_in-clause-damaged g c =
+    λ honest agrees is levels holds. passed c.from_residual-in_err-set_value_in.result c.in_err-set_value_in.field-0.0
+    c.from_residual-in_err-set_value_in.ensures.1
+    (λ r. r ≡ Err Damaged → ⊥)
+    (λ e. put_not_damaged c.in_err-set_value_in.field-0.0 c.in_err-set_value_in.ensures.cause e) is
+
+pub returns-in_err-way-clause-replaced : goal.returns-in_err-way-clause-replaced
+returns-in_err-way-clause-replaced g c = λ honest agrees levels holds is.
+    absurd (passed c.from_residual.result c.in_err-way.field-0.0 c.from_residual.ensures.1
+    (λ r. r ≡ Ok true → ⊥)
+    (λ e. never_err e) is)
+
+pub returns-in_err-way-clause-missing : goal.returns-in_err-way-clause-missing
+returns-in_err-way-clause-missing g c = λ honest agrees levels holds is.
+    absurd (passed c.from_residual.result c.in_err-way.field-0.0 c.from_residual.ensures.1
+    (λ r. r ≡ Ok false → ⊥)
+    (λ e. never_err e) is)
+
+pub returns-in_err-way-clause-same : goal.returns-in_err-way-clause-same
+returns-in_err-way-clause-same g c =
+    λ is. absurd (passed c.from_residual.result c.in_err-way.field-0.0 c.from_residual.ensures.1
+    (λ r. r ≡ Ok false → ⊥)
+    (λ e. never_err e) is)
+
+pub returns-in_err-set_value_in-clause-replaced : goal.returns-in_err-set_value_in-clause-replaced
+returns-in_err-set_value_in-clause-replaced g c =
+    λ honest agrees levels holds is. absurd (passed c.from_residual-in_err-set_value_in.result
+    c.in_err-set_value_in.field-0.0 c.from_residual-in_err-set_value_in.ensures.1
+    (λ r. r ≡ Ok true → ⊥)
+    (λ e. never_err e) is)
+
+pub returns-in_err-set_value_in-clause-missing : goal.returns-in_err-set_value_in-clause-missing
+returns-in_err-set_value_in-clause-missing g c =
+    λ honest agrees levels holds is. absurd (passed c.from_residual-in_err-set_value_in.result
+    c.in_err-set_value_in.field-0.0 c.from_residual-in_err-set_value_in.ensures.1
+    (λ r. r ≡ Ok false → ⊥)
+    (λ e. never_err e) is)
+
+pub returns-in_err-set_value_in-clause-same : goal.returns-in_err-set_value_in-clause-same
+returns-in_err-set_value_in-clause-same g c = λ is. absurd (passed c.from_residual-in_err-set_value_in.result
+    c.in_err-set_value_in.field-0.0 c.from_residual-in_err-set_value_in.ensures.1
+    (λ r. r ≡ Ok false → ⊥)
+    (λ e. never_err e) is)
+
+pub returns-then-top-eq0-clause-replaced : goal.returns-then-top-eq0-clause-replaced
+returns-then-top-eq0-clause-replaced g c = λ honest agrees levels holds is. false_not_true is
+
+pub returns-then-top-eq0-clause-same : goal.returns-then-top-eq0-clause-same
+returns-then-top-eq0-clause-same g c = λ is. unchanged_still c.args.pages.now
+
+pub returns-then-branch-clause-missing : goal.returns-then-branch-clause-missing
+returns-then-branch-clause-missing g c = λ honest agrees levels holds is. false_not_true (sym is)
+
+pub returns-then-branch-clause-same : goal.returns-then-branch-clause-same
+returns-then-branch-clause-same g c = λ is. false_not_true (sym is)
+
+pub returns-in_err-way-clause-changed_pages : goal.returns-in_err-way-clause-changed_pages
+returns-in_err-way-clause-changed_pages g c = few_equal (changed_pages_of c.args.pages.now)
+    (changed_pages_of c.follow.new.pages) 1 c.follow.ensures.unchanged.changed_pages
+
+pub returns-in_err-way-clause-filled : goal.returns-in_err-way-clause-filled
+returns-in_err-way-clause-filled g c =
+    few_same (filled_of c.args.pages.now) (filled_of c.follow.new.pages) 1 c.follow.ensures.unchanged.filled
+
+pub returns-in_err-set_value_in-clause-changed_pages : goal.returns-in_err-set_value_in-clause-changed_pages
+returns-in_err-set_value_in-clause-changed_pages g c =
+    subst (λ (l : List ℕ). length (changed_pages_of c.set_value_in.new.pages) ≤ length l + 1)
+    c.follow.ensures.unchanged.changed_pages c.set_value_in.ensures.changed_pages
+
+pub returns-in_err-set_value_in-clause-filled : goal.returns-in_err-set_value_in-clause-filled
+returns-in_err-set_value_in-clause-filled g c =
+    subst (λ (n : ℕ). filled_of c.set_value_in.new.pages ≤ n + 1) c.follow.ensures.unchanged.filled
+    c.set_value_in.ensures.filled
+
+pub returns-then-branch-clause-changed_pages : goal.returns-then-branch-clause-changed_pages
+returns-then-branch-clause-changed_pages g c =
+    subst (λ (l : List ℕ). length (changed_pages_of c.set_value_in.new.pages) ≤ length l + 1)
+    c.follow.ensures.unchanged.changed_pages c.set_value_in.ensures.changed_pages
+
+pub returns-then-branch-clause-filled : goal.returns-then-branch-clause-filled
+returns-then-branch-clause-filled g c =
+    subst (λ (n : ℕ). filled_of c.set_value_in.new.pages ≤ n + 1) c.follow.ensures.unchanged.filled
+    c.set_value_in.ensures.filled

@@ -1,4 +1,4 @@
-use Rattle.std.proofs.Common.{◌≡◌, ◌++◌, List, ℕ, [], ◌∷◌, sym, ap, subst, ◌∙◌, set}
+use Rattle.std.proofs.Common.{false, ◌≡◌, ◌++◌, List, ℕ, [], ◌∷◌, sym, ap, subst, ◌∙◌, set}
 use Rattle.std.specs.Prelude.{Option, None, IsSome, slice_index_or}
 use Rattle.station.specs.Disk.{Sector}
 use Rattle.pages.specs.Image.{Map}
@@ -13,6 +13,18 @@ use Rattle.btree.proofs.Frames.{holds_tree}
 use Rattle.btree.proofs.Searches.{leaf_among, got_none, FindsGap}
 use Rattle.btree.proofs.Entering.{end_stands, end_in}
 use Rattle.btree.proofs.Valued.{end_valued}
+use Rattle.std.specs.Prelude.{IfErr, Err, Ok}
+use Rattle.std.proofs.Common.{◌≢◌, ◌↔◌, ◌≤◌, ◌+◌, true, length}
+use Rattle.station.specs.Calls.{OnlyReads}
+use Rattle.station.proofs.Calls.{reads_nothing}
+use Rattle.pages.specs.Pages.{is_spent, changed_pages_of, filled_of}
+use Rattle.pages.specs.declared.error.PagesError.TheVariants.{Device, Spent}
+use Rattle.btree.specs.Refusals.{IsChangeRefusal}
+use Rattle.btree.proofs.Passing.{passed, never_ok, never_err, still_error}
+use Rattle.btree.proofs.Passing.{rest_is_change, search_is_change, rest_not_device}
+use Rattle.btree.proofs.Passing.{reads_where, committed_on}
+use Rattle.btree.proofs.Passing.{few_equal, few_same, false_not_true, search_is_change}
+use Rattle.btree.proofs.Frames.{unchanged_still}
 use Rattle.btree.proofs.tree.Tree.replace_slowly.Goals as goal
 
 pub returns-in_err-descent-clause-catalog : goal.returns-in_err-descent-clause-catalog
@@ -92,3 +104,187 @@ returns-clause-replaced g c = λ honest agrees levels holds is.
     (with_value (entries_of c.args.self.now.layout levels) (record { key = key; value = value }))) c.root-top.ensures
     (subst (λ (f : RowLayout). IsSome (entry_with (entries_of f levels) key) × Becomes f before levels after top
     (with_value (entries_of f levels) (record { key = key; value = value }))) c.layout-layout.ensures.is valued)
+
+pub returns-then-top-eq0-clause-only : goal.returns-then-top-eq0-clause-only
+returns-then-top-eq0-clause-only g c =
+    reads_where g.D.Device _ _ _ _ (λ is. never_ok is) (reads_nothing g.D.Device c.args.device.now)
+
+pub returns-in_err-descent-clause-only : goal.returns-in_err-descent-clause-only
+returns-in_err-descent-clause-only g c =
+    passed c.from_residual.result c.in_err-descent.field-0.0 c.from_residual.ensures.1
+    (λ r. OnlyReads g.D.Device (r ≡ Err Device) c.args.device.now c.descend.new.device)
+    (reads_where g.D.Device _ _ _ _ (λ is. still_error is) c.in_err-descent.ensures.only)
+
+pub returns-in-Err-clause-only : goal.returns-in-Err-clause-only
+returns-in-Err-clause-only g c = reads_where g.D.Device _ _ _ _ (λ is. never_ok is) c.descend.ensures.only
+
+pub returns-in_err-put_rest-clause-only : goal.returns-in_err-put_rest-clause-only
+returns-in_err-put_rest-clause-only g c =
+    passed c.from_residual-in_err-put_rest.result c.in_err-put_rest.field-0.0 c.from_residual-in_err-put_rest.ensures.1
+    (λ r. OnlyReads g.D.Device (r ≡ Err Device) c.args.device.now c.descend.new.device)
+    (reads_where g.D.Device _ _ _ _
+    (λ is. rest_not_device c.in_err-put_rest.field-0.0 c.in_err-put_rest.ensures.cause is) c.descend.ensures.only)
+
+pub returns-clause-only : goal.returns-clause-only
+returns-clause-only g c = reads_where g.D.Device _ _ _ _ (λ is. never_ok is) c.descend.ensures.only
+
+pub returns-in_err-put_rest-clause-committed : goal.returns-in_err-put_rest-clause-committed
+returns-in_err-put_rest-clause-committed g c = committed_on c.args.pages.now c.descend.new.pages c.put_rest.new.pages
+    c.descend.ensures.unchanged.committed c.put_rest.ensures.keeps.committed
+
+pub returns-in_err-put_rest-clause-agrees : goal.returns-in_err-put_rest-clause-agrees
+returns-in_err-put_rest-clause-agrees g c =
+    λ honest agrees. c.put_rest.ensures.keeps.agrees (g.D.Device.state c.descend.new.device).disk
+    (c.descend.ensures.agrees honest agrees)
+
+pub returns-in_err-put_rest-clause-open : goal.returns-in_err-put_rest-clause-open
+returns-in_err-put_rest-clause-open g c = c.put_rest.ensures.keeps.is_open c.descend.ensures.open
+
+pub returns-in_err-put_rest-clause-changed_pages : goal.returns-in_err-put_rest-clause-changed_pages
+returns-in_err-put_rest-clause-changed_pages g c =
+    subst (λ (l : List ℕ). length (changed_pages_of c.put_rest.new.pages) ≤ length l + 1)
+    c.descend.ensures.unchanged.changed_pages c.put_rest.ensures.changed_pages
+
+pub returns-in_err-put_rest-clause-filled : goal.returns-in_err-put_rest-clause-filled
+returns-in_err-put_rest-clause-filled g c =
+    subst (λ (n : ℕ). filled_of c.put_rest.new.pages ≤ n + 1) c.descend.ensures.unchanged.filled
+    c.put_rest.ensures.filled
+
+pub returns-clause-committed : goal.returns-clause-committed
+returns-clause-committed g c = committed_on c.args.pages.now c.descend.new.pages c.put_rest.new.pages
+    c.descend.ensures.unchanged.committed c.put_rest.ensures.keeps.committed
+
+pub returns-clause-agrees : goal.returns-clause-agrees
+returns-clause-agrees g c =
+    λ honest agrees. c.put_rest.ensures.keeps.agrees (g.D.Device.state c.descend.new.device).disk
+    (c.descend.ensures.agrees honest agrees)
+
+pub returns-clause-open : goal.returns-clause-open
+returns-clause-open g c = c.put_rest.ensures.keeps.is_open c.descend.ensures.open
+
+pub returns-clause-changed_pages : goal.returns-clause-changed_pages
+returns-clause-changed_pages g c = subst (λ (l : List ℕ). length (changed_pages_of c.put_rest.new.pages) ≤ length l + 1)
+    c.descend.ensures.unchanged.changed_pages c.put_rest.ensures.changed_pages
+
+pub returns-clause-filled : goal.returns-clause-filled
+returns-clause-filled g c = subst (λ (n : ℕ). filled_of c.put_rest.new.pages ≤ n + 1) c.descend.ensures.unchanged.filled
+    c.put_rest.ensures.filled
+
+pub returns-in_err-descent-clause-changed_pages : goal.returns-in_err-descent-clause-changed_pages
+returns-in_err-descent-clause-changed_pages g c = few_equal (changed_pages_of c.args.pages.now)
+    (changed_pages_of c.descend.new.pages) 1 c.descend.ensures.unchanged.changed_pages
+
+pub returns-in_err-descent-clause-filled : goal.returns-in_err-descent-clause-filled
+returns-in_err-descent-clause-filled g c =
+    few_same (filled_of c.args.pages.now) (filled_of c.descend.new.pages) 1 c.descend.ensures.unchanged.filled
+
+pub returns-in-Err-clause-changed_pages : goal.returns-in-Err-clause-changed_pages
+returns-in-Err-clause-changed_pages g c = few_equal (changed_pages_of c.args.pages.now)
+    (changed_pages_of c.descend.new.pages) 1 c.descend.ensures.unchanged.changed_pages
+
+pub returns-in-Err-clause-filled : goal.returns-in-Err-clause-filled
+returns-in-Err-clause-filled g c =
+    few_same (filled_of c.args.pages.now) (filled_of c.descend.new.pages) 1 c.descend.ensures.unchanged.filled
+
+pub returns-then-top-eq0-clause-spent : goal.returns-then-top-eq0-clause-spent
+returns-then-top-eq0-clause-spent g c =
+    (λ is. never_ok is, λ both. absurd (both.1 (sym c.root-top.ensures ∙ c.if-top-eq0.true)))
+
+pub returns-in_err-descent-clause-spent : goal.returns-in_err-descent-clause-spent
+returns-in_err-descent-clause-spent g c =
+    passed c.from_residual.result c.in_err-descent.field-0.0 c.from_residual.ensures.1
+    (λ r. (r ≡ Err Spent) ↔ ((is_spent c.args.pages.now ≡ true) × (c.args.self.now.root ≢ 0))) (
+      λ is. (c.in_err-descent.ensures.spent.0 (still_error is), λ none. c.if-top-eq0.false (c.root-top.ensures ∙ none)),
+      λ both. still_error (c.in_err-descent.ensures.spent.1 both.0),
+    )
+
+pub returns-in-Err-clause-spent : goal.returns-in-Err-clause-spent
+returns-in-Err-clause-spent g c =
+    (λ is. never_ok is, λ both. never_ok (sym c.in_ok-descent.was ∙ c.descend.ensures.spent.1 both.0))
+
+pub returns-clause-spent : goal.returns-clause-spent
+returns-clause-spent g c =
+    (λ is. never_ok is, λ both. never_ok (sym c.in_ok-descent.was ∙ c.descend.ensures.spent.1 both.0))
+
+pub returns-in_err-put_rest-clause-spent : goal.returns-in_err-put_rest-clause-spent
+returns-in_err-put_rest-clause-spent g c =
+    passed c.from_residual-in_err-put_rest.result c.in_err-put_rest.field-0.0 c.from_residual-in_err-put_rest.ensures.1
+    (λ r. (r ≡ Err Spent) ↔ ((is_spent c.args.pages.now ≡ true) × (c.args.self.now.root ≢ 0))) (
+      λ is. (
+        sym c.descend.ensures.unchanged.committed.spent ∙ c.in_err-put_rest.ensures.spent (still_error is),
+        λ none. c.if-top-eq0.false (c.root-top.ensures ∙ none),
+      ),
+      λ both. never_ok (sym c.in_ok-descent.was ∙ c.descend.ensures.spent.1 both.0),
+    )
+
+pub returns-in_err-descent-clause-cause : goal.returns-in_err-descent-clause-cause
+returns-in_err-descent-clause-cause g c =
+    passed c.from_residual.result c.in_err-descent.field-0.0 c.from_residual.ensures.1
+    (λ r. IfErr r IsChangeRefusal)
+    (search_is_change c.layout-layout.result c.in_err-descent.field-0.0 c.in_err-descent.ensures.cause)
+
+pub returns-in_err-put_rest-clause-cause : goal.returns-in_err-put_rest-clause-cause
+returns-in_err-put_rest-clause-cause g c =
+    passed c.from_residual-in_err-put_rest.result c.in_err-put_rest.field-0.0 c.from_residual-in_err-put_rest.ensures.1
+    (λ r. IfErr r IsChangeRefusal)
+    (rest_is_change c.in_err-put_rest.field-0.0 c.in_err-put_rest.ensures.cause)
+
+pub returns-then-top-eq0-clause-damaged : goal.returns-then-top-eq0-clause-damaged
+returns-then-top-eq0-clause-damaged g c = λ honest agrees is. never_ok is
+
+pub returns-then-top-eq0-clause-replaced : goal.returns-then-top-eq0-clause-replaced
+returns-then-top-eq0-clause-replaced g c = λ honest agrees levels holds is. false_not_true is
+
+pub returns-in-Err-clause-damaged : goal.returns-in-Err-clause-damaged
+returns-in-Err-clause-damaged g c = λ honest agrees is. never_ok is
+
+pub returns-in-Err-clause-replaced : goal.returns-in-Err-clause-replaced
+returns-in-Err-clause-replaced g c = λ honest agrees levels holds is. false_not_true is
+
+pub returns-clause-damaged : goal.returns-clause-damaged
+returns-clause-damaged g c = λ honest agrees is. never_ok is
+
+pub returns-then-top-eq0-clause-same : goal.returns-then-top-eq0-clause-same
+returns-then-top-eq0-clause-same g c = λ is. unchanged_still c.args.pages.now
+
+pub returns-clause-missing : goal.returns-clause-missing
+returns-clause-missing g c = λ honest agrees levels holds is. false_not_true (sym is)
+
+pub returns-clause-same : goal.returns-clause-same
+returns-clause-same g c = λ is. false_not_true (sym is)
+
+pub returns-in_err-descent-clause-replaced : goal.returns-in_err-descent-clause-replaced
+returns-in_err-descent-clause-replaced g c = λ honest agrees levels holds is.
+    absurd (passed c.from_residual.result c.in_err-descent.field-0.0 c.from_residual.ensures.1
+    (λ r. r ≡ Ok true → ⊥)
+    (λ e. never_err e) is)
+
+pub returns-in_err-descent-clause-missing : goal.returns-in_err-descent-clause-missing
+returns-in_err-descent-clause-missing g c = λ honest agrees levels holds is.
+    absurd (passed c.from_residual.result c.in_err-descent.field-0.0 c.from_residual.ensures.1
+    (λ r. r ≡ Ok false → ⊥)
+    (λ e. never_err e) is)
+
+pub returns-in_err-descent-clause-same : goal.returns-in_err-descent-clause-same
+returns-in_err-descent-clause-same g c =
+    λ is. absurd (passed c.from_residual.result c.in_err-descent.field-0.0 c.from_residual.ensures.1
+    (λ r. r ≡ Ok false → ⊥)
+    (λ e. never_err e) is)
+
+pub returns-in_err-put_rest-clause-replaced : goal.returns-in_err-put_rest-clause-replaced
+returns-in_err-put_rest-clause-replaced g c = λ honest agrees levels holds is. absurd
+    (passed c.from_residual-in_err-put_rest.result c.in_err-put_rest.field-0.0 c.from_residual-in_err-put_rest.ensures.1
+    (λ r. r ≡ Ok true → ⊥)
+    (λ e. never_err e) is)
+
+pub returns-in_err-put_rest-clause-missing : goal.returns-in_err-put_rest-clause-missing
+returns-in_err-put_rest-clause-missing g c = λ honest agrees levels holds is. absurd
+    (passed c.from_residual-in_err-put_rest.result c.in_err-put_rest.field-0.0 c.from_residual-in_err-put_rest.ensures.1
+    (λ r. r ≡ Ok false → ⊥)
+    (λ e. never_err e) is)
+
+pub returns-in_err-put_rest-clause-same : goal.returns-in_err-put_rest-clause-same
+returns-in_err-put_rest-clause-same g c = λ is. absurd
+    (passed c.from_residual-in_err-put_rest.result c.in_err-put_rest.field-0.0 c.from_residual-in_err-put_rest.ensures.1
+    (λ r. r ≡ Ok false → ⊥)
+    (λ e. never_err e) is)

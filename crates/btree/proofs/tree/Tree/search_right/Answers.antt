@@ -14,6 +14,16 @@ use Rattle.btree.specs.Steps.{LeadsTo}
 use Rattle.btree.specs.Sought.{sought_in, AnswersAt}
 use Rattle.btree.proofs.Frames.{holds_tree, unchanged_on, same_pages}
 use Rattle.btree.proofs.Answering.{found_entry, behind}
+use Rattle.std.specs.Prelude.{IfErr}
+use Rattle.std.proofs.Common.{◌≢◌, ◌↔◌, inr, true}
+use Rattle.station.specs.Calls.{OnlyReads}
+use Rattle.station.proofs.Calls.{reads_then, reads_nothing}
+use Rattle.pages.specs.Pages.{is_spent}
+use Rattle.pages.specs.declared.error.PagesError.TheVariants.{Device, Spent}
+use Rattle.btree.specs.Reading.{IsSearchRefusal}
+use Rattle.btree.proofs.Passing.{passed, never_ok, still_error}
+use Rattle.btree.proofs.Passing.{reads_where, sectors_on}
+use Rattle.btree.proofs.Passing.{read_is_search}
 use Rattle.btree.proofs.tree.Tree.search_right.Goals as goal
 
 pub returns-in_err-found-clause-unchanged : goal.returns-in_err-found-clause-unchanged
@@ -156,3 +166,109 @@ returns-in-None-clause-damaged g c = λ honest agrees told levels holds.
     let is = behind view.layout pages view.root c.args.key.now levels way.path.items way.page way.right c.args.sought
     c.requires.sought tree leads (subst (A view.layout pages) c.in-None.is at_view) in
     c.right_entry.ensures.damaged honest_then agrees_then told levels still is.passed is.after is.around is.beside
+
+pub returns-then-self-eq0-clause-only : goal.returns-then-self-eq0-clause-only
+returns-then-self-eq0-clause-only g c =
+    reads_where g.D.Device _ _ _ _ (λ is. never_ok is) (reads_nothing g.D.Device c.args.device.now)
+
+pub returns-in_err-way-clause-only : goal.returns-in_err-way-clause-only
+returns-in_err-way-clause-only g c = passed c.from_residual.result c.in_err-way.field-0.0 c.from_residual.ensures.1
+    (λ r. OnlyReads g.D.Device (r ≡ Err Device) c.args.device.now c.follow.new.device)
+    (reads_where g.D.Device _ _ _ _ (λ is. still_error is) c.in_err-way.ensures.only)
+
+pub returns-in_err-found-clause-only : goal.returns-in_err-found-clause-only
+returns-in_err-found-clause-only g c =
+    passed c.from_residual-in_err-found.result c.in_err-found.field-0.0 c.from_residual-in_err-found.ensures.1
+    (λ r. OnlyReads g.D.Device (r ≡ Err Device) c.args.device.now c.entry_at.new.device)
+    (reads_then g.D.Device _ _ _ _ _ _ (λ is. inr (still_error is)) c.follow.ensures.only
+    c.in_err-found.ensures.only)
+
+pub returns-in-Some-clause-only : goal.returns-in-Some-clause-only
+returns-in-Some-clause-only g c = reads_then g.D.Device _ _ _ _ _ _ (λ is. never_ok is) c.follow.ensures.only
+    c.entry_at.ensures.only
+
+pub returns-in-None-clause-only : goal.returns-in-None-clause-only
+returns-in-None-clause-only g c = reads_then g.D.Device _ _ _ _ _ _ (λ is. inr is)
+    (reads_then g.D.Device _ _ ⊥ _ _ _ (λ never. absurd never) c.follow.ensures.only c.entry_at.ensures.only)
+    c.right_entry.ensures.only
+
+pub returns-in_err-found-clause-agrees : goal.returns-in_err-found-clause-agrees
+returns-in_err-found-clause-agrees g c = λ honest agrees.
+    c.entry_at.ensures.agrees (c.follow.ensures.only.honest.0 honest) (c.follow.ensures.agrees honest agrees)
+
+pub returns-in-Some-clause-agrees : goal.returns-in-Some-clause-agrees
+returns-in-Some-clause-agrees g c = λ honest agrees.
+    c.entry_at.ensures.agrees (c.follow.ensures.only.honest.0 honest) (c.follow.ensures.agrees honest agrees)
+
+pub returns-in-None-clause-agrees : goal.returns-in-None-clause-agrees
+returns-in-None-clause-agrees g c = λ honest agrees.
+    c.right_entry.ensures.agrees (c.entry_at.ensures.only.honest.0 (c.follow.ensures.only.honest.0 honest))
+    (c.entry_at.ensures.agrees (c.follow.ensures.only.honest.0 honest) (c.follow.ensures.agrees honest agrees))
+
+pub returns-then-self-eq0-clause-spent : goal.returns-then-self-eq0-clause-spent
+returns-then-self-eq0-clause-spent g c = (
+  λ is. never_ok is,
+  λ both. absurd (both.1 (sym (ap (λ (t : RootedTree). t.root) c.self.view_is) ∙ c.if-self-eq0.true)),
+)
+
+pub returns-in_err-way-clause-spent : goal.returns-in_err-way-clause-spent
+returns-in_err-way-clause-spent g c = passed c.from_residual.result c.in_err-way.field-0.0 c.from_residual.ensures.1
+    (λ r. (r ≡ Err Spent) ↔ ((is_spent c.args.pages.now ≡ true) × (c.args.self.now.root ≢ 0))) (
+      λ is. (
+        c.in_err-way.ensures.spent.0 (still_error is),
+        λ none. c.if-self-eq0.false (ap (λ (t : RootedTree). t.root) c.self.view_is ∙ none),
+      ),
+      λ both. still_error (c.in_err-way.ensures.spent.1 both.0),
+    )
+
+pub returns-in_err-found-clause-spent : goal.returns-in_err-found-clause-spent
+returns-in_err-found-clause-spent g c =
+    passed c.from_residual-in_err-found.result c.in_err-found.field-0.0 c.from_residual-in_err-found.ensures.1
+    (λ r. (r ≡ Err Spent) ↔ ((is_spent c.args.pages.now ≡ true) × (c.args.self.now.root ≢ 0))) (
+      λ is. (
+        sym c.follow.ensures.unchanged.committed.spent ∙ c.in_err-found.ensures.spent.0 (still_error is),
+        λ none. c.if-self-eq0.false (ap (λ (t : RootedTree). t.root) c.self.view_is ∙ none),
+      ),
+      λ both. never_ok (sym c.in_ok-way.was ∙ c.follow.ensures.spent.1 both.0),
+    )
+
+pub returns-in-Some-clause-spent : goal.returns-in-Some-clause-spent
+returns-in-Some-clause-spent g c =
+    (λ is. never_ok is, λ both. never_ok (sym c.in_ok-way.was ∙ c.follow.ensures.spent.1 both.0))
+
+pub returns-in-None-clause-spent : goal.returns-in-None-clause-spent
+returns-in-None-clause-spent g c = (
+  λ is. (
+    sym (c.entry_at.ensures.unchanged.committed.spent ∙ c.follow.ensures.unchanged.committed.spent)
+        ∙ c.right_entry.ensures.spent is,
+    λ none. c.if-self-eq0.false (ap (λ (t : RootedTree). t.root) c.self.view_is ∙ none),
+  ),
+  λ both. never_ok (sym c.in_ok-way.was ∙ c.follow.ensures.spent.1 both.0),
+)
+
+pub returns-in_err-way-clause-cause : goal.returns-in_err-way-clause-cause
+returns-in_err-way-clause-cause g c = passed c.from_residual.result c.in_err-way.field-0.0 c.from_residual.ensures.1
+    (λ r. IfErr r (IsSearchRefusal c.args.self.now.layout))
+    (subst (λ (t : RootedTree). IsSearchRefusal t.layout c.in_err-way.field-0.0) c.self.view_is
+    c.in_err-way.ensures.cause)
+
+pub returns-in_err-found-clause-cause : goal.returns-in_err-found-clause-cause
+returns-in_err-found-clause-cause g c =
+    passed c.from_residual-in_err-found.result c.in_err-found.field-0.0 c.from_residual-in_err-found.ensures.1
+    (λ r. IfErr r (IsSearchRefusal c.args.self.now.layout))
+    (read_is_search c.args.self.now.layout c.in_err-found.field-0.0 c.in_err-found.ensures.cause)
+
+pub returns-then-self-eq0-clause-damaged : goal.returns-then-self-eq0-clause-damaged
+returns-then-self-eq0-clause-damaged g c = λ honest agrees is. never_ok is
+
+pub returns-in-Some-clause-damaged : goal.returns-in-Some-clause-damaged
+returns-in-Some-clause-damaged g c = λ honest agrees is. never_ok is
+
+pub entry_at-requires-clause-sectors : goal.entry_at-requires-clause-sectors
+entry_at-requires-clause-sectors g c = sectors_on c.args.pages.now c.follow.new.pages _ _
+    c.follow.ensures.unchanged.committed.volume c.follow.ensures.only.sectors c.requires.sectors
+
+pub right_entry-requires-clause-sectors : goal.right_entry-requires-clause-sectors
+right_entry-requires-clause-sectors g c = sectors_on c.args.pages.now c.entry_at.new.pages _ _
+    (c.entry_at.ensures.unchanged.committed.volume ∙ c.follow.ensures.unchanged.committed.volume)
+    (c.entry_at.ensures.only.sectors ∙ c.follow.ensures.only.sectors) c.requires.sectors
